@@ -47,7 +47,7 @@ units (suc n) = (tt, units n)
 abbrev pub OpensWith : List (List ℕ) → Type 0
 OpensWith answers =
     (width : ℕ) (tasks : List Task) (reads : Reads)
-    → Runs (plan_of_width width) tasks (opening (plan_of_width width) (scoped 100 reads)) (begun_with answers [])
+    → Runs (plan_of_width width) tasks (opening (plan_of_width width) (scoped 100 [] reads)) (begun_with answers [])
 
 -- `OpensWith` holds of the simulator's replies to all eight null procedures
 pub opens_simulator : OpensWith replies

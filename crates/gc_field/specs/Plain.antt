@@ -10,7 +10,7 @@ use Rattle.gc_station.specs.NextCommand.{no_turn}
 use Rattle.gc_station.specs.Records.{Record}
 
 -- a plain command that asks this of this target, with this deadline in milliseconds, chained to the command before it or not; its
--- turn is the one where there is no command (`no_turn`)
+-- turn is the one where there is no command (`no_turn`), and it isn't watched
 abbrev pub plain_task : (target : ℕ) → Asked → (deadline : ℕ) → (chained : Bool) → Task
 plain_task target call deadline chained =
     record {
@@ -18,6 +18,7 @@ plain_task target call deadline chained =
       deadline = deadline;
       chained = chained;
       near = None;
+      watched = false;
       accepted = no_codes;
       again = no_again;
       turn = no_turn;

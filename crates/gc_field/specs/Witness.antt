@@ -39,9 +39,9 @@ plan = plan_of_width 1
 abbrev pub commands : List Task
 commands = plain_task 7 (Table InstrumentNo) 100 false ∷ []
 
--- a scope of at most a hundred acts, in which every reply is taken to say this
+-- a scope of at most a hundred acts, in which nothing is watched, and every reply is taken to say this
 abbrev pub scope_saying : Answer → Scope
-scope_saying said = scoped 100 (λ call line. Value said)
+scope_saying said = scoped 100 [] (λ call line. Value said)
 
 -- the scope of this run: every reply is taken to say what the reply to the command says
 abbrev pub scope : Scope

@@ -2,3 +2,4 @@ mod AtLink
 mod Measured
 mod Unbegun
 mod Wants
+mod Reached

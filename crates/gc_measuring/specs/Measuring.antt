@@ -16,6 +16,7 @@ use Rattle.gc_links.specs.Acts.{Act}
 use Rattle.gc_station.specs.Keeping.{Snapshot, KeepsUpBy, close_at_output}
 use Rattle.gc_station.specs.Records.{Record}
 use Rattle.gc_station.specs.Runs.{RunSeen, RanBy, LastUnlessFailed}
+use Rattle.gc_station.specs.Watching.{watched_of}
 use Rattle.gc_station.specs.Scopes.{ForEachAndSomeReadings}
 use Rattle.gc_station.specs.declared.plan.Plan.{Plan}
 use Rattle.gc_station.specs.declared.tally.Tally.{Tally}
@@ -84,8 +85,8 @@ run_in survey seen = record { acts = seen.acts; text = text_by survey; taken = s
 -- act all that the acts before it settled was recorded, and lasted unless the act is a mere reading of the clock (`KeepsUpBy`). If
 -- the sink failed the connection was closed at the end (`close_at_output`)
 pub record RunsSurvey (survey : Survey) (old new : PortsSeen) (end : Result Tally RunFault) : Type 0 where
-  pub ran : ForEachAndSomeReadings (RanBy survey.plan survey.tasks survey.max_turns (run_in survey old) (run_in survey new) end)
-  pub keeps : ForEachAndSomeReadings (KeepsUpBy survey.plan survey.tasks survey.max_turns (run_in survey old) (run_in survey new)
+  pub ran : ForEachAndSomeReadings (RanBy survey.plan survey.tasks survey.max_turns (watched_of survey.plan.setup survey.tasks) (run_in survey old) (run_in survey new) end)
+  pub keeps : ForEachAndSomeReadings (KeepsUpBy survey.plan survey.tasks survey.max_turns (watched_of survey.plan.setup survey.tasks) (run_in survey old) (run_in survey new)
       old.turns new.turns (close_at_output end))
 
 -- the sink took what comes before the records, and then what a run over the link records of the tasks (`RunsSurvey`). `between`

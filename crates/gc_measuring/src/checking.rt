@@ -13,7 +13,10 @@ use crate::plan::{commands_per_cycle, plan_of};
 use crate::stop::Stop;
 use crate::task_text::read_task_text;
 use gc_lines::{Sink, Source, write_whole};
-use gc_messages::{Streams, report_blanks, report_odd_angles, report_unasked, report_unused_names};
+use gc_messages::{
+    Streams, report_blanks, report_odd_angles, report_unasked, report_unused_names,
+    report_unwatched,
+};
 use gc_station::Plan;
 use gc_texts::{Again, RunFault, Task, Tasks};
 use gc_words::Choice;
@@ -25,8 +28,8 @@ use std::process::ExitCode;
 /// with the names of their targets, the deadlines of their commands in milliseconds, and how often and after what they may be
 /// sent again; and, where cycles have due moments, by when a row is written. What looks wrong, and is no fault, is reported on the
 /// messages, as far as they can be written: angles outside one turn, targets of which the text says where they are, though no command
-/// measures their direction, names of targets without a command, spaces or tabs at ends of lines, and deadlines that add up to more
-/// than the time that a cycle has.
+/// measures their direction, names of targets without a command, unwatched targets without a command of the cycle, spaces or tabs at
+/// ends of lines, and deadlines that add up to more than the time that a cycle has.
 ///
 /// Status 0: the text can be measured. Status 1: it can't be read or is refused, memory was refused, or the output failed, each
 /// of which is reported as a run reports it. `Err`: this report couldn't be written. The streams are handed back. No clause says
@@ -68,6 +71,7 @@ fn report_doubts<E: Write>(
     report_odd_angles(text, tasks, messages)?;
     report_unasked(tasks, messages)?;
     report_unused_names(tasks, messages)?;
+    report_unwatched(tasks, messages)?;
     report_blanks(text, messages)?;
     report_tight_deadlines(tasks, plan, messages)
 }
@@ -130,10 +134,13 @@ fn outline_chains<W: Write>(tasks: &Tasks, outline: &mut W) -> io::Result<()> {
     end_chain(chain, outline)
 }
 
-// Writes the front of the line of a chain, or of a command of the setup: its target.
+// Writes the front of the line of a chain, or of a command of the setup: its target, and whether that is left unwatched.
 fn begin_chain<W: Write>(tasks: &Tasks, target: u32, outline: &mut W) -> io::Result<()> {
     write!(outline, "  ")?;
     write_target(target, tasks.name_of(target), outline)?;
+    if tasks.unwatched.as_slice().contains(&target) {
+        write!(outline, ", unwatched")?;
+    }
     write!(outline, ":")
 }
 

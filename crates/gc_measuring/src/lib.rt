@@ -16,6 +16,7 @@ mod spot;
 mod station;
 mod stop;
 mod task_text;
+mod unanswered;
 mod unwell;
 mod wanted;
 
@@ -28,4 +29,4 @@ pub use row::write_station_row;
 pub use spot::Spot;
 pub use station::{measure_at, measure_text_at};
 pub use stop::Stop;
-pub use task_text::read_task_text;
+pub use task_text::{read_task_text, watches_of};

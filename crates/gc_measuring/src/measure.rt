@@ -6,6 +6,7 @@ ghost use Rattle.gc_measuring.specs.Stops.{with_fault};
 ghost use Rattle.gc_measuring.specs.Telling.{ports_seen};
 ghost use Rattle.gc_lines.specs.Ports.{FailsWith, TakesText};
 ghost use Rattle.gc_station.specs.Runs.{FailsAtOutput, LastUnlessFailed};
+ghost use Rattle.gc_station.specs.Watching.{places_of, watched_of};
 ghost use Rattle.gc_texts.specs.Tasks.{tasks_seen};
 ghost use Rattle.gc_texts.specs.declared.text.TheConstants.{TEXT_LIMIT};
 
@@ -14,13 +15,14 @@ use crate::reporter::Reporter;
 use crate::row::write_station_row;
 use crate::spot::Spot;
 use crate::stop::Stop;
-use crate::task_text::read_task_text;
+use crate::task_text::{read_task_text, watches_of};
+use crate::unanswered::Unanswered;
 use gc_lines::{Durable, PortFailed, Source, write_whole};
 use gc_links::{Link, Moment};
 use gc_messages::{Noticed, Streams, report_odd_angles, report_unasked};
 use gc_rows::write_head;
-use gc_station::{Book, Kept, LinkHealth, Tally, is_well, run_station};
-use gc_texts::{Ending, Name, RunFault, Stamp, Tasks, Wish};
+use gc_station::{Book, Kept, LinkHealth, Tally, Watch, Watches, run_station};
+use gc_texts::{Ending, Name, RunFault, Stamp, Task, Tasks, Wish};
 use gc_words::Layout;
 use std::alloc::Global;
 use std::cell::Cell;
@@ -39,8 +41,8 @@ use std::io::Write;
 /// target of which the text says where it is, though no command measures its direction. If somebody watches (`choice.watch`), the
 /// messages then get the number of a cycle's commands and the place, signs of life, each kind at most once a minute (the status
 /// line of a terminal once a second), and what `spot` has noticed as odd about the line. In any case they get what `spot` has
-/// noticed of the files, and, if the run ends because it is stale, since when no answer of a good quality came. If the messages
-/// can't be written, the station measures on.
+/// noticed of the files, and, if the run ends because it is stale, of which command, and since when, no answer of a good quality came.
+/// If the messages can't be written, the station measures on.
 pub fn run_station_text<L: Link, S: Source, K: Durable, E: Write>(
     alloc: Global,
     link: &mut L,
@@ -76,6 +78,9 @@ pub fn run_station_text<L: Link, S: Source, K: Durable, E: Write>(
         Ok(read) => read,
         Err(stop) => return (streams, Err(stop)),
     };
+    let Ok(watches) = watches_of(alloc, &tasks) else {
+        return (streams, Err(Stop::Text(RunFault::Memory)));
+    };
     let Ok(()) = write_front(&mut streams.output, spot.station.layout) else {
         return (streams, Err(Stop::Run(RunFault::Output)));
     };
@@ -83,24 +88,26 @@ pub fn run_station_text<L: Link, S: Source, K: Durable, E: Write>(
     let _ = report_unasked(&tasks, &mut streams.messages);
     // A run may take months: the memory of the text is given back first.
     drop(text);
-    let (streams, end) = measure(link, tasks, max_turns, spot, streams, kept);
+    let (streams, end) = measure(link, tasks, watches, max_turns, spot, streams, kept);
     match end {
         Ok(tally) => (streams, Ok(tally)),
         Err(fault) => (streams, Err(Stop::Run(fault))),
     }
 }
 
-// Measures these tasks over a link by the settings of `spot`, in at most `max_turns` acts, and writes their records on the
+// Measures these tasks, of which `watches` are watched, over a link by the settings of `spot`, in at most `max_turns` acts, and writes their records on the
 // output. The streams are handed back, with how the run ended. What was seen of link and output at each act is noted in
 // `kept`.
 fn measure<L: Link, S: Source, K: Durable, E: Write>(
     link: &mut L,
     tasks: Tasks,
+    watches: Watches,
     max_turns: u64,
     spot: Spot<'_>,
     streams: Streams<S, K, E>,
     kept: &mut Kept,
 ) -> (Streams<S, K, E>, Result<Tally, RunFault>)
+    requires { places_of watches ≡ watched_of tasks.setup tasks.tasks.items }
     ensures runs { RunsSurvey (survey_of spot.entry.station max_turns (tasks_seen tasks))
         (ports_seen S.Source K.Sink E.contents streams (L.acts link.old) kept.old.turns)
         (ports_seen S.Source K.Sink E.contents result.0 (L.acts link.new) kept.new.turns)
@@ -120,6 +127,7 @@ fn measure<L: Link, S: Source, K: Durable, E: Write>(
         tasks,
         names,
         nears: _,
+        unwatched: _,
     } = tasks;
     let plan = plan_of(spot.station.choice, setup, tasks.as_slice());
     let mut reporter = Reporter::new(spot.station.choice.watch, messages);
@@ -129,12 +137,20 @@ fn measure<L: Link, S: Source, K: Durable, E: Write>(
         layout: spot.station.layout,
         names,
         noticed: spot.noticed,
-        fresh: spot.station.layout.run,
+        began: spot.station.layout.run,
+        unanswered: None,
         reporter,
     };
-    let end = run_station(link, &mut records, tasks.as_slice(), &plan, max_turns, kept);
-    let is_stale = matches!(end, Err(RunFault::Stale));
-    let (output, messages) = records.end(is_stale);
+    let end = run_station(
+        link,
+        &mut records,
+        tasks.as_slice(),
+        &plan,
+        watches,
+        max_turns,
+        kept,
+    );
+    let (output, messages) = records.end(setup, tasks.as_slice());
     let streams = Streams {
         input,
         output,
@@ -156,12 +172,6 @@ fn write_front<K: Durable>(sink: &mut K, layout: Layout) -> Result<(), usize>
     write_head(sink, layout.form)
 }
 
-// What `Records::fresh` is after a command ended at `utc` with this ending: `utc` if it was answered well (`is_well`), and else
-// `fresh`, which is what it was before. Both moments are in milliseconds since 1970.
-fn fresh_after(fresh: u64, utc: u64, ending: Ending<'_>) -> u64 {
-    if is_well(ending) { utc } else { fresh }
-}
-
 // A book that writes records in one layout into a sink, and reports on the messages what the station does.
 struct Records<'a, K, E> {
     sink: K,
@@ -170,15 +180,17 @@ struct Records<'a, K, E> {
     names: Vec<Name>,
     // What was noticed of the line and of the station's files.
     noticed: &'a Cell<Noticed>,
-    // When an answer of a good quality came last, or when the run began if none came yet, in milliseconds since 1970.
-    fresh: u64,
+    // When the run began, in milliseconds since 1970.
+    began: u64,
+    // The watched command by which the run is stale, once it is.
+    unanswered: Option<Watch>,
     reporter: Reporter<E>,
 }
 
 impl<'a, K, E: Write> Records<'a, K, E> {
-    // Ends the reporter at the end of a run, as `Reporter::end` says; if the run is stale (`is_stale`), that reports since when no
-    // answer of a good quality came. The sink and the messages are handed back.
-    fn end(self, is_stale: bool) -> (K, E)
+    // Ends the reporter at the end of a run over these tasks, of which the first `setup` are the setup, as `Reporter::end` says; if the
+    // run is stale, that reports by which command. The sink and the messages are handed back.
+    fn end(self, setup: usize, tasks: &[Task]) -> (K, E)
         ensures { result.0 ≡ self.entry.sink }
     {
         let Records {
@@ -186,10 +198,14 @@ impl<'a, K, E: Write> Records<'a, K, E> {
             layout: _,
             names,
             noticed: _,
-            fresh,
+            began,
+            unanswered,
             reporter,
         } = self;
-        let stale = if is_stale { Some(fresh) } else { None };
+        let stale = match unanswered {
+            Some(watch) => Unanswered::of(watch, began, setup, tasks),
+            None => None,
+        };
         (sink, reporter.end(names.as_slice(), stale))
     }
 }
@@ -203,7 +219,7 @@ impl<'a, K: Durable, E: Write> Book for Records<'a, K, E> {
 
     ghost is_durable = { λ book. K.is_durable book.sink };
 
-    // Writes a record. The signs of life count it, and an answer of a good quality is noted, also if the record can't be written.
+    // Writes a record. The signs of life count it, also if the record can't be written.
     fn write(
         &mut self,
         stamp: Stamp,
@@ -211,7 +227,6 @@ impl<'a, K: Durable, E: Write> Book for Records<'a, K, E> {
         ending: Ending<'_>,
     ) -> Result<(), PortFailed> {
         self.reporter.count(stamp, command, ending);
-        self.fresh = fresh_after(self.fresh, stamp.utc, ending);
         write_station_row(
             &mut self.sink,
             self.layout,
@@ -235,6 +250,11 @@ impl<'a, K: Durable, E: Write> Book for Records<'a, K, E> {
     fn sees(&mut self, health: LinkHealth, moment: Moment) {
         self.reporter
             .report(self.noticed.get(), health, moment, self.names.as_slice());
+    }
+
+    // Notes the watched command by which the run is stale, for its end.
+    fn unanswered(&mut self, watch: Watch) {
+        self.unanswered = Some(watch);
     }
 
     // Reports on the messages that this cycle wasn't done when the next was due, if a line of this kind may be written now.

@@ -8,6 +8,7 @@ ghost use Rattle.gc_station.specs.Tallies.{counted};
 ghost use Rattle.gc_texts.specs.Endings.{ending_seen};
 
 use crate::signs::Signs;
+use crate::unanswered::Unanswered;
 use gc_links::{Moment, Place};
 use gc_messages::{FilesSeen, FilesTold, Noticed};
 use gc_station::LinkHealth;
@@ -81,17 +82,18 @@ impl<E: Write> Reporter<E> {
     }
 
     /// Writes at the end what no line reported yet, as `Signs::end` does, clears the status line of a terminal, and hands the
-    /// messages back. What became of the files since the last `report` isn't written. `stale`: the run ended because it is stale, and
-    /// no answer of a good quality came since this moment, in milliseconds since 1970, which is written, too, also if nobody watches.
-    pub(crate) fn end(self, names: &[Name], stale: Option<u64>) -> E {
+    /// messages back. What became of the files since the last `report` isn't written. `stale`: the run ended because it is stale
+    /// by this command, which is written, too, also if nobody watches.
+    pub(crate) fn end(self, names: &[Name], stale: Option<Unanswered>) -> E {
         let Reporter {
             mut signs,
             files: _,
             mut messages,
         } = self;
         let _ = signs.end(names, &mut messages);
-        if let Some(since) = stale {
-            let _ = signs.report_stale(since, &mut messages);
+        if let Some(unanswered) = stale {
+            let _ = signs.clear(&mut messages);
+            let _ = unanswered.tell(names, &mut messages);
         }
         messages
     }

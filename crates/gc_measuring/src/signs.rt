@@ -352,16 +352,6 @@ impl Signs {
         writeln!(messages, ": {bytes} bytes arrived, none a reply")
     }
 
-    /// Reports, of a run that ended because it is stale, since when no answer of a good quality came. `since` is in milliseconds
-    /// since 1970.
-    pub(crate) fn report_stale<E: Write>(
-        &mut self,
-        since: u64,
-        messages: &mut E,
-    ) -> io::Result<()> {
-        self.report_since(since, "no answer of good quality", messages)
-    }
-
     // Reports that `what` has lasted since `utc` (milliseconds since 1970). From then on the station counts as troubled, until a
     // line says that this is over (`report_recovery`).
     fn report_since<E: Write>(&mut self, utc: u64, what: &str, messages: &mut E) -> io::Result<()> {

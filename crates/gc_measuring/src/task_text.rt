@@ -1,15 +1,17 @@
 //! A station's text, read whole from a source.
 
-ghost use Rattle.std.specs.Prelude.{◌+◌, ◌≤◌, IfOk, IfErr};
+ghost use Rattle.std.specs.Prelude.{◌≡◌, ◌+◌, ◌≤◌, IfOk, IfErr};
 ghost use Rattle.gc_measuring.specs.TaskTexts.{IsStopFor, ReadsNoTasks, ReadsTasks};
+ghost use Rattle.gc_station.specs.Watching.{places_of, watched_of};
 ghost use Rattle.gc_texts.specs.WholeTexts.{input_of};
 ghost use Rattle.gc_texts.specs.declared.text.TheConstants.{TEXT_LIMIT};
 
 use crate::stop::Stop;
 use gc_lines::Source;
+use gc_station::Watches;
 use gc_texts::{RunFault, Tasks, line_at, read_tasks, read_text, trouble_of};
 use gc_words::Choice;
-use std::alloc::Global;
+use std::alloc::{AllocError, Global};
 
 /// Reads the whole text of a station from a source, and returns its tasks and names, with the text itself. Until a line says
 /// otherwise the commands have the deadline of `choice`, and are chained or not as `choice` says. It fails with the faults of
@@ -37,6 +39,13 @@ pub fn read_task_text<S: Source>(
         }
         Err(fault) => Err(stop_for(text.as_slice(), fault)),
     }
+}
+
+/// What is watched of these tasks, for a run over them. `Err`: memory was refused.
+pub fn watches_of(alloc: Global, tasks: &Tasks) -> Result<Watches, AllocError>
+    ensures { IfOk result (λ watches. places_of watches ≡ watched_of tasks.now.setup tasks.now.tasks.items) }
+{
+    Watches::of(alloc, tasks.setup, tasks.tasks.as_slice())
 }
 
 // The stop for a text with this fault. That for a faulty line has the line's number, and which of its fields is at fault.

@@ -31,4 +31,4 @@ pub use short_text::ShortText;
 pub use standard::{Places, Standard};
 pub use streams::Streams;
 pub use turns::report_odd_angles;
-pub use unasked::{report_unasked, report_unused_names};
+pub use unasked::{report_unasked, report_unused_names, report_unwatched};

@@ -1,5 +1,5 @@
 //! Targets of which a text says something that no command needs: where they are, though no command asks for their direction, so that
-//! no answer is compared with that; or what they are called, though no command is for them.
+//! no answer is compared with that; what they are called, though no command is for them; or that they aren't watched, though none is.
 
 use gc_texts::Tasks;
 use std::io::{self, Write};
@@ -28,6 +28,21 @@ pub fn report_unused_names<E: Write>(tasks: &Tasks, messages: &mut E) -> io::Res
             writeln!(
                 messages,
                 "geocom: name {target}: no command is for target {target}"
+            )?;
+        }
+    }
+    Ok(())
+}
+
+/// Writes a line for each target that the text leaves unwatched, and for which it has no command of the cycle. `Err`: a message
+/// couldn't be written; those after that one aren't.
+pub fn report_unwatched<E: Write>(tasks: &Tasks, messages: &mut E) -> io::Result<()> {
+    for target in tasks.unwatched.as_slice() {
+        let mut cycle = tasks.tasks.iter().skip(tasks.setup);
+        if !cycle.any(|task| task.command.target == *target) {
+            writeln!(
+                messages,
+                "geocom: unwatched {target}: no command of a cycle is for target {target}"
             )?;
         }
     }

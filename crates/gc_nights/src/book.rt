@@ -12,7 +12,7 @@ use crate::summary::Summary;
 use gc_lines::{PortFailed, Sink, line_from};
 use gc_links::Moment;
 use gc_measuring::write_station_row;
-use gc_station::{Book, LinkHealth};
+use gc_station::{Book, LinkHealth, Watch};
 use gc_texts::{Ending, Name, Stamp, Wish};
 use gc_words::Layout;
 use std::alloc::Global;
@@ -228,6 +228,9 @@ impl<K: Sink> Book for RunBook<K> {
             self.is_over = true;
         }
     }
+
+    // Does nothing: a run that ended as stale is counted by its fault.
+    fn unanswered(&mut self, _watch: Watch) {}
 
     // Does nothing: the summary doesn't count overruns.
     fn overran(&mut self, _cycle: u64) {}

@@ -15,9 +15,10 @@ use gc_measuring::plan_of;
 use gc_rehearsal::Rehearsed;
 use gc_rehearsed::commands_are_askable;
 use gc_rehearsed::laws::rehearsals_in_a_row_are_faithful;
-use gc_station::{Kept, Plan, run_station};
+use gc_station::{Kept, Plan, Watches, run_station};
 use gc_texts::{RunFault, Task};
 use gc_words::{Choice, DAY};
+use std::alloc::Global;
 
 // After how many milliseconds a station that gave up begins again.
 const RESTART_DELAY: u64 = 60_000;
@@ -31,6 +32,8 @@ const ACTS_BEFORE_KILL: u64 = 100;
 /// What is rehearsed.
 #[derive(Clone, Copy)]
 pub(crate) struct Programme<'a> {
+    /// Where the memory of a run's watched commands comes from.
+    pub(crate) alloc: Global,
     pub(crate) tasks: &'a [Task],
     /// How many of the tasks in front are the setup.
     pub(crate) setup: usize,
@@ -129,8 +132,14 @@ impl<K: Sink> Rehearsing<K> {
         Ok(())
     }
 
-    // Runs the station over the line by this plan. The result is the fault for which it stopped; `None`: all its cycles are done.
-    fn run_by_plan(&mut self, programme: Programme<'_>, plan: &Plan) -> Option<RunFault>
+    // Runs the station over the line by this plan, and watches these commands. The result is the fault for which it stopped; `None`: all
+    // its cycles are done.
+    fn run_by_plan(
+        &mut self,
+        programme: Programme<'_>,
+        plan: &Plan,
+        watches: Watches,
+    ) -> Option<RunFault>
         ensures { AreRuns programme.entry.tasks.now self.old.link.carried self.new.link.carried }
     {
         commands_are_askable(programme.tasks);
@@ -141,13 +150,14 @@ impl<K: Sink> Rehearsing<K> {
             &mut self.book,
             programme.tasks,
             plan,
+            watches,
             u64::MAX,
             &mut kept,
         )
         .err()
     }
 
-    // Runs the station over the line within these limits. Then the rows of the run are compared with the truth (`check_rows`), and if that
+    // Runs the station over the line within these limits. It fails if memory is refused. Then the rows of the run are compared with the truth (`check_rows`), and if that
     // succeeds, the end of the run is judged (`judge_end`). It fails as these two do.
     fn run_once(&mut self, programme: Programme<'_>, limits: RunLimits) -> Result<RunEnd, Halt>
         ensures { AreRuns programme.entry.tasks.now self.old.link.carried self.new.link.carried }
@@ -157,10 +167,13 @@ impl<K: Sink> Rehearsing<K> {
             ..programme.choice
         };
         let plan = plan_of(choice, programme.setup, programme.tasks);
+        let Ok(watches) = Watches::of(programme.alloc, programme.setup, programme.tasks) else {
+            return Err(Halt::Fault(RunFault::Memory));
+        };
         self.link.begin();
         let begins = programme.start.saturating_add(self.link.elapsed());
         self.book.begin(begins, limits);
-        let fault = self.run_by_plan(programme, &plan);
+        let fault = self.run_by_plan(programme, &plan, watches);
         check_rows(&self.link, &self.book, programme.seed)?;
         judge_end(&mut self.book, fault)
     }

@@ -164,6 +164,7 @@ fn kills_of(rules: &Rules) -> u64 {
 // The programme of a rehearsal on a line with these rules, of these tasks, of which the first `setup` are the setup; a cycle has
 // `commands` commands.
 fn programme_of<'a>(
+    alloc: Global,
     rehearsal: Rehearsal<'_>,
     rules: &Rules,
     tasks: &'a [Task],
@@ -171,6 +172,7 @@ fn programme_of<'a>(
     commands: usize,
 ) -> Programme<'a> {
     Programme {
+        alloc,
         tasks,
         setup,
         commands,
@@ -211,8 +213,9 @@ fn rehearse_texts<K: Sink + Drop, E: Write>(
         tasks,
         names,
         nears: _,
+        unwatched: _,
     } = tasks;
-    let programme = programme_of(rehearsal, &rules, tasks.as_slice(), setup, commands);
+    let programme = programme_of(alloc, rehearsal, &rules, tasks.as_slice(), setup, commands);
     let Ok(seen) = seen_at_first(alloc, programme) else {
         return (output, Err(Halt::Fault(RunFault::Memory)));
     };

@@ -122,9 +122,9 @@ numbered_reply = codes "%R1P,0,3:0,31"
 abbrev pub empty_reply : List ℕ
 empty_reply = codes "%R1P,0,4:0"
 
--- the scope of this run: at most two hundred acts, and what each reply says of its call
+-- the scope of this run: at most two hundred acts, nothing that is watched, and what each reply says of its call
 abbrev pub scope : (Asked → List ℕ → Reading) → Scope
-scope reads = record { turns = 200; reads = reads }
+scope reads = record { turns = 200; watched = []; reads = reads }
 
 -- Acts and moves.
 

@@ -17,6 +17,7 @@ use Rattle.gc_station.specs.Parts.{Part}
 use Rattle.gc_station.specs.Records.{Record}
 use Rattle.gc_station.specs.Runs.{state_after}
 use Rattle.gc_station.specs.Scopes.{Scope, ForEachReadings}
+use Rattle.gc_station.specs.Watching.{watched_of}
 use Rattle.gc_station.specs.declared.tally.Tally.{Tally}
 use Rattle.gc_words.specs.declared.layout.Layout.{Layout}
 use Rattle.gc_measuring.specs.Measuring.{Survey, PortsSeen, RunsAfterFront, text_by}
@@ -32,9 +33,9 @@ use Rattle.gc_promise.specs.Fields.{under, IsOwn}
 
 -- A run.
 
--- the scope of a run of this survey: at most how many acts it makes, and what each reply says of its call
+-- the scope of a run of this survey: at most how many acts it makes, what is watched, and what each reply says of its call
 abbrev pub scope_of : Survey → (Asked → List ℕ → Reading) → Scope
-scope_of survey reads = record { turns = survey.max_turns; reads = reads }
+scope_of survey reads = record { turns = survey.max_turns; watched = watched_of survey.plan.setup survey.tasks; reads = reads }
 
 -- the acts of a run, among those that its link recorded: all but the close after an output that failed
 abbrev pub acts_measured : Result Tally Stop → List Act → List Act

@@ -4,7 +4,7 @@
 -- written. `left` is what is not heard yet of the piece, `rest` the bytes since the last line feed. A piece is the bytes that one
 -- read gave, and a frame what a line feed ends. `Refines station s`: the station stands for the model s. `HeardSoFar` says how far a
 -- piece was heard; `begun`: whether the station had synchronized before the piece.
-use Rattle.std.proofs.Common.{◌≡◌, ℕ, zero, suc, ◌+◌, ◌-◌, min, List, [], ◌∷◌, ◌++◌, Bool, true, false, length, drop, map, Option, Some, None, Result, Ok, Err, OnOk, refl, sym, ap, ◌∙◌, subst, append_assoc, length-drop, arith}
+use Rattle.std.proofs.Common.{◌≡◌, ℕ, zero, suc, ◌+◌, ◌-◌, List, [], ◌∷◌, ◌++◌, Bool, true, false, length, drop, map, Option, Some, None, Result, Ok, Err, OnOk, refl, sym, ap, ◌∙◌, subst, append_assoc, length-drop, arith}
 use Rattle.std.specs.List.{filter_map}
 use Rattle.std.specs.Option.{option_to_list}
 use Rattle.std.specs.Io.KnownBytes.{Appends}
@@ -35,7 +35,8 @@ use Rattle.gc_station.specs.declared.progress.Waiting.{Waiting}
 use Rattle.gc_station.specs.declared.recorded.Recorded.{Recorded}
 use Rattle.gc_station.specs.declared.station.Station.{Station}
 use Rattle.gc_station.specs.Attempts.{listed_after_settlements}
-use Rattle.gc_station.specs.Marks.{commands_in, records_of, last_well, fresh_after}
+use Rattle.gc_station.specs.Marks.{commands_in, records_of, last_well}
+use Rattle.gc_station.specs.Watching.{fresh_after, cut_to}
 use Rattle.gc_station.specs.Progressing.{behind_noted, line_noted, bytes_noted, early_noted, after_failure, closed, failing, lines_synchronizing, line_synchronizing}
 use Rattle.gc_station.specs.Records.{Record, Grew, texts_of, WritesPart, WritesBy}
 use Rattle.gc_station.specs.Model.{Model, Performs, line_came, lines_came, lines_completed, lines_taken, with_rest, with_progress, with_moment, waiting_of, settles, piece_heard}
@@ -339,7 +340,7 @@ refines_expired station new p q m s stands e is = subst (λ (x : Station). Refin
   tally = stands.tally;
   well = stands.well;
   listed = stands.listed;
-  fresh = λ are. ap (λ f. min f m.elapsed) (stands.fresh are);
+  fresh = λ are. ap (map (cut_to m.elapsed)) (stands.fresh are);
 })
 
 -- a station whose requests timed out at a moment is as the model at that moment

@@ -48,6 +48,7 @@ pub mod Turns
 mod Used
 mod Waiting
 mod Walk
+pub mod Freshness
 mod Listed
 mod Retrying
 pub mod Words

@@ -2,7 +2,7 @@
 -- on the link, with its result. `told` and `told'` are what the link had recorded before the call and has recorded after it,
 -- `start`, `taken` and `taken'` what the book had taken at first, before the call and after it; `text` is how a record is
 -- written.
-use Rattle.std.proofs.Common.{◌≡◌, ℕ, ◌+◌, ◌<◌, Bool, true, false, List, [], ◌∷◌, ◌++◌, length, if◌then◌else◌, nat_eq, Option, None, Result, Ok, Err, refl, sym, ap, ◌∙◌, subst, append-nil, arith}
+use Rattle.std.proofs.Common.{◌≡◌, ℕ, ◌+◌, ◌<◌, Bool, true, false, List, [], ◌∷◌, ◌++◌, length, nat_eq, Option, None, Result, Ok, Err, refl, sym, ap, ◌∙◌, subst, append-nil, arith, map}
 use Rattle.std.proofs.lemmas.Bool.{ne_eqb}
 use Rattle.std.proofs.lemmas.List.{length-append}
 use Rattle.gc_lines.specs.Assembler.{StandsFor}
@@ -34,7 +34,10 @@ use Rattle.gc_station.specs.Writing.{noted, recorded_unsent}
 use Rattle.gc_station.specs.declared.recorded.Recorded.{Recorded}
 use Rattle.gc_station.specs.declared.station.sending.Outgoing.{Outgoing}
 use Rattle.gc_station.proofs.Records.{tallied-append, last-append}
+use Rattle.gc_station.specs.Watching.{renewed}
+use Rattle.gc_station.specs.declared.watching.Watch.{Watch}
 use Rattle.gc_station.proofs.Walk.{first_along}
+use Rattle.gc_station.proofs.Freshness.{unwell_changes_none}
 
 -- if a station is as the model `s`, then with the progress `p`, which is `f` of its own, it is as `s` with its progress changed
 -- by `f`
@@ -151,17 +154,23 @@ unwell_end false = refl
 -- wasn't answered well
 pub noted_unsent : (p : Progress) (m : Moment) (mark mark' : Mark) (end : End) (list : List Task) (task : Task) (others : List Task) (r : Recorded)
     → list ≡ task ∷ others → mark ≡ mark' → end ≡ end_unsent p.missed
-    → noted mark m.elapsed None end r
+    → noted mark m None end r
     ≡ recorded_unsent (first_unsent_record p m mark' list) (listed_after r.listed mark'.expected None (end_unsent p.missed)) r
 noted_unsent p m mark mark' end list task others r is e ends =
-    ap (λ (x : Mark). noted x m.elapsed None end r) e
-    ∙ ap (λ (x : End). noted mark' m.elapsed None x r) ends
+    ap (λ (x : Mark). noted x m None end r) e
+    ∙ ap (λ (x : End). noted mark' m None x r) ends
     ∙ ap (λ (b : Bool). record {
       tally = counted_in mark'.cycle mark'.expected.turn (end_unsent p.missed) r.tally;
       well = b;
       listed = listed_after r.listed mark'.expected None (end_unsent p.missed);
-      fresh = if b then m.elapsed else r.fresh;
+      fresh = map (renewed m.elapsed m.utc mark'.cycle mark'.expected.turn.place (end_unsent p.missed)) r.fresh;
     }) (unwell_end p.missed)
+    ∙ ap (λ (ws : List Watch). record {
+      tally = counted_in mark'.cycle mark'.expected.turn (end_unsent p.missed) r.tally;
+      well = false;
+      listed = listed_after r.listed mark'.expected None (end_unsent p.missed);
+      fresh = ws;
+    }) (unwell_changes_none m.elapsed m.utc mark'.cycle mark'.expected.turn.place (end_unsent p.missed) r.fresh (unwell_end p.missed))
     ∙ sym (ap (λ (left : List Task). recorded_unsent (first_unsent_record p m mark' left) (listed_after r.listed mark'.expected None (end_unsent p.missed)) r) is)
 
 -- after the record of the first of the commands in `list`, of which there is one, as not sent, the last command wasn't answered

@@ -24,7 +24,9 @@ use Rattle.gc_texts.specs.declared.near.Near.{Near}
 use Rattle.gc_texts.specs.declared.quality.Quality.{Quality}
 use Rattle.gc_texts.specs.declared.quality.Quality.TheVariants.{Fine, Warning, Refused}
 use Rattle.gc_station.specs.Attempts.{code_of, listed_after, listed_after_settlements}
-use Rattle.gc_station.specs.Marks.{commands_in, first_mark, value_as, warned_as, refused_as, answer_as, end_of, command_of, record_with, record_of, records_of, is_well, last_well, fresh_after}
+use Rattle.gc_station.specs.Marks.{commands_in, first_mark, value_as, warned_as, refused_as, answer_as, end_of, command_of, record_with, record_of, records_of, is_well, last_well}
+use Rattle.gc_station.specs.Watching.{renewed_by, fresh_after}
+use Rattle.gc_station.specs.declared.watching.Watch.{Watch}
 use Rattle.gc_station.specs.Records.{Record, Grew, texts_of, WritesPart}
 use Rattle.gc_station.specs.Scopes.{Reads}
 use Rattle.gc_station.specs.Tallies.{counted_in, tallied}
@@ -250,9 +252,9 @@ last-append b [] ys = refl
 last-append b (x ∷ xs) ys = last-append (is_well x.end) xs ys
 
 -- `fresh_after` of the records `xs` and then `ys`, which were recorded at the moment `now`, is that of `ys` from that of `xs` on
-pub fresh-append : (now fresh : ℕ) (xs ys : List Record) → fresh_after now fresh (xs ++ ys) ≡ fresh_after now (fresh_after now fresh xs) ys
+pub fresh-append : (now : ℕ) (fresh : List Watch) (xs ys : List Record) → fresh_after now fresh (xs ++ ys) ≡ fresh_after now (fresh_after now fresh xs) ys
 fresh-append now fresh [] ys = refl
-fresh-append now fresh (x ∷ xs) ys = fresh-append now (if is_well x.end then now else fresh) xs ys
+fresh-append now fresh (x ∷ xs) ys = fresh-append now (map (renewed_by now x) fresh) xs ys
 
 -- what is kept of records is equal where each of its fields is
 recorded_same : (a b : Recorded) → a.tally ≡ b.tally → a.well ≡ b.well → a.listed ≡ b.listed → a.fresh ≡ b.fresh → a ≡ b
@@ -260,7 +262,7 @@ recorded_same a b tally well listed fresh =
     ap (λ (x : Counts). record a { tally = x }) tally
     ∙ ap (λ (x : Bool). record a { tally = b.tally; well = x }) well
     ∙ ap (λ (x : Bool). record a { tally = b.tally; well = b.well; listed = x }) listed
-    ∙ ap (λ (x : ℕ). record a { tally = b.tally; well = b.well; listed = b.listed; fresh = x }) fresh
+    ∙ ap (λ (x : List Watch). record a { tally = b.tally; well = b.well; listed = b.listed; fresh = x }) fresh
 
 -- without settlements, what is kept of records stays as it was
 pub recorded-none : (reads : Reads) (now : Moment) (marks : List (Option Mark)) (r : Recorded) → recorded_after now marks [] reads r ≡ r

@@ -1,9 +1,12 @@
 -- How a run ends that is stale, and one whose end was asked for. `TracksFresh` says of an act which records it recorded, and what
 -- became of the moment from which on the run may become stale. An act is one call on the link, with its result.
-use Rattle.std.proofs.Common.{◌≡◌, inl, inr, ◌⊎◌, ℕ, ◌-◌, ◌<◌, ◌≤◌, ◌||◌, min, Bool, true, false, List, [], ◌∷◌, ◌++◌, drop, map, Option, Some, None, nat_lt, nat_le, nat_eq, refl, sym, ap, ◌∙◌, subst, append-nil, append_assoc, arith}
-use Rattle.std.proofs.lemmas.Bool.{ltb-true, leb-true, and_parts, cond-true, cond-false, false≢true}
+use Rattle.std.proofs.Common.{◌≡◌, inl, inr, ◌⊎◌, ℕ, ◌-◌, ◌<◌, ◌≤◌, ◌||◌, Bool, true, false, List, [], ◌∷◌, ◌++◌, drop, map, Option, Some, None, nat_lt, nat_le, nat_eq, refl, sym, ap, ◌∙◌, subst, append-nil, append_assoc, arith}
+use Rattle.std.proofs.lemmas.Bool.{ltb-true, lt-ltb, leb-true, le-leb, and_parts, cond-true, cond-false, false≢true}
 use Rattle.std.proofs.lemmas.Bool.Decides.{nat_tests}
 use Rattle.std.specs.List.{AllByRecursion}
+use Rattle.std.specs.Cmp.Derive.{both_true}
+use Rattle.std.proofs.lemmas.List.{map-id, map-append}
+use Rattle.std.proofs.lemmas.Simd.{map-map}
 use Rattle.gc_catalogue.specs.declared.asked.Asked.{Asked}
 use Rattle.gc_client.specs.declared.pending.Pending.{Pending}
 use Rattle.gc_client.specs.Rule.{heard, hears, lost}
@@ -23,14 +26,16 @@ use Rattle.gc_station.specs.declared.progress.Until.{Until}
 use Rattle.gc_station.specs.declared.progress.Waiting.{Waiting}
 use Rattle.gc_station.specs.Closing.{Shows, EndsRun}
 use Rattle.gc_station.specs.Deciding.{is_stale, action_of, action_in, action_on}
-use Rattle.gc_station.specs.Marks.{records_of, is_well, fresh_after}
+use Rattle.gc_station.specs.Marks.{records_of, is_well}
 use Rattle.gc_station.specs.Model.{Model, opening, action_at, waiting_of, unsent_record, first_unsent_record, with_progress, with_moment, with_rest, is_heard, line_came, lines_completed, after_piece, piece_at, Performs, moved, losing, after, Runs}
 use Rattle.gc_station.specs.NextCommand.{place_next, mark_next}
 use Rattle.gc_station.specs.Progressing.{turned, moment_noted, quieted, time_passed, loses_all}
 use Rattle.gc_station.specs.Records.{Record}
 use Rattle.gc_station.specs.Runs.{state_after}
 use Rattle.gc_station.specs.Scopes.{Scope, Reads}
-use Rattle.gc_station.specs.Stopping.{least_moment, asked_after, IsNotWell, NoneWellSince, ClosesStale, StopsAtItsClose, EndsOnceStale, GoesOnInItsChain, ClosesBetweenChains}
+use Rattle.gc_station.specs.Watching.{places_of, unanswered, renews, renewed_if, renewed_by, fresh_after, cut_to, oldest, fresh_in, fresh_of}
+use Rattle.gc_station.specs.declared.watching.Watch.{Watch}
+use Rattle.gc_station.specs.Stopping.{least_moment, asked_after, RenewsNot, NoneWellSince, HasStale, ClosesStale, StopsAtItsClose, EndsOnceStale, GoesOnInItsChain, ClosesBetweenChains}
 use Rattle.gc_station.specs.Quiet.{IsListening, HasLast}
 use Rattle.gc_station.proofs.Always.{always, always_of_progress}
 use Rattle.gc_station.proofs.Closings.{cause_in, no_cause_shown, Decided, after_decided, runs_split, stopped_for, needs_of, done_is_finished}
@@ -43,43 +48,71 @@ use Rattle.gc_station.proofs.Records.{fresh-append}
 use Rattle.gc_station.proofs.Silences.{closes_at_its_end, ended_by_close, not_closing}
 use Rattle.gc_station.proofs.Turns.{no_act_in_over}
 use Rattle.gc_station.proofs.Unbroken.{unbroken_holds, resting_sends_no_chained}
+use Rattle.gc_station.proofs.Freshness.{all_mapped, all_among, oldest_among, fresh_below, renewed_place, unwell_renews_none, unwell_changes_none}
 use Rattle.gc_station.proofs.Walk.{asked_along, came_along, quieted_along, closed_along, walk, piece_before}
 
 -- Records.
 
--- among these records one is of a command that was answered well
-abbrev HasWell : List Record → Type 0
-HasWell rs = (front : List Record) × (r : Record) × (later : List Record) × (rs ≡ front ++ r ∷ later) × (is_well r.end ≡ true)
+-- among these records one renews the watched command with this place (`renews`)
+abbrev HasWell : (place : ℕ) → List Record → Type 0
+HasWell place rs =
+    (front : List Record) × (r : Record) × (later : List Record) × (rs ≡ front ++ r ∷ later) × (renews r.cycle r.turn.place r.end place ≡ true)
 
--- records of which none is of a command that was answered well don't change `fresh`, the moment at which one was answered well
--- last
-unwell_same : (now fresh : ℕ) (rs : List Record) → AllByRecursion IsNotWell rs → fresh_after now fresh rs ≡ fresh
-unwell_same now fresh [] all = refl
-unwell_same now fresh (r ∷ rs) all =
-    ap (λ x. fresh_after now x rs) (cond-false (is_well r.end) now fresh all.0) ∙ unwell_same now fresh rs all.1
+-- the record `r` is of a command that wasn't answered well
+abbrev IsNotWell : Record → Type 0
+IsNotWell r = is_well r.end ≡ false
 
--- of records that are recorded at the moment `now`, none is of a command that was answered well, and `fresh` stays; or one is,
--- and `fresh` becomes `now`
-abbrev StaysOrIsFresh : (now fresh : ℕ) → List Record → Type 0
-StaysOrIsFresh now fresh rs = (AllByRecursion IsNotWell rs × (fresh_after now fresh rs ≡ fresh)) ⊎ (HasWell rs × (fresh_after now fresh rs ≡ now))
+-- records of which none is of a command that was answered well renew no watched command
+unwell_renew_none : (place : ℕ) (rs : List Record) → AllByRecursion IsNotWell rs → AllByRecursion (RenewsNot place) rs
+unwell_renew_none place [] all = tt
+unwell_renew_none place (r ∷ rs) all = (unwell_renews_none r.cycle r.turn.place r.end place all.0, unwell_renew_none place rs all.1)
+
+-- such records don't change when the watched commands were answered well last
+unwell_same : (now : ℕ) (ws : List Watch) (rs : List Record) → AllByRecursion IsNotWell rs → fresh_after now ws rs ≡ ws
+unwell_same now ws [] all = refl
+unwell_same now ws (r ∷ rs) all =
+    ap (λ vs. fresh_after now vs rs) (unwell_changes_none now r.utc r.cycle r.turn.place r.end ws all.0) ∙ unwell_same now ws rs all.1
+
+-- a watched command once these records were made at the moment `now`
+abbrev watch_after : (now : ℕ) → List Record → Watch → Watch
+watch_after now [] w = w
+watch_after now (r ∷ rs) w = watch_after now rs (renewed_by now r w)
+
+-- records change each watched command by itself
+each_by_itself : (now : ℕ) (ws : List Watch) (rs : List Record) → fresh_after now ws rs ≡ map (watch_after now rs) ws
+each_by_itself now ws [] = sym (map-id ws)
+each_by_itself now ws (r ∷ rs) = each_by_itself now (map (renewed_by now r) ws) rs ∙ map-map (watch_after now rs) (renewed_by now r) ws
+
+-- records leave a watched command its place
+place_stays : (now : ℕ) (rs : List Record) (w : Watch) → (watch_after now rs w).place ≡ w.place
+place_stays now [] w = refl
+place_stays now (r ∷ rs) w = place_stays now rs (renewed_by now r w) ∙ renewed_place (renews r.cycle r.turn.place r.end w.place) now r.utc w
+
+-- of records that are recorded at the moment `now`, none renews this watched command, and it stays; or one does, and it is fresh by `now`
+abbrev StaysOrIsFresh : (now : ℕ) → Watch → List Record → Type 0
+StaysOrIsFresh now w rs =
+    (AllByRecursion (RenewsNot w.place) rs × (watch_after now rs w ≡ w)) ⊎ (HasWell w.place rs × ((watch_after now rs w).fresh ≡ now))
 
 -- `StaysOrIsFresh` holds of any records
-fresh_cases : (now fresh : ℕ) (rs : List Record) → StaysOrIsFresh now fresh rs
-fresh_cases now fresh [] = inl (tt, refl)
-fresh_cases now fresh (r ∷ rs) = by_first (fresh_cases now now rs) (fresh_cases now fresh rs) (is_well r.end) refl where
-  -- the lemma above, by whether the first record is of such a command
-  by_first : StaysOrIsFresh now now rs → StaysOrIsFresh now fresh rs → (b : Bool) → is_well r.end ≡ b → StaysOrIsFresh now fresh (r ∷ rs)
-  by_first here there true well = on_well here where
-    -- the lemma above, if the first record is of such a command, by the other records
-    on_well : StaysOrIsFresh now now rs → StaysOrIsFresh now fresh (r ∷ rs)
-    on_well (inl none) = inr (([], r, rs, refl, well), ap (λ x. fresh_after now x rs) (cond-true (is_well r.end) now fresh well) ∙ none.1)
-    on_well (inr some) = inr (([], r, rs, refl, well), ap (λ x. fresh_after now x rs) (cond-true (is_well r.end) now fresh well) ∙ some.1)
-  by_first here there false unwell = on_unwell there where
-    -- the lemma above, if the first record isn't of such a command, by the other records
-    on_unwell : StaysOrIsFresh now fresh rs → StaysOrIsFresh now fresh (r ∷ rs)
-    on_unwell (inl none) = inl ((unwell, none.0), ap (λ x. fresh_after now x rs) (cond-false (is_well r.end) now fresh unwell) ∙ none.1)
-    on_unwell (inr ((front, x, later, order, well), e)) =
-        inr ((r ∷ front, x, later, ap (λ xs. r ∷ xs) order, well), ap (λ x. fresh_after now x rs) (cond-false (is_well r.end) now fresh unwell) ∙ e)
+fresh_cases : (now : ℕ) (w : Watch) (rs : List Record) → StaysOrIsFresh now w rs
+fresh_cases now w [] = inl (tt, refl)
+fresh_cases now w (r ∷ rs) =
+    by_first (fresh_cases now (renewed_if true now r.utc w) rs) (fresh_cases now w rs) (renews r.cycle r.turn.place r.end w.place) refl where
+      -- the lemma above, by whether the first record renews the command
+      by_first : StaysOrIsFresh now (renewed_if true now r.utc w) rs → StaysOrIsFresh now w rs → (b : Bool) → renews r.cycle r.turn.place r.end w.place ≡ b
+          → StaysOrIsFresh now w (r ∷ rs)
+      by_first here there true well = on_well here where
+        -- the lemma above, if the first record renews the command, by the other records
+        on_well : StaysOrIsFresh now (renewed_if true now r.utc w) rs → StaysOrIsFresh now w (r ∷ rs)
+        on_well (inl none) =
+            inr (([], r, rs, refl, well), ap (λ b. (watch_after now rs (renewed_if b now r.utc w)).fresh) well ∙ ap (λ (v : Watch). v.fresh) none.1)
+        on_well (inr some) = inr (([], r, rs, refl, well), ap (λ b. (watch_after now rs (renewed_if b now r.utc w)).fresh) well ∙ some.1)
+      by_first here there false unwell = on_unwell there where
+        -- the lemma above, if the first record doesn't, by the other records
+        on_unwell : StaysOrIsFresh now w rs → StaysOrIsFresh now w (r ∷ rs)
+        on_unwell (inl none) = inl ((unwell, none.0), ap (λ b. watch_after now rs (renewed_if b now r.utc w)) unwell ∙ none.1)
+        on_unwell (inr ((front, x, later, order, well), e)) =
+            inr ((r ∷ front, x, later, ap (λ xs. r ∷ xs) order, well), ap (λ b. (watch_after now rs (renewed_if b now r.utc w)).fresh) unwell ∙ e)
 
 -- the record of the first of these commands, if it isn't sent, isn't of one that was answered well
 unsent_unwell : (p : Progress) (m : Moment) (mark : Mark) (list : List Task) → AllByRecursion IsNotWell (first_unsent_record p m mark list)
@@ -95,19 +128,25 @@ lost_unwell reads utc (Some mark ∷ marks) (p ∷ ps) = (refl, lost_unwell read
 
 -- What an act records.
 
--- from s to t an act wrote records of which none is of a command that was answered well; and `fresh` stays, bounded by the moment
--- that the act read
-abbrev RecordsNoneWell : (s : Model) → Act → (t : Model) → Type 0
-RecordsNoneWell s act t = (rs : List Record) × (t.records ≡ s.records ++ rs) × AllByRecursion IsNotWell rs × (t.fresh ≡ least_moment s.fresh (act ∷ []))
+-- from s to t an act wrote records of which none renews this watched command, `w` in s; in t it is fresh by the same moment, bounded by
+-- the one that the act read
+abbrev RecordsNoneWell : (s : Model) → Act → (t : Model) → (w w' : Watch) → Type 0
+RecordsNoneWell s act t w w' =
+    (rs : List Record) × (t.records ≡ s.records ++ rs) × AllByRecursion (RenewsNot w.place) rs × (w'.fresh ≡ least_moment w.fresh (act ∷ []))
 
--- from s to t an act, a read that gave bytes, wrote records of which at least one is of a command that was answered well; and
--- `fresh` becomes the moment of the read
-abbrev RecordsOneWell : (s : Model) → Act → (t : Model) → Type 0
-RecordsOneWell s act t = (rs : List Record) × (t.records ≡ s.records ++ rs) × HasWell rs × (bytes : List ℕ) × (m : Moment) × (act ≡ Gave bytes m) × (t.fresh ≡ m.elapsed)
+-- from s to t an act, a read that gave bytes, wrote records of which at least one renews this watched command, which is fresh in t by
+-- the moment of the read
+abbrev RecordsOneWell : (s : Model) → Act → (t : Model) → (w w' : Watch) → Type 0
+RecordsOneWell s act t w w' =
+    (rs : List Record) × (t.records ≡ s.records ++ rs) × HasWell w.place rs × (bytes : List ℕ) × (m : Moment) × (act ≡ Gave bytes m) × (w'.fresh ≡ m.elapsed)
 
--- an act wrote records, as `RecordsNoneWell` or `RecordsOneWell` says
+-- from s to t a watched command, `w` in s and w' in t, kept its place, and was recorded as `RecordsNoneWell` or `RecordsOneWell` says
+abbrev Tracks : (s : Model) → Act → (t : Model) → (w w' : Watch) → Type 0
+Tracks s act t w w' = (w'.place ≡ w.place) × (RecordsNoneWell s act t w w' ⊎ RecordsOneWell s act t w w')
+
+-- from s to t an act changed each watched command by itself, as `Tracks` says
 abbrev TracksFresh : (s : Model) → Act → (t : Model) → Type 0
-TracksFresh s act t = RecordsNoneWell s act t ⊎ RecordsOneWell s act t
+TracksFresh s act t = (f : Watch → Watch) × (t.fresh ≡ map f s.fresh) × ((w : Watch) → Tracks s act t w (f w))
 
 -- t is the model `mid` after some lines of a piece, heard at the moment `now`: they added records, and `fresh` is what
 -- `fresh_after` makes of these
@@ -141,57 +180,99 @@ gave_fresh plan until s bytes m =
       by_case : HeardSince (with_moment m (with_progress (moment_noted m) s)) m.elapsed
           (after_piece (is_heard s.progress.phase) s.progress.word bytes (with_moment m (with_progress (moment_noted m) s)))
           → TracksFresh s (Gave bytes m) (piece_at plan until bytes m s)
-      by_case (rs, order, fresh, at) = by_records (fresh_cases m.elapsed (min s.fresh m.elapsed) rs) where
-        -- the lemma above, by whether one of them is of a command that was answered well
-        by_records : StaysOrIsFresh m.elapsed (min s.fresh m.elapsed) rs → TracksFresh s (Gave bytes m) (piece_at plan until bytes m s)
-        by_records (inl none) = inl (rs, order, none.0, fresh ∙ none.1)
-        by_records (inr some) = inr (rs, order, some.0, bytes, m, refl, fresh ∙ some.1)
+      by_case (rs, order, fresh, at) = (
+        (λ w. watch_after m.elapsed rs (cut_to m.elapsed w)),
+        fresh ∙ each_by_itself m.elapsed (map (cut_to m.elapsed) s.fresh) rs ∙ map-map (watch_after m.elapsed rs) (cut_to m.elapsed) s.fresh,
+        λ w. (place_stays m.elapsed rs (cut_to m.elapsed w), by_records w (fresh_cases m.elapsed (cut_to m.elapsed w) rs)),
+      ) where
+        -- the same of one watched command, by whether one of the records renews it
+        by_records : (w : Watch) → StaysOrIsFresh m.elapsed (cut_to m.elapsed w) rs
+            → RecordsNoneWell s (Gave bytes m) (piece_at plan until bytes m s) w (watch_after m.elapsed rs (cut_to m.elapsed w))
+            ⊎ RecordsOneWell s (Gave bytes m) (piece_at plan until bytes m s) w (watch_after m.elapsed rs (cut_to m.elapsed w))
+        by_records w (inl none) = inl (rs, order, none.0, ap (λ (v : Watch). v.fresh) none.1)
+        by_records w (inr some) = inr (rs, order, some.0, bytes, m, refl, some.1)
 
 -- an act of each action wrote records as `TracksFresh` says, from before its turn to before what is outstanding is lost
 moved_fresh : (plan : Plan) (commands : List Task) (next : Action) (s : Model) (act : Act) → Performs commands s next act → TracksFresh s act (moved plan commands next (with_progress turned s) act)
 moved_fresh plan commands actions.Skip s act o =
     walk plan commands (TracksFresh s) actions.Skip (with_progress turned s) act o (
-      λ m. inl (unsent_record plan commands s.progress (Told m), refl, unsent_unwell (turned s.progress) m (mark_next plan commands s.progress) (drop (place_next commands s.progress) commands), refl),
-      λ n. inl ([], refl, tt, refl),
+      λ m.
+          let rs = unsent_record plan commands s.progress (Told m) in
+          let unwell = unsent_unwell (turned s.progress) m (mark_next plan commands s.progress) (drop (place_next commands s.progress) commands) in
+          (cut_to m.elapsed, refl, λ w. (refl, inl (rs, refl, unwell_renew_none w.place rs unwell, refl))),
+      λ n. ((λ w. w), sym (map-id s.fresh), λ w. (refl, inl ([], refl, tt, refl))),
     )
 moved_fresh plan commands (actions.Read until) s act o =
     let none = sym (append-nil s.records) in
     walk plan commands (TracksFresh s) (actions.Read until) (with_progress turned s) act o (
       λ bytes m. gave_fresh plan until (with_progress turned s) bytes m,
-      λ m. inl ([], none, tt, refl),
-      inl ([], none, tt, refl),
-      inl ([], none, tt, refl),
-      inl ([], none, tt, refl),
+      λ m. (cut_to m.elapsed, refl, λ w. (refl, inl ([], none, tt, refl))),
+      ((λ w. w), sym (map-id s.fresh), λ w. (refl, inl ([], none, tt, refl))),
+      ((λ w. w), sym (map-id s.fresh), λ w. (refl, inl ([], none, tt, refl))),
+      ((λ w. w), sym (map-id s.fresh), λ w. (refl, inl ([], none, tt, refl))),
     )
-moved_fresh plan commands (actions.Close why) s act o = walk plan commands (TracksFresh s) (actions.Close why) (with_progress turned s) act o (inl ([], sym (append-nil s.records), tt, refl))
+moved_fresh plan commands (actions.Close why) s act o =
+    let none = sym (append-nil s.records) in
+    walk plan commands (TracksFresh s) (actions.Close why) (with_progress turned s) act o ((λ w. w), sym (map-id s.fresh), λ w. (refl, inl ([], none, tt, refl)))
 moved_fresh plan commands (actions.Stop why) s act o = absurd o
+moved_fresh plan commands actions.ReadClock s act o =
+    let none = sym (append-nil s.records) in
+    walk plan commands (TracksFresh s) actions.ReadClock (with_progress turned s) act o (
+      λ m. (cut_to m.elapsed, refl, λ w. (refl, inl ([], none, tt, refl))),
+      λ n. ((λ w. w), sym (map-id s.fresh), λ w. (refl, inl ([], none, tt, refl))),
+    )
+moved_fresh plan commands actions.Renew s act o =
+    let none = sym (append-nil s.records) in
+    walk plan commands (TracksFresh s) actions.Renew (with_progress turned s) act o (
+      λ m. (cut_to m.elapsed, refl, λ w. (refl, inl ([], none, tt, refl))),
+      λ n. ((λ w. w), sym (map-id s.fresh), λ w. (refl, inl ([], none, tt, refl))),
+    )
+moved_fresh plan commands actions.Begin s act o =
+    let none = sym (append-nil s.records) in
+    walk plan commands (TracksFresh s) actions.Begin (with_progress turned s) act o (
+      λ m. (cut_to m.elapsed, refl, λ w. (refl, inl ([], none, tt, refl))),
+      λ n. ((λ w. w), sym (map-id s.fresh), λ w. (refl, inl ([], none, tt, refl))),
+    )
+moved_fresh plan commands actions.Pass s act o =
+    let none = sym (append-nil s.records) in
+    walk plan commands (TracksFresh s) actions.Pass (with_progress turned s) act o (
+      λ m. (cut_to m.elapsed, refl, λ w. (refl, inl ([], none, tt, refl))),
+      λ n. ((λ w. w), sym (map-id s.fresh), λ w. (refl, inl ([], none, tt, refl))),
+    )
 moved_fresh plan commands next s act o =
-    let none = sym (append-nil s.records) in walk plan commands (TracksFresh s) next (with_progress turned s) act o (λ m. inl ([], none, tt, refl), λ n. inl ([], none, tt, refl))
+    let none = sym (append-nil s.records) in
+    walk plan commands (TracksFresh s) next (with_progress turned s) act o (
+      λ m. ((λ w. w), sym (map-id s.fresh), λ w. (refl, inl ([], none, tt, refl))),
+      λ n. ((λ w. w), sym (map-id s.fresh), λ w. (refl, inl ([], none, tt, refl))),
+    )
 
 -- the loss of what is outstanding preserves `TracksFresh`: what is lost wasn't answered well
 losing_fresh : (s : Model) (act : Act) (all : Bool) (t : Model) → TracksFresh s act t → TracksFresh s act (losing all t)
 losing_fresh s act false t h = h
-losing_fresh s act true t (inl (rs, order, unwell, fresh)) =
+losing_fresh s act true t (f, fresh, each) =
     let more = records_of t.reads t.progress.moment.utc t.marks (map lost t.client.waiting) in
     let none = lost_unwell t.reads t.progress.moment.utc t.marks t.client.waiting in
-    inl (
-      rs ++ more,
-      ap (λ xs. xs ++ more) order ∙ append_assoc s.records rs more,
-      all_append IsNotWell rs more unwell none,
-      unwell_same t.progress.moment.elapsed t.fresh more none ∙ fresh,
-    )
-losing_fresh s act true t (inr (rs, order, (front, r, later, split, well), bytes, m, is, fresh)) =
-    let more = records_of t.reads t.progress.moment.utc t.marks (map lost t.client.waiting) in
-    let none = lost_unwell t.reads t.progress.moment.utc t.marks t.client.waiting in
-    inr (
-      rs ++ more,
-      ap (λ xs. xs ++ more) order ∙ append_assoc s.records rs more,
-      (front, r, later ++ more, ap (λ xs. xs ++ more) split ∙ append_assoc front (r ∷ later) more, well),
-      bytes,
-      m,
-      is,
-      unwell_same t.progress.moment.elapsed t.fresh more none ∙ fresh,
-    )
+    (f, unwell_same t.progress.moment.elapsed t.fresh more none ∙ fresh, λ w. ((each w).0, by_records w (f w) more none (each w).1)) where
+      -- the lemma above for one watched command, by whether one of the records before renews it
+      by_records : (w w' : Watch) (more : List Record) → AllByRecursion IsNotWell more → RecordsNoneWell s act t w w' ⊎ RecordsOneWell s act t w w'
+          → RecordsNoneWell s act (record t { records = t.records ++ more }) w w' ⊎ RecordsOneWell s act (record t { records = t.records ++ more }) w w'
+      by_records w w' more none (inl (rs, order, unwell, least)) =
+          inl (
+            rs ++ more,
+            ap (λ xs. xs ++ more) order ∙ append_assoc s.records rs more,
+            all_append (RenewsNot w.place) rs more unwell (unwell_renew_none w.place more none),
+            least,
+          )
+      by_records w w' more none (inr (rs, order, (front, r, later, split, well), bytes, m, is, at)) =
+          inr (
+            rs ++ more,
+            ap (λ xs. xs ++ more) order ∙ append_assoc s.records rs more,
+            (front, r, later ++ more, ap (λ xs. xs ++ more) split ∙ append_assoc front (r ∷ later) more, well),
+            bytes,
+            m,
+            is,
+            at,
+          )
 
 -- a whole act wrote records as `TracksFresh` says
 after_fresh : (plan : Plan) (commands : List Task) (s : Model) (act : Act) → Performs commands s (action_at plan s) act → TracksFresh s act (after plan commands s act)
@@ -211,68 +292,144 @@ pub asked-append : (b : Bool) (xs ys : List Act) → asked_after b (xs ++ ys) �
 asked-append b [] ys = refl
 asked-append b (x ∷ xs) ys = asked-append (asked_after b (x ∷ [])) xs ys
 
--- an act of which `TracksFresh` holds preserves `NoneWellSince`
-none_well_more : (plan : Plan) (commands : List Task) (scope : Scope) (done : List Act) (act : Act) → NoneWellSince plan commands scope done
-    → TracksFresh (state_after plan commands scope done) act (state_after plan commands scope (done ++ act ∷ [])) → NoneWellSince plan commands scope (done ++ act ∷ [])
-none_well_more plan commands scope done act u (inl (rs, order, unwell, fresh)) = record {
-  before = u.before;
-  behind = u.behind ++ act ∷ [];
-  order = ap (λ xs. xs ++ act ∷ []) u.order ∙ append_assoc u.before u.behind (act ∷ []);
-  from = u.from;
-  start = u.start;
-  records = u.records ++ rs;
-  written = order ∙ ap (λ xs. xs ++ rs) u.written ∙ append_assoc (state_after plan commands scope u.before).records u.records rs;
-  unwell = all_append IsNotWell u.records rs u.unwell unwell;
-  fresh = fresh ∙ ap (λ n. least_moment n (act ∷ [])) u.fresh ∙ sym (least-append u.from u.behind (act ∷ []));
-}
-none_well_more plan commands scope done act u (inr (rs, order, (front, r, later, split, well), bytes, m, is, fresh)) =
-    let all = done ++ act ∷ [] in
+-- an act of which `Tracks` holds preserves `NoneWellSince`
+none_well_more : (plan : Plan) (commands : List Task) (scope : Scope) (done : List Act) (act : Act) (w w' : Watch) → NoneWellSince plan commands scope done w.place w.fresh
+    → Tracks (state_after plan commands scope done) act (state_after plan commands scope (done ++ act ∷ [])) w w' → NoneWellSince plan commands scope (done ++ act ∷ []) w'.place w'.fresh
+none_well_more plan commands scope done act w w' u (place, tracked) =
+    subst (λ p. NoneWellSince plan commands scope (done ++ act ∷ []) p w'.fresh) (sym place) (by_records tracked) where
+      -- the lemma above, by whether the act recorded the command as answered well
+      by_records : RecordsNoneWell (state_after plan commands scope done) act (state_after plan commands scope (done ++ act ∷ [])) w w'
+          ⊎ RecordsOneWell (state_after plan commands scope done) act (state_after plan commands scope (done ++ act ∷ [])) w w'
+          → NoneWellSince plan commands scope (done ++ act ∷ []) w.place w'.fresh
+      by_records (inl (rs, order, unwell, least)) = record {
+        before = u.before;
+        behind = u.behind ++ act ∷ [];
+        order = ap (λ xs. xs ++ act ∷ []) u.order ∙ append_assoc u.before u.behind (act ∷ []);
+        from = u.from;
+        start = u.start;
+        records = u.records ++ rs;
+        written = order ∙ ap (λ xs. xs ++ rs) u.written ∙ append_assoc (state_after plan commands scope u.before).records u.records rs;
+        unwell = all_append (RenewsNot w.place) u.records rs u.unwell unwell;
+        least = least ∙ ap (λ n. least_moment n (act ∷ [])) u.least ∙ sym (least-append u.from u.behind (act ∷ []));
+      }
+      by_records (inr (rs, order, (front, r, later, split, well), bytes, m, is, at)) =
+          let all = done ++ act ∷ [] in
+          record {
+            before = all;
+            behind = [];
+            order = sym (append-nil all);
+            from = m.elapsed;
+            start = inr (record {
+              earlier = done;
+              piece = bytes;
+              moment = m;
+              order = ap (λ a. done ++ a ∷ []) is;
+              at = refl;
+              answer = r;
+              written = record {
+                earlier = front;
+                later = later;
+                written = sym (ap (λ a. (state_after plan commands scope (done ++ a ∷ [])).records) is)
+                    ∙ order ∙ ap (λ xs. (state_after plan commands scope done).records ++ xs) split;
+              };
+              well = well;
+            });
+            records = [];
+            written = sym (append-nil (state_after plan commands scope all).records);
+            unwell = tt;
+            least = at;
+          }
+
+-- after these acts each watched command is as `NoneWellSince` says, and the watched commands are those of the scope
+record AreTracked (plan : Plan) (commands : List Task) (scope : Scope) (acts : List Act) : Type 0 where
+  each : AllByRecursion (λ w. NoneWellSince plan commands scope acts w.place w.fresh) (state_after plan commands scope acts).fresh
+  places : places_of (state_after plan commands scope acts).fresh ≡ scope.watched
+
+-- what changes each watched command by itself, and leaves it its place, leaves all their places
+places_stay : (f : Watch → Watch) → ((w : Watch) → (f w).place ≡ w.place) → (ws : List Watch) → places_of (map f ws) ≡ places_of ws
+places_stay f same [] = refl
+places_stay f same (w ∷ ws) = ap (λ p. p ∷ places_of (map f ws)) (same w) ∙ ap (λ ps. w.place ∷ ps) (places_stay f same ws)
+
+-- an act of which `TracksFresh` holds preserves `AreTracked`
+tracked_more : (plan : Plan) (commands : List Task) (scope : Scope) (done : List Act) (act : Act) → AreTracked plan commands scope done
+    → TracksFresh (state_after plan commands scope done) act (state_after plan commands scope (done ++ act ∷ [])) → AreTracked plan commands scope (done ++ act ∷ [])
+tracked_more plan commands scope done act u (f, fresh, each) =
+    let now = λ (w : Watch). NoneWellSince plan commands scope (done ++ act ∷ []) w.place w.fresh in
+    let was = (state_after plan commands scope done).fresh in
     record {
-      before = all;
-      behind = [];
-      order = sym (append-nil all);
-      from = m.elapsed;
-      start = inr (record {
-        earlier = done;
-        piece = bytes;
-        moment = m;
-        order = ap (λ a. done ++ a ∷ []) is;
-        at = refl;
-        answer = r;
-        written = record {
-          earlier = front;
-          later = later;
-          written = sym (ap (λ a. (state_after plan commands scope (done ++ a ∷ [])).records) is)
-              ∙ order ∙ ap (λ xs. (state_after plan commands scope done).records ++ xs) split;
-        };
-        well = well;
-      });
-      records = [];
-      written = sym (append-nil (state_after plan commands scope all).records);
-      unwell = tt;
-      fresh = fresh;
+      each = subst (AllByRecursion now) (sym fresh)
+          (all_mapped (λ (w : Watch). NoneWellSince plan commands scope done w.place w.fresh) now f (λ w h. none_well_more plan commands scope done act w (f w) h (each w)) was u.each);
+      places = ap places_of fresh ∙ places_stay f (λ w. (each w).0) was ∙ u.places;
     }
 
--- `NoneWellSince` holds after each run
-none_well_holds : (plan : Plan) (commands : List Task) (scope : Scope) (acts : List Act) → Runs plan commands (opening plan scope) acts → NoneWellSince plan commands scope acts
-none_well_holds plan commands scope acts runs =
-    always plan commands (opening plan scope) (λ (done : List Act) (t : Model). NoneWellSince plan commands scope done) (λ done act runs' o u.
-    none_well_more plan commands scope done act u
+-- before the first act no watched command was answered
+none_tracked : (plan : Plan) (commands : List Task) (scope : Scope) (places : List ℕ)
+    → AllByRecursion (λ w. NoneWellSince plan commands scope [] w.place w.fresh) (map unanswered places)
+none_tracked plan commands scope [] = tt
+none_tracked plan commands scope (p ∷ places) = (
+  record { before = []; behind = []; order = refl; from = 0; start = inl (refl, refl); records = []; written = refl; unwell = tt; least = refl },
+  none_tracked plan commands scope places,
+)
+
+-- `AreTracked` holds after each run
+tracked_holds : (plan : Plan) (commands : List Task) (scope : Scope) (acts : List Act) → Runs plan commands (opening plan scope) acts → AreTracked plan commands scope acts
+tracked_holds plan commands scope acts runs =
+    always plan commands (opening plan scope) (λ (done : List Act) (t : Model). AreTracked plan commands scope done) (λ done act runs' o u.
+    tracked_more plan commands scope done act u
     (subst (λ (t : Model). TracksFresh (state_after plan commands scope done) act t) (sym (after_all-append plan commands (opening plan scope) done (act ∷ [])))
     (after_fresh plan commands (state_after plan commands scope done) act o)))
-    (record { before = []; behind = []; order = refl; from = 0; start = inl (refl, refl); records = []; written = refl; unwell = tt; fresh = refl }) acts runs
+    (record { each = none_tracked plan commands scope scope.watched; places = map-map (λ (w : Watch). w.place) unanswered scope.watched ∙ map-id scope.watched }) acts runs
+
+-- a run that is stale is so by a watched command
+stale_has : (plan : Plan) (s : Model) → is_stale plan s.progress (waiting_of s) ≡ true → HasStale plan s
+stale_has plan s stale = by_oldest (oldest s.fresh) refl where
+  -- the two parts of the test
+  parts : (nat_lt 0 plan.stale ≡ true) × (nat_le plan.stale (s.progress.moment.elapsed - fresh_of s.progress.moment.elapsed s.fresh) ≡ true)
+  parts = and_parts (nat_lt 0 plan.stale) (nat_le plan.stale (s.progress.moment.elapsed - fresh_of s.progress.moment.elapsed s.fresh)) stale
+
+  -- the plan sets a limit
+  wanted : 0 < plan.stale
+  wanted = ltb-true 0 plan.stale parts.0
+
+  -- the lemma above, by the watched command that was answered well the longest ago
+  by_oldest : (o : Option Watch) → oldest s.fresh ≡ o → HasStale plan s
+  by_oldest None e =
+      let long : plan.stale ≤ s.progress.moment.elapsed - s.progress.moment.elapsed = leb-true plan.stale (s.progress.moment.elapsed - s.progress.moment.elapsed)
+      (ap (λ x. nat_le plan.stale (s.progress.moment.elapsed - fresh_in x s.progress.moment.elapsed)) (sym e) ∙ parts.1) in
+      absurd (omega (arith, long, wanted))
+  by_oldest (Some w) e =
+      let among = oldest_among s.fresh w e in
+      record {
+        front = among.0;
+        watch = w;
+        later = among.1;
+        among = among.2;
+        wanted = wanted;
+        long = leb-true plan.stale (s.progress.moment.elapsed - w.fresh)
+            (ap (λ x. nat_le plan.stale (s.progress.moment.elapsed - fresh_in x s.progress.moment.elapsed)) (sym e) ∙ parts.1);
+      }
+
+-- a run with a watched command that is stale is stale
+has_stale : (plan : Plan) (s : Model) → HasStale plan s → is_stale plan s.progress (waiting_of s) ≡ true
+has_stale plan s h =
+    let now = s.progress.moment.elapsed in
+    let low : fresh_of now s.fresh ≤ h.watch.fresh = subst (λ ws. fresh_of now ws ≤ h.watch.fresh) (sym h.among) (fresh_below now h.front h.watch h.later) in
+    let long : plan.stale ≤ now - fresh_of now s.fresh = omega (arith, low, h.long) in
+    both_true (lt-ltb 0 plan.stale h.wanted) (le-leb plan.stale (now - fresh_of now s.fresh) long)
 
 -- a connection is closed, and a run ends without one, for `Stale` only if the run is stale (`IsStaleAt`)
 pub closes_stale : ClosesStale
 closes_stale plan commands scope acts runs is =
     let s = state_after plan commands scope acts in
-    let u = none_well_holds plan commands scope acts runs in
-    let stale = closes_at_its_end plan s cause.Stale is (not_closing plan commands scope acts cause.Stale runs (λ act shows. shows)) in
-    let it = and_parts (nat_lt 0 plan.stale) (nat_le plan.stale (s.progress.moment.elapsed - s.fresh)) stale in
+    let u = tracked_holds plan commands scope acts runs in
+    let some = stale_has plan s (closes_at_its_end plan s cause.Stale is (not_closing plan commands scope acts cause.Stale runs (λ act shows. shows))) in
     record {
-      since = u;
-      wanted = ltb-true 0 plan.stale it.0;
-      long = subst (λ n. plan.stale ≤ s.progress.moment.elapsed - n) u.fresh (leb-true plan.stale (s.progress.moment.elapsed - s.fresh) it.1);
+      some = some;
+      front = places_of some.front;
+      later = places_of some.later;
+      watched = sym u.places ∙ ap places_of some.among ∙ map-append (λ (w : Watch). w.place) some.front (some.watch ∷ some.later);
+      since = all_among (λ (w : Watch). NoneWellSince plan commands scope acts w.place w.fresh) some.front some.watch some.later
+          (subst (AllByRecursion (λ (w : Watch). NoneWellSince plan commands scope acts w.place w.fresh)) some.among u.each);
     }
 
 -- If a run stops.
@@ -372,7 +529,7 @@ ends_once_stale plan commands scope earlier behind telling runs tells turns stal
     let split = runs_split plan commands (opening plan scope) earlier behind telling runs in
     let later = runs_behind plan commands (opening plan scope) all behind
     (subst (λ (xs : List Act). Runs plan commands (opening plan scope) xs) (sym (append_assoc earlier (telling ∷ []) behind)) runs) in
-    only_close_follows plan commands t behind (stale_next plan t.progress (waiting_of t) t.progress.phase refl (by_end (cause_in t.progress.phase) refl) turns stale) later where
+    only_close_follows plan commands t behind (stale_next plan t.progress (waiting_of t) t.progress.phase refl (by_end (cause_in t.progress.phase) refl) turns (has_stale plan t stale)) later where
       -- the moment decides no end
       by_end : (e : Option Cause) → cause_in (state_after plan commands scope (earlier ++ telling ∷ [])).progress.phase ≡ e
           → cause_in (state_after plan commands scope (earlier ++ telling ∷ [])).progress.phase ≡ None

@@ -32,6 +32,7 @@ number_task deadline chained = record {
   deadline = deadline;
   chained = chained;
   near = None;
+  watched = true;
   accepted = no_codes;
   again = no_again;
   turn = no_turn;
@@ -46,7 +47,7 @@ plan_of every deadline quiet =
 
 -- at most a hundred acts, in which every reply is taken to say the number 0
 abbrev pub scope : Scope
-scope = scoped 100 (λ call line. Value (Long (pos 0)))
+scope = scoped 100 [] (λ call line. Value (Long (pos 0)))
 
 -- the moment at which both clocks show this number
 abbrev pub at : ℕ → Moment

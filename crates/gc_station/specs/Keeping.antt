@@ -69,11 +69,12 @@ module _ (plan : Plan) (commands : List Task) (scope : Scope) (text : Record →
     pub saw : seen' ≡ seen ++ turns
     pub kept : AreKept plan commands scope text told taken [] acts turns
 
--- a run with this many turns, of which `old` is seen before it and `new` after it, with a list of turns as above
-module _ (plan : Plan) (commands : List Task) (turns : ℕ) (old new : RunSeen) (seen seen' : List Snapshot) where
+-- a run with this many turns, in which the commands with the places `watched` are watched, and of which `old` is seen before it and `new`
+-- after it, with a list of turns as above
+module _ (plan : Plan) (commands : List Task) (turns : ℕ) (watched : List ℕ) (old new : RunSeen) (seen seen' : List Snapshot) where
   -- `KeepsUp` of the run, if each reply says of its call what `reads` gives
   abbrev pub KeepsUpBy : (others : List Act) → Reads → Type 0
-  KeepsUpBy others reads = KeepsUp plan commands (scoped turns reads) old.text old.acts new.acts old.taken seen seen' others
+  KeepsUpBy others reads = KeepsUp plan commands (scoped turns watched reads) old.text old.acts new.acts old.taken seen seen' others
 
 -- the acts of a link after a run with this result: a close if the book failed (`Err`); otherwise none
 abbrev pub close_if_failed : {X E : Type 0} → Result X E → List Act

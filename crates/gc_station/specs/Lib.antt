@@ -10,6 +10,7 @@ pub mod ActKinds
 pub mod NextCommand
 pub mod Model
 pub mod Tallies
+pub mod Watching
 pub mod Writing
 pub mod Runs
 pub mod Keeping

@@ -1,6 +1,6 @@
 -- Marks, this project's own: for each outstanding request, which command of which cycle it is; a null procedure of the
 -- station's own has none.
-use Rattle.std.specs.Prelude.{ℕ, suc, Bool, true, false, if◌then◌else◌, List, [], ◌∷◌, map, Option, Some, None, slice_get, unwrap_or}
+use Rattle.std.specs.Prelude.{ℕ, suc, Bool, true, false, List, [], ◌∷◌, map, Option, Some, None, slice_get, unwrap_or}
 use Rattle.gc_catalogue.specs.declared.answer.Answer.{Answer}
 use Rattle.gc_catalogue.specs.declared.answer.Reading.{Reading}
 use Rattle.gc_catalogue.specs.declared.answer.Reading.TheVariants as reading
@@ -108,9 +108,3 @@ is_well _ = false
 abbrev pub last_well : (well : Bool) → List Record → Bool
 last_well well [] = well
 last_well well (r ∷ others) = last_well (is_well r.end) others
-
--- the moment at which a command that was answered well was recorded last: `now`, if one of these records, which are recorded at
--- that moment, is of such a command; otherwise `fresh`
-abbrev pub fresh_after : (now fresh : ℕ) → List Record → ℕ
-fresh_after now fresh [] = fresh
-fresh_after now fresh (r ∷ others) = fresh_after now (if is_well r.end then now else fresh) others

@@ -1,7 +1,7 @@
 -- What a station is after the acts of its link, this project's own: the client's rule over what really happened, and how far
 -- the station is. Each act is the one that the station was to make next. An act is one call on the link, with its result. `until`
 -- says what a read waits for.
-use Rattle.std.specs.Prelude.{◌≡◌, ℕ, ◌-◌, Bool, true, false, List, [], ◌∷◌, ◌++◌, length, drop, take, map, Option, Some, None, if◌then◌else◌, slice_get, min, ◌⊎◌}
+use Rattle.std.specs.Prelude.{◌≡◌, ℕ, ◌-◌, Bool, true, false, List, [], ◌∷◌, ◌++◌, length, drop, take, map, Option, Some, None, if◌then◌else◌, slice_get, ◌⊎◌}
 use Rattle.gc_lines.specs.Frames.{rest_behind}
 use Rattle.gc_lines.specs.Lines.{with_end}
 pub use Rattle.gc_lines.specs.Passing.{lines_completed}
@@ -33,12 +33,14 @@ use Rattle.gc_station.specs.ActKinds.{Puts, ReadsClock, IsOpening, ReadsLink}
 use Rattle.gc_station.specs.Deciding.{later, is_none_left, is_preparing, action_of}
 pub use Rattle.gc_station.specs.Lines.{is_reply}
 use Rattle.gc_station.specs.Attempts.{listed_after, listed_after_settlements}
-use Rattle.gc_station.specs.Marks.{commands_in, record_with, records_of, last_well, fresh_after}
+use Rattle.gc_station.specs.Marks.{commands_in, record_with, records_of, last_well}
 use Rattle.gc_station.specs.NextCommand.{place_next, commands_left, cycles_begun, mark_next, mark_setup, commands_before, upcoming_after}
 use Rattle.gc_station.specs.Progressing.{at_start, turned, moment_noted, cycle_begun, skipped, attempts_left_out, unsent_at, failing, opened, after_failure, cleared, request_noted, null_sent, resynchronized, sent, behind_noted, line_noted, lines_synchronizing, bytes_noted, silent, early_noted, closed, loses_all, setup_sent}
 use Rattle.gc_station.specs.Records.{Record}
 use Rattle.gc_station.specs.Requests.{RunRequest, requests, of_task, command_at}
 use Rattle.gc_station.specs.Scopes.{Scope, Reads}
+use Rattle.gc_station.specs.Watching.{unanswered, fresh_after, fresh_of, cut_to}
+use Rattle.gc_station.specs.declared.watching.Watch.{Watch}
 use Rattle.gc_texts.specs.Endings.{End, Skipped, Missed}
 
 -- the state of a station after the acts of a run so far
@@ -58,9 +60,8 @@ pub record Model : Type 0 where
   pub listed : Bool
   -- the commands of further attempts that were left out so far, in order
   pub passes : List RunRequest
-  -- the moment at which a command that was answered well was recorded last, by the clock for deadlines; 0 if none was; an earlier
-  -- moment if the clock went back past it since
-  pub fresh : ℕ
+  -- of each watched command, when it was recorded last as answered well
+  pub fresh : List Watch
   -- what the line of a reply says of a call
   pub reads : Reads
 
@@ -74,13 +75,13 @@ opening plan scope = record {
   records = [];
   listed = false;
   passes = [];
-  fresh = 0;
+  fresh = map unanswered scope.watched;
   reads = scope.reads;
 }
 
 -- what a decision looks at besides the progress: how many requests of `client` are outstanding (`all`), how many of them haven't
 -- timed out (`current`), and how many are, by their `marks`, of commands (`commands`). `well`: whether the command that was
--- recorded last was answered well. `listed` and `fresh` are as in `Model`
+-- recorded last was answered well. `listed` is as in `Model`, and `fresh` the moment from which on the run may become stale
 abbrev pub waiting_by : (client : ById Asked) (marks : List (Option Mark)) (well listed : Bool) (fresh : ℕ) → Waiting
 waiting_by client marks well listed fresh = record {
   all = length client.waiting;
@@ -93,7 +94,7 @@ waiting_by client marks well listed fresh = record {
 
 -- what a decision looks at besides the progress, of the model `s`
 abbrev pub waiting_of : Model → Waiting
-waiting_of s = waiting_by s.client s.marks (last_well false s.records) s.listed s.fresh
+waiting_of s = waiting_by s.client s.marks (last_well false s.records) s.listed (fresh_of s.progress.moment.elapsed s.fresh)
 
 -- the next action of a station that has the model `s`
 abbrev pub action_at : Plan → Model → Action
@@ -167,9 +168,9 @@ Performs commands s (Stop cause) act = ⊥
 abbrev pub with_progress : (Progress → Progress) → Model → Model
 with_progress f s = record s { progress = f s.progress }
 
--- the model `s` after the moment `m`: requests whose deadline has come have timed out, and `fresh` is `m` at the latest
+-- the model `s` after the moment `m`: requests whose deadline has come have timed out, and each of `fresh` is cut to `m`
 abbrev pub with_moment : Moment → Model → Model
-with_moment m s = record s { client = expires s.client m.elapsed; fresh = min s.fresh m.elapsed }
+with_moment m s = record s { client = expires s.client m.elapsed; fresh = map (cut_to m.elapsed) s.fresh }
 
 -- the client after a send with this result; if the send was refused (`None`), `client` as it was
 abbrev pub client_sent : ById Asked → Option (Sending (ById Asked)) → ById Asked

@@ -109,15 +109,16 @@ pub record RunSeen : Type 0 where
 abbrev pub run_seen : {B : Type 0} → Option (List Act) → Book B → B → RunSeen
 run_seen acts of_book book = record { acts = acts; text = of_book.text book; taken = of_book.taken book }
 
--- a run with this many turns, of which `old` is seen before it and `new` after it
-module _ (plan : Plan) (commands : List Task) (turns : ℕ) (old new : RunSeen) where
+-- a run with this many turns, in which the commands with the places `watched` are watched, and of which `old` is seen before it and `new`
+-- after it
+module _ (plan : Plan) (commands : List Task) (turns : ℕ) (watched : List ℕ) (old new : RunSeen) where
   -- the run with this result ended as `EndsAs` says, if each reply says of its call what `reads` gives
   abbrev pub EndsBy : {E : Type 0} → Result (Cause × Tally) E → Reads → Type 0
-  EndsBy result reads = EndsAs plan commands (scoped turns reads) old.text old.acts new.acts old.taken new.taken result
+  EndsBy result reads = EndsAs plan commands (scoped turns watched reads) old.text old.acts new.acts old.taken new.taken result
 
   -- the run with this result is as `Ran` says, if each reply says of its call what `reads` gives
   abbrev pub RanBy : Result Tally RunFault → Reads → Type 0
-  RanBy result reads = Ran plan commands (scoped turns reads) old.text old.acts new.acts old.taken new.taken result
+  RanBy result reads = Ran plan commands (scoped turns watched reads) old.text old.acts new.acts old.taken new.taken result
 
 -- after a run with the fault `Output` its book has failed (`new`); after any other run the book has failed exactly if it had
 -- before (`old`)

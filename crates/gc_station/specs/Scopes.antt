@@ -1,5 +1,5 @@
--- What the laws on a run take beside its plan and its commands, this project's own: how many turns it has, and what each reply
--- says of its call.
+-- What the laws on a run take beside its plan and its commands, this project's own: how many turns it has, what is watched,
+-- and what each reply says of its call.
 use Rattle.std.specs.Prelude.{◌≡◌, ℕ, List}
 use Rattle.gc_catalogue.specs.declared.answer.Reading.{Reading}
 use Rattle.gc_catalogue.specs.declared.asked.Asked.{Asked}
@@ -14,6 +14,8 @@ Reads = Asked → List ℕ → Reading
 pub record Scope : Type 0 where
   -- how many turns it has: each act takes one. When none is left, a connection that is still there is closed by one act more
   pub turns : ℕ
+  -- what is watched: the places of commands among those of the text's cycle
+  pub watched : List ℕ
   -- what the line of a reply says of a call
   pub reads : Reads
 
@@ -29,9 +31,10 @@ OneReadingForALine = (call : Asked) (line : List ℕ) (x y : Reading) → ReadsB
 abbrev pub SomeReadings : Type 0
 SomeReadings = (reads : Reads) × AreReadings reads
 
--- the scope of a run with this many turns, in which `reads` gives what the line of a reply says of a call
-abbrev pub scoped : ℕ → Reads → Scope
-scoped turns reads = record { turns = turns; reads = reads }
+-- the scope of a run with this many turns, in which the commands with these places are watched, and `reads` gives what the line of a
+-- reply says of a call
+abbrev pub scoped : ℕ → (watched : List ℕ) → Reads → Scope
+scoped turns watched reads = record { turns = turns; watched = watched; reads = reads }
 
 -- `Holds` is true of every function that gives each line's reading for a call
 abbrev pub ForEachReadings : (Reads → Type 0) → Type 0

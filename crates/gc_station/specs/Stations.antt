@@ -1,6 +1,6 @@
 -- No part of a promise: what the functions of a station do to it, in terms of its model. An act is one call on the link, with
 -- its result.
-use Rattle.std.specs.Prelude.{◌≡◌, ℕ, ◌<◌, ◌≤◌, Bool, false, min, List, [], ◌∷◌, ◌++◌, length, drop, Option, Some, None, Result, Ok, Err}
+use Rattle.std.specs.Prelude.{◌≡◌, ℕ, ◌<◌, ◌≤◌, Bool, false, List, [], ◌∷◌, ◌++◌, length, drop, map, Option, Some, None, Result, Ok, Err}
 use Rattle.std.specs.Io.KnownBytes.{Appends}
 use Rattle.std.specs.Option.{option_to_list}
 use Rattle.gc_lines.specs.Assembler.{StandsFor}
@@ -30,11 +30,12 @@ use Rattle.gc_station.specs.Progressing.{failing, moment_noted_meanwhile, advanc
 use Rattle.gc_station.specs.Records.{Record, texts_of, WritesPart}
 use Rattle.gc_station.specs.Model.{Model, Performs, moved, stepped, waiting_by, lines_taken, sent_to, unsent_record, listed_unsent}
 use Rattle.gc_station.specs.Tallies.{empty_counts, tallied}
+use Rattle.gc_station.specs.Watching.{fresh_of, cut_to}
 use Rattle.gc_station.specs.Writing.{recorded_unsent}
 
 -- what a decision looks at besides the progress, of a station
 abbrev pub waiting_of_station : Station → Waiting
-waiting_of_station station = waiting_by station.client.ids station.marks.items station.recorded.well station.recorded.listed station.recorded.fresh
+waiting_of_station station = waiting_by station.client.ids station.marks.items station.recorded.well station.recorded.listed (fresh_of station.progress.moment.elapsed station.recorded.fresh)
 
 -- a station has one mark for each outstanding request
 abbrev pub IsPaired : Station → Type 0
@@ -64,7 +65,7 @@ pub record Refines (station : Station) (s : Model) : Type 0 where
   pub well : AreReadings s.reads → station.recorded.well ≡ last_well false s.records
   -- whether a recorded command of the current attempt ended as its rule names: as the model says
   pub listed : AreReadings s.reads → station.recorded.listed ≡ s.listed
-  -- the moment at which a command that was answered well was recorded last, or what stands for it: as the model says
+  -- when each watched command was recorded last as answered well: as the model says
   pub fresh : AreReadings s.reads → station.recorded.fresh ≡ s.fresh
 
 -- from `start`, what it had taken before the run, to `taken` a book took the texts of the records of the model `s`, each
@@ -185,11 +186,12 @@ station_asking asking station = record station {
   marks = record { items = station.marks.items ++ asking.mark ∷ [] };
 }
 
--- the station at the moment `now`: requests whose deadline has come have timed out, and `fresh` is `now` at the latest
+-- the station at the moment `now`: requests whose deadline has come have timed out, and each of `fresh` is
+-- cut to `now`
 abbrev pub station_expiring : (now : ℕ) → Station → Station
 station_expiring now station = record station {
   client = record station.client { ids = expires station.client.ids now };
-  recorded = record station.recorded { fresh = min station.recorded.fresh now };
+  recorded = record station.recorded { fresh = map (cut_to now) station.recorded.fresh };
 }
 
 -- from `old` to `new` a station read the clock, the one act of the link between `told` and `told'`. With a moment, its requests

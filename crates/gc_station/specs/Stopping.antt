@@ -12,14 +12,15 @@ use Rattle.gc_station.specs.declared.plan.Plan.{Plan}
 use Rattle.gc_station.specs.declared.progress.Action.TheVariants.{Begin, Send, Close, Stop, Prepare}
 use Rattle.gc_station.specs.ActKinds.{moment_in}
 use Rattle.gc_station.specs.Answers.{IsWrittenAt}
-use Rattle.gc_station.specs.Deciding.{is_stale, may_go}
-use Rattle.gc_station.specs.Marks.{is_well}
+use Rattle.gc_station.specs.Deciding.{may_go}
 use Rattle.gc_station.specs.Model.{Model, opening, action_at, waiting_of, Runs}
 use Rattle.gc_station.specs.Quiet.{IsListening}
 use Rattle.gc_station.specs.Reasons.{IsResting}
 use Rattle.gc_station.specs.Records.{Record}
 use Rattle.gc_station.specs.Runs.{state_after, OfEachRun, WhereNext}
 use Rattle.gc_station.specs.Scopes.{Scope}
+use Rattle.gc_station.specs.Watching.{renews}
+use Rattle.gc_station.specs.declared.watching.Watch.{Watch}
 
 -- the least of `n` and the moments that these acts read, by the clock for deadlines. If that clock doesn't go back, and `n` was
 -- read before them, it is `n`
@@ -32,12 +33,14 @@ abbrev pub asked_after : (asked : Bool) → List Act → Bool
 asked_after asked [] = asked
 asked_after asked (act ∷ acts) = asked_after (option_map_or (λ m. asked || m.stops) (moment_in act) asked) acts
 
--- the record `r` is of a command that wasn't answered well
-abbrev pub IsNotWell : Record → Type 0
-IsNotWell r = is_well r.end ≡ false
+-- the record `r` doesn't renew the watched command with this place (`renews`): it is of another command, or of the setup, or of a
+-- command that wasn't answered well
+abbrev pub RenewsNot : (place : ℕ) → Record → Type 0
+RenewsNot place r = renews r.cycle r.turn.place r.end place ≡ false
 
--- the last of `acts` is a read at the moment `now`, which recorded a command that was answered well (`answer`)
-pub record EndsWell (plan : Plan) (commands : List Task) (scope : Scope) (acts : List Act) (now : ℕ) : Type 0 where
+-- the last of `acts` is a read at the moment `now`, which recorded the watched command with this place in a cycle, answered well
+-- (`answer`)
+pub record EndsWell (plan : Plan) (commands : List Task) (scope : Scope) (place : ℕ) (acts : List Act) (now : ℕ) : Type 0 where
   pub earlier : List Act
   pub piece : List ℕ
   pub moment : Moment
@@ -45,29 +48,41 @@ pub record EndsWell (plan : Plan) (commands : List Task) (scope : Scope) (acts :
   pub at : now ≡ moment.elapsed
   pub answer : Record
   pub written : IsWrittenAt plan commands scope earlier (Gave piece moment) answer
-  pub well : is_well answer.end ≡ true
+  pub well : renews answer.cycle answer.turn.place answer.end place ≡ true
 
--- `behind` are the acts after the last one of `acts` that recorded a command that was answered well, or all acts if none did.
--- `from` is the moment of that one, 0 if there was none. None of the records of `behind` is of such a command, and `fresh` is
--- the least of `from` and the moments that `behind` read
-pub record NoneWellSince (plan : Plan) (commands : List Task) (scope : Scope) (acts : List Act) : Type 0 where
+-- `behind` are the acts after the last one of `acts` that recorded the watched command with this place in a cycle, answered well, or all
+-- acts if none did. `from` is the moment of that one, 0 if there was none. None of the records of `behind` renews that command, and
+-- `fresh` is the least of `from` and the moments that `behind` read
+pub record NoneWellSince (plan : Plan) (commands : List Task) (scope : Scope) (acts : List Act) (place fresh : ℕ) : Type 0 where
   pub before : List Act
   pub behind : List Act
   pub order : acts ≡ before ++ behind
   pub from : ℕ
-  pub start : ((before ≡ []) × (from ≡ 0)) ⊎ EndsWell plan commands scope before from
+  pub start : ((before ≡ []) × (from ≡ 0)) ⊎ EndsWell plan commands scope place before from
   pub records : List Record
   pub written : (state_after plan commands scope acts).records ≡ (state_after plan commands scope before).records ++ records
-  pub unwell : AllByRecursion IsNotWell records
-  pub fresh : (state_after plan commands scope acts).fresh ≡ least_moment from behind
+  pub unwell : AllByRecursion (RenewsNot place) records
+  pub least : fresh ≡ least_moment from behind
 
--- after `acts` the run is stale: the plan sets a limit (`wanted`), and at least that many milliseconds lie between two moments
--- (`long`). The later one is the moment read last. The earlier one is that of the last act that recorded a command that was
--- answered well, 0 if none did; or the least moment that was read since, if the clock went back past it
-pub record IsStaleAt (plan : Plan) (commands : List Task) (scope : Scope) (acts : List Act) : Type 0 where
-  pub since : NoneWellSince plan commands scope acts
+-- at the model `s` a watched command is stale: the plan sets a limit (`wanted`), and at least that many milliseconds lie between when the
+-- command was recorded last as answered well, and the moment read last (`long`)
+pub record HasStale (plan : Plan) (s : Model) : Type 0 where
+  pub front : List Watch
+  pub watch : Watch
+  pub later : List Watch
+  pub among : s.fresh ≡ front ++ watch ∷ later
   pub wanted : 0 < plan.stale
-  pub long : plan.stale ≤ (state_after plan commands scope acts).progress.moment.elapsed - least_moment since.from since.behind
+  pub long : plan.stale ≤ s.progress.moment.elapsed - watch.fresh
+
+-- after `acts` the run is stale by a watched command (`some`). It is one of those that the scope has watched. When it was recorded last as
+-- answered well is the moment of the last act that recorded it so in a cycle, 0 if none did; or the least moment that was read since, if
+-- the clock went back past it
+pub record IsStaleAt (plan : Plan) (commands : List Task) (scope : Scope) (acts : List Act) : Type 0 where
+  pub some : HasStale plan (state_after plan commands scope acts)
+  pub front : List ℕ
+  pub later : List ℕ
+  pub watched : scope.watched ≡ front ++ some.watch.place ∷ later
+  pub since : NoneWellSince plan commands scope acts some.watch.place some.watch.fresh
 
 -- a close for the cause `Stale` is next, whether there is a connection or not, only where the run is stale (`IsStaleAt`)
 abbrev pub ClosesStale : Type 0
@@ -78,13 +93,13 @@ abbrev pub StopsAtItsClose : Cause → Type 0
 StopsAtItsClose why = WhereNext (Stop why) (λ plan commands scope acts.
     (earlier : List Act) × (acts ≡ earlier ++ Closed ∷ []) × (action_at plan (state_after plan commands scope earlier) ≡ Close why))
 
--- if a run is stale after an act that read a moment (`telling`), and has turns left, it ends: no act comes after that one, or
--- only a close
+-- if some watched command is stale (`HasStale`) after an act that read a moment (`telling`), and the run has turns left, it ends: no act
+-- comes after that one, or only a close
 abbrev pub EndsOnceStale : Type 0
 EndsOnceStale =
     (plan : Plan) (commands : List Task) (scope : Scope) (earlier behind : List Act) (telling : Act)
     → Runs plan commands (opening plan scope) (earlier ++ telling ∷ behind) → IsListening telling
-    → let s = state_after plan commands scope (earlier ++ telling ∷ []) in 0 < s.progress.turns → is_stale plan s.progress (waiting_of s) ≡ true
+    → let s = state_after plan commands scope (earlier ++ telling ∷ []) in 0 < s.progress.turns → HasStale plan s
     → (behind ≡ []) ⊎ (behind ≡ Closed ∷ [])
 
 -- once a moment was read at which the end of the run was asked for, no cycle begins, no command of the setup is sent, and each

@@ -1,5 +1,5 @@
 -- No part of a promise: what is written and noted of the settlements of outstanding requests, and what of a book stays.
-use Rattle.std.specs.Prelude.{◌≡◌, ℕ, Bool, false, List, map, Option, Result, OnOk, if◌then◌else◌}
+use Rattle.std.specs.Prelude.{◌≡◌, ℕ, Bool, false, List, map, Option, Result, OnOk}
 use Rattle.gc_catalogue.specs.declared.asked.Asked.{Asked}
 use Rattle.gc_client.specs.Rule
 use Rattle.gc_client.specs.Settlements.{settlement_seen}
@@ -7,10 +7,11 @@ use Rattle.gc_client.specs.declared.settlement.Settlement.{Settlement}
 use Rattle.gc_lines.specs.Ports.{FailsWith}
 use Rattle.gc_links.specs.declared.link.Moment.{Moment}
 use Rattle.gc_station.specs.Attempts.{listed_after, listed_after_settlements}
-use Rattle.gc_station.specs.Marks.{records_of, is_well, last_well, fresh_after}
+use Rattle.gc_station.specs.Marks.{records_of, is_well, last_well}
 use Rattle.gc_station.specs.Records.{Record}
 use Rattle.gc_station.specs.Scopes.{ForEachReadings, Reads}
 use Rattle.gc_station.specs.Tallies.{counted_in, tallied}
+use Rattle.gc_station.specs.Watching.{renewed, fresh_after}
 use Rattle.gc_station.specs.declared.book.Book.{Ghosts as Book}
 use Rattle.gc_station.specs.declared.mark.Mark.{Mark}
 use Rattle.gc_station.specs.declared.recorded.Recorded.{Recorded}
@@ -22,14 +23,13 @@ use Rattle.gc_texts.specs.Endings.{End}
 abbrev pub news_of : (utc : ℕ) → List (Option Mark) → List (Settlement Asked) → Reads → List Record
 news_of utc marks settlements reads = records_of reads utc marks (map settlement_seen settlements)
 
--- what is kept of the records, `r`, once the command with `mark` was recorded at the moment `now`, by the clock for deadlines: it
--- ended as `end`, and `code` is the return code other than 0 of the reply that ended it, if there is one
-abbrev pub noted : Mark → (now : ℕ) → (code : Option ℕ) → End → Recorded → Recorded
+-- what is kept of the records, `r`, once the command with `mark` was recorded at the moment `now`: it ended as `end`, and `code` is the return code other than 0 of the reply that ended it, if there is one
+abbrev pub noted : Mark → (now : Moment) → (code : Option ℕ) → End → Recorded → Recorded
 noted mark now code end r = record {
   tally = counted_in mark.cycle mark.expected.turn end r.tally;
   well = is_well end;
   listed = listed_after r.listed mark.expected code end;
-  fresh = if is_well end then now else r.fresh;
+  fresh = map (renewed now.elapsed now.utc mark.cycle mark.expected.turn.place end) r.fresh;
 }
 
 -- what is kept of the records, `r`, once `records`, of commands that weren't sent, are written; with `listed` in place of its own

@@ -5,6 +5,7 @@ ghost use Rattle.std.specs.Io.KnownBytes.{Keeps};
 ghost use Rattle.gc_station.specs.Records.{record_seen, Writes};
 ghost use Rattle.gc_lines.specs.Ports.{FailsWith};
 
+use crate::watching::Watch;
 use gc_lines::PortFailed;
 use gc_links::Moment;
 use gc_texts::{Ending, Stamp, Wish};
@@ -68,6 +69,14 @@ pub trait Book {
     /// Takes note of the health of the link and of the last moment read on the link, whose times are 0 if none was read yet. It
     /// is called before each act, but for the close after the book failed.
     fn sees(&mut self, health: LinkHealth, moment: Moment)
+        ensures same_overruns { overruns self.new ≡ overruns self.old }
+        ensures same { taken self.new ≡ taken self.old }
+        ensures works { failed self.new ≡ failed self.old }
+        ensures is_durable { is_durable self.new ≡ is_durable self.old }
+        ensures form { text self.new ≡ text self.old };
+
+    /// Takes note of the watched command that was answered well the longest ago. It is called before a run ends as stale, and not else.
+    fn unanswered(&mut self, watch: Watch)
         ensures same_overruns { overruns self.new ≡ overruns self.old }
         ensures same { taken self.new ≡ taken self.old }
         ensures works { failed self.new ≡ failed self.old }

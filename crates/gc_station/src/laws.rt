@@ -406,10 +406,12 @@ pub fn the_table_is_never_held_up()
     ensures { TheTableIsNeverHeldUp }
 {}
 
-/// A run ends as stale only if no answer of a good quality was recorded for as long as the plan allows. This time ends at the
-/// moment read last. It begins at the moment of the act that recorded such an answer last, or at 0 if none did; or if the clock
-/// went back since, at the least moment read since. And a run with turns left ends at the first moment read at which it is stale:
-/// after that at most one act is made, a close.
+/// A run ends as stale only if of some watched command of a cycle no answer of a good quality was recorded for as long as the plan allows.
+/// This time ends at the moment read last. It begins at the moment of the act that recorded such an answer of that command last, in
+/// whatever attempt, or at 0 if none did; or if the clock went back since, at the least moment read since. And a run with turns left ends
+/// at the first moment read at which this is so of some watched command: after that at most one act is made, a close. Nothing else renews
+/// a command: neither an answer to another one, nor one of the setup. So a run ends as stale no later than one that any answer renews,
+/// and the law says no less than that one's.
 pub fn ends_stale_only_without_a_good_answer()
     ensures closes { ClosesStale }
     ensures stops { StopsAtItsClose cause.Stale }

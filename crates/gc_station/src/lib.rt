@@ -16,6 +16,7 @@ mod recorded;
 mod run;
 mod station;
 mod tally;
+mod watching;
 mod writing;
 
 pub use book::{Book, LinkHealth};
@@ -24,4 +25,5 @@ pub use kept::Kept;
 pub use plan::Plan;
 pub use run::run_station;
 pub use tally::Tally;
+pub use watching::{Watch, Watches};
 pub use writing::is_well;

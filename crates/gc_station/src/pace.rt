@@ -10,15 +10,17 @@ ghost use Rattle.gc_station.specs.Marks.{commands_in};
 ghost use Rattle.gc_station.specs.NextCommand.{cycles_begun};
 ghost use Rattle.gc_station.specs.Pace.{out_of_time_at, retry_at, stale_at, longest_timeout, read_end_in, read_end_without_deadline, read_end, read_timeout, is_cycle_done, health_in, overrun};
 ghost use Rattle.gc_station.specs.Progressing.{due_at};
+ghost use Rattle.gc_station.specs.Watching.{fresh_of};
 
 use crate::book::{Book, LinkHealth};
+use crate::cause::Cause;
 use crate::plan::Plan;
-use crate::progress::{Phase, Progress, Until};
+use crate::progress::{Action, Phase, Progress, Until};
 use crate::progressing::later;
 use crate::station::Station;
 
-// The moment from which on the run is stale, if no answer of a good quality is recorded until then; `u64::MAX` if it never is.
-// `fresh` is when such an answer was recorded last; 0 if none was; an earlier moment if the clock went back past it since.
+// The moment from which on the run is stale, if no answer of a good quality is recorded until then of the watched command that had none
+// the longest; `u64::MAX` if it never is. `fresh` is when that command was recorded last as answered well.
 fn stale_at(plan: &Plan, fresh: u64) -> u64
     ensures { result ≡ stale_at plan.now fresh }
 {
@@ -141,12 +143,12 @@ impl Station {
     // that is earlier, but at least 1 and at most `longest_timeout`.
     pub(crate) fn read_timeout(&self, plan: &Plan, until: Until) -> u64
         ensures { (deadline : Option ℕ) × IsEarliest (deadlines self.now.client.ids.waiting) deadline
-            × (result ≡ read_timeout plan.now self.now.progress self.now.recorded.fresh until deadline) }
+            × (result ≡ read_timeout plan.now self.now.progress (fresh_of self.now.progress.moment.elapsed self.now.recorded.fresh) until deadline) }
     {
         let deadline = self.client.next_deadline();
         self.progress
             .read_end(plan, until, deadline)
-            .min(stale_at(plan, self.recorded.fresh))
+            .min(stale_at(plan, self.fresh()))
             .min(self.progress.out_of_time_at(plan))
             .saturating_sub(self.progress.moment.elapsed)
             .max(1)
@@ -176,9 +178,31 @@ impl Station {
         self.progress.unsent == 0 && self.commands_waiting() == 0
     }
 
-    // Reports to a book the health of the link before the next act; and, at most once for a cycle, that it wasn't done when the next
-    // was due. `reported` is the last cycle that was reported as not done, 0 if none was; the result is the last one after the call.
-    pub(crate) fn report_to<B: Book>(&self, book: &mut B, plan: &Plan, reported: u64) -> u64
+    // Reports to a book, if this action closes a stale run, which watched command was answered well the longest ago.
+    fn report_unanswered<B: Book>(&self, book: &mut B, action: Action)
+        ensures overruns { B.overruns book.new ≡ B.overruns book.old }
+        ensures taken { B.taken book.new ≡ B.taken book.old }
+        ensures failed { B.failed book.new ≡ B.failed book.old }
+        ensures is_durable { B.is_durable book.new ≡ B.is_durable book.old }
+        ensures form { B.text book.new ≡ B.text book.old }
+    {
+        if let Action::Close(Cause::Stale) = action {
+            if let Some(watch) = self.recorded.fresh.oldest() {
+                book.unanswered(watch);
+            }
+        }
+    }
+
+    // Reports to a book the health of the link before the next act, which performs `action`; at most once for a cycle, that it wasn't
+    // done when the next was due; and, if the run ends as stale, by which command. `reported` is the last cycle that was reported as
+    // not done, 0 if none was; the result is the last one after the call.
+    pub(crate) fn report_to<B: Book>(
+        &self,
+        book: &mut B,
+        plan: &Plan,
+        action: Action,
+        reported: u64,
+    ) -> u64
         ensures reported { result ≡ unwrap_or (overrun plan.now self.now.progress reported) reported }
         ensures reports { Appends (B.overruns book.old) (B.overruns book.new) (option_to_list (overrun plan.now self.now.progress reported)) }
         ensures taken { B.taken book.new ≡ B.taken book.old }
@@ -186,6 +210,7 @@ impl Station {
         ensures is_durable { B.is_durable book.new ≡ B.is_durable book.old }
         ensures form { B.text book.new ≡ B.text book.old }
     {
+        self.report_unanswered(book, action);
         book.sees(self.health(plan), self.progress.moment);
         match self.progress.overrun(plan, reported) {
             Some(cycle) => {

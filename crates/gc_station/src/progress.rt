@@ -75,8 +75,9 @@ pub(crate) enum Until {
     Due,
 }
 
-/// How many requests are outstanding, and what a station keeps of the records that it wrote, but for their tally: `well`,
-/// `listed` and `fresh` are those of its `Recorded`.
+/// How many requests are outstanding, and what a station keeps of the records that it wrote, but for their tally: `well` and
+/// `listed` are those of its `Recorded`, and `fresh` is when the watched command was recorded last as answered well of which that is the
+/// longest ago; the moment read last if nothing is watched.
 #[derive(Clone, Copy)]
 pub(crate) struct Waiting {
     /// All outstanding requests.

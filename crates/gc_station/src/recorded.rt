@@ -1,13 +1,16 @@
 //! What a station keeps of the records that it wrote.
 
-ghost use Rattle.std.specs.Prelude.{◌≡◌, false};
+ghost use Rattle.std.specs.Prelude.{◌≡◌, false, map};
 ghost use Rattle.gc_station.specs.Tallies.{empty_counts};
+ghost use Rattle.gc_station.specs.Watching.{unanswered, places_of};
 ghost use Rattle.gc_station.specs.Writing.{noted};
 ghost use Rattle.gc_texts.specs.Endings.{ending_seen};
 
 use crate::mark::Mark;
 use crate::tally::Counts;
+use crate::watching::Watches;
 use crate::writing::{is_listed_after, is_well};
+use gc_links::Moment;
 use gc_texts::Ending;
 
 /// What a station keeps of the records that it wrote so far.
@@ -21,32 +24,32 @@ pub(crate) struct Recorded {
     // Whether a recorded command of the current attempt ended in a way after which the text sends its chain again; `false`
     // before the first record. A command of the setup leaves it as it is.
     pub(crate) listed: bool,
-    // When a command that was answered well was recorded last, by the clock for deadlines; 0 if none was; an earlier moment if
-    // the clock went back past it since.
-    pub(crate) fresh: u64,
+    // Of each watched command, when it was recorded last as answered well.
+    pub(crate) fresh: Watches,
 }
 
 impl Recorded {
-    // Nothing was recorded yet.
-    pub(crate) fn new() -> Recorded
-        ensures { result ≡ record { tally = empty_counts; well = false; listed = false; fresh = 0 } }
+    // Nothing was recorded yet, of these watched commands either.
+    pub(crate) fn new(mut watches: Watches) -> Recorded
+        ensures { result ≡ record { tally = empty_counts; well = false; listed = false; fresh = map unanswered (places_of watches) } }
     {
+        watches.begin();
         Recorded {
             tally: Counts::new(),
             well: false,
             listed: false,
-            fresh: 0,
+            fresh: watches,
         }
     }
 
-    // Notes that the command with this mark was recorded at the moment `now`, by the clock for deadlines, with this ending.
+    // Notes that the command with this mark was recorded at the moment `now`, with this ending.
     // `code` is the return code other than 0 of the reply that ended it, if there is one, as `code_of` returns it.
-    pub(crate) fn note(&mut self, mark: &Mark, now: u64, code: Option<u16>, ending: Ending<'_>)
+    pub(crate) fn note(&mut self, mark: &Mark, now: Moment, code: Option<u16>, ending: Ending<'_>)
         ensures { self.new ≡ noted mark.now now code (ending_seen ending.entry) self.old }
     {
         self.tally.count(mark.cycle, mark.expected.turn, ending);
         self.well = is_well(ending);
         self.listed = is_listed_after(self.listed, &mark.expected, code, ending);
-        self.fresh = if is_well(ending) { now } else { self.fresh };
+        self.fresh.note(mark, now, ending);
     }
 }

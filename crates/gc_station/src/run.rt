@@ -5,6 +5,7 @@ ghost use Rattle.std.specs.Io.KnownBytes.{Keeps};
 ghost use Rattle.gc_station.specs.Keeping.{reads_clock_alone, KeepsUpBy, close_if_failed, close_at_output};
 ghost use Rattle.gc_station.specs.Runs.{EndsBy, RanBy, FailsAtOutput, LastUnlessFailed, run_seen};
 ghost use Rattle.gc_station.specs.Scopes.{ForEachReadings, ForEachAndSomeReadings};
+ghost use Rattle.gc_station.specs.Watching.{places_of};
 ghost use Rattle.gc_station.specs.Writing.{KeepsBook};
 
 use crate::book::Book;
@@ -14,6 +15,7 @@ use crate::plan::Plan;
 use crate::progress::Action;
 use crate::station::Station;
 use crate::tally::Tally;
+use crate::watching::Watches;
 use gc_lines::PortFailed;
 use gc_links::Link;
 use gc_texts::{RunFault, Task};
@@ -38,18 +40,19 @@ pub(crate) fn run<L: Link, B: Book>(
     book: &mut B,
     commands: &[Task],
     plan: &Plan,
+    watches: Watches,
     max_turns: u64,
     kept: &mut Kept,
 ) -> Result<(Cause, Tally), PortFailed>
-    ensures ran { ForEachReadings (EndsBy plan.now commands.now max_turns
+    ensures ran { ForEachReadings (EndsBy plan.now commands.now max_turns (places_of watches)
         (run_seen (L.acts link.old) B.Book book.old) (run_seen (L.acts link.new) B.Book book.new) result) }
-    ensures keeps { ForEachReadings (KeepsUpBy plan.now commands.now max_turns
+    ensures keeps { ForEachReadings (KeepsUpBy plan.now commands.now max_turns (places_of watches)
         (run_seen (L.acts link.old) B.Book book.old) (run_seen (L.acts link.new) B.Book book.new)
         kept.old.turns kept.new.turns (close_if_failed result)) }
     ensures is_durable { OnOk result (B.is_durable book.new ≡ true) }
     ensures kept { KeepsBook B.Book book.old book.new result }
 {
-    let mut station = Station::new(plan, max_turns);
+    let mut station = Station::new(plan, max_turns, watches);
     // The last cycle whose overrun was reported to the book; 0 if none was.
     let mut reported = 0;
     loop {
@@ -63,7 +66,7 @@ pub(crate) fn run<L: Link, B: Book>(
         if let Action::Stop(cause) = action {
             return Ok((cause, station.recorded.tally.total()));
         }
-        reported = station.report_to(book, plan, reported);
+        reported = station.report_to(book, plan, action, reported);
         *kept = kept.with_snapshot(link, book);
         if let Err(failed) = station.step(link, book, plan, commands, action) {
             link.close();
@@ -72,7 +75,8 @@ pub(crate) fn run<L: Link, B: Book>(
     }
 }
 
-/// Sends the commands over a link, in cycles, by the plan, and writes into a book how each command ended.
+/// Sends the commands over a link, in cycles, by the plan, and writes into a book how each command ended. The commands of `watches`
+/// ([`Watches::of`]) are watched for `Stale`, from the beginning of the run on.
 ///
 /// What a station does next is a function of what its link recorded: `action_at`. It connects, sends a lone line feed, and
 /// synchronizes: eight null procedures are sent one after the other, with ids 6, 5, 4, 3, 2, 1, 0 and 7. One that isn't
@@ -121,8 +125,9 @@ pub(crate) fn run<L: Link, B: Book>(
 ///   commands before the cycle's next one in the list (0 before the first cycle); `LinkClosed`, the other end closed the
 ///   connection; `Socket`, no connection could be made; `SetUp`, a command of the setup wasn't answered well. `Read` and
 ///   `LinkClosed` also while tries are left, if a read without a connection failed or gave an end.
-/// - `Stale`: no answer of a good quality was recorded for `stale` milliseconds, counted from the last one, or if there was none,
-///   from the start of the link's clock for deadlines.
+/// - `Stale`: of some command of `watches` no answer of a good quality was recorded for `stale` milliseconds, counted from the last
+///   one, or if there was none, from the start of the link's clock for deadlines. Which command that is the book was told
+///   (`unanswered`).
 /// - `TooManyReads`: `max_turns` acts were made. A connection that is open then is closed by one act more.
 /// - `Output`: the book failed. If it failed at a record of the last act, it has all records of the acts before, those of
 ///   the last act before that record, and a first part of that record. If the records couldn't be made to last, it has all
@@ -137,17 +142,18 @@ pub fn run_station<L: Link, B: Book>(
     book: &mut B,
     commands: &[Task],
     plan: &Plan,
+    watches: Watches,
     max_turns: u64,
     kept: &mut Kept,
 ) -> Result<Tally, RunFault>
     // What the link recorded, what the book took and how the run ended are as the model has them, for whatever function says
     // what each reply says of its call; and there is such a function.
-    ensures ran { ForEachAndSomeReadings (RanBy plan.now commands.now max_turns
+    ensures ran { ForEachAndSomeReadings (RanBy plan.now commands.now max_turns (places_of watches)
         (run_seen (L.acts link.old) B.Book book.old) (run_seen (L.acts link.new) B.Book book.new) result) }
 
     // At each act what the acts before it settled is in the book; and it lasts unless the act is a mere reading of the clock. If
     // the book failed one act is made all the same: the connection is closed.
-    ensures keeps { ForEachAndSomeReadings (KeepsUpBy plan.now commands.now max_turns
+    ensures keeps { ForEachAndSomeReadings (KeepsUpBy plan.now commands.now max_turns (places_of watches)
         (run_seen (L.acts link.old) B.Book book.old) (run_seen (L.acts link.new) B.Book book.new)
         kept.old.turns kept.new.turns (close_at_output result)) }
 
@@ -157,7 +163,7 @@ pub fn run_station<L: Link, B: Book>(
     // If the fault is `Output` the book has failed; otherwise whether it has failed is as before.
     ensures output { FailsAtOutput (B.failed book.old) (B.failed book.new) result }
 {
-    match run(link, book, commands, plan, max_turns, kept) {
+    match run(link, book, commands, plan, watches, max_turns, kept) {
         Ok((cause, tally)) => match cause.fault() {
             None => Ok(tally),
             Some(fault) => Err(fault),

@@ -11,6 +11,7 @@ ghost use Rattle.gc_station.specs.Records.{WritesNews};
 ghost use Rattle.gc_station.specs.Model.{Model, opening, action_at, with_losses};
 ghost use Rattle.gc_station.specs.NextCommand.{place_next, expected_first, mark_next, commands_before, first_is_chained, others_in, is_chained_after, others_after, upcoming_after, mark_setup};
 ghost use Rattle.gc_station.specs.Stations.{waiting_of_station, CanPerform, Refines, MakesMoveAlone, Moves, Steps, as_seen, OnCall, KeepsToModel, DropsMarks, SuitsAction, ReadsMoment, station_expiring};
+ghost use Rattle.gc_station.specs.Watching.{fresh_of, places_of};
 ghost use Rattle.gc_station.specs.Writing.{KeepsBook, news_settled, NotesSettled};
 ghost use Rattle.gc_station.specs.declared.progress.Action.TheVariants.{ReadClock, Renew, Begin, Open, Close};
 ghost use Rattle.gc_texts.specs.declared.tasks.Task.{Task};
@@ -25,6 +26,7 @@ use crate::mark::{Mark, commands_in};
 use crate::plan::Plan;
 use crate::progress::{Action, Progress, Upcoming, Waiting};
 use crate::recorded::Recorded;
+use crate::watching::Watches;
 use crate::writing::write_settlements;
 use arrayvec::ArrayVec;
 use gc_catalogue::Asked;
@@ -96,16 +98,16 @@ pub(crate) struct Station {
 }
 
 impl Station {
-    // A station that has done nothing.
-    pub(crate) fn new(plan: &Plan, max_turns: u64) -> Station
-        ensures { (reads : Reads) → Refines result (opening plan.now (scoped max_turns reads)) }
+    // A station that has done nothing, and watches these commands.
+    pub(crate) fn new(plan: &Plan, max_turns: u64, watches: Watches) -> Station
+        ensures { (reads : Reads) → Refines result (opening plan.now (scoped max_turns (places_of watches) reads)) }
     {
         Station {
             client: Client::new(SlotsOf::new()),
             marks: ArrayVec::new(),
             assembler: Assembler::new(),
             progress: Progress::at_start(plan, max_turns),
-            recorded: Recorded::new(),
+            recorded: Recorded::new(watches),
             settled: ArrayVec::new(),
         }
     }
@@ -120,7 +122,18 @@ impl Station {
             commands: self.commands_waiting(),
             well: self.recorded.well,
             listed: self.recorded.listed,
-            fresh: self.recorded.fresh,
+            fresh: self.fresh(),
+        }
+    }
+
+    // When the watched command was recorded last as answered well of which that is the longest ago; the moment read last if nothing is
+    // watched.
+    pub(crate) fn fresh(&self) -> u64
+        ensures { result ≡ fresh_of self.now.progress.moment.elapsed self.now.recorded.fresh }
+    {
+        match self.recorded.fresh.oldest() {
+            Some(watch) => watch.fresh,
+            None => self.progress.moment.elapsed,
         }
     }
 
@@ -214,13 +227,13 @@ impl Station {
         self.place(commands)
     }
 
-    // Times out the requests whose deadline has come at the moment `now`. If `fresh` is later than `now`, because the clock went
-    // back, it becomes `now`.
+    // Times out the requests whose deadline has come at the moment `now`. What was recorded of the watched
+    // commands later than `now`, because the clock went back, counts as recorded at `now`.
     fn expire(&mut self, now: u64)
         ensures { self.new ≡ station_expiring now self.old }
     {
         self.client.expire(now);
-        self.recorded.fresh = self.recorded.fresh.min(now);
+        self.recorded.fresh.cut(now);
     }
 
     // Reads the clock, and times out the requests whose deadline has come (`expire`). `None`: the clock couldn't be read, which is

@@ -179,7 +179,7 @@ fn write_settlement<B: Book>(
         return Err(failed);
     }
     let code = code_of(&settlement.outcome);
-    recorded.note(&mark, now.elapsed, code, ending);
+    recorded.note(&mark, now, code, ending);
     Ok(())
 }
 

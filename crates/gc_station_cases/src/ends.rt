@@ -5,7 +5,7 @@ use crate::setting::Setting;
 use arrayvec::ArrayVec;
 use gc_lines::{PortFailed, read_reply};
 use gc_links::Moment;
-use gc_station::{Book, LinkHealth};
+use gc_station::{Book, LinkHealth, Watch};
 use gc_texts::{Ending, Quality, Stamp, Wish};
 
 /// A book that stores a word for each record: the last digits of its cycle and its place, a letter for its ending, and after the
@@ -130,6 +130,12 @@ impl Book for WordBook {
 
     // Does nothing: no case looks at the health of the link.
     fn sees(&mut self, _health: LinkHealth, _moment: Moment) {}
+
+    // Appends the word of the command by which the run is stale: the last digit of its place in the text's cycle, and `?`.
+    fn unanswered(&mut self, watch: Watch) {
+        self.note_digit(watch.place as u64);
+        note(&mut self.text, b"? ");
+    }
 
     // Appends the word of a cycle that overran: its last digit, and `!`.
     fn overran(&mut self, cycle: u64) {

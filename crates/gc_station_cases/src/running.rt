@@ -8,7 +8,7 @@ use crate::telling::run_telling;
 use crate::words::push_words;
 use gc_cases::{Case, Told, text_of};
 use gc_links::{Link, Telling};
-use gc_station::Tally;
+use gc_station::{Tally, Watches};
 use gc_texts::{RunFault, Task, read_tasks};
 use std::alloc::Global;
 
@@ -208,14 +208,19 @@ fn play_unlogged(scene: Scene<'_>, outcome: &mut Outcome) {
     outcome.take(&link.link, &book, result.err());
 }
 
-/// Runs the station of a scene over a link that records its acts. Returns the book that it wrote, and what the run came to.
+/// Runs the station of a scene over a link that records its acts. Returns the book that it wrote, and what the run came to: the fault
+/// `Memory` if memory ran out before it.
 pub fn run_scene<L: Link>(
     link: &mut Telling<L>,
     scene: Scene<'_>,
 ) -> (WordBook, Result<Tally, RunFault>) {
     let setting = scene.setting;
     let mut book = WordBook::new(setting);
-    let result = run_telling(link, &mut book, scene.tasks, &setting.plan, setting.turns);
+    let Ok(watches) = Watches::of(scene.alloc, setting.plan.setup, scene.tasks) else {
+        return (book, Err(RunFault::Memory));
+    };
+    let plan = &setting.plan;
+    let result = run_telling(link, &mut book, scene.tasks, plan, watches, setting.turns);
     (book, result)
 }
 

@@ -13,7 +13,8 @@
 //!                                 unreadable and elsewhere (each with what its reply says after it: the communication code and
 //!                                 the return code in brackets, unless both are 0, and the values), late, lost (x), skipped or
 //!                                 missed; where `with` says `stamped`, `@` and the moment at which its request was sent, in
-//!                                 milliseconds since 1970, if it was; and the last digit of a cycle that overran, with `!`
+//!                                 milliseconds since 1970, if it was; the last digit of a cycle that overran, with `!`; and that of the
+//!                                 place of the command by which the run is stale, with `?`
 //!     end fault 46                the fault, if there is one
 //!     counts answered 3 ..        how many commands were answered, late, skipped and missed, and how many times a chain was sent
 //!                                 again, where `with` says `counted`, after a run without a fault over a link without a log

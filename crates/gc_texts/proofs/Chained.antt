@@ -2,7 +2,7 @@
 -- the deadline, the accepted return codes, the retry, whether commands are chained, and the target of the group that a command
 -- may continue. A group is a run of commands for one target, which a line `chained`, `unchained`, `retry`, `at start` or `each
 -- cycle` ends. `Says` says that a mode is what these lines say.
-use Rattle.std.proofs.Common.{◌≡◌, inl, inr, ◌+◌, ◌≤◌, nat_lt, if◌then◌else◌, arith, ℕ, ◌&&◌, Bool, true, false, List, [], ◌∷◌, ◌++◌, length, map, Option, Some, refl, sym, ap, ◌∙◌, subst, append_assoc, append-nil}
+use Rattle.std.proofs.Common.{◌≡◌, inl, inr, ◌+◌, ◌≤◌, nat_lt, if◌then◌else◌, arith, ℕ, ◌&&◌, Bool, true, false, not, List, [], ◌∷◌, ◌++◌, length, map, Option, Some, refl, sym, ap, ◌∙◌, subst, append_assoc, append-nil}
 use Rattle.std.specs.List.{AllByRecursion}
 use Rattle.std.proofs.lemmas.Bool.{eq-eqb, and_parts, and_from}
 use Rattle.std.proofs.lemmas.List.{length-map, length-append, map-append}
@@ -17,6 +17,7 @@ use Rattle.gc_texts.specs.declared.again.Again.{Again}
 use Rattle.gc_texts.specs.declared.attempts.Planned.{Planned}
 use Rattle.gc_texts.specs.Again.{no_again}
 use Rattle.gc_texts.specs.Nears.{near_of}
+use Rattle.gc_texts.specs.Watching.{is_unwatched}
 use Rattle.gc_texts.specs.Tasks.{TasksSeen, IsTasks, first_mode, mode_after, continues_group, chained_at, turn_at, task_at, setup_at, setup_of, planned_at, planned_of, tasks_of, placed}
 use Rattle.gc_texts.specs.declared.wish.Wish.{Wish}
 use Rattle.gc_texts.specs.declared.near.Near.{Near}
@@ -139,6 +140,7 @@ group_after_one_more lines mode (says.Command c now) group target e = (lines, c,
 group_after_one_more lines mode (says.Deadline d) group target e = still_in_group lines (says.Deadline d) target tt (group target e)
 group_after_one_more lines mode (says.Naming n) group target e = still_in_group lines (says.Naming n) target tt (group target e)
 group_after_one_more lines mode (says.Locating n) group target e = still_in_group lines (says.Locating n) target tt (group target e)
+group_after_one_more lines mode (says.Unwatching n) group target e = still_in_group lines (says.Unwatching n) target tt (group target e)
 group_after_one_more lines mode (says.Accepting cs) group target e = still_in_group lines (says.Accepting cs) target tt (group target e)
 group_after_one_more lines mode line group target e = absurd (none-some target e)
 
@@ -178,6 +180,7 @@ group_stays mode [] keeps = refl
 group_stays mode (says.Deadline d ∷ later) keeps = group_stays (mode_after mode (says.Deadline d)) later keeps.1
 group_stays mode (says.Naming n ∷ later) keeps = group_stays mode later keeps.1
 group_stays mode (says.Locating n ∷ later) keeps = group_stays mode later keeps.1
+group_stays mode (says.Unwatching n ∷ later) keeps = group_stays mode later keeps.1
 group_stays mode (says.Accepting cs ∷ later) keeps = group_stays (mode_after mode (says.Accepting cs)) later keeps.1
 group_stays mode (line ∷ later) keeps = absurd keeps.0
 
@@ -217,7 +220,7 @@ chained_in_cycle : (mode : Mode) (target : ℕ) → mode.setup ≡ false → cha
 chained_in_cycle mode target e = ap (λ b. if b then nat_lt 0 mode.begun else mode.chained && continues_group mode.group target) e
 
 -- the task of the command after the lines `front`, with any rule, place and count of others
-module _ (deadline : ℕ) (chained : Bool) (front : List TaskLine) (command : Wish) (now : Bool) (near : Option Near) (again : Again) (others : ℕ) where
+module _ (deadline : ℕ) (chained : Bool) (front : List TaskLine) (command : Wish) (now : Bool) (near : Option Near) (watched : Bool) (again : Again) (others : ℕ) where
   -- the mode before the command
   abbrev mode : Mode
   mode = mode_after_lines (first_mode deadline chained) front
@@ -230,6 +233,7 @@ module _ (deadline : ℕ) (chained : Bool) (front : List TaskLine) (command : Wi
         deadline = mode.deadline;
         chained = chained_at mode command.target;
         near = near;
+        watched = watched;
         accepted = mode.accepted;
         again = again;
         turn = turn_at mode (chained_at mode command.target);
@@ -303,30 +307,32 @@ module _
 
   -- where b says whether the command is of the setup, the text's tasks are `all_tasks b`, each with the place of its target, if a
   -- line of the text says that place
-  all_tasks_are : (b : Bool) → mode_before.setup ≡ b → given.tasks ≡ map (placed given.nears) (all_tasks b)
+  all_tasks_are : (b : Bool) → mode_before.setup ≡ b → given.tasks ≡ map (placed given.nears given.unwatched) (all_tasks b)
   all_tasks_are b e =
-      is.tasks_are ∙ ap (λ said. map (placed given.nears) (tasks_of (first_mode deadline chained) said)) at
-      ∙ ap (λ ts. map (placed given.nears) (ts ++ laid_out (planned_of (first_mode deadline chained) (front
+      is.tasks_are ∙ ap (λ said. map (placed given.nears given.unwatched) (tasks_of (first_mode deadline chained) said)) at
+      ∙ ap (λ ts. map (placed given.nears given.unwatched) (ts ++ laid_out (planned_of (first_mode deadline chained) (front
       ++ says.Command command now ∷ later)))) (given_both setup_at (first_mode deadline chained) front (says.Command command now ∷ later))
-      ∙ ap (λ ps. map (placed given.nears) ((setup_before ++ setup_of mode_before (says.Command command now ∷ later)) ++ laid_out ps))
+      ∙ ap (λ ps. map (placed given.nears given.unwatched) ((setup_before ++ setup_of mode_before (says.Command command now ∷ later)) ++ laid_out ps))
       (given_both planned_at (first_mode deadline chained) front (says.Command command now ∷ later))
-      ∙ ap (λ t. map (placed given.nears) (all_tasks t)) e
+      ∙ ap (λ t. map (placed given.nears given.unwatched) (all_tasks t)) e
 
   -- the law for this command, by whether it is of the setup (`b`)
   by_section : (b : Bool) → mode_before.setup ≡ b
       → (earlier : List Task) × (task : Task) × (others : List Task) × (given.tasks ≡ earlier ++ task ∷ others)
       × (section_after false front ≡ true → length earlier ≡ setup_commands false front) × (section_after false front ≡ false → given.setup ≤ length earlier)
       × IsTaskOf deadline chained front command now task × (task.near ≡ near_of command.target given.nears)
+      × (task.watched ≡ not (is_unwatched command.target given.unwatched))
   by_section true e =
       let rest = setup_of mode_behind later ++ laid_out (planned ++ planned_of mode_behind later) in (
-        map (placed given.nears) setup_before,
-        placed given.nears own_task,
-        map (placed given.nears) rest,
-        all_tasks_are true e ∙ ap (map (placed given.nears)) (append_assoc setup_before (own_task ∷ setup_of mode_behind later) (laid_out (planned ++ planned_of mode_behind later)))
-            ∙ map-append (placed given.nears) setup_before (own_task ∷ rest),
-        (λ s. length-map setup_before (placed given.nears) ∙ setup_count (first_mode deadline chained) front),
+        map (placed given.nears given.unwatched) setup_before,
+        placed given.nears given.unwatched own_task,
+        map (placed given.nears given.unwatched) rest,
+        all_tasks_are true e ∙ ap (map (placed given.nears given.unwatched)) (append_assoc setup_before (own_task ∷ setup_of mode_behind later) (laid_out (planned ++ planned_of mode_behind later)))
+            ∙ map-append (placed given.nears given.unwatched) setup_before (own_task ∷ rest),
+        (λ s. length-map setup_before (placed given.nears given.unwatched) ∙ setup_count (first_mode deadline chained) front),
         (λ s. let bad : true ≡ false = sym e ∙ section_after_lines (first_mode deadline chained) front ∙ s in cc),
-        task_follows_lines deadline chained front command now (near_of command.target given.nears) no_again 0,
+        task_follows_lines deadline chained front command now (near_of command.target given.nears) (not (is_unwatched command.target given.unwatched)) no_again 0,
+        refl,
         refl,
       )
   by_section false e =
@@ -336,17 +342,18 @@ module _
       let many : given.setup ≡ length in_front =
       is.setup_is ∙ ap (λ said. length (setup_of (first_mode deadline chained) said)) at ∙ ap length (given_both setup_at (first_mode deadline chained) front (says.Command command now ∷ later))
       ∙ ap (λ b. length (setup_before ++ ((if b then own_task ∷ [] else []) ++ setup_of mode_behind later))) e in
-      let long : length (map (placed given.nears) (in_front ++ among.earlier)) ≡ length in_front + length among.earlier = length-map (in_front ++ among.earlier) (placed given.nears)
+      let long : length (map (placed given.nears given.unwatched) (in_front ++ among.earlier)) ≡ length in_front + length among.earlier = length-map (in_front ++ among.earlier) (placed given.nears given.unwatched)
       ∙ length-append in_front among.earlier in (
-        map (placed given.nears) (in_front ++ among.earlier),
-        placed given.nears (in_attempt 1 among.again among.commands p),
-        map (placed given.nears) among.others,
-        all_tasks_are false e ∙ ap (λ ts. map (placed given.nears) (in_front ++ ts)) among.are
-            ∙ ap (map (placed given.nears)) (sym (append_assoc in_front among.earlier (in_attempt 1 among.again among.commands p ∷ among.others)))
-            ∙ map-append (placed given.nears) (in_front ++ among.earlier) (in_attempt 1 among.again among.commands p ∷ among.others),
+        map (placed given.nears given.unwatched) (in_front ++ among.earlier),
+        placed given.nears given.unwatched (in_attempt 1 among.again among.commands p),
+        map (placed given.nears given.unwatched) among.others,
+        all_tasks_are false e ∙ ap (λ ts. map (placed given.nears given.unwatched) (in_front ++ ts)) among.are
+            ∙ ap (map (placed given.nears given.unwatched)) (sym (append_assoc in_front among.earlier (in_attempt 1 among.again among.commands p ∷ among.others)))
+            ∙ map-append (placed given.nears given.unwatched) (in_front ++ among.earlier) (in_attempt 1 among.again among.commands p ∷ among.others),
         (λ s. let bad : false ≡ true = sym e ∙ section_after_lines (first_mode deadline chained) front ∙ s in cc),
         (λ s. omega (arith, many, long)),
-        task_follows_lines deadline chained front command now (near_of command.target given.nears) among.again 0,
+        task_follows_lines deadline chained front command now (near_of command.target given.nears) (not (is_unwatched command.target given.unwatched)) among.again 0,
+        refl,
         refl,
       )
 

@@ -1,15 +1,17 @@
 -- Where targets are, as lines of a text say it, and what follows for the tasks of a target and for an answer.
-use Rattle.std.proofs.Common.{◌≡◌, ℕ, zero, suc, ◌+◌, take, drop, ◌<◌, get_or, slice_set, arith, ◌==◌, not, nat_lt, List, [], ◌∷◌, ◌++◌, length, map, Option, Some, None, true, false, cond, refl, sym, ap, ◌∙◌, subst, append_assoc, append-nil}
-use Rattle.std.proofs.lemmas.Bool.{eq-eqb, and_parts, or_parts, not-true, not-false}
+use Rattle.std.proofs.Common.{◌≡◌, ℕ, zero, suc, ◌+◌, take, drop, ◌<◌, get_or, slice_set, arith, ◌==◌, ◌||◌, ◌⊎◌, inl, inr, not, nat_lt, List, [], ◌∷◌, ◌++◌, length, map, Option, Some, None, true, false, cond, refl, sym, ap, ◌∙◌, subst, append_assoc, append-nil}
+use Rattle.std.proofs.lemmas.Bool.{eq-eqb, eqb-true, and_parts, or_parts, or_cases, not-true, not-false}
+use Rattle.std.proofs.Math.Bool.{or-true}
 use Rattle.std.proofs.lemmas.List.Concat.{flat_map-append}
 use Rattle.gc_catalogue.specs.declared.answer.Answer.{Answer}
 use Rattle.gc_values.specs.Directions.{is_near, IsNear}
 use Rattle.gc_values.specs.declared.direction.Direction.{Direction}
 use Rattle.gc_values.proofs.NearLemmas.{near_is_within}
 use Rattle.gc_lines.proofs.Lists.{cons_head, cons_tail}
-use Rattle.gc_texts.specs.Chained.{PlacesHoldForAll}
+use Rattle.gc_texts.specs.Chained.{PlacesHoldForAll, UnwatchedHoldForAll}
 use Rattle.gc_texts.specs.Nears.{has_near, near_of, direction_of, is_away, is_elsewhere}
-use Rattle.gc_texts.specs.Tasks.{first_mode, tasks_of, name_at, near_at, nears_of, placed, MayFollow}
+use Rattle.gc_texts.specs.Tasks.{first_mode, tasks_of, name_at, near_at, nears_of, unwatched_at, unwatched_of, placed, MayFollow}
+use Rattle.gc_texts.specs.Watching.{is_unwatched}
 use Rattle.gc_texts.specs.declared.name.Name.{Name}
 use Rattle.gc_texts.specs.declared.near.Near.{Near}
 use Rattle.gc_texts.specs.declared.task_line.TaskLine.{TaskLine}
@@ -18,13 +20,13 @@ use Rattle.gc_texts.specs.declared.tasks.Task.{Task}
 
 -- where lines may follow these names and places, and one of them says where a target is, neither `nears` nor a line before it
 -- says where that target is
-no_place_before : (names : List Name) (nears : List Near) (front later : List TaskLine) (near : Near)
-    → MayFollow names nears (front ++ says.Locating near ∷ later)
+no_place_before : (names : List Name) (nears : List Near) (unwatched : List ℕ) (front later : List TaskLine) (near : Near)
+    → MayFollow names nears unwatched (front ++ says.Locating near ∷ later)
     → has_near near.target (nears ++ nears_of front) ≡ false
-no_place_before names nears [] later near follow =
+no_place_before names nears unwatched [] later near follow =
     ap (has_near near.target) (append-nil nears) ∙ not-true (has_near near.target nears) (and_parts (nat_lt (length nears) 64) (not (has_near near.target nears)) follow.0).1
-no_place_before names nears (line ∷ front) later near follow =
-    ap (has_near near.target) (sym (append_assoc nears (near_at line) (nears_of front))) ∙ no_place_before (names ++ name_at line) (nears ++ near_at line) front later near follow.1
+no_place_before names nears unwatched (line ∷ front) later near follow =
+    ap (has_near near.target) (sym (append_assoc nears (near_at line) (nears_of front))) ∙ no_place_before (names ++ name_at line) (nears ++ near_at line) (unwatched ++ unwatched_at line) front later near follow.1
 
 -- where none of `nears` is of the target of `near`, the place that is found of this target in `nears`, then
 -- `near`, then others, is `near`
@@ -35,23 +37,65 @@ found_near (n ∷ nears) others near none =
     ap (λ b. cond b (Some n) (near_of near.target (nears ++ near ∷ others))) apart.0 ∙ found_near nears others near apart.1
 
 -- once all tasks were given their places, each has the place of its target, if there is one
-each_has_its_place : (nears : List Near) (tasks earlier others : List Task) (task : Task)
-    → map (placed nears) tasks ≡ earlier ++ task ∷ others → task.near ≡ near_of task.command.target nears
-each_has_its_place nears [] [] others task e = cc
-each_has_its_place nears [] (t ∷ ts) others task e = cc
-each_has_its_place nears (t ∷ tasks) [] others task e =
-    let same = cons_head (placed nears t) task (map (placed nears) tasks) others e in
+each_has_its_place : (nears : List Near) (unwatched : List ℕ) (tasks earlier others : List Task) (task : Task)
+    → map (placed nears unwatched) tasks ≡ earlier ++ task ∷ others → task.near ≡ near_of task.command.target nears
+each_has_its_place nears unwatched [] [] others task e = cc
+each_has_its_place nears unwatched [] (t ∷ ts) others task e = cc
+each_has_its_place nears unwatched (t ∷ tasks) [] others task e =
+    let same = cons_head (placed nears unwatched t) task (map (placed nears unwatched) tasks) others e in
     ap (λ (u : Task). u.near) (sym same) ∙ ap (λ (u : Task). near_of u.command.target nears) same
-each_has_its_place nears (t ∷ tasks) (u ∷ earlier) others task e =
-    each_has_its_place nears tasks earlier others task (cons_tail (placed nears t) u (map (placed nears) tasks) (earlier ++ task ∷ others) e)
+each_has_its_place nears unwatched (t ∷ tasks) (u ∷ earlier) others task e =
+    each_has_its_place nears unwatched tasks earlier others task (cons_tail (placed nears unwatched t) u (map (placed nears unwatched) tasks) (earlier ++ task ∷ others) e)
 
 -- the law: a place holds for all commands of its target
 pub places_hold : PlacesHoldForAll
 places_hold text deadline chained all is front later near at earlier others task among same =
-    let follow : MayFollow [] [] (front ++ says.Locating near ∷ later) = subst (λ said. MayFollow [] [] said) at is.lines.follow in
+    let follow : MayFollow [] [] [] (front ++ says.Locating near ∷ later) = subst (λ said. MayFollow [] [] [] said) at is.lines.follow in
     let places : all.nears ≡ nears_of front ++ near ∷ nears_of later = is.nears_are ∙ ap nears_of at ∙ flat_map-append near_at front (says.Locating near ∷ later) in
-    each_has_its_place all.nears (tasks_of (first_mode deadline chained) is.said) earlier others task (sym is.tasks_are ∙ among)
-    ∙ ap (λ t. near_of t all.nears) same ∙ ap (near_of near.target) places ∙ found_near (nears_of front) (nears_of later) near (no_place_before [] [] front later near follow)
+    each_has_its_place all.nears all.unwatched (tasks_of (first_mode deadline chained) is.said) earlier others task (sym is.tasks_are ∙ among)
+    ∙ ap (λ t. near_of t all.nears) same ∙ ap (near_of near.target) places ∙ found_near (nears_of front) (nears_of later) near (no_place_before [] [] [] front later near follow)
+
+-- where a text gives these tasks their places (`placed`), each of them is watched unless its target is one of `unwatched`
+each_is_watched : (nears : List Near) (unwatched : List ℕ) (tasks earlier others : List Task) (task : Task)
+    → map (placed nears unwatched) tasks ≡ earlier ++ task ∷ others → task.watched ≡ not (is_unwatched task.command.target unwatched)
+each_is_watched nears unwatched [] [] others task e = cc
+each_is_watched nears unwatched [] (t ∷ ts) others task e = cc
+each_is_watched nears unwatched (t ∷ tasks) [] others task e =
+    let same = cons_head (placed nears unwatched t) task (map (placed nears unwatched) tasks) others e in
+    ap (λ (u : Task). u.watched) (sym same) ∙ ap (λ (u : Task). not (is_unwatched u.command.target unwatched)) same
+each_is_watched nears unwatched (t ∷ tasks) (u ∷ earlier) others task e =
+    each_is_watched nears unwatched tasks earlier others task (cons_tail (placed nears unwatched t) u (map (placed nears unwatched) tasks) (earlier ++ task ∷ others) e)
+
+-- a target that is among others is one of them
+is_among : (front later : List ℕ) (target : ℕ) → is_unwatched target (front ++ target ∷ later) ≡ true
+is_among [] later target = ap (λ b. b || is_unwatched target later) (eq-eqb target target refl)
+is_among (t ∷ front) later target = ap (λ b. (t == target) || b) (is_among front later target) ∙ or-true (t == target)
+
+-- where these lines leave a target unwatched, one of them says so
+unwatched_by_line : (said : List TaskLine) (target : ℕ) → is_unwatched target (unwatched_of said) ≡ true
+    → (front : List TaskLine) × (later : List TaskLine) × (said ≡ front ++ says.Unwatching target ∷ later)
+unwatched_by_line [] target is = let bad : false ≡ true = is in cc
+unwatched_by_line (says.Unwatching t ∷ said) target is =
+    by_target (or_cases (t == target) (is_unwatched target (unwatched_of said)) is) (λ more. unwatched_by_line said target more) where
+      -- the lemma above, by whether the first line is of this target
+      by_target : ((t == target) ≡ true) ⊎ (is_unwatched target (unwatched_of said) ≡ true)
+          → (is_unwatched target (unwatched_of said) ≡ true → (front : List TaskLine) × (later : List TaskLine) × (said ≡ front ++ says.Unwatching target ∷ later))
+          → (front : List TaskLine) × (later : List TaskLine) × (says.Unwatching t ∷ said ≡ front ++ says.Unwatching target ∷ later)
+      by_target (inl same) others = ([], said, ap (λ n. says.Unwatching n ∷ said) (eqb-true t target same))
+      by_target (inr more) others = let among = others more in (says.Unwatching t ∷ among.0, among.1, ap (λ l. says.Unwatching t ∷ l) among.2)
+unwatched_by_line (line ∷ said) target is = let among = unwatched_by_line said target is in (line ∷ among.0, among.1, ap (λ l. line ∷ l) among.2)
+
+-- the law: a target's tasks are unwatched exactly where a line says so, before them or after them
+pub unwatched_hold : UnwatchedHoldForAll
+unwatched_hold text deadline chained all is earlier others task among =
+    let watched = each_is_watched all.nears all.unwatched (tasks_of (first_mode deadline chained) is.said) earlier others task (sym is.tasks_are ∙ among) in (
+      λ front later at.
+          let apart : all.unwatched ≡ unwatched_of front ++ task.command.target ∷ unwatched_of later =
+          is.unwatched_are ∙ ap unwatched_of at ∙ flat_map-append unwatched_at front (says.Unwatching task.command.target ∷ later) in
+          watched ∙ ap (λ us. not (is_unwatched task.command.target us)) apart ∙ ap not (is_among (unwatched_of front) (unwatched_of later) task.command.target),
+      λ isnt. unwatched_by_line is.said task.command.target
+          (ap (is_unwatched task.command.target) (sym is.unwatched_are) ∙ not-false (is_unwatched task.command.target all.unwatched) (sym watched ∙ isnt)),
+    )
 
 -- an answer that isn't elsewhere, and has a direction, has one that is near its target's place
 pub near_unless_elsewhere : (near : Near) (answer : Answer) (d : Direction)
@@ -61,25 +105,25 @@ near_unless_elsewhere near answer d isnt has =
     (near_is_within d near.place near.tolerance).0 (not-false (is_near d near.place near.tolerance) (ap (is_away near) (sym has) ∙ isnt))
 
 -- the tasks, when the loop has given the first i of them their places, and the others none yet
-abbrev pub first_placed : List Near → (i : ℕ) → List Task → List Task
-first_placed nears i tasks = map (placed nears) (take i tasks) ++ drop i tasks
+abbrev pub first_placed : List Near → (unwatched : List ℕ) → (i : ℕ) → List Task → List Task
+first_placed nears unwatched i tasks = map (placed nears unwatched) (take i tasks) ++ drop i tasks
 
 -- where the first i tasks have their places, and task i is given its own, the first i + 1 have theirs
-first_placed_grows : (nears : List Near) (tasks : List Task) (i : ℕ) (d : Task) → i < length tasks
-    → slice_set (first_placed nears i tasks) i (placed nears (get_or (first_placed nears i tasks) i d)) ≡ first_placed nears (suc i) tasks
-first_placed_grows nears [] zero d below = absurd (omega (arith, below))
-first_placed_grows nears [] (suc i) d below = absurd (omega (arith, below))
-first_placed_grows nears (x ∷ tasks) zero d below = refl
-first_placed_grows nears (x ∷ tasks) (suc i) d below = let low : i < length tasks = omega (arith, below) in ap (λ ts. placed nears x ∷ ts) (first_placed_grows nears tasks i d low)
+first_placed_grows : (nears : List Near) (unwatched : List ℕ) (tasks : List Task) (i : ℕ) (d : Task) → i < length tasks
+    → slice_set (first_placed nears unwatched i tasks) i (placed nears unwatched (get_or (first_placed nears unwatched i tasks) i d)) ≡ first_placed nears unwatched (suc i) tasks
+first_placed_grows nears unwatched [] zero d below = absurd (omega (arith, below))
+first_placed_grows nears unwatched [] (suc i) d below = absurd (omega (arith, below))
+first_placed_grows nears unwatched (x ∷ tasks) zero d below = refl
+first_placed_grows nears unwatched (x ∷ tasks) (suc i) d below = let low : i < length tasks = omega (arith, below) in ap (λ ts. placed nears unwatched x ∷ ts) (first_placed_grows nears unwatched tasks i d low)
 
 -- where `now` is the tasks with the first i given their places, and task i of `now` is replaced by itself with its place, the
 -- first i + 1 have theirs
-pub next_is_placed : (nears : List Near) (tasks now : List Task) (i : ℕ) (d new : Task)
-    → now ≡ first_placed nears i tasks → i < length tasks → new ≡ placed nears (get_or now i d)
-    → slice_set now i new ≡ first_placed nears (i + 1) tasks
-next_is_placed nears tasks now i d new is below e =
+pub next_is_placed : (nears : List Near) (unwatched : List ℕ) (tasks now : List Task) (i : ℕ) (d new : Task)
+    → now ≡ first_placed nears unwatched i tasks → i < length tasks → new ≡ placed nears unwatched (get_or now i d)
+    → slice_set now i new ≡ first_placed nears unwatched (i + 1) tasks
+next_is_placed nears unwatched tasks now i d new is below e =
     let one : suc i ≡ i + 1 = omega arith in
-    ap (slice_set now i) e ∙ ap (λ ts. slice_set ts i (placed nears (get_or ts i d))) is ∙ first_placed_grows nears tasks i d below ∙ ap (λ n. first_placed nears n tasks) one
+    ap (slice_set now i) e ∙ ap (λ ts. slice_set ts i (placed nears unwatched (get_or ts i d))) is ∙ first_placed_grows nears unwatched tasks i d below ∙ ap (λ n. first_placed nears unwatched n tasks) one
 
 -- where an answer is elsewhere, a place is known of its target, and the answer has a direction that isn't near that place
 pub elsewhere_has_place : (place : Option Near) (answer : Answer) → is_elsewhere place answer ≡ true

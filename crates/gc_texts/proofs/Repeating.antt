@@ -1,5 +1,5 @@
 -- The attempts of the chains of a station's text.
-use Rattle.std.proofs.Common.{◌⊎◌, ◌&&◌, nat_lt, subst, ◌≡◌, ◌+◌, ◌*◌, inr, inl, ℕ, zero, suc, Bool, true, false, List, [], ◌∷◌, ◌++◌, length, map, Some, None, refl, ap, sym, ◌∙◌, append_assoc, append-nil, if◌then◌else◌}
+use Rattle.std.proofs.Common.{◌⊎◌, ◌&&◌, nat_lt, subst, ◌≡◌, ◌+◌, ◌*◌, inr, inl, ℕ, zero, suc, Bool, true, false, not, List, [], ◌∷◌, ◌++◌, length, map, Some, None, refl, ap, sym, ◌∙◌, append_assoc, append-nil, if◌then◌else◌}
 use Rattle.std.proofs.lemmas.Bool.{and_parts}
 use Rattle.std.proofs.lemmas.Option.{none-some}
 use Rattle.std.specs.List.{AllByRecursion, flat_map}
@@ -9,6 +9,7 @@ use Rattle.gc_texts.specs.Again.{no_again}
 use Rattle.gc_texts.specs.Attempts.{in_attempt, attempts_from, attempts, laid_from, laid_out}
 use Rattle.gc_texts.specs.Laws.{IsOneChain}
 use Rattle.gc_texts.specs.Nears.{near_of}
+use Rattle.gc_texts.specs.Watching.{is_unwatched}
 use Rattle.gc_texts.specs.Repeats.{as_planned, IsAttempt, AreAttempts, Chain, planned_in, placed_planned, AreLaidOut, ChainsGoOutAgain}
 use Rattle.gc_texts.specs.Retries.{no_retry}
 use Rattle.gc_texts.specs.Tasks.{first_mode, mode_after, continues_group, task_at, setup_of, planned_of, placed}
@@ -70,24 +71,25 @@ same_retries mode retry (says.EachCycle ∷ later) h = same_retries (mode_after 
 same_retries mode retry (line ∷ later) h = same_retries (mode_after mode line) retry later h
 
 -- tasks with the places `nears` of their targets
-module _ (nears : List Near) where
+module _ (nears : List Near) (unwatched : List ℕ) where
   -- the task of a command, with the place of its target
   abbrev placed_task : Planned → Task
-  placed_task p = placed nears p.task
+  placed_task p = placed nears unwatched p.task
 
   -- the tasks of an attempt of these commands, with their places; `n` is how many commands it and the later attempts have
   -- together
   abbrev attempt_tasks : (attempt : ℕ) → Again → (n : ℕ) → List Planned → List Task
-  attempt_tasks attempt again n ps = map (placed nears) (map (in_attempt attempt again n) ps)
+  attempt_tasks attempt again n ps = map (placed nears unwatched) (map (in_attempt attempt again n) ps)
 
   -- if a command's task is as planned (`IsAsPlanned`), the task of an attempt of it, with its place, is the command's own task
   -- (`placed_task`), but for the fields that distinguish attempts (`as_planned`)
-  one_as_planned : (attempt : ℕ) (again : Again) (n : ℕ) (p : Planned) → IsAsPlanned p.task → as_planned (placed nears (in_attempt attempt again n p)) ≡ placed_task p
+  one_as_planned : (attempt : ℕ) (again : Again) (n : ℕ) (p : Planned) → IsAsPlanned p.task → as_planned (placed nears unwatched (in_attempt attempt again n p)) ≡ placed_task p
   one_as_planned attempt again n p h =
       let near = near_of p.task.command.target nears in
-      ap (λ a. record p.task { near = near; again = a; turn = record { place = p.task.turn.place; attempt = 1; link = p.task.turn.link }; others = 0 }) (sym h.again)
-      ∙ ap (λ k. record p.task { near = near; turn = record { place = p.task.turn.place; attempt = k; link = p.task.turn.link }; others = 0 }) (sym h.attempt)
-      ∙ ap (λ k. record p.task { near = near; others = k }) (sym h.others)
+      let watched = not (is_unwatched p.task.command.target unwatched) in
+      ap (λ a. record p.task { near = near; watched = watched; again = a; turn = record { place = p.task.turn.place; attempt = 1; link = p.task.turn.link }; others = 0 }) (sym h.again)
+      ∙ ap (λ k. record p.task { near = near; watched = watched; turn = record { place = p.task.turn.place; attempt = k; link = p.task.turn.link }; others = 0 }) (sym h.attempt)
+      ∙ ap (λ k. record p.task { near = near; watched = watched; others = k }) (sym h.others)
 
   -- if commands' tasks are as planned (`AreAsPlanned`), the tasks of an attempt of them, with their places (`attempt_tasks`), are
   -- the commands' own tasks (`placed_task`), but for the fields that distinguish attempts (`as_planned`)
@@ -98,7 +100,7 @@ module _ (nears : List Near) where
       ∙ ap (λ ts. placed_task p ∷ ts) (all_as_planned attempt again n ps all.1)
 
   -- what holds of the task, with its place, of whatever command in this attempt holds of all tasks of the attempt (`attempt_tasks`)
-  each_in_attempt : (Holds : Task → Type 0) (attempt : ℕ) (again : Again) (n : ℕ) → ((p : Planned) → Holds (placed nears (in_attempt attempt again n p)))
+  each_in_attempt : (Holds : Task → Type 0) (attempt : ℕ) (again : Again) (n : ℕ) → ((p : Planned) → Holds (placed nears unwatched (in_attempt attempt again n p)))
       → (ps : List Planned) → AllByRecursion Holds (attempt_tasks attempt again n ps)
   each_in_attempt Holds attempt again n each [] = tt
   each_in_attempt Holds attempt again n each (p ∷ ps) = (each p, each_in_attempt Holds attempt again n each ps)
@@ -115,12 +117,12 @@ module _ (nears : List Near) where
   -- where the tasks of a chain's commands are as planned, those of its attempts from number `attempt` on, with `left` more after
   -- that one, are attempts of the commands (`AreAttempts`)
   attempts_are : (attempt left : ℕ) (again : Again) (ps : List Planned) → AreAsPlanned ps
-      → AreAttempts attempt left again (map placed_task ps) (map (placed nears) (attempts_from attempt left again ps))
+      → AreAttempts attempt left again (map placed_task ps) (map (placed nears unwatched) (attempts_from attempt left again ps))
   attempts_are attempt zero again ps all = attempt_is attempt no_again (length ps) ps all
   attempts_are attempt (suc left) again ps all = (
     attempt_tasks attempt again (length ps * suc (suc left)) ps,
-    map (placed nears) (attempts_from (attempt + 1) left again ps),
-    map-append (placed nears) (map (in_attempt attempt again (length ps * suc (suc left))) ps) (attempts_from (attempt + 1) left again ps),
+    map (placed nears unwatched) (attempts_from (attempt + 1) left again ps),
+    map-append (placed nears unwatched) (map (in_attempt attempt again (length ps * suc (suc left))) ps) (attempts_from (attempt + 1) left again ps),
     attempt_is attempt again (length ps * suc (suc left)) ps all,
     attempts_are (attempt + 1) left again ps all,
   )
@@ -140,7 +142,7 @@ module _ (nears : List Near) where
   abbrev AreLaidOutOf : List Task → List Planned → Type 0
   AreLaidOutOf tasks planned =
       (chains : List Chain) × AreLaidOut chains tasks
-      × (flat_map planned_in chains ≡ map (placed_planned nears) planned)
+      × (flat_map planned_in chains ≡ map (placed_planned nears unwatched) planned)
 
   -- each of these commands has this retry
   abbrev HaveRetry : Retry → List Planned → Type 0
@@ -148,23 +150,23 @@ module _ (nears : List Near) where
 
   -- where commands have one retry, their tasks (`placed_task`) with that retry are the commands with the places of their targets
   -- (`placed_planned`)
-  retries_are : (retry : Retry) (ps : List Planned) → HaveRetry retry ps → map (with_retry retry) (map placed_task ps) ≡ map (placed_planned nears) ps
+  retries_are : (retry : Retry) (ps : List Planned) → HaveRetry retry ps → map (with_retry retry) (map placed_task ps) ≡ map (placed_planned nears unwatched) ps
   retries_are retry [] have = refl
   retries_are retry (p ∷ ps) have =
       ap (λ r. record { task = placed_task p; retry = r } ∷ map (with_retry retry) (map placed_task ps)) (sym have.0)
-      ∙ ap (λ l. placed_planned nears p ∷ l) (retries_are retry ps have.1)
+      ∙ ap (λ l. placed_planned nears unwatched p ∷ l) (retries_are retry ps have.1)
 
   -- if tasks are the attempts of the chains of the commands `later` (`AreLaidOutOf`), and `chain` is one chain of commands that
   -- have this retry and tasks as planned (`AreAsPlanned`), the attempts of that chain and then those tasks are the attempts of the
   -- chains of all these commands
   laid_one_more : (retry : Retry) (chain later : List Planned) (tasks : List Task)
       → IsOneChain (map placed_task chain) → AreAsPlanned chain → HaveRetry retry chain → AreLaidOutOf tasks later
-      → AreLaidOutOf (map (placed nears) (attempts retry chain) ++ tasks) (chain ++ later)
+      → AreLaidOutOf (map (placed nears unwatched) (attempts retry chain) ++ tasks) (chain ++ later)
   laid_one_more retry chain later tasks one all have (chains, laid, are) = (
     record { retry = retry; commands = map placed_task chain } ∷ chains,
-    (one, (map (placed nears) (attempts retry chain), tasks, refl, attempts_are 1 retry.times retry.again chain all, laid)),
-    ap (λ ps. map (with_retry retry) (map placed_task chain) ++ ps) are ∙ ap (λ ps. ps ++ map (placed_planned nears) later) (retries_are retry chain have)
-        ∙ sym (map-append (placed_planned nears) chain later),
+    (one, (map (placed nears unwatched) (attempts retry chain), tasks, refl, attempts_are 1 retry.times retry.again chain all, laid)),
+    ap (λ ps. map (with_retry retry) (map placed_task chain) ++ ps) are ∙ ap (λ ps. ps ++ map (placed_planned nears unwatched) later) (retries_are retry chain have)
+        ∙ sym (map-append (placed_planned nears unwatched) chain later),
   )
 
   -- `AreLaidOutOf` holds of the empty list of tasks and the empty list of commands
@@ -177,9 +179,9 @@ module _ (nears : List Near) where
   laid_are : (retry : Retry) (first : Planned) (chain later : List Planned)
       (one : IsOneChain (map placed_task (first ∷ chain))) (all : AreAsPlanned (first ∷ chain)) (rest : AreAsPlanned later)
       (have : HaveRetry retry (first ∷ chain)) (follow : SameRetries retry later)
-      → AreLaidOutOf (map (placed nears) (laid_from retry (first ∷ chain) later)) ((first ∷ chain) ++ later)
+      → AreLaidOutOf (map (placed nears unwatched) (laid_from retry (first ∷ chain) later)) ((first ∷ chain) ++ later)
   laid_are retry first chain [] one all rest have follow =
-      subst (λ ts. AreLaidOutOf ts ((first ∷ chain) ++ [])) (append-nil (map (placed nears) (attempts retry (first ∷ chain)))) (laid_one_more retry (first ∷ chain) [] [] one all have none_laid)
+      subst (λ ts. AreLaidOutOf ts ((first ∷ chain) ++ [])) (append-nil (map (placed nears unwatched) (attempts retry (first ∷ chain)))) (laid_one_more retry (first ∷ chain) [] [] one all have none_laid)
   laid_are retry first chain (p ∷ later) one all rest have follow =
       by_chained p.task.chained refl
       (λ e. laid_are retry first (chain ++ p ∷ []) later (one.0, chained_one_more chain p one.1 e) (all.0, all_by_recursion_push (λ (q : Planned). IsAsPlanned q.task) chain p all.1 rest.0) rest.1
@@ -187,26 +189,26 @@ module _ (nears : List Near) where
       (λ e. laid_are p.retry p [] later (e, tt) (rest.0, tt) rest.1 (refl, tt) follow.1) where
         -- the lemma above for `p ∷ later`, by whether `p` goes on with the chain (`b`)
         by_chained : (b : Bool) → p.task.chained ≡ b
-            → (p.task.chained ≡ true → AreLaidOutOf (map (placed nears) (laid_from retry (first ∷ (chain ++ p ∷ [])) later)) ((first ∷ (chain ++ p ∷ [])) ++ later))
-            → (p.task.chained ≡ false → AreLaidOutOf (map (placed nears) (laid_from p.retry (p ∷ []) later)) (p ∷ later))
-            → AreLaidOutOf (map (placed nears) (if b then laid_from retry ((first ∷ chain) ++ p ∷ []) later
+            → (p.task.chained ≡ true → AreLaidOutOf (map (placed nears unwatched) (laid_from retry (first ∷ (chain ++ p ∷ [])) later)) ((first ∷ (chain ++ p ∷ [])) ++ later))
+            → (p.task.chained ≡ false → AreLaidOutOf (map (placed nears unwatched) (laid_from p.retry (p ∷ []) later)) (p ∷ later))
+            → AreLaidOutOf (map (placed nears unwatched) (if b then laid_from retry ((first ∷ chain) ++ p ∷ []) later
             else attempts retry (first ∷ chain) ++ laid_from p.retry (p ∷ []) later)) ((first ∷ chain) ++ p ∷ later)
-        by_chained true e on anew = subst (λ ps. AreLaidOutOf (map (placed nears) (laid_from retry ((first ∷ chain) ++ p ∷ []) later)) ps) (append_assoc (first ∷ chain) (p ∷ []) later) (on e)
+        by_chained true e on anew = subst (λ ps. AreLaidOutOf (map (placed nears unwatched) (laid_from retry ((first ∷ chain) ++ p ∷ []) later)) ps) (append_assoc (first ∷ chain) (p ∷ []) later) (on e)
         by_chained false e on anew =
-            subst (λ ts. AreLaidOutOf ts ((first ∷ chain) ++ p ∷ later)) (sym (map-append (placed nears) (attempts retry (first ∷ chain)) (laid_from p.retry (p ∷ []) later)))
-            (laid_one_more retry (first ∷ chain) (p ∷ later) (map (placed nears) (laid_from p.retry (p ∷ []) later)) one all have (anew e))
+            subst (λ ts. AreLaidOutOf ts ((first ∷ chain) ++ p ∷ later)) (sym (map-append (placed nears unwatched) (attempts retry (first ∷ chain)) (laid_from p.retry (p ∷ []) later)))
+            (laid_one_more retry (first ∷ chain) (p ∷ later) (map (placed nears unwatched) (laid_from p.retry (p ∷ []) later)) one all have (anew e))
 
   -- where these commands keep targets with none before them (`CommandsKeepTargets None`), so that the first isn't chained, each chained
   -- one has the retry of the one before it, and the tasks of all are as planned, the attempts that are laid out of them are the
   -- attempts of their chains (`AreLaidOutOf`)
   all_laid : (planned : List Planned)
       → CommandsKeepTargets None planned → AreAsPlanned planned → SameRetries no_retry planned
-      → AreLaidOutOf (map (placed nears) (laid_out planned)) planned
+      → AreLaidOutOf (map (placed nears unwatched) (laid_out planned)) planned
   all_laid [] are all follow = none_laid
   all_laid (p ∷ later) are all follow = by_chained p.task.chained refl (λ e. laid_are p.retry p [] later (e, tt) (all.0, tt) all.1 (refl, tt) follow.1) where
     -- the lemma above for `p ∷ later`: `p` isn't chained, because no command is before it
-    by_chained : (b : Bool) → p.task.chained ≡ b → (p.task.chained ≡ false → AreLaidOutOf (map (placed nears) (laid_from p.retry (p ∷ []) later)) (p ∷ later))
-        → AreLaidOutOf (map (placed nears) (if b then laid_from no_retry ([] ++ p ∷ []) later
+    by_chained : (b : Bool) → p.task.chained ≡ b → (p.task.chained ≡ false → AreLaidOutOf (map (placed nears unwatched) (laid_from p.retry (p ∷ []) later)) (p ∷ later))
+        → AreLaidOutOf (map (placed nears unwatched) (if b then laid_from no_retry ([] ++ p ∷ []) later
         else attempts no_retry [] ++ laid_from p.retry (p ∷ []) later)) (p ∷ later)
     by_chained true e anew = let bad : None ≡ Some p.task.command.target = are.0 e in cc
     by_chained false e anew = anew e
@@ -217,12 +219,12 @@ pub chains_go_out_again : ChainsGoOutAgain
 chains_go_out_again text deadline chained all is =
     let first = first_mode deadline chained in
     let planned = planned_of first is.said in
-    let laid = all_laid all.nears planned (commands_keep_targets first None is.said (inr (inl refl))) (cycle_as_planned first is.said) (same_retries first no_retry is.said (inr (inl refl))) in (
+    let laid = all_laid all.nears all.unwatched planned (commands_keep_targets first None is.said (inr (inl refl))) (cycle_as_planned first is.said) (same_retries first no_retry is.said (inr (inl refl))) in (
       laid.0,
-      map (placed all.nears) (setup_of first is.said),
-      map (placed all.nears) (laid_out planned),
-      is.tasks_are ∙ map-append (placed all.nears) (setup_of first is.said) (laid_out planned),
-      is.setup_is ∙ sym (length-map (setup_of first is.said) (placed all.nears)),
+      map (placed all.nears all.unwatched) (setup_of first is.said),
+      map (placed all.nears all.unwatched) (laid_out planned),
+      is.tasks_are ∙ map-append (placed all.nears all.unwatched) (setup_of first is.said) (laid_out planned),
+      is.setup_is ∙ sym (length-map (setup_of first is.said) (placed all.nears all.unwatched)),
       laid.1,
       laid.2,
     )

@@ -10,7 +10,7 @@ use Rattle.gc_texts.specs.Names.{is_name}
 use Rattle.gc_texts.specs.Procedures.{IsNumber, IsTarget}
 use Rattle.gc_texts.specs.Troubles.{NoTarget}
 use Rattle.gc_texts.specs.Nears.{AreNearWords, IsNearText}
-use Rattle.gc_texts.specs.TaskLines.{IsDeadlineLine, IsNameLine, IsNearLine, SetsAccepted, IsCommandLine, IsTaskLine}
+use Rattle.gc_texts.specs.TaskLines.{IsDeadlineLine, IsNameLine, IsNearLine, IsUnwatchedLine, SetsAccepted, IsCommandLine, IsTaskLine}
 use Rattle.gc_texts.specs.Wishes.{AsksFor}
 use Rattle.gc_texts.specs.Words.{first_word, second_word, third_word, after_three_words}
 use Rattle.gc_texts.specs.declared.codes.Codes.{Codes}
@@ -58,8 +58,8 @@ module _ (line rest : List ℕ) (name : Name) (e : line ≡ codes "name " ++ res
       let both : true ≡ false = sym is.text_is ∙ ap is_name (sym same) ∙ isnt in
       cc
 
--- the kinds of lines, distinguished by the first byte: 0 a command, 1 `deadline`, 2 `chained`, 3 `unchained`, 4 `name` or
--- `near`, which begin alike, 5 `accept` or `at start`, which begin alike, too, 6 `retry`, 7 `each cycle`
+-- the kinds of lines, distinguished by the first byte: 0 a command, 1 `deadline`, 2 `chained`, 3 `unchained` or `unwatched`, which
+-- begin alike, 4 `name` or `near`, which begin alike, too, 5 `accept` or `at start`, which begin alike, too, 6 `retry`, 7 `each cycle`
 abbrev said_kind : TaskLine → ℕ
 said_kind (says.Command command now) = 0
 said_kind (says.Deadline deadline) = 1
@@ -67,6 +67,7 @@ said_kind says.Chained = 2
 said_kind says.Unchained = 3
 said_kind (says.Naming name) = 4
 said_kind (says.Locating near) = 4
+said_kind (says.Unwatching target) = 3
 said_kind (says.Accepting accepted) = 5
 said_kind (says.Retrying retry) = 6
 said_kind says.AtStart = 5
@@ -122,6 +123,7 @@ first_byte_shows_kind line says.Chained is = ap line_kind is
 first_byte_shows_kind line says.Unchained is = ap line_kind is
 first_byte_shows_kind line (says.Naming name) is = ap line_kind is.line_is
 first_byte_shows_kind line (says.Locating near) is = ap line_kind is.line_is
+first_byte_shows_kind line (says.Unwatching target) is = ap line_kind is.line_is
 first_byte_shows_kind line (says.Accepting accepted) (inl alone) = ap line_kind alone.0
 first_byte_shows_kind line (says.Accepting accepted) (inr is) = ap line_kind is.line_is
 first_byte_shows_kind line (says.Retrying retry) (inl alone) = ap line_kind alone.0
@@ -180,6 +182,22 @@ name_is_no_near line name near x y =
     let second : ◌≡◌ {A = ℕ} 97 101 = ap (λ bs. get_or bs 1 0) (sym x.line_is ∙ y.line_is) in
     omega (arith, second)
 
+-- a line leaves one target unwatched at most
+one_unwatching : (line : List ℕ) (m n : ℕ) → IsUnwatchedLine line m → IsUnwatchedLine line n → m ≡ n
+one_unwatching line m n x y =
+    one_number y.rest m n 4294967295 (holds_of_rest (codes "unwatched ") (λ r. IsTarget r m) line y.rest y.line_is x) y.is
+
+-- if a line is `unwatched ` and `rest`, the target that is read of `rest`, or `None`, is also read of the line (`IsReadAs`)
+pub unwatched_of_rest : (line rest : List ℕ) (r : Option ℕ) → line ≡ codes "unwatched " ++ rest
+    → IsReadAs (IsTarget rest) r → IsReadAs (IsUnwatchedLine line) r
+unwatched_of_rest line rest r e =
+    read_alike (IsTarget rest) (IsUnwatchedLine line) r (λ target is. record { rest = rest; line_is = e; is = is })
+    (λ target is. holds_of_rest (codes "unwatched ") (λ t. IsTarget t target) line rest e is)
+
+-- no line both says that commands aren't chained (`unchained`) and leaves a target unwatched (`unwatched `)
+unchained_is_no_unwatched : (line : List ℕ) (target : ℕ) → line ≡ codes "unchained" → IsUnwatchedLine line target → ⊥
+unchained_is_no_unwatched line target e x = let third : ◌≡◌ {A = ℕ} 99 119 = ap (λ bs. get_or bs 2 0) (sym e ∙ x.line_is) in omega (arith, third)
+
 -- no line both says which codes are accepted (`accept`) and begins the setup (`at start`)
 accept_is_no_start : (line : List ℕ) (accepted : Codes) → SetsAccepted line accepted → line ≡ codes "at start" → ⊥
 accept_is_no_start line accepted (inl alone) e = let second : ◌≡◌ {A = ℕ} 99 116 = ap (λ bs. get_or bs 1 0) (sym alone.0 ∙ e) in omega (arith, second)
@@ -201,6 +219,7 @@ same_said line says.Chained says.Chained x y h = refl
 same_said line says.Unchained says.Unchained x y h = refl
 same_said line (says.Naming m) (says.Naming n) x y h = ap says.Naming (one_naming line m n x y)
 same_said line (says.Locating m) (says.Locating n) x y h = ap says.Locating (one_locating line m n x y)
+same_said line (says.Unwatching m) (says.Unwatching n) x y h = ap says.Unwatching (one_unwatching line m n x y)
 same_said line (says.Accepting a) (says.Accepting b) x y h = ap says.Accepting (one_accepting line a b x y)
 same_said line (says.Retrying a) (says.Retrying b) x y h = ap says.Retrying (one_retrying line a b x y)
 same_said line says.AtStart says.AtStart x y h = refl
@@ -209,6 +228,8 @@ same_said line (says.Accepting a) says.AtStart x y h = absurd (accept_is_no_star
 same_said line says.AtStart (says.Accepting a) x y h = absurd (accept_is_no_start line a y x)
 same_said line (says.Naming m) (says.Locating n) x y h = absurd (name_is_no_near line m n x y)
 same_said line (says.Locating m) (says.Naming n) x y h = absurd (name_is_no_near line n m y x)
+same_said line says.Unchained (says.Unwatching n) x y h = absurd (unchained_is_no_unwatched line n x y)
+same_said line (says.Unwatching n) says.Unchained x y h = absurd (unchained_is_no_unwatched line n y x)
 same_said line a b x y h = absurd (omega (arith, h))
 
 -- a line says one thing at most

@@ -18,7 +18,7 @@ use Rattle.gc_texts.specs.declared.retry.Retry.{Retry}
 use Rattle.gc_texts.specs.declared.attempts.Planned.{Planned}
 use Rattle.gc_texts.specs.LineForms.{is_kept, text_lines, AreLinesOf}
 use Rattle.gc_texts.specs.TaskLines.{IsTaskLine}
-use Rattle.gc_texts.specs.Tasks.{TasksSeen, first_mode, mode_after, continues_group, task_at, setup_of, planned_of, tasks_of, name_at, names_of, near_at, nears_of, placed, MayFollow}
+use Rattle.gc_texts.specs.Tasks.{TasksSeen, first_mode, mode_after, continues_group, task_at, setup_of, planned_of, tasks_of, name_at, names_of, near_at, nears_of, unwatched_at, unwatched_of, placed, MayFollow}
 use Rattle.gc_texts.specs.Wishes.{wish_of}
 use Rattle.gc_texts.specs.declared.commands.Command.{Command}
 use Rattle.gc_texts.specs.declared.name.Name.{Name}
@@ -30,24 +30,27 @@ use Rattle.gc_texts.specs.declared.tasks.Task.{Task}
 use Rattle.gc_texts.proofs.OneReading.{one_list}
 use Rattle.gc_texts.proofs.TaskForms.{one_said}
 
--- what two texts give is the same if the numbers of setup tasks are, the tasks, the names and the places
-same_tasks : (a b : TasksSeen) → a.setup ≡ b.setup → a.tasks ≡ b.tasks → a.names ≡ b.names → a.nears ≡ b.nears → a ≡ b
-same_tasks a b e f g h =
-    ap (λ n. record { setup = n; tasks = a.tasks; names = a.names; nears = a.nears }) e
-    ∙ ap (λ ts. record { setup = b.setup; tasks = ts; names = a.names; nears = a.nears }) f
-    ∙ ap (λ ns. record { setup = b.setup; tasks = b.tasks; names = ns; nears = a.nears }) g
-    ∙ ap (λ ns. record { setup = b.setup; tasks = b.tasks; names = b.names; nears = ns }) h
+-- what two texts give is the same if the numbers of setup tasks are, the tasks, the names, the places and the unwatched targets
+same_tasks : (a b : TasksSeen) → a.setup ≡ b.setup → a.tasks ≡ b.tasks → a.names ≡ b.names → a.nears ≡ b.nears → a.unwatched ≡ b.unwatched → a ≡ b
+same_tasks a b e f g h i =
+    ap (λ n. record a { setup = n }) e
+    ∙ ap (λ ts. record a { setup = b.setup; tasks = ts }) f
+    ∙ ap (λ ns. record a { setup = b.setup; tasks = b.tasks; names = ns }) g
+    ∙ ap (λ ns. record a { setup = b.setup; tasks = b.tasks; names = b.names; nears = ns }) h
+    ∙ ap (λ us. record b { unwatched = us }) i
 
 -- the law: with a caller's deadline and chaining, a text gives one number of setup tasks at most, one list of tasks, one of
--- names, and one of places
+-- names, one of places, and one of unwatched targets
 pub one_task_list : OneTaskList
 one_task_list text deadline chained one other h k =
     let same : h.said ≡ k.said = one_list IsTaskLine one_said (filter is_kept (text_lines text)) h.said k.said h.lines.forms k.lines.forms in
     let places : one.nears ≡ other.nears = h.nears_are ∙ ap nears_of same ∙ sym k.nears_are in
+    let apart : one.unwatched ≡ other.unwatched = h.unwatched_are ∙ ap unwatched_of same ∙ sym k.unwatched_are in
     same_tasks one other (h.setup_is ∙ ap (λ said. length (setup_of (first_mode deadline chained) said)) same ∙ sym k.setup_is)
-    (h.tasks_are ∙ ap (λ ns. map (placed ns) (tasks_of (first_mode deadline chained) h.said)) places
-    ∙ ap (λ said. map (placed other.nears) (tasks_of (first_mode deadline chained) said)) same ∙ sym k.tasks_are)
-    (h.names_are ∙ ap names_of same ∙ sym k.names_are) places
+    (h.tasks_are ∙ ap (λ ns. map (placed ns one.unwatched) (tasks_of (first_mode deadline chained) h.said)) places
+    ∙ ap (λ us. map (placed other.nears us) (tasks_of (first_mode deadline chained) h.said)) apart
+    ∙ ap (λ said. map (placed other.nears other.unwatched) (tasks_of (first_mode deadline chained) said)) same ∙ sym k.tasks_are)
+    (h.names_are ∙ ap names_of same ∙ sym k.names_are) places apart
 
 -- what the lines of a command text say as lines of a station's text: these commands, none of which sets a clock to its moment
 abbrev lines_of : List Command → List TaskLine
@@ -60,10 +63,10 @@ lines_have_forms [] (c ∷ cs) are = absurd are
 lines_have_forms (line ∷ lines) [] are = absurd are
 lines_have_forms (line ∷ lines) (c ∷ cs) are = (are.0, lines_have_forms lines cs are.1)
 
--- lines of commands may follow any names and places
-lines_follow : (names : List Name) (nears : List Near) (commands : List Command) → MayFollow names nears (lines_of commands)
-lines_follow names nears [] = tt
-lines_follow names nears (c ∷ cs) = (refl, lines_follow (names ++ []) (nears ++ []) cs)
+-- lines of commands may follow any names, places and unwatched targets
+lines_follow : (names : List Name) (nears : List Near) (unwatched : List ℕ) (commands : List Command) → MayFollow names nears unwatched (lines_of commands)
+lines_follow names nears unwatched [] = tt
+lines_follow names nears unwatched (c ∷ cs) = (refl, lines_follow (names ++ []) (nears ++ []) (unwatched ++ []) cs)
 
 -- where the line of a command gives nothing, as it gives no name and no place, the lines of commands give nothing
 lines_give_none : {Item : Type 0} (given_at : TaskLine → List Item) → ((c : Command) → given_at (says.Command (wish_of c) false) ≡ [])
@@ -118,10 +121,17 @@ laid_once retry chain (p ∷ later) none all rest =
           ap (λ r. attempts r chain ++ laid_from p.retry (p ∷ []) later) none ∙ ap (λ ts. ts ++ laid_from p.retry (p ∷ []) later) (first_attempts_are_tasks (length chain) chain all)
           ∙ ap (λ ts. map (λ q. q.task) chain ++ ts) anew
 
--- tasks without places stay as they are where the text says no place
-unplaced_stay : (tasks : List Task) → AllByRecursion (λ task. task.near ≡ None) tasks → map (placed []) tasks ≡ tasks
+-- this task has no place of its target, and is watched
+record IsUnplaced (task : Task) : Type 0 where
+  near : task.near ≡ None
+  watched : task.watched ≡ true
+
+-- tasks without places that are watched stay as they are where the text says no place and leaves no target unwatched
+unplaced_stay : (tasks : List Task) → AllByRecursion IsUnplaced tasks → map (placed [] []) tasks ≡ tasks
 unplaced_stay [] all = refl
-unplaced_stay (t ∷ ts) all = ap (λ n. record t { near = n } ∷ map (placed []) ts) (sym all.0) ∙ ap (λ us. t ∷ us) (unplaced_stay ts all.1)
+unplaced_stay (t ∷ ts) all =
+    ap (λ n. record t { near = n; watched = true } ∷ map (placed [] []) ts) (sym all.0.near) ∙ ap (λ w. record t { watched = w } ∷ map (placed [] []) ts) (sym all.0.watched)
+    ∙ ap (λ us. t ∷ us) (unplaced_stay ts all.1)
 
 -- commands alone, read in a mode of the cycle without accepted codes and without retries, which counts `place` commands before
 -- them, and `link` of the chain that the first may continue
@@ -157,11 +167,11 @@ module _ (deadline : ℕ) (chained : Bool) where
   each_is_sent_once group place link (c ∷ cs) =
       (record { retry = refl; task = record { near = refl; again = refl; attempt = refl; others = refl } }, each_is_sent_once (Some c.target) (place + 1) (next_link group link c.target) cs)
 
-  -- no task of commands that are read in such a mode (`mode_in_cycle`) has a place of its target
+  -- no task of commands that are read in such a mode (`mode_in_cycle`) has a place of its target, and all are watched
   none_placed : (group : Option ℕ) (place link : ℕ) (commands : List Command)
-      → AllByRecursion (λ task. task.near ≡ None) (map (λ p. p.task) (planned_of (mode_in_cycle group place link) (lines_of commands)))
+      → AllByRecursion IsUnplaced (map (λ p. p.task) (planned_of (mode_in_cycle group place link) (lines_of commands)))
   none_placed group place link [] = tt
-  none_placed group place link (c ∷ cs) = (refl, none_placed (Some c.target) (place + 1) (next_link group link c.target) cs)
+  none_placed group place link (c ∷ cs) = (record { near = refl; watched = refl }, none_placed (Some c.target) (place + 1) (next_link group link c.target) cs)
 
   -- the tasks of commands that are read in such a mode (`mode_in_cycle`) ask for these commands, in order
   asked_tasks : (group : Option ℕ) (place link : ℕ) (commands : List Command)
@@ -171,12 +181,12 @@ module _ (deadline : ℕ) (chained : Bool) where
 
   -- the tasks of the commands, read in the first mode, are the tasks that lines of these commands alone give
   tasks_are_asked : (commands : List Command)
-      → map (λ p. p.task) (planned_of (first_mode deadline chained) (lines_of commands)) ≡ map (placed []) (tasks_of (first_mode deadline chained) (lines_of commands))
+      → map (λ p. p.task) (planned_of (first_mode deadline chained) (lines_of commands)) ≡ map (placed [] []) (tasks_of (first_mode deadline chained) (lines_of commands))
   tasks_are_asked commands =
       let planned = planned_of (first_mode deadline chained) (lines_of commands) in
       let laid : laid_out planned ≡ map (λ p. p.task) planned = laid_once no_retry [] planned refl tt (each_is_sent_once None 0 0 commands) in
-      sym (unplaced_stay (map (λ p. p.task) planned) (none_placed None 0 0 commands)) ∙ ap (map (placed [])) (sym laid)
-      ∙ ap (λ ts. map (placed []) (ts ++ laid_out planned)) (sym (no_setup None 0 0 commands))
+      sym (unplaced_stay (map (λ p. p.task) planned) (none_placed None 0 0 commands)) ∙ ap (map (placed [] [])) (sym laid)
+      ∙ ap (λ ts. map (placed [] []) (ts ++ laid_out planned)) (sym (no_setup None 0 0 commands))
 
 -- the law: each command text is a station's text, of the same commands in the same order, and without setup, names and places
 pub commands_are_tasks : CommandsAreTasks
@@ -184,11 +194,12 @@ commands_are_tasks text commands deadline chained are = (
   map (λ p. p.task) (planned_of (first_mode deadline chained) (lines_of commands)),
   record {
     said = lines_of commands;
-    lines = record { forms = lines_have_forms (filter is_kept (text_lines text)) commands are; follow = lines_follow [] [] commands };
+    lines = record { forms = lines_have_forms (filter is_kept (text_lines text)) commands are; follow = lines_follow [] [] [] commands };
     tasks_are = tasks_are_asked deadline chained commands;
     setup_is = ap length (sym (no_setup deadline chained None 0 0 commands));
     names_are = lines_give_none name_at (λ c. refl) commands;
     nears_are = lines_give_none near_at (λ c. refl) commands;
+    unwatched_are = lines_give_none unwatched_at (λ c. refl) commands;
   },
   asked_tasks deadline chained None 0 0 commands,
 )
@@ -204,6 +215,7 @@ unchained_are_plain deadline group place link (c ∷ cs) =
       deadline = deadline;
       chained = false;
       near = None;
+      watched = true;
       accepted = no_codes;
       again = no_again;
       turn = record { place = place; attempt = 1; link = 0 };
@@ -213,16 +225,17 @@ unchained_are_plain deadline group place link (c ∷ cs) =
     (unchained_are_plain deadline (Some c.target) (place + 1) 1 cs)
 
 -- the law: a command text, read as a station's text without chains, gives one task for each command, in order, not chained and
--- with the caller's deadline (`plain_tasks`), and neither setup nor names nor places
+-- with the caller's deadline (`plain_tasks`), and neither setup nor names nor places nor unwatched targets
 pub commands_are_plain : CommandsArePlain
 commands_are_plain text commands deadline are =
     record {
       said = lines_of commands;
-      lines = record { forms = lines_have_forms (filter is_kept (text_lines text)) commands are; follow = lines_follow [] [] commands };
+      lines = record { forms = lines_have_forms (filter is_kept (text_lines text)) commands are; follow = lines_follow [] [] [] commands };
       tasks_are = unchained_are_plain deadline None 0 0 commands ∙ tasks_are_asked deadline false commands;
       setup_is = ap length (sym (no_setup deadline false None 0 0 commands));
       names_are = lines_give_none name_at (λ c. refl) commands;
       nears_are = lines_give_none near_at (λ c. refl) commands;
+      unwatched_are = lines_give_none unwatched_at (λ c. refl) commands;
     }
 
 -- a group that a command for a target continues is the group of that target
@@ -329,9 +342,9 @@ laid_keep_targets retry chain (p ∷ later) are more =
 
 -- tasks that keep targets do so, too, once they have their places, which change neither which are chained nor for which target
 -- they are
-placed_keep_targets : (nears : List Near) (before : Option ℕ) (tasks : List Task) → KeepTargets before tasks → KeepTargets before (map (placed nears) tasks)
-placed_keep_targets nears before [] are = tt
-placed_keep_targets nears before (task ∷ later) are = (are.0, placed_keep_targets nears (Some task.command.target) later are.1)
+placed_keep_targets : (nears : List Near) (unwatched : List ℕ) (before : Option ℕ) (tasks : List Task) → KeepTargets before tasks → KeepTargets before (map (placed nears unwatched) tasks)
+placed_keep_targets nears unwatched before [] are = tt
+placed_keep_targets nears unwatched before (task ∷ later) are = (are.0, placed_keep_targets nears unwatched (Some task.command.target) later are.1)
 
 -- these tasks, after n others of a chain, are the rest of that chain: all are chained, but for the first where n is 0
 abbrev ContinueChain : ℕ → List Task → Type 0
@@ -353,37 +366,37 @@ chain_continued (suc n) task later is more = (is ∙ suc_above_zero n, subst (λ
 
 -- the setup tasks of these lines, with their places, continue as one chain (`ContinueChain`) the tasks that the mode before the
 -- lines has counted (`begun`)
-setup_chain : (nears : List Near) (mode : Mode) (said : List TaskLine) → ContinueChain mode.begun (map (placed nears) (setup_of mode said))
-setup_chain nears mode [] = none_continues mode.begun where
+setup_chain : (nears : List Near) (unwatched : List ℕ) (mode : Mode) (said : List TaskLine) → ContinueChain mode.begun (map (placed nears unwatched) (setup_of mode said))
+setup_chain nears unwatched mode [] = none_continues mode.begun where
   -- the empty list of tasks continues a chain of whatever number of tasks (`ContinueChain`)
   none_continues : (n : ℕ) → ContinueChain n []
   none_continues zero = tt
   none_continues (suc n) = tt
-setup_chain nears mode (says.Command c now ∷ later) = by_setup mode.setup refl (setup_chain nears (mode_after mode (says.Command c now)) later) where
+setup_chain nears unwatched mode (says.Command c now ∷ later) = by_setup mode.setup refl (setup_chain nears unwatched (mode_after mode (says.Command c now)) later) where
   -- the lemma above for a command and the lines after it, by whether the mode is that of the setup (`b`)
   by_setup : (b : Bool) → mode.setup ≡ b
-      → ContinueChain (mode_after mode (says.Command c now)).begun (map (placed nears) (setup_of (mode_after mode (says.Command c now)) later))
+      → ContinueChain (mode_after mode (says.Command c now)).begun (map (placed nears unwatched) (setup_of (mode_after mode (says.Command c now)) later))
       → ContinueChain mode.begun
-      (map (placed nears) ((if b then task_at mode c now ∷ [] else []) ++ setup_of (mode_after mode (says.Command c now)) later))
+      (map (placed nears unwatched) ((if b then task_at mode c now ∷ [] else []) ++ setup_of (mode_after mode (says.Command c now)) later))
   by_setup true e more =
-      chain_continued mode.begun (placed nears (task_at mode c now)) (map (placed nears) (setup_of (mode_after mode (says.Command c now)) later))
+      chain_continued mode.begun (placed nears unwatched (task_at mode c now)) (map (placed nears unwatched) (setup_of (mode_after mode (says.Command c now)) later))
       (ap (λ b. if b then nat_lt 0 mode.begun else mode.chained && continues_group mode.group c.target) e)
-      (subst (λ n. ContinueChain n (map (placed nears) (setup_of (mode_after mode (says.Command c now)) later))) (ap (λ b. if b then mode.begun + 1 else mode.begun) e) more)
-  by_setup false e more = subst (λ n. ContinueChain n (map (placed nears) (setup_of (mode_after mode (says.Command c now)) later))) (ap (λ b. if b then mode.begun + 1 else mode.begun) e) more
-setup_chain nears mode (line ∷ later) = setup_chain nears (mode_after mode line) later
+      (subst (λ n. ContinueChain n (map (placed nears unwatched) (setup_of (mode_after mode (says.Command c now)) later))) (ap (λ b. if b then mode.begun + 1 else mode.begun) e) more)
+  by_setup false e more = subst (λ n. ContinueChain n (map (placed nears unwatched) (setup_of (mode_after mode (says.Command c now)) later))) (ap (λ b. if b then mode.begun + 1 else mode.begun) e) more
+setup_chain nears unwatched mode (line ∷ later) = setup_chain nears unwatched (mode_after mode line) later
 
 -- the law: the setup is one chain, and of the tasks after it the first isn't chained, and each chained one follows one for the
 -- same target
 pub chains_keep_targets : ChainsKeepTargets
 chains_keep_targets text deadline chained all is =
     let first = first_mode deadline chained in
-    let front = map (placed all.nears) (setup_of first is.said) in
-    let cycle = map (placed all.nears) (laid_out (planned_of first is.said)) in (
+    let front = map (placed all.nears all.unwatched) (setup_of first is.said) in
+    let cycle = map (placed all.nears all.unwatched) (laid_out (planned_of first is.said)) in (
       front,
       cycle,
-      is.tasks_are ∙ map-append (placed all.nears) (setup_of first is.said) (laid_out (planned_of first is.said)),
-      is.setup_is ∙ sym (length-map (setup_of first is.said) (placed all.nears)),
-      setup_chain all.nears first is.said,
-      placed_keep_targets all.nears None (laid_out (planned_of first is.said))
+      is.tasks_are ∙ map-append (placed all.nears all.unwatched) (setup_of first is.said) (laid_out (planned_of first is.said)),
+      is.setup_is ∙ sym (length-map (setup_of first is.said) (placed all.nears all.unwatched)),
+      setup_chain all.nears all.unwatched first is.said,
+      placed_keep_targets all.nears all.unwatched None (laid_out (planned_of first is.said))
           (laid_keep_targets no_retry [] (planned_of first is.said) tt (commands_keep_targets first None is.said (inr (inl refl)))),
     )

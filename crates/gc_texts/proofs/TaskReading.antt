@@ -9,7 +9,7 @@ use Rattle.std.specs.List.{flat_map}
 use Rattle.std.specs.Prelude.{filter}
 use Rattle.gc_texts.specs.LineForms.{is_skipped, is_kept}
 use Rattle.gc_texts.specs.TaskLines.{IsTaskLine}
-use Rattle.gc_texts.specs.Tasks.{LinesGave, Grows, CountsAtMost, first_mode, mode_after, chained_at, place_in_chain, task_at, given_by, setup_at, setup_of, planned_at, planned_of, name_at, names_of, near_at, nears_of, may_follow, MayFollow, FirstFaultyTaskLine, ReachesASoundTaskLine}
+use Rattle.gc_texts.specs.Tasks.{LinesGave, Grows, CountsAtMost, first_mode, mode_after, chained_at, place_in_chain, task_at, given_by, setup_at, setup_of, planned_at, planned_of, name_at, names_of, near_at, nears_of, unwatched_at, unwatched_of, may_follow, MayFollow, FirstFaultyTaskLine, ReachesASoundTaskLine}
 use Rattle.gc_texts.specs.declared.name.Name.{Name}
 use Rattle.gc_texts.specs.declared.near.Near.{Near}
 use Rattle.gc_texts.specs.declared.task_line.TaskLine.{TaskLine}
@@ -93,16 +93,22 @@ flat_map_one_more : {Item : Type 0} (given_at : TaskLine → List Item) (lines :
 flat_map_one_more given_at lines next =
     flat_map-append given_at lines (next ∷ []) ∙ ap (λ items. flat_map given_at lines ++ items) (append-nil (given_at next))
 
--- where lines may follow these names and places, and one more line may follow these together with the names and places of the
--- lines, all of these lines may follow these names and places
-follow_one_more : (names : List Name) (nears : List Near) (lines : List TaskLine) (next : TaskLine) → MayFollow names nears lines
-    → may_follow (names ++ names_of lines) (nears ++ nears_of lines) next ≡ true → MayFollow names nears (lines ++ next ∷ [])
-follow_one_more names nears [] next follow allowed = (ap (λ ns. may_follow ns nears next) (sym (append-nil names)) ∙ ap (λ ps. may_follow (names ++ []) ps next) (sym (append-nil nears)) ∙ allowed, tt)
-follow_one_more names nears (line ∷ lines) next follow allowed = (
+-- where lines may follow these names, places and unwatched targets, and one more line may follow these together with those of the
+-- lines, all of these lines may follow these names, places and unwatched targets
+follow_one_more : (names : List Name) (nears : List Near) (unwatched : List ℕ) (lines : List TaskLine) (next : TaskLine) → MayFollow names nears unwatched lines
+    → may_follow (names ++ names_of lines) (nears ++ nears_of lines) (unwatched ++ unwatched_of lines) next ≡ true → MayFollow names nears unwatched (lines ++ next ∷ [])
+follow_one_more names nears unwatched [] next follow allowed = (
+  ap (λ ns. may_follow ns nears unwatched next) (sym (append-nil names)) ∙ ap (λ ps. may_follow (names ++ []) ps unwatched next) (sym (append-nil nears))
+      ∙ ap (λ us. may_follow (names ++ []) (nears ++ []) us next) (sym (append-nil unwatched)) ∙ allowed,
+  tt,
+)
+follow_one_more names nears unwatched (line ∷ lines) next follow allowed = (
   follow.0,
-  follow_one_more (names ++ name_at line) (nears ++ near_at line) lines next follow.1
-      (ap (λ ns. may_follow ns ((nears ++ near_at line) ++ nears_of lines) next) (append_assoc names (name_at line) (names_of lines))
-      ∙ ap (λ ps. may_follow (names ++ (name_at line ++ names_of lines)) ps next) (append_assoc nears (near_at line) (nears_of lines)) ∙ allowed),
+  follow_one_more (names ++ name_at line) (nears ++ near_at line) (unwatched ++ unwatched_at line) lines next follow.1
+      (ap (λ ns. may_follow ns ((nears ++ near_at line) ++ nears_of lines) ((unwatched ++ unwatched_at line) ++ unwatched_of lines) next) (append_assoc names (name_at line) (names_of lines))
+      ∙ ap (λ ps. may_follow (names ++ (name_at line ++ names_of lines)) ps ((unwatched ++ unwatched_at line) ++ unwatched_of lines) next) (append_assoc nears (near_at line) (nears_of lines))
+      ∙ ap (λ us. may_follow (names ++ (name_at line ++ names_of lines)) (nears ++ (near_at line ++ nears_of lines)) us next) (append_assoc unwatched (unwatched_at line) (unwatched_of lines))
+      ∙ allowed),
 )
 
 -- where lines gave `old`, and this grew to `new` by what `next` gives by the mode after them, the lines and then `next` gave
@@ -116,6 +122,7 @@ gave_with_one_more first mode lines next old new gave is grows =
           ∙ sym (given_with_one_more planned_at first lines next);
       names_are = grows.names_more ∙ ap (λ ns. ns ++ name_at next) gave.names_are ∙ sym (flat_map_one_more name_at lines next);
       nears_are = grows.nears_more ∙ ap (λ ns. ns ++ near_at next) gave.nears_are ∙ sym (flat_map_one_more near_at lines next);
+      unwatched_are = grows.unwatched_more ∙ ap (λ us. us ++ unwatched_at next) gave.unwatched_are ∙ sym (flat_map_one_more unwatched_at lines next);
     }
 
 -- how far the reading has come, which began in the mode `first`: `left` of the text is unread, `number` lines were read, `given`
@@ -124,7 +131,7 @@ gave_with_one_more first mode lines next old new gave is grows =
 pub record ReadsTasks (text : List ℕ) (first : Mode) (left : Option (List ℕ)) (number : ℕ) (given : Given) (mode : Mode) : Type 0 where
   pub said : List TaskLine
   pub reads : ReadsSoFar IsTaskLine text left number said
-  pub follow : MayFollow [] [] said
+  pub follow : MayFollow [] [] [] said
   pub gave : LinesGave first said given
   pub mode_is : mode ≡ mode_after_lines first said
   pub reached : (said ≡ []) ⊎ ReachesASoundTaskLine text
@@ -160,8 +167,10 @@ module _
     (text : List ℕ) (first : Mode) (left : Option (List ℕ)) (number : ℕ) (given : Given) (mode : Mode) (r : ReadsTasks text first left number given mode)
     (line : List ℕ) (rest : Option (List ℕ)) (at : HasRead IsTaskLine text (line ∷ lines_left rest) number r.said) where
   -- a line may follow the lines that were read exactly where it may follow the names and places so far
-  may_follow_so_far : (said : TaskLine) → may_follow (names_of r.said) (nears_of r.said) said ≡ may_follow given.names.items given.nears.items said
-  may_follow_so_far said = ap (λ ns. may_follow ns (nears_of r.said) said) (sym r.gave.names_are) ∙ ap (λ ps. may_follow given.names.items ps said) (sym r.gave.nears_are)
+  may_follow_so_far : (said : TaskLine) → may_follow (names_of r.said) (nears_of r.said) (unwatched_of r.said) said ≡ may_follow given.names.items given.nears.items given.unwatched.items said
+  may_follow_so_far said =
+      ap (λ ns. may_follow ns (nears_of r.said) (unwatched_of r.said) said) (sym r.gave.names_are) ∙ ap (λ ps. may_follow given.names.items ps (unwatched_of r.said) said) (sym r.gave.nears_are)
+      ∙ ap (λ us. may_follow given.names.items given.nears.items us said) (sym r.gave.unwatched_are)
 
   -- if the line is skipped, it is read, and changes nothing but the number of lines
   pub task_skips : is_skipped line ≡ true → ReadsTasks text first rest (number + 1) given mode
@@ -176,7 +185,7 @@ module _
       }
 
   -- if the line isn't skipped, and says nothing that may follow the lines before it, it is the first faulty one
-  is_first_faulty : is_skipped line ≡ false → ((said : TaskLine) → IsTaskLine line said → may_follow given.names.items given.nears.items said ≡ false)
+  is_first_faulty : is_skipped line ≡ false → ((said : TaskLine) → IsTaskLine line said → may_follow given.names.items given.nears.items given.unwatched.items said ≡ false)
       → FirstFaultyTaskLine text (number + 1)
   is_first_faulty isnt none =
       record {
@@ -195,13 +204,13 @@ module _
 
   -- if the line isn't skipped, has a form, and may not follow the names and places so far (`may_follow`), it is the first faulty one
   pub task_refused : (said : TaskLine) (allowed : Bool) → is_skipped line ≡ false → IsTaskLine line said
-      → allowed ≡ may_follow given.names.items given.nears.items said → allowed ≡ false → FirstFaultyTaskLine text (number + 1)
-  task_refused said allowed isnt is asked no_more = is_first_faulty isnt (λ other form. ap (may_follow given.names.items given.nears.items) (one_said line other said form is) ∙ sym asked ∙ no_more)
+      → allowed ≡ may_follow given.names.items given.nears.items given.unwatched.items said → allowed ≡ false → FirstFaultyTaskLine text (number + 1)
+  task_refused said allowed isnt is asked no_more = is_first_faulty isnt (λ other form. ap (may_follow given.names.items given.nears.items given.unwatched.items) (one_said line other said form is) ∙ sym asked ∙ no_more)
 
   -- if the line isn't skipped, has a form and may follow the names and places so far (`may_follow`), the text has a line that isn't
   -- faulty, with no faulty line before it (`ReachesASoundTaskLine`): this is needed where memory is refused at the line
   pub task_wants : (said : TaskLine) (allowed : Bool) → is_skipped line ≡ false → IsTaskLine line said
-      → allowed ≡ may_follow given.names.items given.nears.items said → allowed ≡ true → ReachesASoundTaskLine text
+      → allowed ≡ may_follow given.names.items given.nears.items given.unwatched.items said → allowed ≡ true → ReachesASoundTaskLine text
   task_wants said allowed isnt is asked did =
       record {
         front = at.read;
@@ -218,14 +227,14 @@ module _
   -- grows by what it gives, and the mode is the one after it
   pub task_reads :
       (said : TaskLine) (new : Given) (next : Mode) (allowed : Bool)
-      (isnt : is_skipped line ≡ false) (is : IsTaskLine line said) (asked : allowed ≡ may_follow given.names.items given.nears.items said) (did : allowed ≡ true)
+      (isnt : is_skipped line ≡ false) (is : IsTaskLine line said) (asked : allowed ≡ may_follow given.names.items given.nears.items given.unwatched.items said) (did : allowed ≡ true)
       (grows : Grows mode said given new) (more : next ≡ mode_after mode said)
       → ReadsTasks text first rest (number + 1) new next
   task_reads said new next allowed isnt is asked did grows more =
       record {
         said = r.said ++ said ∷ [];
         reads = line_reads IsTaskLine text line rest number r.said at said (r.said ++ said ∷ []) isnt is refl;
-        follow = follow_one_more [] [] r.said said r.follow (may_follow_so_far said ∙ sym asked ∙ did);
+        follow = follow_one_more [] [] [] r.said said r.follow (may_follow_so_far said ∙ sym asked ∙ did);
         gave = gave_with_one_more first mode r.said said given new r.gave r.mode_is grows;
         mode_is = more ∙ ap (λ m. mode_after m said) r.mode_is ∙ sym (mode_after_both first r.said (said ∷ []));
         reached = inr (task_wants said allowed isnt is asked did);

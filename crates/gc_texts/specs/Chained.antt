@@ -1,10 +1,11 @@
 -- What holds of a command in a station's text, by the lines before it: this project's own.
-use Rattle.std.specs.Prelude.{◌≡◌, ◌⊎◌, ℕ, ◌+◌, ◌≤◌, nat_lt, if◌then◌else◌, Bool, true, false, List, [], ◌∷◌, ◌++◌, length, Some}
+use Rattle.std.specs.Prelude.{◌≡◌, ◌⊎◌, ℕ, ◌+◌, ◌≤◌, nat_lt, if◌then◌else◌, Bool, not, true, false, List, [], ◌∷◌, ◌++◌, length, Some}
 use Rattle.std.specs.List.{AllByRecursion}
 use Rattle.gc_texts.specs.Codes.{no_codes}
 use Rattle.gc_texts.specs.Nears.{near_of}
 use Rattle.gc_texts.specs.Tasks.{TasksSeen, IsTasks}
 use Rattle.gc_texts.specs.Retries.{no_retry}
+use Rattle.gc_texts.specs.Watching.{is_unwatched}
 use Rattle.gc_texts.specs.declared.codes.Codes.{Codes}
 use Rattle.gc_texts.specs.declared.retry.Retry.{Retry}
 use Rattle.gc_texts.specs.declared.wish.Wish.{Wish}
@@ -93,15 +94,16 @@ abbrev pub IsRetryAfter : List TaskLine → Retry → Type 0
 IsRetryAfter lines retry = IsSetAfter SaysNoRetry says.Retrying no_retry lines retry
 
 -- a line that may come between two commands of a group, which is a run of commands for one target, without ending it: a deadline, a
--- name, where a target is, or accepted codes
+-- name, where a target is, that a target isn't watched, or accepted codes
 abbrev pub KeepsGroup : TaskLine → Type 0
 KeepsGroup (says.Deadline deadline) = Unit {0}
 KeepsGroup (says.Naming name) = Unit {0}
 KeepsGroup (says.Locating near) = Unit {0}
+KeepsGroup (says.Unwatching target) = Unit {0}
 KeepsGroup (says.Accepting accepted) = Unit {0}
 KeepsGroup _ = ⊥
 
--- the last command of these lines is for this target, and only deadlines, names, places and codes follow it
+-- the last command of these lines is for this target, and only deadlines, names, places, unwatched targets and codes follow it
 abbrev pub EndsInGroupOf : List TaskLine → ℕ → Type 0
 EndsInGroupOf lines target =
     (before : List TaskLine) × (command : Wish) × (now : Bool) × (between : List TaskLine)
@@ -133,7 +135,7 @@ pub record IsTaskOf (deadline : ℕ) (chained : Bool) (front : List TaskLine) (c
   pub in_cycle : section_after false front ≡ false → IsTaskInCycle chained front command task
 
 -- each command of a text is sent as the lines before it say, and its task has the place that the text gives its target, if
--- any. Before the task of a command of the setup there are as many tasks as the text has commands of the setup before that
+-- any, and is watched unless the text leaves its target unwatched. Before the task of a command of the setup there are as many tasks as the text has commands of the setup before that
 -- command, and before the task of one of the cycle there are at least all those of the setup
 abbrev pub TasksFollowTheirLines : Type 0
 TasksFollowTheirLines =
@@ -142,6 +144,7 @@ TasksFollowTheirLines =
     → (earlier : List Task) × (task : Task) × (others : List Task) × (all.tasks ≡ earlier ++ task ∷ others)
     × (section_after false front ≡ true → length earlier ≡ setup_commands false front) × (section_after false front ≡ false → all.setup ≤ length earlier)
     × IsTaskOf deadline chained front command now task × (task.near ≡ near_of command.target all.nears)
+    × (task.watched ≡ not (is_unwatched command.target all.unwatched))
 
 -- where a line says where a target is, it says so of each command of that target, before it and after it
 abbrev pub PlacesHoldForAll : Type 0
@@ -149,3 +152,12 @@ PlacesHoldForAll =
     (text : List ℕ) (deadline : ℕ) (chained : Bool) (all : TasksSeen) (is : IsTasks text deadline chained all)
     (front later : List TaskLine) (near : Near) → is.said ≡ front ++ says.Locating near ∷ later
     → (earlier others : List Task) (task : Task) → all.tasks ≡ earlier ++ task ∷ others → task.command.target ≡ near.target → task.near ≡ Some near
+
+-- the commands that aren't watched are those of the targets for which a line says so, wherever that line is: where a line says so of the
+-- target of a task, the task isn't watched; and where no line does, it is
+abbrev pub UnwatchedHoldForAll : Type 0
+UnwatchedHoldForAll =
+    (text : List ℕ) (deadline : ℕ) (chained : Bool) (all : TasksSeen) (is : IsTasks text deadline chained all)
+    (earlier others : List Task) (task : Task) → all.tasks ≡ earlier ++ task ∷ others
+    → ((front later : List TaskLine) → is.said ≡ front ++ says.Unwatching task.command.target ∷ later → task.watched ≡ false)
+    × (task.watched ≡ false → (front : List TaskLine) × (later : List TaskLine) × (is.said ≡ front ++ says.Unwatching task.command.target ∷ later))

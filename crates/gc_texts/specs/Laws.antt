@@ -20,26 +20,27 @@ use Rattle.gc_texts.specs.declared.log_line.LogMark.{LogMark}
 abbrev pub OneCommandList : Type 0
 OneCommandList = (text : List ℕ) (xs ys : List Command) → IsCommands text xs → IsCommands text ys → xs ≡ ys
 
--- with a caller's deadline and chaining, a station's text gives one number of setup tasks at most, one list of tasks, one of names, and
--- one of places
+-- with a caller's deadline and chaining, a station's text gives one number of setup tasks at most, one list of tasks, one of names,
+-- one of places, and one of unwatched targets
 abbrev pub OneTaskList : Type 0
 OneTaskList =
     (text : List ℕ) (deadline : ℕ) (chained : Bool) (one other : TasksSeen)
     → IsTasks text deadline chained one → IsTasks text deadline chained other → one ≡ other
 
--- these tasks, without setup, names and places
+-- these tasks, without setup, names, places and unwatched targets
 abbrev pub tasks_alone : List Task → TasksSeen
-tasks_alone tasks = record { setup = 0; tasks = tasks; names = []; nears = [] }
+tasks_alone tasks = record { setup = 0; tasks = tasks; names = []; nears = []; unwatched = [] }
 
--- each command text is a station's text: of the same commands in the same order, and without setup, names and places
+-- each command text is a station's text: of the same commands in the same order, and without setup, names,
+-- places and unwatched targets
 abbrev pub CommandsAreTasks : Type 0
 CommandsAreTasks =
     (text : List ℕ) (commands : List Command) (deadline : ℕ) (chained : Bool) → IsCommands text commands →
     (tasks : List Task) × IsTasks text deadline chained (tasks_alone tasks) × (map (λ task. task.command) tasks ≡ map wish_of commands)
 
 -- the tasks of these commands, numbered from `place` on: each is in its first attempt, has this deadline, isn't chained,
--- doesn't set the clock to the moment at which it is sent, and has no place of its target, no accepted code and no rule of
--- repetition
+-- doesn't set the clock to the moment at which it is sent, is watched, and has no place of its target, no accepted code and no rule
+-- of repetition
 abbrev pub plain_tasks : (deadline place : ℕ) → List Command → List Task
 plain_tasks deadline place [] = []
 plain_tasks deadline place (command ∷ others) =
@@ -48,6 +49,7 @@ plain_tasks deadline place (command ∷ others) =
       deadline = deadline;
       chained = false;
       near = None;
+      watched = true;
       accepted = no_codes;
       again = no_again;
       turn = record { place = place; attempt = 1; link = 0 };

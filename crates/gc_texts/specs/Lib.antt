@@ -3,6 +3,7 @@ pub mod LineForms
 pub mod Words
 pub mod Procedures
 pub mod Commands
+pub mod Watching
 pub mod Wishes
 pub mod Names
 pub mod Nears

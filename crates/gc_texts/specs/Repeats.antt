@@ -43,8 +43,8 @@ abbrev pub planned_in : Chain → List Planned
 planned_in chain = map (λ task. record { task = task; retry = chain.retry }) chain.commands
 
 -- a command with the place of its target (`placed`)
-abbrev pub placed_planned : List Near → Planned → Planned
-placed_planned nears planned = record { task = placed nears planned.task; retry = planned.retry }
+abbrev pub placed_planned : List Near → (unwatched : List ℕ) → Planned → Planned
+placed_planned nears unwatched planned = record { task = placed nears unwatched planned.task; retry = planned.retry }
 
 -- the commands of each of these chains are one chain (`IsOneChain`), and these tasks are the attempts of the chains, in order: of each
 -- chain the first, and as many more as its line `retry` says
@@ -63,7 +63,7 @@ ChainsGoOutAgain =
     (text : List ℕ) (deadline : ℕ) (chained : Bool) (all : TasksSeen) (is : IsTasks text deadline chained all)
     → (chains : List Chain) × (front : List Task) × (cycle : List Task)
     × (all.tasks ≡ front ++ cycle) × (all.setup ≡ length front) × AreLaidOut chains cycle
-    × (flat_map planned_in chains ≡ map (placed_planned all.nears) (planned_of (first_mode deadline chained) is.said))
+    × (flat_map planned_in chains ≡ map (placed_planned all.nears all.unwatched) (planned_of (first_mode deadline chained) is.said))
 
 -- a command of the cycle has the retry that the last line `retry` before it says; without such a line its chain isn't repeated
 abbrev pub RetriesHold : Type 0

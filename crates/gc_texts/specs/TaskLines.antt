@@ -43,6 +43,10 @@ pub record IsNameLine (line : List ℕ) (name : Name) : Type 0 where
 abbrev pub IsNearLine : List ℕ → Near → Type 0
 IsNearLine line near = IsWordAnd (codes "near ") (λ rest. IsNearText rest near) line
 
+-- `unwatched T`: a target whose commands aren't watched
+abbrev pub IsUnwatchedLine : List ℕ → (target : ℕ) → Type 0
+IsUnwatchedLine line target = IsWordAnd (codes "unwatched ") (λ rest. IsTarget rest target) line
+
 -- `accept C C ..`, with at least one return code and at most 16, or `accept` alone: which return codes are accepted beside 0, or
 -- that none is
 abbrev pub SetsAccepted : List ℕ → Codes → Type 0
@@ -64,8 +68,9 @@ abbrev pub IsCommandLine : (line : List ℕ) → Wish → (now : Bool) → Type 
 IsCommandLine line wish true = SetsClock line wish
 IsCommandLine line wish false = IsWish line wish
 
--- what a line says: a command, a deadline, that commands are chained or that they aren't, a name, where a target is, which
--- return codes are accepted, how often chains are repeated, or that the commands after it are setup or those of each cycle
+-- what a line says: a command, a deadline, that commands are chained or that they aren't, a name, where a target is, that a
+-- target isn't watched, which return codes are accepted, how often chains are repeated, or that the commands after it are setup
+-- or those of each cycle
 abbrev pub IsTaskLine : List ℕ → TaskLine → Type 0
 IsTaskLine line (says.Command wish now) = IsCommandLine line wish now
 IsTaskLine line (says.Deadline deadline) = IsDeadlineLine line deadline
@@ -73,6 +78,7 @@ IsTaskLine line says.Chained = line ≡ codes "chained"
 IsTaskLine line says.Unchained = line ≡ codes "unchained"
 IsTaskLine line (says.Naming name) = IsNameLine line name
 IsTaskLine line (says.Locating near) = IsNearLine line near
+IsTaskLine line (says.Unwatching target) = IsUnwatchedLine line target
 IsTaskLine line (says.Accepting accepted) = SetsAccepted line accepted
 IsTaskLine line (says.Retrying retry) = SetsRetry line retry
 IsTaskLine line says.AtStart = line ≡ codes "at start"

@@ -1,4 +1,5 @@
--- A station's text, and the tasks, the names and the places of targets that it gives: this project's own. The mode at a
+-- A station's text, and the tasks, the names and the places of targets that it gives, and which targets it leaves unwatched: this
+-- project's own. The mode at a
 -- line is what holds for a command there: its deadline, whether commands are chained, the target of the group that it may
 -- continue, the codes that are accepted, how often its chain is repeated, whether it is setup, how many commands of each
 -- section are in front, and how many of those in front are in the last chain. A group is a run of commands for one target,
@@ -17,6 +18,7 @@ use Rattle.gc_texts.specs.Nears.{has_near, near_of}
 use Rattle.gc_texts.specs.Retries.{no_retry}
 use Rattle.gc_texts.specs.Stamps.{date_time}
 use Rattle.gc_texts.specs.TaskLines.{IsTaskLine}
+use Rattle.gc_texts.specs.Watching.{is_unwatched}
 use Rattle.gc_texts.specs.declared.fault.RunFault.{RunFault}
 use Rattle.gc_texts.specs.declared.name.Name.{Name}
 use Rattle.gc_texts.specs.declared.near.Near.{Near}
@@ -83,7 +85,7 @@ mode_after_command mode target =
 
 -- the mode after a line. After a command the group is of its target, and the command is counted. A line `deadline` sets the deadline, and
 -- `accept` the return codes that are accepted. `chained` and `unchained` set whether commands are chained, `retry` how often chains are
--- repeated, and `at start` and `each cycle` the section; these lines also end the group. A name or a place changes nothing
+-- repeated, and `at start` and `each cycle` the section; these lines also end the group. A name, a place or a target that isn't watched changes nothing
 abbrev pub mode_after : Mode → TaskLine → Mode
 mode_after mode (says.Command command now) = mode_after_command mode command.target
 mode_after mode (says.Deadline deadline) = record mode { deadline = deadline }
@@ -91,13 +93,15 @@ mode_after mode says.Chained = record mode { chained = true; group = None }
 mode_after mode says.Unchained = record mode { chained = false; group = None }
 mode_after mode (says.Naming name) = mode
 mode_after mode (says.Locating near) = mode
+mode_after mode (says.Unwatching target) = mode
 mode_after mode (says.Accepting accepted) = record mode { accepted = accepted }
 mode_after mode (says.Retrying retry) = record mode { retry = retry; group = None }
 mode_after mode says.AtStart = record mode { setup = true; group = None }
 mode_after mode says.EachCycle = record mode { setup = false; group = None }
 
 -- the task of a command in its first attempt; `now` says whether the command sets the clock to the moment at which it is sent. The place
--- of its target is set later (`placed`), and so is the rule of its chain, if the command is one of the cycle (`laid_out`)
+-- of its target is set later (`placed`), and whether it is watched; so is the rule of its chain, if the command is one of the cycle
+-- (`laid_out`)
 abbrev pub task_at : Mode → Wish → (now : Bool) → Task
 task_at mode command now =
     record {
@@ -105,6 +109,7 @@ task_at mode command now =
       deadline = mode.deadline;
       chained = chained_at mode command.target;
       near = None;
+      watched = true;
       accepted = mode.accepted;
       again = no_again;
       turn = turn_at mode (chained_at mode command.target);
@@ -159,13 +164,23 @@ near_at _ = []
 abbrev pub nears_of : List TaskLine → List Near
 nears_of lines = flat_map near_at lines
 
--- these are the commands of the setup and of each cycle, the names and the places that these lines give, where `first` holds
--- before them
+-- the target that a line leaves unwatched, as a list of one; none if it is no line `unwatched`
+abbrev pub unwatched_at : TaskLine → List ℕ
+unwatched_at (says.Unwatching target) = target ∷ []
+unwatched_at _ = []
+
+-- the targets that these lines leave unwatched
+abbrev pub unwatched_of : List TaskLine → List ℕ
+unwatched_of lines = flat_map unwatched_at lines
+
+-- these are the commands of the setup and of each cycle, the names and the places, and the targets left unwatched, that these lines
+-- give, where `first` holds before them
 pub record LinesGave (first : Mode) (lines : List TaskLine) (given : Given) : Type 0 where
   pub setup_are : given.setup.items ≡ setup_of first lines
   pub cycle_are : given.cycle.items ≡ planned_of first lines
   pub names_are : given.names.items ≡ names_of lines
   pub nears_are : given.nears.items ≡ nears_of lines
+  pub unwatched_are : given.unwatched.items ≡ unwatched_of lines
 
 -- what lines gave grew from `old` to `new` by what one more line gives, where `mode` holds before it
 pub record Grows (mode : Mode) (line : TaskLine) (old new : Given) : Type 0 where
@@ -173,56 +188,64 @@ pub record Grows (mode : Mode) (line : TaskLine) (old new : Given) : Type 0 wher
   pub cycle_more : new.cycle.items ≡ old.cycle.items ++ planned_at mode line
   pub names_more : new.names.items ≡ old.names.items ++ name_at line
   pub nears_more : new.nears.items ≡ old.nears.items ++ near_at line
+  pub unwatched_more : new.unwatched.items ≡ old.unwatched.items ++ unwatched_at line
 
 -- a list has no room for one more item, unless it grows
 abbrev pub IsAtCapacity : {X Z : Type 0} → Vec X Z → Type 0
 IsAtCapacity items = vec_capacity items ≤ vec_len items
 
--- one of the four lists of what lines gave has no room for one more item, unless it grows
+-- one of the five lists of what lines gave has no room for one more item, unless it grows
 abbrev pub HasFullList : Given → Type 0
-HasFullList given = (IsAtCapacity given.setup ⊎ IsAtCapacity given.cycle) ⊎ (IsAtCapacity given.names ⊎ IsAtCapacity given.nears)
+HasFullList given = (IsAtCapacity given.setup ⊎ IsAtCapacity given.cycle) ⊎ (IsAtCapacity given.names ⊎ (IsAtCapacity given.nears ⊎ IsAtCapacity given.unwatched))
 
--- a task with the place of its target: the first of `nears` that is of that target, and none where there is none
-abbrev pub placed : List Near → Task → Task
-placed nears task = record task { near = near_of task.command.target nears }
+-- a task with the place of its target: the first of `nears` that is of that target, and none where there is none. It is watched
+-- unless its target is one of `unwatched`
+abbrev pub placed : List Near → (unwatched : List ℕ) → Task → Task
+placed nears unwatched task = record task { near = near_of task.command.target nears; watched = not (is_unwatched task.command.target unwatched) }
 
--- whether a line may follow lines that gave these names and places: a name only where there are fewer than 64 names and its
--- target has none, a place only where there are fewer than 64 places and its target has none, and any other line always
-abbrev pub may_follow : List Name → List Near → TaskLine → Bool
-may_follow names nears (says.Naming name) = nat_lt (length names) 64 && not (is_named name.target names)
-may_follow names nears (says.Locating near) = nat_lt (length nears) 64 && not (has_near near.target nears)
-may_follow names nears _ = true
+-- whether a line may follow lines that gave these names and places, and left these targets unwatched: a name only where there are
+-- fewer than 64 names and its target has none, a place only where there are fewer than 64 places and its target has none, a line
+-- `unwatched` only where fewer than 64 targets are unwatched and its target isn't one of them, and any other line always
+abbrev pub may_follow : List Name → List Near → (unwatched : List ℕ) → TaskLine → Bool
+may_follow names nears unwatched (says.Naming name) = nat_lt (length names) 64 && not (is_named name.target names)
+may_follow names nears unwatched (says.Locating near) = nat_lt (length nears) 64 && not (has_near near.target nears)
+may_follow names nears unwatched (says.Unwatching target) = nat_lt (length unwatched) 64 && not (is_unwatched target unwatched)
+may_follow names nears unwatched _ = true
 
--- each of these lines may follow (`may_follow`) these names and places, and those of the lines before it
-abbrev pub MayFollow : List Name → List Near → List TaskLine → Type 0
-MayFollow names nears [] = Unit {0}
-MayFollow names nears (line ∷ later) = (may_follow names nears line ≡ true) × MayFollow (names ++ name_at line) (nears ++ near_at line) later
+-- each of these lines may follow (`may_follow`) these names, places and unwatched targets, and those of the lines before it
+abbrev pub MayFollow : List Name → List Near → (unwatched : List ℕ) → List TaskLine → Type 0
+MayFollow names nears unwatched [] = Unit {0}
+MayFollow names nears unwatched (line ∷ later) =
+    (may_follow names nears unwatched line ≡ true) × MayFollow (names ++ name_at line) (nears ++ near_at line) (unwatched ++ unwatched_at line) later
 
 -- a station's text may have these lines, and those that aren't skipped say this: each has its form, and may follow those before it
 pub record AreTaskLines (lines : List (List ℕ)) (said : List TaskLine) : Type 0 where
   pub forms : AreLinesOf IsTaskLine (filter is_kept lines) said
-  pub follow : MayFollow [] [] said
+  pub follow : MayFollow [] [] [] said
 
--- what a station's text gives: its tasks, of which the first `setup` are the setup, the names of targets, and where targets are
+-- what a station's text gives: its tasks, of which the first `setup` are the setup, the names of targets, where targets are, and
+-- which targets aren't watched
 pub record TasksSeen : Type 0 where
   pub setup : ℕ
   pub tasks : List Task
   pub names : List Name
   pub nears : List Near
+  pub unwatched : List ℕ
 
 -- tasks of the code as `TasksSeen`: each of their lists by its items
 abbrev pub tasks_seen : Tasks → TasksSeen
-tasks_seen all = record { setup = all.setup; tasks = all.tasks.items; names = all.names.items; nears = all.nears.items }
+tasks_seen all = record { setup = all.setup; tasks = all.tasks.items; names = all.names.items; nears = all.nears.items; unwatched = all.unwatched.items }
 
--- the text gives these tasks, names and places. Before any line the deadline is `deadline`, and commands are chained where
--- `chained` says so. A place holds for all tasks of its target, wherever its line is
+-- the text gives these tasks, names, places and unwatched targets. Before any line the deadline is `deadline`, and commands are
+-- chained where `chained` says so. A place holds for all tasks of its target, wherever its line is, and so does a line `unwatched`
 pub record IsTasks (text : List ℕ) (deadline : ℕ) (chained : Bool) (all : TasksSeen) : Type 0 where
   pub said : List TaskLine
   pub lines : AreTaskLines (text_lines text) said
-  pub tasks_are : all.tasks ≡ map (placed all.nears) (tasks_of (first_mode deadline chained) said)
+  pub tasks_are : all.tasks ≡ map (placed all.nears all.unwatched) (tasks_of (first_mode deadline chained) said)
   pub setup_is : all.setup ≡ length (setup_of (first_mode deadline chained) said)
   pub names_are : all.names ≡ names_of said
   pub nears_are : all.nears ≡ nears_of said
+  pub unwatched_are : all.unwatched ≡ unwatched_of said
 
 -- line number n of a station's text, counted from 1, is the first faulty one: it isn't skipped, and it has no form, or has one
 -- and may not follow those before it
@@ -233,7 +256,7 @@ pub record FirstFaultyTaskLine (text : List ℕ) (n : ℕ) : Type 0 where
   pub place : n ≡ length front + 1
   pub before : List TaskLine
   pub lines : AreTaskLines front before
-  pub faulty : (said : TaskLine) → IsTaskLine line said → may_follow (names_of before) (nears_of before) said ≡ false
+  pub faulty : (said : TaskLine) → IsTaskLine line said → may_follow (names_of before) (nears_of before) (unwatched_of before) said ≡ false
 
 -- the text has a line that isn't skipped, has a form and may follow the lines before it, and none of these is faulty: a reader
 -- comes to such a line, and memory may be refused there
@@ -245,7 +268,7 @@ pub record ReachesASoundTaskLine (text : List ℕ) : Type 0 where
   pub lines : AreTaskLines front before
   pub said : TaskLine
   pub form : IsTaskLine line said
-  pub allowed : may_follow (names_of before) (nears_of before) said ≡ true
+  pub allowed : may_follow (names_of before) (nears_of before) (unwatched_of before) said ≡ true
 
 -- why the reading of a station's text gave no tasks (`TextFaultBy`)
 abbrev pub TaskFault : List ℕ → RunFault → Type 0

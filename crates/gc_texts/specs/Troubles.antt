@@ -93,11 +93,13 @@ pub record IsRawCommandTrouble (line : List ℕ) (t : Trouble) : Type 0 where
   pub number : IsRpc (third_word line) rpc
   pub is : IsRawTrouble rpc (after_three_words line) t
 
--- the first word of a line is none of `deadline`, `name`, `near`, `accept`, `retry`, `at` and `each`: the line is taken for a command
+-- the first word of a line is none of `deadline`, `name`, `near`, `unwatched`, `accept`, `retry`, `at` and `each`: the line is taken
+-- for a command
 pub record BeginsAsCommand (line : List ℕ) : Type 0 where
   pub no_deadline : first_word line ≢ codes "deadline"
   pub no_name : first_word line ≢ codes "name"
   pub no_near : first_word line ≢ codes "near"
+  pub no_unwatched : first_word line ≢ codes "unwatched"
   pub no_accept : first_word line ≢ codes "accept"
   pub no_retry : first_word line ≢ codes "retry"
   pub no_at : first_word line ≢ codes "at"
@@ -133,7 +135,8 @@ IsNearTrouble numbers _ = ⊥
 abbrev pub IsNearLineTrouble : List ℕ → Trouble → Type 0
 IsNearLineTrouble line t = (first_word line ≡ codes "near") × HasTarget (second_word line) × IsNearTrouble (after_two_words line) t
 
--- a line whose first word is `deadline`, `name`, `near`, `accept`, `retry`, `at` or `each` is at fault in its target, or in what it sets
+-- a line whose first word is `deadline`, `name`, `near`, `unwatched`, `accept`, `retry`, `at` or `each` is at fault in its target, or in
+-- what it sets
 abbrev pub IsSettingTrouble : List ℕ → Trouble → Type 0
 IsSettingTrouble line trouble.Deadline = first_word line ≡ codes "deadline"
 IsSettingTrouble line trouble.Name = (first_word line ≡ codes "name") × HasTarget (second_word line)
@@ -141,13 +144,14 @@ IsSettingTrouble line trouble.NearHz = IsNearLineTrouble line trouble.NearHz
 IsSettingTrouble line trouble.NearV = IsNearLineTrouble line trouble.NearV
 IsSettingTrouble line trouble.NearTolerance = IsNearLineTrouble line trouble.NearTolerance
 IsSettingTrouble line trouble.Near = IsNearLineTrouble line trouble.Near
+IsSettingTrouble line trouble.Unwatched = (first_word line ≡ codes "unwatched") × HasTarget (behind 32 line)
 IsSettingTrouble line trouble.Accept = first_word line ≡ codes "accept"
 IsSettingTrouble line trouble.Retry = first_word line ≡ codes "retry"
 IsSettingTrouble line trouble.AtStart = first_word line ≡ codes "at"
 IsSettingTrouble line trouble.EachCycle = first_word line ≡ codes "each"
 IsSettingTrouble line trouble.Target =
     ((first_word line ≡ codes "name") × NoTarget (second_word line))
-    ⊎ ((first_word line ≡ codes "near") × NoTarget (second_word line))
+    ⊎ (((first_word line ≡ codes "near") × NoTarget (second_word line)) ⊎ ((first_word line ≡ codes "unwatched") × NoTarget (behind 32 line)))
 IsSettingTrouble line t = ⊥
 
 -- of a line that is taken for a command neither a procedure's number nor the parameters are at fault: the line is one word, with or
@@ -227,6 +231,7 @@ trouble_text trouble.NearHz = codes "near: HZ is no decimal from 0 to a turn, in
 trouble_text trouble.NearV = codes "near: V is no decimal from 0 to half a turn, in radians"
 trouble_text trouble.NearTolerance = codes "near: TOLERANCE is no decimal from 0 to half a turn, in radians"
 trouble_text trouble.Near = codes "near: a second place of the target, or a 65th"
+trouble_text trouble.Unwatched = codes "unwatched: the target is unwatched already, or is a 65th"
 trouble_text trouble.Accept = codes "accept"
 trouble_text trouble.Retry = codes "retry"
 trouble_text trouble.AtStart = codes "at start"

@@ -2,7 +2,7 @@
 
 ghost use Rattle.std.specs.Prelude.{◌≡◌};
 ghost use Rattle.gc_texts.specs.FaultNumbers.{FaultsHaveTheirNumbers};
-ghost use Rattle.gc_texts.specs.Chained.{TasksFollowTheirLines, PlacesHoldForAll};
+ghost use Rattle.gc_texts.specs.Chained.{TasksFollowTheirLines, PlacesHoldForAll, UnwatchedHoldForAll};
 ghost use Rattle.gc_texts.specs.Repeats.{ChainsGoOutAgain, RetriesHold};
 ghost use Rattle.gc_texts.specs.Moments.{StampsAreMoments};
 ghost use Rattle.gc_texts.specs.Nears.{DirectionsAreAskedFor};
@@ -20,7 +20,7 @@ pub fn commands_have_one_reading()
 {}
 
 /// For each deadline, and each `chained`, that its caller gives, a station's text gives at most one list of tasks, one count of those that
-/// are setup, one list of names, and one of places.
+/// are setup, one list of names, one of places, and one of unwatched targets.
 pub fn tasks_have_one_reading()
     ensures { OneTaskList }
 {}
@@ -85,6 +85,12 @@ pub fn commands_go_out_as_their_lines_say()
 /// A line `near`, which says where a target is, holds for each command of that target, before the line and after it.
 pub fn places_hold_for_all_commands_of_a_target()
     ensures { PlacesHoldForAll }
+{}
+
+/// A line `unwatched`, which says that a target isn't watched, holds for each command of that target, before the line and after it; and
+/// every other command is watched.
+pub fn unwatched_targets_are_so_in_all_their_commands()
+    ensures { UnwatchedHoldForAll }
 {}
 
 /// The answers that have a direction, which can be near or elsewhere, are those of procedures 2107, 2108, 2117 and 17017.

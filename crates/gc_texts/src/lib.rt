@@ -26,6 +26,7 @@ mod tasks;
 mod text;
 mod trouble;
 mod turn;
+mod watching;
 mod wish;
 mod zeroed;
 

@@ -107,7 +107,7 @@ fn mode_after_command(mode: Mode, target: u32) -> Mode
 // The mode after a line, if `mode` holds before it. After a command the group is of its target, and the command is counted. A line
 // `deadline` sets the deadline, and `accept` the return codes that are accepted. `chained` and `unchained` set whether commands
 // are chained, `retry` how often chains are repeated, and `at start` and `each cycle` the section; these lines also end the group.
-// A name or a place changes nothing.
+// A name, a place or a target that isn't watched changes nothing.
 pub(crate) fn mode_after(mode: Mode, said: &TaskLine) -> Mode
     requires { CountsAtMost mode 4294967295 }
     ensures { result ≡ mode_after mode said.now }
@@ -128,7 +128,7 @@ pub(crate) fn mode_after(mode: Mode, said: &TaskLine) -> Mode
             group: None,
             ..mode
         },
-        TaskLine::Naming(_) | TaskLine::Locating(_) => mode,
+        TaskLine::Naming(_) | TaskLine::Locating(_) | TaskLine::Unwatching(_) => mode,
         TaskLine::Accepting(accepted) => Mode {
             accepted: *accepted,
             ..mode
@@ -163,8 +163,8 @@ fn continues_group(group: Option<u32>, target: u32) -> bool
 }
 
 // The task of a command in the first attempt of its chain; `now` says whether the command sets the clock to the moment at which
-// it is sent. It has no place of its target yet (`place_tasks` sets it), and no rule of its chain (`lay_out` sets it in the
-// cycle).
+// it is sent. It has no place of its target yet, and is watched (`place_tasks` sets both), and it has no rule of its chain
+// (`lay_out` sets it in the cycle).
 pub(crate) fn task_at(mode: Mode, command: Wish, now: bool) -> Task
     ensures { result ≡ task_at mode command now }
 {
@@ -174,6 +174,7 @@ pub(crate) fn task_at(mode: Mode, command: Wish, now: bool) -> Task
         deadline: mode.deadline,
         chained,
         near: None,
+        watched: true,
         accepted: mode.accepted,
         again: Again::none(),
         turn: Turn {

@@ -1,7 +1,7 @@
 //! Reads one line of a station's text.
 
 ghost use Rattle.gc_texts.specs.LineForms.{IsReadAs};
-ghost use Rattle.gc_texts.specs.TaskLines.{IsDeadlineLine, IsNameLine, IsNearLine, SetsAccepted, SetsRetry, SetsClock, IsTaskLine};
+ghost use Rattle.gc_texts.specs.TaskLines.{IsDeadlineLine, IsNameLine, IsNearLine, IsUnwatchedLine, SetsAccepted, SetsRetry, SetsClock, IsTaskLine};
 
 use crate::codes::{Codes, read_code_list};
 use crate::cuts::{after_prefix, before, behind, cut_at, is_word};
@@ -31,6 +31,8 @@ pub(crate) enum TaskLine {
     Naming(Name),
     // Where a target is.
     Locating(Near),
+    // A target whose commands aren't watched.
+    Unwatching(u32),
     // The return codes that are accepted of the commands after it.
     Accepting(Codes),
     // How often the chains after it are repeated, and after what.
@@ -74,6 +76,14 @@ fn read_locating(line: &[u8]) -> Option<Near>
 {
     let rest = after_prefix(b"near ", line)?;
     read_near(rest)
+}
+
+// Reads `unwatched T`: a target whose commands aren't watched. `None`: the line has no such form, or the number is above 4294967295.
+fn read_unwatching(line: &[u8]) -> Option<u32>
+    ensures { IsReadAs (IsUnwatchedLine line.now) result }
+{
+    let rest = after_prefix(b"unwatched ", line)?;
+    target_of(rest)
 }
 
 // Reads `accept C C ..`: the return codes that are accepted beside 0; no code where the line is `accept` alone. `None`: the
@@ -133,6 +143,9 @@ pub(crate) fn read_task_line(line: &[u8]) -> Option<TaskLine>
     }
     if let Some(near) = read_locating(line) {
         return Some(TaskLine::Locating(near));
+    }
+    if let Some(target) = read_unwatching(line) {
+        return Some(TaskLine::Unwatching(target));
     }
     if let Some(codes) = read_accepting(line) {
         return Some(TaskLine::Accepting(codes));

@@ -22,6 +22,7 @@ use crate::stamp::date_time;
 use crate::task_line::{TaskLine, read_task_line};
 use crate::text::TEXT_LIMIT;
 use crate::turn::Turn;
+use crate::watching::is_unwatched;
 use crate::wish::Wish;
 use gc_catalogue::{Asked, Call};
 use std::alloc::{AllocError, Global};
@@ -37,6 +38,8 @@ pub struct Task {
     pub chained: bool,
     /// Where its target is, if the text says so.
     pub near: Option<Near>,
+    /// Whether its answers are watched: `false` where the text leaves its target unwatched.
+    pub watched: bool,
     /// The return codes that are accepted of its answer, beside 0.
     pub accepted: Codes,
     /// After which endings of its command the chain is repeated.
@@ -50,7 +53,7 @@ pub struct Task {
     pub now: bool,
 }
 
-/// What a station's text gives: its tasks, the names of targets, and where targets are.
+/// What a station's text gives: its tasks, the names of targets, where targets are, and which targets it leaves unwatched.
 #[derive(Drop)]
 pub struct Tasks {
     /// How many of the tasks are the setup; these come first.
@@ -61,6 +64,8 @@ pub struct Tasks {
     pub names: Vec<Name>,
     /// Where targets are, in order: once at most for each, and 64 at most.
     pub nears: Vec<Near>,
+    /// The targets whose commands aren't watched, in order: each once at most, and 64 at most.
+    pub unwatched: Vec<u32>,
 }
 
 impl Task {
@@ -101,6 +106,9 @@ const NAMES_MAX: usize = 64;
 // The most targets whose place may be given.
 const NEARS_MAX: usize = 64;
 
+// The most targets that may be left unwatched.
+const UNWATCHED_MAX: usize = 64;
+
 // What the lines of a station's text gave so far.
 #[derive(Drop)]
 struct Given {
@@ -112,6 +120,8 @@ struct Given {
     names: Vec<Name>,
     // Where targets are.
     nears: Vec<Near>,
+    // The targets that are left unwatched.
+    unwatched: Vec<u32>,
 }
 
 impl Given {
@@ -124,19 +134,23 @@ impl Given {
             cycle: Vec::new(alloc),
             names: Vec::new(alloc),
             nears: Vec::new(alloc),
+            unwatched: Vec::new(alloc),
         }
     }
 
     // Whether a line may follow the lines that gave this. A line `name` may if there are fewer than 64 names and its target has
-    // none yet; a line `near` if there are fewer than 64 places and its target has none yet; any other line always.
+    // none yet; a line `near` if there are fewer than 64 places and its target has none yet; a line `unwatched` if fewer than 64
+    // targets are unwatched and its target isn't yet; any other line always.
     fn allows(&self, said: &TaskLine) -> bool
-        ensures { result ≡ may_follow self.now.names.items self.now.nears.items said.now }
+        ensures { result ≡ may_follow self.now.names.items self.now.nears.items self.now.unwatched.items said.now }
     {
         match said {
             TaskLine::Naming(name) => self.names.len() < NAMES_MAX
                 && !is_named(name.target, self.names.as_slice()),
             TaskLine::Locating(near) => self.nears.len() < NEARS_MAX
                 && !has_near(near.target, self.nears.as_slice()),
+            TaskLine::Unwatching(target) => self.unwatched.len() < UNWATCHED_MAX
+                && !is_unwatched(*target, self.unwatched.as_slice()),
             _ => true,
         }
     }
@@ -160,40 +174,43 @@ impl Given {
             }
             TaskLine::Naming(name) => self.names.push(name)?,
             TaskLine::Locating(near) => self.nears.push(near)?,
+            TaskLine::Unwatching(target) => self.unwatched.push(target)?,
             _ => {}
         }
         Ok(())
     }
 }
 
-// A task with the place of its target: the first of `nears` that is of that target, and none if there is none.
-fn placed(task: Task, nears: &[Near]) -> Task
-    ensures { result ≡ placed nears.now task }
+// A task with the place of its target: the first of `nears` that is of that target, and none if there is none. It is watched unless
+// its target is one of `unwatched`.
+fn placed(task: Task, nears: &[Near], unwatched: &[u32]) -> Task
+    ensures { result ≡ placed nears.now unwatched.now task }
 {
     Task {
         near: near_of(task.command.target, nears),
+        watched: !is_unwatched(task.command.target, unwatched),
         ..task
     }
 }
 
-// Sets in each task the place of its target, as `placed` does.
-fn place_tasks(tasks: &mut Vec<Task>, nears: &[Near])
-    ensures { tasks.new.items ≡ map (placed nears.now) tasks.old.items }
+// Sets in each task the place of its target and whether it is watched, as `placed` does.
+fn place_tasks(tasks: &mut Vec<Task>, nears: &[Near], unwatched: &[u32])
+    ensures { tasks.new.items ≡ map (placed nears.now unwatched.now) tasks.old.items }
 {
     for task in tasks.iter_mut() {
-        *task = placed(*task, nears);
+        *task = placed(*task, nears, unwatched);
     }
 }
 
-/// Reads a station's text, and returns its tasks, the names of targets, and where targets are. Until a line says otherwise the commands
-/// have `deadline`, in milliseconds, and are chained if `chained`.
+/// Reads a station's text, and returns its tasks, the names of targets, where targets are, and which targets aren't watched. Until a
+/// line says otherwise the commands have `deadline`, in milliseconds, and are chained if `chained`.
 ///
 /// The tasks are those of the setup, which are one chain, and after them those of the cycle: each chain as often as it may
 /// be sent, one attempt after the other, each from the chain's first command on.
 ///
 /// Empty lines and those that begin with `#` are skipped. Fails with `InputTooLong` if the text has more than 65,536 bytes, before any
 /// line is read; with `Schedule` and the number of the line, counted from 1, at the first faulty line: one that has no form, or gives a
-/// target a second name or place, or gives a 65th name or place; and with `Memory` if memory was refused, at a line that isn't faulty
+/// target a second name or place, or gives a 65th name or place, or leaves a target unwatched a second time, or a 65th target; and with `Memory` if memory was refused, at a line that isn't faulty
 /// and follows no faulty one, or, after the last line, for the attempts of the chains.
 pub fn read_tasks(
     alloc: Global,
@@ -252,16 +269,18 @@ fn read_task_lines(
         cycle,
         names,
         nears,
+        unwatched,
     } = given;
     let setup = tasks.len();
     if lay_out(&mut tasks, cycle.as_slice()).is_err() {
         return Err(RunFault::Memory);
     }
-    place_tasks(&mut tasks, nears.as_slice());
+    place_tasks(&mut tasks, nears.as_slice(), unwatched.as_slice());
     Ok(Tasks {
         setup,
         tasks,
         names,
         nears,
+        unwatched,
     })
 }

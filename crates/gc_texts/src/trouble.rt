@@ -41,6 +41,8 @@ pub enum Trouble {
     NearTolerance,
     /// A line `near` reads, but its target has a place already, or 64 targets have places.
     Near,
+    /// A line `unwatched` reads, but its target is unwatched already, or 64 targets are.
+    Unwatched,
     /// The procedure with this number is in the table, so the word `raw` is to be left out.
     RawInTable(u16),
     /// The parameters after `raw` and a number are more than 16, or have a double quote without its end, or a CR.
@@ -108,6 +110,10 @@ impl Trouble {
                 "near: TOLERANCE is no decimal from 0 to half a turn, in radians"
             ),
             Trouble::Near => writeln!(messages, "near: a second place of the target, or a 65th"),
+            Trouble::Unwatched => writeln!(
+                messages,
+                "unwatched: the target is unwatched already, or is a 65th"
+            ),
             Trouble::Accept => writeln!(messages, "accept"),
             Trouble::Retry => writeln!(messages, "retry"),
             Trouble::AtStart => writeln!(messages, "at start"),
@@ -314,8 +320,8 @@ fn near_trouble(numbers: &[u8]) -> Trouble
     Trouble::Near
 }
 
-// Which field is at fault of a line whose first word is `deadline`, `name`, `near`, `accept`, `retry`, `at` or `each`. `None`: the first
-// word is none of these.
+// Which field is at fault of a line whose first word is `deadline`, `name`, `near`, `unwatched`, `accept`, `retry`, `at` or `each`.
+// `None`: the first word is none of these.
 fn setting_trouble(line: &[u8]) -> Option<Trouble>
     ensures { MatchOption result (BeginsAsCommand line.now) (λ t. IsSettingTrouble line.now t) }
 {
@@ -333,6 +339,13 @@ fn setting_trouble(line: &[u8]) -> Option<Trouble>
     if is_word(b"near", first) {
         return Some(if has_target(line) {
             near_trouble(behind(b' ', behind(b' ', line)))
+        } else {
+            Trouble::Target
+        });
+    }
+    if is_word(b"unwatched", first) {
+        return Some(if target_of(behind(b' ', line)).is_some() {
+            Trouble::Unwatched
         } else {
             Trouble::Target
         });
@@ -379,8 +392,8 @@ fn unmarked_trouble(line: &[u8]) -> Trouble
 }
 
 /// Which field of a line is at fault, if the line is a faulty one of a station's text. A line that begins with a byte order mark has
-/// that as its trouble. A line whose first word is `deadline`, `name`, `near`, `accept`, `retry`, `at` or `each` is at fault in its
-/// target or in what it sets. Any other line is taken for a command, or, if its second word is `raw`, for a request of a procedure
+/// that as its trouble. A line whose first word is `deadline`, `name`, `near`, `unwatched`, `accept`, `retry`, `at` or `each` is at
+/// fault in its target or in what it sets. Any other line is taken for a command, or, if its second word is `raw`, for a request of a procedure
 /// that isn't in the table. Of these a line whose first three words are `T 5007 now`, with a target's number T, gives `Now`; one that
 /// is one word, with or without a space after it, or each of whose fields reads, gives `NoForm`; and any other is at fault in its first
 /// field that doesn't read. Of a line that isn't faulty the result says nothing: a command gives `NoForm`, for example, and a line

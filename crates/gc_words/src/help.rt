@@ -35,7 +35,7 @@ A fault is one line on standard error, `geocom: fault N`. For a place, a file, a
   45  the other end closed the connection before a request was settled
   46  no further reply came over an open connection
   47  the clock could not be read, or is set before 1970
-  48  no answer with quality `ok` or `warning` came for as long as --stale allows
+  48  a command of a cycle had no answer with quality `ok` or `warning` for as long as --stale allows
   49  a command of the setup was not answered well, and no try was left
   50  the text of `station` has no command of a cycle
   51  a line of the schedule, the commands or a scene doesn't parse: `line L` says which, counted from 1
@@ -142,6 +142,7 @@ called, and where it is:
   near T HZ V TOLERANCE
                 where target T is, in radians, for all rows of T: a direction measured further away, in either angle, is
                 reported as elsewhere
+  unwatched T   target T's commands don't count for --stale
   accept C C .. up to 16 return codes from 1 to 65535: an answer with one of them is a warning, and its chain goes on;
                 accept alone: none
   retry N W W ..

@@ -43,7 +43,7 @@ pub(crate) const STALE: Argument<'static> = Argument {
     takes: Takes::Unsigned(0, 31_536_000),
     value_name: &["SECONDS"],
     default: &["0"],
-    help: "Ends the run once no answer with quality `ok` or `warning` came for SECONDS, 1 to 31536000 and not below --every; 0: never",
+    help: "Ends the run once some command of a cycle had no answer with quality `ok` or `warning` for SECONDS, 1 to 31536000 and not below --every; 0: never",
     ..FLAG
 };
 

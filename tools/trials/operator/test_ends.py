@@ -106,14 +106,14 @@ def test_stops_at_a_deadline(program, tmp_path):
 
 @pytest.mark.title("--stale over an instrument that refuses all")
 def test_stale(program):
-    """A run ends where nothing is answered well, though each request is answered; a line says since when."""
+    """A run ends where nothing is answered well, though each request is answered; a line says of which command, and since when."""
     with standing(lambda request: good(request) if request.rpc == 0 else request.reply(b"8710")) as far:
         began = time.time()
         with measuring(program, far.port, "--cycles 0 --every 1 --retries 0 --stale 3", b"7 5003\n8 5003\n") as run:
             rows, messages = finished(run, status=1)
         lasted = time.time() - began
     assert messages[-1] == "geocom: fault 48", f"{messages} was told"
-    assert re.fullmatch(f"geocom: no answer of good quality since {STAMP}", messages[-2]), f"{messages} was told"
+    assert re.fullmatch(f"geocom: target 7, 5003: no answer with quality ok or warning since {STAMP}", messages[-2]), f"{messages} was told"
     assert abs(moment(messages[-2][-24:]).timestamp() - began) < 1, "since when"
     assert 2.9 < lasted < 4.5, f"it lasted {lasted:.2f} s"
     assert rows and {row["quality"] for row in rows} == {"refused"}, "the qualities"

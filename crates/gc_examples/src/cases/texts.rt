@@ -196,13 +196,14 @@ fn append_raw(asked: &Asked, came: &mut Told) {
 }
 
 // Appends where the target of a task is, its horizontal and its vertical angle, and the tolerance, all in radians; nothing if the
-// text doesn't say them.
+// text doesn't say them. Then, if the text leaves the target unwatched, that.
 fn append_near(task: &Task, came: &mut Told) {
     if let Some(near) = task.near {
         came.titled(" near ", &near.place.hz);
         came.titled(" ", &near.place.v);
         came.titled(" ", &near.tolerance);
     }
+    came.text_if(!task.watched, " unwatched");
 }
 
 // Appends each of these return codes, with `title` before it. A 0 stands for no code.

@@ -107,7 +107,7 @@ impl Station {
         if let Err(failed) = book.write(stamp, &task.command, ending) {
             return Err(failed);
         }
-        self.recorded.note(&mark, moment.elapsed, None, ending);
+        self.recorded.note(&mark, moment, None, ending);
         Ok(())
     }
 }

@@ -1,4 +1,6 @@
-use Rattle.std.proofs.Common.{inl, inr, refl, sym, Ok, Err}
+use Rattle.std.proofs.Common.{inl, inr, refl, sym, Ok, Err, arith}
+use Rattle.gc_texts.specs.declared.fault.RunFault.TheVariants.{Memory}
+use Rattle.gc_measuring.proofs.Reached.{reaches_a_line}
 use Rattle.gc_measuring.proofs.measure.run_station_text.Goals as goal
 
 pub returns-in-Ok-end-clause-measures : goal.returns-in-Ok-end-clause-measures
@@ -16,4 +18,11 @@ returns-in-Err-end-clause-measures g c =
 pub returns-in_default-clause-measures : goal.returns-in_default-clause-measures
 returns-in_default-clause-measures g c =
     let h = c.in-Ok.ensures.found in
-    (h.0, h.1, h.2, inr (_, h.3, inl (record { is = refl; bytes = _; took = c.in_default.ensures.took.1; acts = refl; messages = refl; turns = refl })))
+    let some = h.3.some in
+    let reached = reaches_a_line h.0 _ _ _ h.3.are (omega (arith, some)) in
+    (h.0, h.1, h.2, inl (_, refl, inl (Memory, inr (h.3.read, (h.3.read.within, reached)), refl), record { acts = refl; taken = refl; messages = refl; turns = refl }))
+
+pub returns-in_default-write_front-clause-measures : goal.returns-in_default-write_front-clause-measures
+returns-in_default-write_front-clause-measures g c =
+    let h = c.in-Ok.ensures.found in
+    (h.0, h.1, h.2, inr (_, h.3, inl (record { is = refl; bytes = _; took = c.in_default-write_front.ensures.took.1; acts = refl; messages = refl; turns = refl })))

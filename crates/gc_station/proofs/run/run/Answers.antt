@@ -6,6 +6,7 @@ use Rattle.gc_station.specs.Keeping.{reads_clock_alone}
 use Rattle.gc_station.specs.Runs.{state_after}
 use Rattle.gc_station.specs.Scopes.{Scope, Reads}
 use Rattle.gc_station.specs.Model.{opening}
+use Rattle.gc_station.specs.Watching.{places_of}
 use Rattle.gc_station.proofs.Readings.{reads_as_in_scope, same_readings}
 use Rattle.gc_station.proofs.Going.{on_call, went_nothing, kept_same, went_kept, fails_at_sync, went_on, fails_at_record, went_nearer, has_model_on}
 use Rattle.gc_station.proofs.Noting.{noted_nothing, noted_kept, noted_on, noted_end, noted_closed, noted_refused}
@@ -20,13 +21,13 @@ returns-in-Err g c =
     let taken = g.B.Book.taken c.args.book.now in
     record {
       ran = λ reads are.
-          let scope : Scope = record { turns = c.args.max_turns; reads = reads } in
+          let scope : Scope = record { turns = c.args.max_turns; watched = places_of c.args.watches; reads = reads } in
           let w = went_kept plan commands scope text told (g.L.Link.acts c.loop-unsynced.link) taken (g.B.Book.taken c.loop-unsynced.book)
           (g.B.Book.taken c.sync_before.new.book) c.loop-unsynced.station c.sync_before.ensures.same (c.loop-unsynced.invariant.went reads are) in
           inr (fails_at_sync plan commands scope text told (g.L.Link.acts c.loop-unsynced.link) (g.L.Link.acts c.close.new.self) taken
           (g.B.Book.taken c.sync_before.new.book) c.loop-unsynced.station w c.close.ensures);
       keeps = λ reads are.
-          let scope : Scope = record { turns = c.args.max_turns; reads = reads } in
+          let scope : Scope = record { turns = c.args.max_turns; watched = places_of c.args.watches; reads = reads } in
           let n = noted_kept plan commands scope text told taken (g.L.Link.acts c.loop-unsynced.link) (g.B.Book.taken c.loop-unsynced.book)
           (g.B.Book.taken c.sync_before.new.book) c.loop-unsynced.station c.args.kept.now.turns c.loop-unsynced.kept.turns c.sync_before.ensures.same (c.loop-unsynced.invariant.noted reads are) in
           noted_closed plan commands scope text told taken (g.L.Link.acts c.loop-unsynced.link) (g.L.Link.acts c.close.new.self) (g.B.Book.taken c.sync_before.new.book)
@@ -43,7 +44,7 @@ returns-in-Err-step g c =
     let taken = g.B.Book.taken c.args.book.now in
     record {
       ran = λ reads are.
-          let scope : Scope = record { turns = c.args.max_turns; reads = reads } in
+          let scope : Scope = record { turns = c.args.max_turns; watched = places_of c.args.watches; reads = reads } in
           let kept = went_kept plan commands scope (g.B.Book.text c.args.book.now) told (g.L.Link.acts c.loop-unsynced.link) taken
           (g.B.Book.taken c.loop-unsynced.book) (g.B.Book.taken c.sync_before.new.book) c.loop-unsynced.station c.sync_before.ensures.same
           (c.loop-unsynced.invariant.went reads are) in
@@ -60,7 +61,7 @@ returns-in-Err-step g c =
           (rw (c.report_to-reported.ensures.form ∙ c.sync_before.ensures.kept.form ∙ c.loop-unsynced.invariant.form) at c.in-Err-step.ensures.does))
           c.close-in-Err-step.ensures are);
       keeps = λ reads are.
-          let scope : Scope = record { turns = c.args.max_turns; reads = reads } in
+          let scope : Scope = record { turns = c.args.max_turns; watched = places_of c.args.watches; reads = reads } in
           let text = g.B.Book.text c.args.book.now in
           let m = noted_kept plan commands scope text told taken (g.L.Link.acts c.loop-unsynced.link) (g.B.Book.taken c.loop-unsynced.book)
           (g.B.Book.taken c.sync_before.new.book) c.loop-unsynced.station c.args.kept.now.turns c.loop-unsynced.kept.turns c.sync_before.ensures.same (c.loop-unsynced.invariant.noted reads are) in
@@ -116,7 +117,7 @@ loop-unsynced-preserved g c =
           (g.B.Book.taken c.report_to-reported.new.book) (g.B.Book.taken c.step.new.book) c.loop-unsynced.station c.step.new.self c.action-action.result makes
           c.loop-unsynced.invariant.some;
       went = λ reads are.
-          let scope : Scope = record { turns = c.args.max_turns; reads = reads } in
+          let scope : Scope = record { turns = c.args.max_turns; watched = places_of c.args.watches; reads = reads } in
           let kept = went_kept plan commands scope (g.B.Book.text c.args.book.now) told (g.L.Link.acts c.loop-unsynced.link) taken
           (g.B.Book.taken c.loop-unsynced.book) (g.B.Book.taken c.sync_before.new.book) c.loop-unsynced.station c.sync_before.ensures.same
           (c.loop-unsynced.invariant.went reads are) in
@@ -129,7 +130,7 @@ loop-unsynced-preserved g c =
           (g.B.Book.taken c.report_to-reported.new.book) (g.B.Book.taken c.step.new.book) c.loop-unsynced.station c.step.new.self c.action-action.result w
           (c.action-action.ensures.action s w.stands same) makes are;
       noted = λ reads are.
-          let scope : Scope = record { turns = c.args.max_turns; reads = reads } in
+          let scope : Scope = record { turns = c.args.max_turns; watched = places_of c.args.watches; reads = reads } in
           let text = g.B.Book.text c.args.book.now in
           let m = noted_kept plan commands scope text told taken (g.L.Link.acts c.loop-unsynced.link) (g.B.Book.taken c.loop-unsynced.book)
           (g.B.Book.taken c.sync_before.new.book) c.loop-unsynced.station c.args.kept.now.turns c.loop-unsynced.kept.turns c.sync_before.ensures.same (c.loop-unsynced.invariant.noted reads are) in
@@ -152,16 +153,16 @@ loop-unsynced-init g c =
     let plan = c.args.plan.now in
     let commands = c.args.commands.now in
     let any : Reads = λ call line. Refused 0 in
-    let start : Scope = record { turns = c.args.max_turns; reads = any } in
+    let start : Scope = record { turns = c.args.max_turns; watched = places_of c.args.watches; reads = any } in
     let stands = c.new-station.ensures any in
     let none : c.new-station.result.progress.unsent ≡ 0 = ap (λ (p : Progress). p.unsent) stands.progress in
     record {
       within = omega (arith, none);
       below = omega (arith, none);
       some = (opening plan start, stands);
-      went = λ reads are. went_nothing plan commands (record { turns = c.args.max_turns; reads = reads }) (g.B.Book.text c.args.book.now)
+      went = λ reads are. went_nothing plan commands (record { turns = c.args.max_turns; watched = places_of c.args.watches; reads = reads }) (g.B.Book.text c.args.book.now)
           (g.L.Link.acts c.args.link.now) (g.B.Book.taken c.args.book.now) c.new-station.result (c.new-station.ensures reads);
-      noted = λ reads are. noted_nothing plan commands (record { turns = c.args.max_turns; reads = reads }) (g.B.Book.text c.args.book.now)
+      noted = λ reads are. noted_nothing plan commands (record { turns = c.args.max_turns; watched = places_of c.args.watches; reads = reads }) (g.B.Book.text c.args.book.now)
           (g.L.Link.acts c.args.link.now) (g.B.Book.taken c.args.book.now) c.new-station.result c.args.kept.now.turns (c.new-station.ensures reads);
       form = refl;
       failed = refl;
@@ -171,7 +172,7 @@ pub returns-in-Stop-clause-ran : goal.returns-in-Stop-clause-ran
 returns-in-Stop-clause-ran g c reads are =
     let plan = c.args.plan.now in
     let commands = c.args.commands.now in
-    let scope : Scope = record { turns = c.args.max_turns; reads = reads } in
+    let scope : Scope = record { turns = c.args.max_turns; watched = places_of c.args.watches; reads = reads } in
     let w = went_kept plan commands scope (g.B.Book.text c.args.book.now) (g.L.Link.acts c.args.link.now) (g.L.Link.acts c.loop-unsynced.link)
     (g.B.Book.taken c.args.book.now) (g.B.Book.taken c.loop-unsynced.book) (g.B.Book.taken c.sync_before.new.book) c.loop-unsynced.station c.sync_before.ensures.same
     (c.loop-unsynced.invariant.went reads are) in
@@ -190,7 +191,7 @@ pub returns-in-Stop-clause-keeps : goal.returns-in-Stop-clause-keeps
 returns-in-Stop-clause-keeps g c reads are =
     let plan = c.args.plan.now in
     let commands = c.args.commands.now in
-    let scope : Scope = record { turns = c.args.max_turns; reads = reads } in
+    let scope : Scope = record { turns = c.args.max_turns; watched = places_of c.args.watches; reads = reads } in
     let n = noted_kept plan commands scope (g.B.Book.text c.args.book.now) (g.L.Link.acts c.args.link.now) (g.B.Book.taken c.args.book.now) (g.L.Link.acts c.loop-unsynced.link)
     (g.B.Book.taken c.loop-unsynced.book) (g.B.Book.taken c.sync_before.new.book) c.loop-unsynced.station c.args.kept.now.turns c.loop-unsynced.kept.turns c.sync_before.ensures.same
     (c.loop-unsynced.invariant.noted reads are) in

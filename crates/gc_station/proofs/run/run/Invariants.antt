@@ -1,5 +1,6 @@
 use Rattle.std.proofs.Common.{◌≡◌, ◌≤◌, ◌-◌, length}
 use Rattle.gc_station.specs.Scopes.{AreReadings, Reads}
+use Rattle.gc_station.specs.Watching.{places_of}
 use Rattle.gc_station.proofs.Going.{Went, HasModel}
 use Rattle.gc_station.proofs.Noting.{Noted}
 use Rattle.gc_station.proofs.Turns.{left_to_do}
@@ -14,10 +15,10 @@ invariant-loop-unsynced g l = record {
   below : l.station.progress.unsent ≤ length l.commands - l.plan.setup;
   some : HasModel l.station;
   went : (reads : Reads) → AreReadings reads
-      → Went l.plan l.commands (record { turns = l.max_turns; reads = reads }) (g.B.Book.text l.initial.book) (g.L.Link.acts l.initial.link)
+      → Went l.plan l.commands (record { turns = l.max_turns; watched = places_of l.fn.watches; reads = reads }) (g.B.Book.text l.initial.book) (g.L.Link.acts l.initial.link)
       (g.L.Link.acts l.link) (g.B.Book.taken l.initial.book) (g.B.Book.taken l.book) l.station;
   noted : (reads : Reads) → AreReadings reads
-      → Noted l.plan l.commands (record { turns = l.max_turns; reads = reads }) (g.B.Book.text l.initial.book) (g.L.Link.acts l.initial.link) (g.B.Book.taken l.initial.book)
+      → Noted l.plan l.commands (record { turns = l.max_turns; watched = places_of l.fn.watches; reads = reads }) (g.B.Book.text l.initial.book) (g.L.Link.acts l.initial.link) (g.B.Book.taken l.initial.book)
       (g.L.Link.acts l.link) (g.B.Book.taken l.book) l.station l.initial.kept.turns l.kept.turns;
   form : g.B.Book.text l.book ≡ g.B.Book.text l.initial.book;
   failed : g.B.Book.failed l.book ≡ g.B.Book.failed l.initial.book;

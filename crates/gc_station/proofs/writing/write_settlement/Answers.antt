@@ -26,5 +26,5 @@ returns-clause-notes g c reads are =
     let end : ending_seen c.ending_of-ending.result ≡ end_of reads mark.expected x.call x.outcome =
     c.ending_of-ending.ensures reads x.call are c.requires c.zero_of-zero.ensures in
     let code : c.code_of-code.result ≡ code_of reads x.call x.outcome = c.code_of-code.ensures reads x.call are c.requires in
-    rw c.in-Some.is (c.note.ensures ∙ ap (λ e. noted mark c.args.now.elapsed c.code_of-code.result e old) end
-    ∙ ap (λ k. noted mark c.args.now.elapsed k (end_of reads mark.expected x.call x.outcome) old) code)
+    rw c.in-Some.is (c.note.ensures ∙ ap (λ e. noted mark c.args.now c.code_of-code.result e old) end
+    ∙ ap (λ k. noted mark c.args.now k (end_of reads mark.expected x.call x.outcome) old) code)

@@ -8,6 +8,7 @@ returns-in-None c says.Unchained is = let both : true ≡ false = sym (c.is_word
 returns-in-None c (says.Deadline deadline) is = c.in_default.ensures deadline is
 returns-in-None c (says.Naming name) is = c.in_default-read_naming.ensures name is
 returns-in-None c (says.Locating near) is = c.in_default-read_locating.ensures near is
+returns-in-None c (says.Unwatching target) is = c.in_default-read_unwatching.ensures target is
 returns-in-None c (says.Accepting codes) is = c.in_default-read_accepting.ensures codes is
 returns-in-None c (says.Retrying retry) is = c.in_default-read_retrying.ensures retry is
 returns-in-None c says.AtStart is = let both : true ≡ false = sym (c.is_word-3.ensures.1 is) ∙ c.if-is_word-3.false in cc

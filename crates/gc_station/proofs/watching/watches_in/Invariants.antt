@@ -1,0 +1,7 @@
+use Rattle.std.proofs.Common.{◌≡◌, map, take}
+use Rattle.gc_station.specs.Watching.{unanswered, watched_in}
+use Rattle.gc_station.proofs.watching.watches_in.Given as goal
+
+-- the watched ones of the tasks before this one were appended
+abbrev pub invariant-loop-task : goal.invariant-loop-task
+invariant-loop-task l = l.watches.items ≡ map unanswered (watched_in (take l.task-index l.tasks))
