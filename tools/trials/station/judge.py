@@ -103,9 +103,10 @@ def faults_of_rows(plan, rows, log):
         cycle, place = n // len(plan.commands) + 1, n % len(plan.commands)
         where = f"row {n + 1}, cycle {cycle}, place {place}"
         number = log.numbers.get((cycle, place))
-        for fault in faults_of_row(plan, row, cycle, place, number):
+        left = is_left_by_abandoned(plan, rows, n)
+        for fault in faults_of_row(plan, row, cycle, place, number, left):
             yield f"{where}: {fault}"
-        if plan.is_chained(place):
+        if plan.is_chained(place) and not left:
             for fault in faults_of_chain(row, rows[n - 1], number, log.numbers.get((cycle, place - 1)), log):
                 yield f"{where}: {fault}: {rows[n - 1]}, {row}"
         if row["outcome"] != "missed":
@@ -116,8 +117,15 @@ def faults_of_rows(plan, rows, log):
             yield f"{where}: {fault}"
 
 
-def faults_of_row(plan, row, cycle, place, number):
-    """What is wrong with a row by itself. The number is that of its request, if one was sent."""
+def is_left_by_abandoned(plan, rows, n):
+    """Whether the row with this number is of what is left of a cycle that is abandoned: all of that is skipped, and the next cycle is missed."""
+    behind = len(plan.commands) * (n // len(plan.commands) + 1)
+    after = rows[behind:behind + len(plan.commands)]
+    return all(row["outcome"] == "skipped" for row in rows[n:behind]) and bool(after) and all(row["outcome"] == "missed" for row in after)
+
+
+def faults_of_row(plan, row, cycle, place, number, is_left):
+    """What is wrong with a row by itself, which may be left by a cycle that is abandoned. The number is that of its request, if one was sent."""
     wanted = (1, cycle, place, *plan.commands[place])
     if tuple(int(row[column]) for column in ("attempt", "cycle", "place", "target", "procedure")) != wanted or row["name"] != "":
         yield f"{row}"
@@ -130,7 +138,7 @@ def faults_of_row(plan, row, cycle, place, number):
         yield f"{row['outcome']}, and it was sent at {row['sent']!r}"
     elif row["sent"] and not milliseconds(row, "run") <= milliseconds(row, "sent") <= milliseconds(row):
         yield f"it wasn't sent between the beginning of its run and its end: {row}"
-    if row["outcome"] == "skipped" and not plan.is_chained(place):
+    if row["outcome"] == "skipped" and not plan.is_chained(place) and not is_left:
         yield "skipped, and it is the first of its row"
 
 
