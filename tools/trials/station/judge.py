@@ -118,10 +118,10 @@ def faults_of_rows(plan, rows, log):
 
 
 def is_left_by_abandoned(plan, rows, n):
-    """Whether the row with this number is of what is left of a cycle that is abandoned: all of that is skipped, and the next cycle is missed."""
+    """Whether the row with this number is of what is left of a cycle that is abandoned: all of that is skipped, and the next cycle, if there is one, is missed."""
     behind = len(plan.commands) * (n // len(plan.commands) + 1)
     after = rows[behind:behind + len(plan.commands)]
-    return all(row["outcome"] == "skipped" for row in rows[n:behind]) and bool(after) and all(row["outcome"] == "missed" for row in after)
+    return all(row["outcome"] == "skipped" for row in rows[n:behind]) and all(row["outcome"] == "missed" for row in after)
 
 
 def faults_of_row(plan, row, cycle, place, number, is_left):
