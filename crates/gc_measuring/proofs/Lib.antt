@@ -1,4 +1,5 @@
 mod AtLink
+mod LostTimes
 mod Measured
 mod Unbegun
 mod Wants

@@ -1,4 +1,5 @@
 pub mod Appending
+pub mod Bounds
 pub mod Choices
 pub mod Logging
 pub mod Measuring

@@ -110,7 +110,7 @@ fn outline_tasks<W: Write>(tasks: &Tasks, plan: &Plan, outline: &mut W) -> io::R
     let commands = commands_per_cycle(tasks);
     writeln!(outline, "each cycle, commands: {commands}")?;
     outline_chains(tasks, outline)?;
-    outline_bound(plan, outline)
+    outline_bound(tasks, plan, outline)
 }
 
 // Writes a line for each chain of a cycle: its target, its commands, and how often and after what it may be sent again.

@@ -1,5 +1,5 @@
 -- The runs of `specs/BoundRuns.antt`, computed.
-use Rattle.std.proofs.Common.{◌⊎◌, inl, inr, ℕ, Option, None, refl, lit<, lit≤}
+use Rattle.std.proofs.Common.{inl, inr, None, refl, lit<, lit≤}
 use Rattle.std.specs.Fmt.{digits}
 use Rattle.gc_lines.specs.Readers.{header_at, reply_at}
 use Rattle.gc_texts.specs.Nears.{is_elsewhere}
@@ -10,7 +10,7 @@ use Rattle.gc_station.proofs.Returning.{calls_soon, calls_each, readings_at_once
 pub outage_recorded : OutageIsRecorded
 outage_recorded =
     record {
-      is = record { runs = (tt, (tt, (tt, (tt, (tt, (tt, (tt, (tt, (tt, (tt, tt)))))))))); some = lit< tt; tables = (lit≤ tt, tt); rises = (lit≤ tt, lit≤ tt, (lit≤ tt, lit≤ tt, (lit≤ tt, lit≤ tt, (lit≤ tt, lit≤ tt, (lit≤ tt, lit≤ tt, (lit≤ tt, lit≤ tt, (lit≤ tt, lit≤ tt, (lit≤ tt, lit≤ tt, (lit≤ tt, lit≤ tt, tt))))))))) };
+      is = record { runs = (tt, (tt, (tt, (tt, (tt, (tt, (tt, (tt, (tt, (tt, tt)))))))))); some = lit< tt; listed = lit≤ tt; rises = (lit≤ tt, lit≤ tt, (lit≤ tt, lit≤ tt, (lit≤ tt, lit≤ tt, (lit≤ tt, lit≤ tt, (lit≤ tt, lit≤ tt, (lit≤ tt, lit≤ tt, (lit≤ tt, lit≤ tt, (lit≤ tt, lit≤ tt, (lit≤ tt, lit≤ tt, tt))))))))) };
       few = (lit≤ tt, (lit≤ tt, tt));
       calls = calls_each outage_plan outage_commands scope 5 outage (lit≤ tt) (λ slow. (0, refl, lit≤ tt), (λ slow. absurd slow, (λ slow. (200, (None, refl, refl), lit≤ tt), (λ slow. absurd slow, (λ slow. absurd slow, (λ slow. (100, (None, refl, refl), lit≤ tt), (λ slow. absurd slow, (λ slow. absurd slow, (λ slow. (100, (None, refl, refl), lit≤ tt), (λ slow. (600, (None, refl, refl), lit≤ tt), tt))))))))));
       readings = readings_at_once outage_plan outage_commands scope outage (inr tt, (inr (lit≤ tt), (inl tt, (inr (lit≤ tt), (inr (lit≤ tt), (inl tt, (inr (lit≤ tt), (inr (lit≤ tt), (inl tt, (inl tt, tt))))))))));
@@ -23,7 +23,7 @@ outage_recorded =
 pub calls_needed : CallsAreNeeded
 calls_needed =
     record {
-      is = record { runs = (tt, (tt, (tt, tt))); some = lit< tt; tables = (lit≤ tt, tt); rises = (lit≤ tt, lit≤ tt, (lit≤ tt, lit≤ tt, tt)) };
+      is = record { runs = (tt, (tt, (tt, tt))); some = lit< tt; listed = lit≤ tt; rises = (lit≤ tt, lit≤ tt, (lit≤ tt, lit≤ tt, tt)) };
       few = (lit≤ tt, (lit≤ tt, tt));
       readings = readings_at_once outage_plan outage_commands scope stalled_read (inr tt, (inr (lit≤ tt), (inl tt, tt)));
       unasked = refl;
@@ -34,7 +34,7 @@ calls_needed =
 pub readings_needed : ReadingsAreNeeded
 readings_needed =
     record {
-      is = record { runs = (tt, (tt, (tt, (tt, tt)))); some = lit< tt; tables = (lit≤ tt, tt); rises = (lit≤ tt, lit≤ tt, (lit≤ tt, lit≤ tt, (lit≤ tt, lit≤ tt, tt))) };
+      is = record { runs = (tt, (tt, (tt, (tt, tt)))); some = lit< tt; listed = lit≤ tt; rises = (lit≤ tt, lit≤ tt, (lit≤ tt, lit≤ tt, (lit≤ tt, lit≤ tt, tt))) };
       few = (lit≤ tt, (lit≤ tt, tt));
       calls = calls_each outage_plan outage_commands scope 5 stalled_reading (lit≤ tt) (λ slow. (0, refl, lit≤ tt), (λ slow. absurd slow, (λ slow. (200, (None, refl, refl), lit≤ tt), (λ slow. absurd slow, tt))));
       unasked = refl;
@@ -46,7 +46,7 @@ pub deadlines_needed : DeadlinesAreNeeded
 unfolding is_elsewhere header_at reply_at digits
 deadlines_needed =
     record {
-      is = record { runs = (tt, (refl, (tt, (refl, (tt, (tt, (refl, (tt, (tt, (refl, (tt, (tt, (refl, (tt, (tt, (refl, (tt, (tt, (refl, (tt, (tt, (refl, (tt, (tt, (refl, (tt, (tt, (tt, (refl, (tt, (tt, (tt, (tt, tt))))))))))))))))))))))))))))))))); some = lit< tt; tables = (lit≤ tt, tt); rises = (lit≤ tt, lit≤ tt, (lit≤ tt, lit≤ tt, (lit≤ tt, lit≤ tt, (lit≤ tt, lit≤ tt, (lit≤ tt, lit≤ tt, (lit≤ tt, lit≤ tt, (lit≤ tt, lit≤ tt, (lit≤ tt, lit≤ tt, (lit≤ tt, lit≤ tt, (lit≤ tt, lit≤ tt, (lit≤ tt, lit≤ tt, (lit≤ tt, lit≤ tt, (lit≤ tt, lit≤ tt, (lit≤ tt, lit≤ tt, (lit≤ tt, lit≤ tt, (lit≤ tt, lit≤ tt, (lit≤ tt, lit≤ tt, (lit≤ tt, lit≤ tt, (lit≤ tt, lit≤ tt, (lit≤ tt, lit≤ tt, (lit≤ tt, lit≤ tt, (lit≤ tt, lit≤ tt, tt)))))))))))))))))))))) };
+      is = record { runs = (tt, (refl, (tt, (refl, (tt, (tt, (refl, (tt, (tt, (refl, (tt, (tt, (refl, (tt, (tt, (refl, (tt, (tt, (refl, (tt, (tt, (refl, (tt, (tt, (refl, (tt, (tt, (tt, (refl, (tt, (tt, (tt, (tt, tt))))))))))))))))))))))))))))))))); some = lit< tt; listed = lit≤ tt; rises = (lit≤ tt, lit≤ tt, (lit≤ tt, lit≤ tt, (lit≤ tt, lit≤ tt, (lit≤ tt, lit≤ tt, (lit≤ tt, lit≤ tt, (lit≤ tt, lit≤ tt, (lit≤ tt, lit≤ tt, (lit≤ tt, lit≤ tt, (lit≤ tt, lit≤ tt, (lit≤ tt, lit≤ tt, (lit≤ tt, lit≤ tt, (lit≤ tt, lit≤ tt, (lit≤ tt, lit≤ tt, (lit≤ tt, lit≤ tt, (lit≤ tt, lit≤ tt, (lit≤ tt, lit≤ tt, (lit≤ tt, lit≤ tt, (lit≤ tt, lit≤ tt, (lit≤ tt, lit≤ tt, (lit≤ tt, lit≤ tt, (lit≤ tt, lit≤ tt, (lit≤ tt, lit≤ tt, tt)))))))))))))))))))))) };
       calls = calls_soon quick_plan slow_commands scope 10 long_deadline (lit≤ tt) (λ slow. lit≤ tt, (λ slow. lit≤ tt, (λ slow. lit≤ tt, (λ slow. lit≤ tt, (λ slow. lit≤ tt, (λ slow. lit≤ tt, (λ slow. lit≤ tt, (λ slow. lit≤ tt, (λ slow. lit≤ tt, (λ slow. lit≤ tt, (λ slow. lit≤ tt, (λ slow. lit≤ tt, (λ slow. lit≤ tt, (λ slow. lit≤ tt, (λ slow. lit≤ tt, (λ slow. lit≤ tt, (λ slow. lit≤ tt, (λ slow. lit≤ tt, (λ slow. lit≤ tt, (λ slow. lit≤ tt, (λ slow. lit≤ tt, (λ slow. lit≤ tt, (λ slow. lit≤ tt, (λ slow. lit≤ tt, (λ slow. lit≤ tt, (λ slow. lit≤ tt, (λ slow. lit≤ tt, (λ slow. lit≤ tt, (λ slow. lit≤ tt, (λ slow. lit≤ tt, (λ slow. lit≤ tt, (λ slow. lit≤ tt, (λ slow. lit≤ tt, tt)))))))))))))))))))))))))))))))));
       readings = readings_at_once quick_plan slow_commands scope long_deadline (inr tt, (inr tt, (inr (lit≤ tt), (inr tt, (inr (lit≤ tt), (inr (lit≤ tt), (inr tt, (inr (lit≤ tt), (inr (lit≤ tt), (inr tt, (inr (lit≤ tt), (inr (lit≤ tt), (inr tt, (inr (lit≤ tt), (inr (lit≤ tt), (inr tt, (inr (lit≤ tt), (inr (lit≤ tt), (inr tt, (inr (lit≤ tt), (inr (lit≤ tt), (inr tt, (inr (lit≤ tt), (inr (lit≤ tt), (inr tt, (inr (lit≤ tt), (inr (lit≤ tt), (inr (lit≤ tt), (inr tt, (inr (lit≤ tt), (inl tt, (inl tt, (inl tt, tt)))))))))))))))))))))))))))))))));
       unasked = refl;
@@ -58,7 +58,7 @@ pub unasked_needed : UnaskedIsNeeded
 unfolding is_elsewhere header_at reply_at digits
 unasked_needed =
     record {
-      is = record { runs = (tt, (refl, (tt, (refl, (tt, (tt, (refl, (tt, (tt, (refl, (tt, (tt, (refl, (tt, (tt, (refl, (tt, (tt, (refl, (tt, (tt, (refl, (tt, (tt, (refl, (tt, (tt, (tt, (refl, (tt, (tt, (refl, (tt, (tt, (refl, (tt, (tt, tt))))))))))))))))))))))))))))))))))))); some = lit< tt; tables = (lit≤ tt, tt); rises = (lit≤ tt, lit≤ tt, (lit≤ tt, lit≤ tt, (lit≤ tt, lit≤ tt, (lit≤ tt, lit≤ tt, (lit≤ tt, lit≤ tt, (lit≤ tt, lit≤ tt, (lit≤ tt, lit≤ tt, (lit≤ tt, lit≤ tt, (lit≤ tt, lit≤ tt, (lit≤ tt, lit≤ tt, (lit≤ tt, lit≤ tt, (lit≤ tt, lit≤ tt, (lit≤ tt, lit≤ tt, (lit≤ tt, lit≤ tt, (lit≤ tt, lit≤ tt, (lit≤ tt, lit≤ tt, (lit≤ tt, lit≤ tt, (lit≤ tt, lit≤ tt, (lit≤ tt, lit≤ tt, (lit≤ tt, lit≤ tt, (lit≤ tt, lit≤ tt, (lit≤ tt, lit≤ tt, (lit≤ tt, lit≤ tt, (lit≤ tt, lit≤ tt, tt)))))))))))))))))))))))) };
+      is = record { runs = (tt, (refl, (tt, (refl, (tt, (tt, (refl, (tt, (tt, (refl, (tt, (tt, (refl, (tt, (tt, (refl, (tt, (tt, (refl, (tt, (tt, (refl, (tt, (tt, (refl, (tt, (tt, (tt, (refl, (tt, (tt, (refl, (tt, (tt, (refl, (tt, (tt, tt))))))))))))))))))))))))))))))))))))); some = lit< tt; listed = lit≤ tt; rises = (lit≤ tt, lit≤ tt, (lit≤ tt, lit≤ tt, (lit≤ tt, lit≤ tt, (lit≤ tt, lit≤ tt, (lit≤ tt, lit≤ tt, (lit≤ tt, lit≤ tt, (lit≤ tt, lit≤ tt, (lit≤ tt, lit≤ tt, (lit≤ tt, lit≤ tt, (lit≤ tt, lit≤ tt, (lit≤ tt, lit≤ tt, (lit≤ tt, lit≤ tt, (lit≤ tt, lit≤ tt, (lit≤ tt, lit≤ tt, (lit≤ tt, lit≤ tt, (lit≤ tt, lit≤ tt, (lit≤ tt, lit≤ tt, (lit≤ tt, lit≤ tt, (lit≤ tt, lit≤ tt, (lit≤ tt, lit≤ tt, (lit≤ tt, lit≤ tt, (lit≤ tt, lit≤ tt, (lit≤ tt, lit≤ tt, (lit≤ tt, lit≤ tt, tt)))))))))))))))))))))))) };
       few = (lit≤ tt, (lit≤ tt, (lit≤ tt, (lit≤ tt, (lit≤ tt, tt)))));
       calls = calls_soon quick_plan chain_commands scope 10 asked_in_chain (lit≤ tt) (λ slow. lit≤ tt, (λ slow. lit≤ tt, (λ slow. lit≤ tt, (λ slow. lit≤ tt, (λ slow. lit≤ tt, (λ slow. lit≤ tt, (λ slow. lit≤ tt, (λ slow. lit≤ tt, (λ slow. lit≤ tt, (λ slow. lit≤ tt, (λ slow. lit≤ tt, (λ slow. lit≤ tt, (λ slow. lit≤ tt, (λ slow. lit≤ tt, (λ slow. lit≤ tt, (λ slow. lit≤ tt, (λ slow. lit≤ tt, (λ slow. lit≤ tt, (λ slow. lit≤ tt, (λ slow. lit≤ tt, (λ slow. lit≤ tt, (λ slow. lit≤ tt, (λ slow. lit≤ tt, (λ slow. lit≤ tt, (λ slow. lit≤ tt, (λ slow. lit≤ tt, (λ slow. lit≤ tt, (λ slow. lit≤ tt, (λ slow. lit≤ tt, (λ slow. lit≤ tt, (λ slow. lit≤ tt, (λ slow. lit≤ tt, (λ slow. lit≤ tt, (λ slow. lit≤ tt, (λ slow. lit≤ tt, (λ slow. lit≤ tt, (λ slow. lit≤ tt, tt)))))))))))))))))))))))))))))))))))));
       readings = readings_at_once quick_plan chain_commands scope asked_in_chain (inr tt, (inr tt, (inr (lit≤ tt), (inr tt, (inr (lit≤ tt), (inr (lit≤ tt), (inr tt, (inr (lit≤ tt), (inr (lit≤ tt), (inr tt, (inr (lit≤ tt), (inr (lit≤ tt), (inr tt, (inr (lit≤ tt), (inr (lit≤ tt), (inr tt, (inr (lit≤ tt), (inr (lit≤ tt), (inr tt, (inr (lit≤ tt), (inr (lit≤ tt), (inr tt, (inr (lit≤ tt), (inr (lit≤ tt), (inr tt, (inr (lit≤ tt), (inr (lit≤ tt), (inr (lit≤ tt), (inr tt, (inr (lit≤ tt), (inl tt, (inr tt, (inr (lit≤ tt), (inl tt, (inr tt, (inr (lit≤ tt), (inl tt, tt)))))))))))))))))))))))))))))))))))));

@@ -51,7 +51,7 @@ use Rattle.gc_station.proofs.Lists.{all_append}
 -- Steps of the client.
 
 -- an outstanding request is a call of the table
-abbrev IsTableCall : Pending Asked → Type 0
+abbrev pub IsTableCall : Pending Asked → Type 0
 IsTableCall p = is_of_table p.call ≡ true
 
 -- a step sends calls of the table alone, and isn't a restart
@@ -69,12 +69,12 @@ record Level (c : ById Asked) (b : ℕ) : Type 0 where
   same : b ≡ length c.waiting
 
 -- requests that are calls of the table still are once they may have timed out
-expired_tables : (now : ℕ) (ps : List (Pending Asked)) → AllByRecursion IsTableCall ps → AllByRecursion IsTableCall (map (expired now) ps)
+pub expired_tables : (now : ℕ) (ps : List (Pending Asked)) → AllByRecursion IsTableCall ps → AllByRecursion IsTableCall (map (expired now) ps)
 expired_tables now [] all = tt
 expired_tables now (p ∷ ps) all = (all.0, expired_tables now ps all.1)
 
 -- the last request that a reply settles is a call of the table, if all are
-settle_tables : (k : ℕ) (line : List ℕ) (ps : List (Pending Asked)) → k < length ps → AllByRecursion IsTableCall ps → is_some_of_table (slice_get (settle k line ps) k) ≡ true
+pub settle_tables : (k : ℕ) (line : List ℕ) (ps : List (Pending Asked)) → k < length ps → AllByRecursion IsTableCall ps → is_some_of_table (slice_get (settle k line ps) k) ≡ true
 settle_tables k line [] low all = absurd (omega (arith, low))
 settle_tables zero line (p ∷ ps) low all = all.0
 settle_tables (suc k) line (p ∷ ps) low all = settle_tables k line ps (omega (arith, low)) all.1

@@ -34,6 +34,10 @@ use Rattle.gc_station.proofs.Walk.{asked_along, came_along, quieted_along, close
 abbrev pub EndsBy : (limit : ℕ) → Pending Asked → Type 0
 EndsBy limit q = q.given_up ≡ false → q.deadline ≤ limit
 
+-- if the request hasn't timed out, its deadline is at least `time` before `limit`
+abbrev pub EndsEarly : (time limit : ℕ) → Pending Asked → Type 0
+EndsEarly time limit q = q.given_up ≡ false → q.deadline + time ≤ limit
+
 -- if the request hasn't timed out, its deadline is after `now`
 abbrev pub EndsAfter : (now : ℕ) → Pending Asked → Type 0
 EndsAfter now q = q.given_up ≡ false → now < q.deadline
@@ -63,6 +67,15 @@ expired_by limit limit' now [] more by = tt
 expired_by limit limit' now (q ∷ ws) more by = (one q.given_up refl, expired_by limit limit' now ws more by.1) where
   -- the lemma above for the first request
   one : (b : Bool) → q.given_up ≡ b → (b || nat_le q.deadline now) ≡ false → q.deadline ≤ limit'
+  one true is e = cc
+  one false is e = let low = by.0 is in omega (arith, low, more)
+
+-- the same of deadlines that are at least `time` before the limit
+pub expired_early : (time limit limit' now : ℕ) (ws : List (Pending Asked)) → limit ≤ limit' → AllByRecursion (EndsEarly time limit) ws → AllByRecursion (EndsEarly time limit') (map (expired now) ws)
+expired_early time limit limit' now [] more by = tt
+expired_early time limit limit' now (q ∷ ws) more by = (one q.given_up refl, expired_early time limit limit' now ws more by.1) where
+  -- the lemma above for the first request
+  one : (b : Bool) → q.given_up ≡ b → (b || nat_le q.deadline now) ≡ false → q.deadline + time ≤ limit'
   one true is e = cc
   one false is e = let low = by.0 is in omega (arith, low, more)
 

@@ -1,12 +1,13 @@
 -- Requests are sent only in time: while the cycle isn't out of time, if the end of the run wasn't asked for, or by a setup that goes on
 -- (`SettingUp`). So what is in flight has timed out in time (`TimesOut`). An act is one call on the link, with its result.
-use Rattle.std.proofs.Common.{◌≡◌, ◌⊎◌, inl, inr, ℕ, suc, ◌+◌, ◌*◌, ◌-◌, ◌<◌, ◌≤◌, ◌&&◌, ◌||◌, Bool, true, false, not, if◌then◌else◌, List, [], ◌∷◌, ◌++◌, nat_lt, nat_le, nat_eq, refl, sym, ap, ◌∙◌, subst, arith}
+use Rattle.std.proofs.Common.{◌≡◌, ◌⊎◌, inl, inr, ℕ, suc, ◌+◌, ◌*◌, ◌-◌, ◌<◌, ◌≤◌, ◌&&◌, ◌||◌, Bool, true, false, not, if◌then◌else◌, List, [], ◌∷◌, ◌++◌, length, take, nat_lt, nat_le, nat_eq, refl, sym, ap, ◌∙◌, subst, arith}
 use Rattle.std.proofs.lemmas.Bool.{ltb-true, leb-false, eqb-true, eq-eqb, and_parts, cond_both, both_ways, false_from_ne_true}
 use Rattle.std.proofs.lemmas.Bool.Decides.{nat_tests}
 use native.Mathlib.Nat.{suc-mul, mul-le-mul_right}
 use Rattle.std.specs.List.{AllByRecursion}
 use Rattle.gc_texts.specs.declared.tasks.Task.{Task}
 use Rattle.gc_links.specs.Acts.{Act, Told, Gave, Silent, Opened}
+use Rattle.gc_station.specs.CallTimes.{MayTakeTime, CallsReturn}
 use Rattle.gc_station.specs.Cycles.{ClockRises}
 use Rattle.gc_station.specs.Deciding.{has_begun, is_between_chains, setup_permits, is_out_of_time, waits_out, is_overdue, is_stale, is_stopping, is_held_back, is_preparing, is_finished, is_idle, is_dead, is_up, may_abandon, waits_for_all, action_in, action_on, action_overdue, action_of_phase, action_without_turns, action_begun, action_beginning, action_waiting, action_preparing, action_in_setup, action_cycle, action_held, action_settled, action_done}
 use Rattle.gc_station.specs.Model.{Model, opening, action_at, waiting_of, with_rest, with_progress, moved, after, Performs, Runs}
@@ -14,9 +15,10 @@ use Rattle.gc_station.specs.Progressing.{turned}
 use Rattle.gc_station.specs.Quiet.{IsAsking}
 use Rattle.gc_station.specs.Reasons.{HoldsBefore}
 use Rattle.gc_station.specs.Marks.{last_well}
-use Rattle.gc_station.specs.RecordedInTime.{MayTakeTime, SetUpIsOfTable}
+use Rattle.gc_station.specs.RecordedInTime.{raw_count, raws_of_setup}
 use Rattle.gc_station.specs.Runs.{state_after}
 use Rattle.gc_station.specs.Scopes.{Scope}
+use Rattle.gc_station.specs.Silences.{latest}
 use Rattle.gc_station.specs.Stopping.{asked_after}
 use Rattle.gc_station.specs.declared.cause.Cause.TheVariants as cause
 use Rattle.gc_station.specs.declared.plan.Plan.{Plan}
@@ -28,7 +30,10 @@ use Rattle.gc_station.specs.declared.progress.Progress.{Progress}
 use Rattle.gc_station.specs.declared.progress.Until.TheVariants.{Limit, Due}
 use Rattle.gc_station.specs.declared.progress.Waiting.{Waiting}
 use Rattle.gc_station.proofs.Always.{always, always_of_progress}
-use Rattle.gc_station.proofs.Cycles.{begun_if_clock_rises, rises_here}
+use Rattle.gc_station.proofs.BehindRaw.{raws_within}
+use Rattle.gc_station.proofs.CallTimes.{IsTimely, SentBefore, sent_last, timely, calls_front}
+use Rattle.gc_station.proofs.Counts.{with_losses_progress}
+use Rattle.gc_station.proofs.Cycles.{Begun, begun_if_clock_rises, rises_here}
 use Rattle.gc_station.proofs.EachRun.{invariant_holds}
 use Rattle.gc_station.proofs.Facts.{action_for}
 use Rattle.gc_station.proofs.InCycle.{not_zero}
@@ -319,30 +324,53 @@ asking_slow actions.Send asks = tt
 asking_slow actions.Flush asks = tt
 asking_slow o asks = absurd asks
 
-module _ (plan : Plan) (commands : List Task) (scope : Scope) (longest : ℕ) (some : 0 < plan.every) (tables : SetUpIsOfTable plan commands) (few : plan.deadline ≤ longest)
+module _ (plan : Plan) (commands : List Task) (scope : Scope) (longest call : ℕ) (some : 0 < plan.every) (listed : plan.setup ≤ length commands) (few : plan.deadline ≤ longest)
     (all_few : AllByRecursion (λ (task : Task). task.deadline ≤ longest) commands) where
+  -- how long a null procedure may take that is lost
+  abbrev pub turn : ℕ
+  turn = longest + call
+
+  -- how long those behind a raw command of the setup may take together
+  abbrev pub loss : ℕ
+  loss = 7 * (longest + call)
+
   -- how long after the moment at which the cycle is out of time a request may have its deadline
   abbrev pub span : ℕ
-  span = longest + plan.setup * longest
+  span = (longest + plan.setup * longest) + raws_of_setup plan commands * loss
 
-  -- `TimesOut` and `SettingUp` hold after every run whose end wasn't asked for, if the clock doesn't go back
-  pub times_out : (acts : List Act) → Runs plan commands (opening plan scope) acts → ClockRises 0 acts → asked_after false acts ≡ false
-      → TimesOut plan longest span (state_after plan commands scope acts) × SettingUp plan longest (state_after plan commands scope acts)
-  times_out acts runs rises unasked =
-      always plan commands (opening plan scope) (λ (done : List Act) (t : Model). ClockRises 0 done → asked_after false done ≡ false → TimesOut plan longest span t × SettingUp plan longest t) step
-      (λ r a. ((omega arith, tt, λ e. tt, tt), (λ on sent. absurd (omega (arith, sent)), λ ready on sent. absurd (omega (arith, sent))))) acts runs rises unasked where
-        -- what both are of a model
-        Both : Model → Type 0
-        Both t = TimesOut plan longest span t × SettingUp plan longest t
+  -- the setup has no raw commands, or calls return
+  abbrev pub ReturnIfRaw : List Act → Type 0
+  ReturnIfRaw acts = (raws_of_setup plan commands ≡ 0) ⊎ CallsReturn plan commands scope call acts
 
+  -- what holds of a run and of the model after it: what is in flight times out in time, a setup goes on, and the moment is out of date only
+  -- behind a request
+  abbrev KeepsTime : List Act → Model → Type 0
+  KeepsTime done t = TimesOut plan longest span t × SettingUp plan longest call turn loss commands t × SentBefore plan commands scope call done t
+
+  -- so it is after every run whose end wasn't asked for, if the clock doesn't go back, and calls return where the setup has raw commands
+  keeps_time : (acts : List Act) → Runs plan commands (opening plan scope) acts → ClockRises 0 acts → ReturnIfRaw acts → asked_after false acts ≡ false
+      → KeepsTime acts (state_after plan commands scope acts)
+  keeps_time acts runs rises returns unasked =
+      always plan commands (opening plan scope) (λ (done : List Act) (t : Model). ClockRises 0 done → ReturnIfRaw done → asked_after false done ≡ false → KeepsTime done t) step
+      (λ r c a. ((omega arith, tt, λ e. tt, tt), (λ on sent. absurd (omega (arith, sent)), λ ready on sent. absurd (omega (arith, sent))), λ due ready begun. cc)) acts runs rises returns unasked where
         -- each act preserves it
         step : (done : List Act) (act : Act) → Runs plan commands (opening plan scope) done → Performs commands (state_after plan commands scope done) (action_at plan (state_after plan commands scope done)) act
-            → (ClockRises 0 done → asked_after false done ≡ false → Both (state_after plan commands scope done))
-            → ClockRises 0 (done ++ act ∷ []) → asked_after false (done ++ act ∷ []) ≡ false
-            → Both (after plan commands (state_after plan commands scope done) act)
-        step done act runs' o h rises' unasked' = (
+            → (ClockRises 0 done → ReturnIfRaw done → asked_after false done ≡ false → KeepsTime done (state_after plan commands scope done))
+            → ClockRises 0 (done ++ act ∷ []) → ReturnIfRaw (done ++ act ∷ []) → asked_after false (done ++ act ∷ []) ≡ false
+            → KeepsTime (done ++ act ∷ []) (after plan commands (state_after plan commands scope done) act)
+        step done act runs' o h rises' returns' unasked' = (
           out_losses plan longest span commands few all_few t (out_moved plan longest span commands few all_few s next act o (λ asks. early asks) it.0 here),
-          sets_losses plan longest t (sets_moved plan longest commands span few all_few tables s act (invariant_holds plan commands scope done).paired it.0 it.1 next o needs punctual answered here),
+          sets_losses plan longest call turn loss commands t (
+              sets_moved plan longest call turn loss commands span few all_few listed (omega arith) (omega arith) s act (invariant_holds plan commands scope done).paired it.0 it.1 next o needs punctual answered here
+              (λ raw ready begun. by_raw raw ready begun returns')),
+          λ due ready begun.
+              let same = with_losses_progress t in (
+                done,
+                act,
+                refl,
+                sent_last plan commands s next act o (sym (ap (λ (p : Progress). p.clock_due) same) ∙ due) (sym (ap (λ (p : Progress). p.phase) same) ∙ ready)
+                    (sym (ap has_begun same) ∙ begun),
+              ),
         ) where
           -- the model before the act
           s : Model
@@ -360,13 +388,26 @@ module _ (plan : Plan) (commands : List Task) (scope : Scope) (longest : ℕ) (s
           needs : HoldsBefore plan s.progress (waiting_of s) next
           needs = action_for plan s.progress (waiting_of s)
 
-          -- both hold before the act
-          it : Both s
-          it = h (rises_front 0 done act rises') (asked_front done act unasked')
+          -- all holds before the act
+          it : KeepsTime done s
+          it = h (rises_front 0 done act rises') (returns_front returns') (asked_front done act unasked') where
+            -- calls return before the act
+            returns_front : ReturnIfRaw (done ++ act ∷ []) → ReturnIfRaw done
+            returns_front (inl none) = inl none
+            returns_front (inr calls) = inr (calls_front plan commands scope call done (act ∷ []) calls)
+
+          -- how the clock goes up to here
+          clock : (s.progress.moment.elapsed ≡ latest 0 done) × Begun plan commands scope some done s.progress
+          clock = begun_if_clock_rises plan commands scope some done runs' (rises_front 0 done act rises')
 
           -- the clock doesn't go back at the act
           here : ClockRises s.progress.moment.elapsed (act ∷ [])
-          here = rises_here plan commands scope some done act rises' (begun_if_clock_rises plan commands scope some done runs' (rises_front 0 done act rises')).0
+          here = rises_here plan commands scope some done act rises' clock.0
+
+          -- where the setup has raw commands, the call returns in time
+          by_raw : 0 < raws_of_setup plan commands → s.progress.phase ≡ phase.Ready → has_begun s.progress ≡ true → ReturnIfRaw (done ++ act ∷ []) → IsTimely plan s call next act
+          by_raw raw ready begun (inl none) = absurd (omega (arith, raw, none))
+          by_raw raw ready begun (inr calls) = timely plan commands scope call done act calls clock.0 it.2 ready begun
 
           -- the end of the run wasn't asked for
           going : s.progress.stops ≡ false
@@ -397,7 +438,14 @@ module _ (plan : Plan) (commands : List Task) (scope : Scope) (longest : ℕ) (s
                 let setup = not_permitted plan s.progress (waiting_of s) e in
                 let well = answered asks e in
                 let left = some_unsent plan s.progress (waiting_of s) setup.0 setup.2 well in
-                let soon = soon_if_well plan longest s it.1 (asking_ready plan s.progress (waiting_of s) next asks needs) setup well in
+                let soon = soon_if_well plan longest call turn loss commands s it.1 (asking_ready plan s.progress (waiting_of s) next asks needs) setup well in
                 let more = suc-mul s.progress.prepared longest in
                 let most : suc s.progress.prepared * longest ≤ plan.setup * longest = mul-le-mul_right longest left in
-                omega (arith, soon, more, most)
+                let raws : raw_count (take s.progress.prepared (take (plan.setup - 1) commands)) * loss ≤ raws_of_setup plan commands * loss =
+                mul-le-mul_right loss (raws_within s.progress.prepared (take (plan.setup - 1) commands)) in
+                omega (arith, soon, more, most, raws)
+
+  -- `TimesOut` and `SettingUp` hold after every such run
+  pub times_out : (acts : List Act) → Runs plan commands (opening plan scope) acts → ClockRises 0 acts → ReturnIfRaw acts → asked_after false acts ≡ false
+      → TimesOut plan longest span (state_after plan commands scope acts) × SettingUp plan longest call turn loss commands (state_after plan commands scope acts)
+  times_out acts runs rises returns unasked = let it = keeps_time acts runs rises returns unasked in (it.0, it.1)

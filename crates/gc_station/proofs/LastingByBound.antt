@@ -9,10 +9,10 @@ use Rattle.gc_texts.specs.declared.tasks.Task.{Task}
 use Rattle.gc_links.specs.Acts.{Act}
 use Rattle.gc_station.specs.Deciding.{later, is_out_of_time}
 use Rattle.gc_station.specs.Keeping.{Snapshot, IsKept, AreKept}
-use Rattle.gc_station.specs.Model.{Model, opening, waiting_of, Runs}
+use Rattle.gc_station.specs.Model.{opening, waiting_of, Runs}
 use Rattle.gc_station.specs.Pace.{out_of_time_at, stale_at, longest_timeout, read_end_without_deadline, read_end, read_timeout}
 use Rattle.gc_station.specs.Progressing.{due_at}
-use Rattle.gc_station.specs.RealTime.{LastedAt, LastsByBound, ReadsEndInTime}
+use Rattle.gc_station.specs.RealTime.{LastsByBound, ReadsEndInTime}
 use Rattle.gc_station.specs.Records.{Record}
 use Rattle.gc_station.specs.Scopes.{Scope}
 use Rattle.gc_station.specs.declared.plan.Plan.{Plan}
@@ -47,10 +47,10 @@ module _ (plan : Plan) (commands : List Task) (scope : Scope) (text : Record →
 
 -- the law: what is recorded by its bound lasts
 pub lasts_by_bound : LastsByBound
-lasts_by_bound longest call readings plan commands scope text told told' taken seen seen' others run done later act order more some tables few all_few rises calls back unasked =
+lasts_by_bound longest call readings plan commands scope text told told' taken seen seen' others run done later act order more some listed few all_few rises calls back unasked =
     let runs = runs_front plan commands (opening plan scope) done (act ∷ later) (subst (λ (xs : List Act). Runs plan commands (opening plan scope) xs) order run.runs) in
     let found = turn_of plan commands scope text told taken [] done later act run.turns (subst (λ (xs : List Act). AreKept plan commands scope text told taken [] xs run.turns) order run.kept) in (
-      records_by_bound longest call readings plan commands scope done runs some tables few all_few rises calls back unasked,
+      records_by_bound longest call readings plan commands scope done runs some listed few all_few rises calls back unasked,
       record {
         turn = found.turn;
         earlier = found.earlier;

@@ -81,6 +81,8 @@ mod Nulls
 mod Recording
 mod InFlight
 mod LastCommand
+mod CallTimes
+mod BehindRaw
 mod SettingUp
 mod UnderWay
 mod InTime

@@ -1,5 +1,5 @@
 -- Each due cycle is recorded in time, whatever the line does. An act is one call on the link, with its result.
-use Rattle.std.proofs.Common.{◌≡◌, ◌⊎◌, inl, inr, ℕ, zero, suc, ◌+◌, ◌*◌, ◌-◌, ◌<◌, ◌≤◌, ◌&&◌, ◌||◌, Bool, true, false, not, if◌then◌else◌, List, [], ◌∷◌, ◌++◌, length, map, nat_lt, nat_le, nat_eq, refl, sym, ap, ◌∙◌, subst, arith, append-nil}
+use Rattle.std.proofs.Common.{◌≡◌, ◌⊎◌, inl, inr, ℕ, zero, suc, ◌+◌, ◌*◌, ◌-◌, ◌<◌, ◌≤◌, ◌&&◌, ◌||◌, Bool, true, false, not, if◌then◌else◌, List, [], ◌∷◌, ◌++◌, length, map, take, nat_lt, nat_le, nat_eq, refl, sym, ap, ◌∙◌, subst, arith, append-nil}
 use Rattle.std.proofs.lemmas.Bool.{ltb-true, ltb-false, leb-true, leb-false, eq-eqb, and_parts, cond_both, both_ways}
 use native.Mathlib.Nat.{suc-mul, mul-le-mul_right}
 use Rattle.std.proofs.lemmas.List.{nil_from_length}
@@ -17,7 +17,7 @@ use Rattle.gc_station.specs.NextCommand.{cycles_begun, place_next}
 use Rattle.gc_station.specs.Reasons.{IsFinished, MayGo, MayRetry, NothingMayGo, AwaitsSettlements, AwaitsReply, AwaitsSomething, MayBeSent}
 use Rattle.gc_station.specs.Runs.{state_after}
 use Rattle.gc_station.specs.Scopes.{Scope}
-use Rattle.gc_station.specs.RecordedInTime.{MayTakeTime, AreRecorded, DueOnesAreRecorded, IsInTime, IsUnhindered, RecordsOnceTimedOut, RecordsInTime, ReadsClockBefore, ReadsAwaitSomething}
+use Rattle.gc_station.specs.RecordedInTime.{MayTakeTime, AreRecorded, DueOnesAreRecorded, IsInTime, IsUnhindered, RecordsOnceTimedOut, RecordsInTime, ReadsClockBefore, ReadsAwaitSomething, raw_count, raws_of_setup, record_bound}
 use Rattle.gc_station.specs.declared.progress.Until.{Until}
 use Rattle.gc_station.specs.declared.progress.Until.TheVariants.{Limit, Due}
 use Rattle.gc_station.specs.Quiet.{IsListening}
@@ -31,6 +31,8 @@ use Rattle.gc_station.specs.declared.progress.Phase.TheVariants as phase
 use Rattle.gc_station.specs.declared.progress.Progress.{Progress}
 use Rattle.gc_station.specs.declared.progress.Waiting.{Waiting}
 use Rattle.gc_station.proofs.Always.{progress_after_act}
+use Rattle.gc_station.proofs.BehindRaw.{raws_within}
+use Rattle.gc_station.proofs.CallTimes.{read_if_slow}
 use Rattle.gc_station.proofs.Closings.{needs_of, runs_split}
 use Rattle.gc_station.proofs.Cycles.{Cycling, begun_if_clock_rises}
 use Rattle.gc_station.proofs.Each.{row_settled, reached_whole}
@@ -205,24 +207,6 @@ module _ (plan : Plan) (commands : List Task) (scope : Scope) where
         by_test (inl punctual) = inl punctual
         by_test (inr done) = inr (finished_by_test (commands_in s.marks) s.progress done)
 
--- if the action that is next may take its time, the moment was read
-pub read_if_slow : (plan : Plan) (p : Progress) (w : Waiting) (at : Phase) → p.phase ≡ at → MayTakeTime (action_in at plan p w) → p.clock_due ≡ false
-read_if_slow plan p w (phase.Closing why) is on = absurd on
-read_if_slow plan p w (phase.Over why) is on = absurd on
-read_if_slow plan p w at is on =
-    cond_both (nat_eq p.turns 0) _ _ Now (λ e. without_turns (is_up p.phase))
-    (λ e. cond_both (is_stale plan p w) (actions.Close cause.Stale) _ Now (λ e o. absurd o)
-    (λ e. cond_both (is_stopping p w) (actions.Close cause.Stopped) _ Now (λ e o. absurd o)
-    (λ e. cond_both p.clock_due actions.ReadClock _ Now (λ e o. absurd o) (λ now o. now)))) on where
-      -- if the action may take its time, the moment was read
-      Now : Action → Type 0
-      Now next = MayTakeTime next → p.clock_due ≡ false
-
-      -- without turns no action takes its time
-      without_turns : (up : Bool) → Now (action_without_turns up)
-      without_turns true o = absurd o
-      without_turns false o = absurd o
-
 -- the law: silence is bounded, once what is in flight has timed out
 pub records_once_timed_out : RecordsOnceTimedOut
 records_once_timed_out plan commands scope acts runs some rises way on none =
@@ -245,21 +229,23 @@ records_once_timed_out plan commands scope acts runs some rises way on none =
 
 -- where a setup keeps the cycle from being abandoned, though an action is next that may take its time: the station has synchronized, and is
 -- in the phase `Ready`; a command of the setup is left; and what the setup sent so far hasn't timed out for sure
-pub held_by_setup : (plan : Plan) (longest : ℕ) (s : Model) → SettingUp plan longest s → s.progress.stops ≡ false → MayTakeTime (action_at plan s)
+pub held_by_setup : (plan : Plan) (longest call turn loss : ℕ) (commands : List Task) (s : Model) → SettingUp plan longest call turn loss commands s → s.progress.stops ≡ false → MayTakeTime (action_at plan s)
     → setup_permits plan s.progress (waiting_of s) ≡ false
     → (s.progress.phase ≡ phase.Ready) × (has_begun s.progress ≡ true) × (s.progress.prepared < plan.setup)
-    × (s.progress.moment.elapsed < (s.progress.began + 2 * plan.every) + (longest + plan.setup * longest))
-held_by_setup plan longest s setting going on e =
+    × (s.progress.moment.elapsed < (s.progress.began + 2 * plan.every) + ((longest + plan.setup * longest) + raws_of_setup plan commands * loss))
+held_by_setup plan longest call turn loss commands s setting going on e =
     let setup = not_permitted plan s.progress (waiting_of s) e in
     let within = setting.0 (and_parts s.progress.preparing (not (nat_le plan.setup s.progress.prepared && nat_eq (waiting_of s).commands 0 && (waiting_of s).well)) setup.0).0 setup.1 in
     let is = ready s.progress.phase refl (may_abandon_there plan s.progress (waiting_of s) s.progress.phase refl on) within.1 in
     let well = slow_if_well plan s.progress (waiting_of s) going setup.0 setup.1 setup.2 is within.0
     (subst MayTakeTime (ap (λ (at : Phase). action_in at plan s.progress (waiting_of s)) is) on) in
-    let soon = soon_if_well plan longest s setting is setup well in
+    let soon = soon_if_well plan longest call turn loss commands s setting is setup well in
     let left = some_unsent plan s.progress (waiting_of s) setup.0 setup.2 well in
     let less : s.progress.prepared ≤ plan.setup = omega (arith, left) in
     let most : s.progress.prepared * longest ≤ plan.setup * longest = mul-le-mul_right longest less in
-    (is, within.0, left, omega (arith, soon, most)) where
+    let raws : raw_count (take s.progress.prepared (take (plan.setup - 1) commands)) * loss ≤ raws_of_setup plan commands * loss =
+    mul-le-mul_right loss (raws_within s.progress.prepared (take (plan.setup - 1) commands)) in
+    (is, within.0, left, omega (arith, soon, most, raws)) where
       -- the phase in which a setup is under way
       ready : (at : Phase) → s.progress.phase ≡ at → may_abandon at ≡ true → is_before_requests at ≡ false → s.progress.phase ≡ phase.Ready
       ready phase.Ready is may quiet = is
@@ -272,31 +258,39 @@ held_by_setup plan longest s setting going on e =
 
 -- the law: silence is bounded
 pub records_in_time : RecordsInTime
-records_in_time longest plan commands scope acts runs some tables few all_few rises unasked on =
-    subst (λ (n : ℕ). IsInTime plan commands scope (2 * plan.every + n) acts) (sym spans)
+records_in_time longest call plan commands scope acts runs some listed few all_few rises returns unasked on =
+    subst (λ (n : ℕ). IsInTime plan commands scope n acts) (sym spans)
     (by_time ((begun_if_clock_rises plan commands scope some acts runs) rises).1 (nat_le ((s.progress.began + 2 * plan.every) + span) s.progress.moment.elapsed) refl) where
       -- the model after these acts
       s : Model
       s = state_after plan commands scope acts
 
+      -- the time for null procedures that are lost
+      lost : ℕ
+      lost = raws_of_setup plan commands * (7 * (longest + call))
+
       -- how long after the moment at which the cycle is out of time a request may have its deadline
       span : ℕ
-      span = longest + plan.setup * longest
+      span = (longest + plan.setup * longest) + lost
 
-      -- the longest deadline once more than the setup has commands
-      spans : (1 + plan.setup) * longest ≡ span
+      -- it is what the bound has beside two periods
+      spans : record_bound plan commands longest call ≡ 2 * plan.every + span
       spans =
           let one : 1 + plan.setup ≡ suc plan.setup = omega arith in
           let more = suc-mul plan.setup longest in
-          ap (λ (n : ℕ). n * longest) one ∙ omega (arith, more)
+          let all : (1 + plan.setup) * longest ≡ longest + plan.setup * longest = ap (λ (n : ℕ). n * longest) one ∙ omega (arith, more) in
+          sums (2 * plan.every) ((1 + plan.setup) * longest) lost (longest + plan.setup * longest) all where
+            -- the same of a sum
+            sums : (a b c d : ℕ) → b ≡ d → a + b + c ≡ a + (d + c)
+            sums a b c d e = omega (arith, e)
 
       -- what is claimed
       Claim : Type 0
       Claim = IsInTime plan commands scope (2 * plan.every + span) acts
 
       -- what is in flight times out in time, and a setup goes on at once
-      both : TimesOut plan longest span s × SettingUp plan longest s
-      both = times_out plan commands scope longest some tables few all_few acts runs rises unasked
+      both : TimesOut plan longest span s × SettingUp plan longest call (longest + call) (7 * (longest + call)) commands s
+      both = times_out plan commands scope longest call some listed few all_few acts runs rises returns unasked
 
       -- the end of the run wasn't asked for
       going : s.progress.stops ≡ false
@@ -308,7 +302,7 @@ records_in_time longest plan commands scope acts runs some tables few all_few ri
         -- the lemma above, whether the setup lets the cycle be abandoned
         by_test : (b : Bool) → setup_permits plan s.progress (waiting_of s) ≡ b → setup_permits plan s.progress (waiting_of s) ≡ true
         by_test true e = e
-        by_test false e = let soon = (held_by_setup plan longest s both.1 going on e).3 in absurd (omega (arith, soon, past))
+        by_test false e = let soon = (held_by_setup plan longest call (longest + call) (7 * (longest + call)) commands s both.1 going on e).3 in absurd (omega (arith, soon, past))
 
       -- a cycle has begun, or none has
       Where : Type 0

@@ -1,23 +1,22 @@
 -- Each due cycle is recorded by its bound, at each moment that is read, where the calls on the link return in their time. An act is
 -- one call on the link, with its result.
-use Rattle.std.proofs.Common.{◌≡◌, ◌⊎◌, inl, inr, ℕ, suc, ◌+◌, ◌*◌, ◌-◌, ◌<◌, ◌≤◌, ◌&&◌, Bool, true, false, not, if◌then◌else◌, List, [], ◌∷◌, ◌++◌, length, map, filter, min, max, nat_lt, nat_le, nat_eq, Option, Some, None, refl, sym, ap, ◌∙◌, subst, arith, append-nil, append_assoc}
+use Rattle.std.proofs.Common.{◌≡◌, ◌⊎◌, inl, inr, ℕ, suc, ◌+◌, ◌*◌, ◌-◌, ◌<◌, ◌≤◌, ◌&&◌, Bool, true, false, not, if◌then◌else◌, List, [], ◌∷◌, ◌++◌, length, min, nat_lt, nat_le, nat_eq, refl, sym, ap, ◌∙◌, subst, arith, append-nil, append_assoc}
 use Rattle.std.proofs.lemmas.Bool.{lt-ltb, le-leb, leb-true, eqb-true, eqb-false, and_parts, cond_both, false_from_ne_true, both_ways}
-use Rattle.std.proofs.lemmas.List.Elements.{All-from_recursion, All-contains}
 use Rattle.std.specs.List.{AllByRecursion}
-use Rattle.gc_catalogue.specs.declared.asked.Asked.{Asked}
-use Rattle.gc_client.specs.declared.pending.Pending.{Pending}
-use Rattle.gc_client.specs.Rule.{IsEarliest, deadlines}
+use Rattle.gc_values.proofs.Every.{every_weaker}
+use native.Mathlib.Nat.{suc-mul}
 use Rattle.gc_texts.specs.declared.tasks.Task.{Task}
 use Rattle.gc_links.specs.Acts.{Act, Told, Gave, Silent}
+use Rattle.gc_station.specs.CallTimes.{MayTakeTime, IsAskedToWait, IsReadBy, AreQuick, CallsReturn, ReadingsReturn}
 use Rattle.gc_station.specs.Cycles.{ClockRises, first_due, due_after}
 use Rattle.gc_station.specs.Deciding.{later, has_begun, is_out_of_time, is_due, setup_permits}
 use Rattle.gc_station.specs.Marks.{commands_in}
 use Rattle.gc_station.specs.Model.{Model, opening, action_at, waiting_of, Runs}
-use Rattle.gc_station.specs.Pace.{out_of_time_at, stale_at, longest_timeout, read_end_without_deadline, read_end, read_timeout}
+use Rattle.gc_station.specs.Pace.{out_of_time_at, stale_at, longest_timeout, read_end}
 use Rattle.gc_station.specs.Progressing.{due_at}
 use Rattle.gc_station.specs.Reasons.{IsFinished, AwaitsSomething}
-use Rattle.gc_station.specs.RealTime.{IsAskedToWait, IsReadBy, AreQuick, CallsReturn, ReadingsReturn, bound, RecordsByBound}
-use Rattle.gc_station.specs.RecordedInTime.{MayTakeTime, AreRecorded, IsInTime, SetUpIsOfTable}
+use Rattle.gc_station.specs.RealTime.{bound, RecordsByBound}
+use Rattle.gc_station.specs.RecordedInTime.{AreRecorded, IsInTime, raws_of_setup}
 use Rattle.gc_station.specs.Runs.{state_after}
 use Rattle.gc_station.specs.Scopes.{Scope}
 use Rattle.gc_station.specs.Silences.{latest}
@@ -29,12 +28,13 @@ use Rattle.gc_station.specs.declared.progress.Phase.TheVariants as phase
 use Rattle.gc_station.specs.declared.progress.Progress.{Progress}
 use Rattle.gc_station.specs.declared.progress.Until.{Until}
 use Rattle.gc_station.specs.declared.progress.Until.TheVariants.{Limit, Due}
+use Rattle.gc_station.proofs.CallTimes.{latest_append, calls_front, deadlines_within, waits_until, waits_not, waits_in_flight, read_if_slow}
 use Rattle.gc_station.proofs.Cycles.{Begun, begun_if_clock_rises, at_more}
 use Rattle.gc_station.proofs.Closings.{needs_of}
 use Rattle.gc_station.proofs.Going.{runs_front}
-use Rattle.gc_station.proofs.InFlight.{EndsBy, EndsAfter, TimesOut}
+use Rattle.gc_station.proofs.InFlight.{EndsBy, EndsEarly, TimesOut}
 use Rattle.gc_station.proofs.InTime.{times_out, short_if_punctual}
-use Rattle.gc_station.proofs.Outages.{before_this, recorded_earlier, recorded_whole, in_time_if_slow, read_if_slow, held_by_setup}
+use Rattle.gc_station.proofs.Outages.{before_this, recorded_earlier, recorded_whole, in_time_if_slow, held_by_setup}
 use Rattle.gc_station.proofs.UnderWay.{SettingUp, not_permitted}
 use Rattle.gc_station.proofs.Stopping.{asked-append, stops_as_asked}
 
@@ -49,11 +49,6 @@ slow_or_quick actions.Clear = inr (λ x. x)
 slow_or_quick (actions.Close why) = inr (λ x. x)
 slow_or_quick (actions.Stop why) = inr (λ x. x)
 slow_or_quick other = inl tt
-
--- the moment read last of two rows of acts is that of the second, counted from that of the first
-pub latest_append : (now : ℕ) (xs ys : List Act) → latest now (xs ++ ys) ≡ latest (latest now xs) ys
-latest_append now [] ys = refl
-latest_append now (x ∷ xs) ys = latest_append (latest now (x ∷ [])) xs ys
 
 -- if the clock doesn't go back in acts, it doesn't in the first of them
 rises_before : (now : ℕ) (xs ys : List Act) → ClockRises now (xs ++ ys) → ClockRises now xs
@@ -214,38 +209,15 @@ module _ (plan : Plan) (commands : List Task) (scope : Scope) where
           each = λ n below due. below;
         })
 
--- How long a call is asked to wait.
-
--- of the requests that haven't timed out each deadline is after `now`, and `limit` at most
-deadlines_within : (limit now : ℕ) (ws : List (Pending Asked)) → AllByRecursion (EndsBy limit) ws → AllByRecursion (EndsAfter now) ws
-    → AllByRecursion (λ (d : ℕ). (now < d) × (d ≤ limit)) (deadlines ws)
-deadlines_within limit now [] by after = tt
-deadlines_within limit now (q ∷ ws) by after = by_test (deadlines_within limit now ws by.1 after.1) q.given_up refl where
-  -- what is claimed, whether the first request has timed out
-  Claim : Bool → Type 0
-  Claim b = AllByRecursion (λ (d : ℕ). (now < d) × (d ≤ limit)) (map (λ (p : Pending Asked). p.deadline) (if not b then q ∷ filter (λ (p : Pending Asked). not p.given_up) ws else filter (λ (p : Pending Asked). not p.given_up) ws))
-
-  -- the lemma above, whether the first request has timed out
-  by_test : AllByRecursion (λ (d : ℕ). (now < d) × (d ≤ limit)) (deadlines ws) → (b : Bool) → q.given_up ≡ b → Claim q.given_up
-  by_test others true e = subst Claim (sym e) others
-  by_test others false e = subst Claim (sym e) ((after.0 e, by.0 e), others)
-
--- a read whose time is over at `end` or before isn't asked to wait past a later moment `limit`
-waits_until : (first end now longest limit : ℕ) → end ≤ limit → now < limit → now + min (max (min first end - now) 1) longest ≤ limit
-waits_until first end now longest limit within before = omega (arith, within, before)
-
--- a read isn't asked to wait past the earliest deadline
-waits_until_deadline : (deadline other stale end now longest limit : ℕ) → deadline ≤ limit → now < deadline
-    → now + min (max (min (min (min deadline other) stale) end - now) 1) longest ≤ limit
-waits_until_deadline deadline other stale end now longest limit within before = omega (arith, within, before)
-
--- a call that isn't asked to wait is not asked to wait past a moment that isn't before `now`
-waits_not : (now limit wait : ℕ) → wait ≡ 0 → now ≤ limit → now + wait ≤ limit
-waits_not now limit wait none within = omega (arith, none, within)
-
--- the longest deadline once more than a setup has commands
-one_more : (n longest : ℕ) → (1 + n) * longest ≡ longest + n * longest
-one_more n longest = omega arith
+-- a moment that is read in time behind a call whose wait is over in time is within the bound: of a setup of n commands, with `lost` for null
+-- procedures
+reaches : (now last before elapsed wait call readings began time n longest lost : ℕ) → last ≤ (before + wait + call) + readings → now ≡ last → elapsed ≡ before
+    → elapsed + wait ≤ (began + time) + ((longest + n * longest) + lost) → now ≤ began + (time + (1 + n) * longest + lost + call + readings)
+reaches now last before elapsed wait call readings began time n longest lost read is here short =
+    let one : 1 + n ≡ suc n = omega arith in
+    let more = suc-mul n longest in
+    let all : (1 + n) * longest ≡ longest + n * longest = ap (λ (k : ℕ). k * longest) one ∙ omega (arith, more) in
+    omega (arith, all, read, is, here, short)
 
 module _ (plan : Plan) (s : Model) where
   -- of a cycle that isn't out of time, no call is asked to wait until after it is
@@ -271,27 +243,6 @@ module _ (plan : Plan) (s : Model) where
           by_tests false b e f = cc
   waits_in_time some punctual past short o wait asked = waits_not s.progress.moment.elapsed (s.progress.began + 2 * plan.every) wait asked (omega (arith, past, short))
 
-  -- where something is in flight that hasn't timed out, no call is asked to wait past the earliest deadline
-  waits_in_flight : (limit : ℕ) → AllByRecursion (λ (d : ℕ). (s.progress.moment.elapsed < d) × (d ≤ limit)) (deadlines s.client.waiting)
-      → (length (deadlines s.client.waiting) ≡ 0 → ⊥) → (o : Action) (wait : ℕ) → IsAskedToWait plan s o wait → s.progress.moment.elapsed + wait ≤ limit
-  waits_in_flight limit within some (actions.Read until) wait asked = by_deadline asked.0 asked.1 asked.2 where
-    -- the lemma above, by the earliest deadline
-    by_deadline : (deadline : Option ℕ) → IsEarliest (deadlines s.client.waiting) deadline → wait ≡ read_timeout plan s.progress (waiting_of s).fresh until deadline
-        → s.progress.moment.elapsed + wait ≤ limit
-    by_deadline None none is = absurd (some (ap (λ (ds : List ℕ). length ds) none))
-    by_deadline (Some d) earliest is =
-        let p = s.progress in
-        let here = All-contains (λ (d : ℕ). (p.moment.elapsed < d) × (d ≤ limit)) (deadlines s.client.waiting) d
-        (All-from_recursion (λ (d : ℕ). (p.moment.elapsed < d) × (d ≤ limit)) (deadlines s.client.waiting) within) earliest.0
-        in
-        let until_end = waits_until_deadline d (read_end_without_deadline plan p until) (stale_at plan (waiting_of s).fresh) (out_of_time_at plan p) p.moment.elapsed (longest_timeout plan) limit here.1 here.0 in
-        omega (arith, until_end, is)
-  waits_in_flight limit within some o wait asked = waits_not s.progress.moment.elapsed limit wait asked (by_first (deadlines s.client.waiting) within some) where
-    -- the moment read last is before the first deadline
-    by_first : (ds : List ℕ) → AllByRecursion (λ (d : ℕ). (s.progress.moment.elapsed < d) × (d ≤ limit)) ds → (length ds ≡ 0 → ⊥) → s.progress.moment.elapsed ≤ limit
-    by_first [] all full = absurd (full refl)
-    by_first (d ∷ ds) all full = let low = all.0.0 in let high = all.0.1 in omega (arith, low, high)
-
 -- a cycle that is out of time is followed by one that is due
 due_if_out : (plan : Plan) (p : Progress) → is_out_of_time plan p ≡ true → is_due plan p ≡ true
 due_if_out plan p e =
@@ -305,7 +256,7 @@ waits_in_read : (plan : Plan) (s : Model) (o : Action) (wait : ℕ) → IsAskedT
 waits_in_read plan s (actions.Read until) wait asked none = absurd (none until refl)
 waits_in_read plan s o wait asked none = asked
 
-module _ (plan : Plan) (commands : List Task) (scope : Scope) (longest : ℕ) (some : 0 < plan.every) (tables : SetUpIsOfTable plan commands) (few : plan.deadline ≤ longest)
+module _ (plan : Plan) (commands : List Task) (scope : Scope) (longest call : ℕ) (some : 0 < plan.every) (listed : plan.setup ≤ length commands) (few : plan.deadline ≤ longest)
     (all_few : AllByRecursion (λ (task : Task). task.deadline ≤ longest) commands) where
   -- the model after these acts
   abbrev reached : List Act → Model
@@ -313,13 +264,13 @@ module _ (plan : Plan) (commands : List Task) (scope : Scope) (longest : ℕ) (s
 
   -- how long after the moment at which the cycle is out of time what is in flight has timed out for sure
   abbrev span : ℕ
-  span = longest + plan.setup * longest
+  span = (longest + plan.setup * longest) + raws_of_setup plan commands * (7 * (longest + call))
 
   -- no call is asked to wait past the moment at which what is in flight when the cycle is out of time has timed out, unless all is done
-  asked_in_time : (acts : List Act) → Runs plan commands (opening plan scope) acts → ClockRises 0 acts → asked_after false acts ≡ false
+  asked_in_time : (acts : List Act) → Runs plan commands (opening plan scope) acts → ClockRises 0 acts → CallsReturn plan commands scope call acts → asked_after false acts ≡ false
       → MayTakeTime (action_at plan (reached acts)) → (wait : ℕ) → IsAskedToWait plan (reached acts) (action_at plan (reached acts)) wait
       → ((reached acts).progress.moment.elapsed + wait ≤ ((reached acts).progress.began + 2 * plan.every) + span) ⊎ IsFinished (commands_in (reached acts).marks) (reached acts).progress
-  asked_in_time acts runs rises unasked slow wait asked = by_time (is_out_of_time plan s.progress) refl where
+  asked_in_time acts runs rises calls unasked slow wait asked = by_time (is_out_of_time plan s.progress) refl where
     -- the model after these acts
     s : Model
     s = reached acts
@@ -329,8 +280,8 @@ module _ (plan : Plan) (commands : List Task) (scope : Scope) (longest : ℕ) (s
     Claim = (s.progress.moment.elapsed + wait ≤ (s.progress.began + 2 * plan.every) + span) ⊎ IsFinished (commands_in s.marks) s.progress
 
     -- what is in flight times out in time, and a setup goes on at once
-    both : TimesOut plan longest span s × SettingUp plan longest s
-    both = times_out plan commands scope longest some tables few all_few acts runs rises unasked
+    both : TimesOut plan longest span s × SettingUp plan longest call (longest + call) (7 * (longest + call)) commands s
+    both = times_out plan commands scope longest call some listed few all_few acts runs rises (inr calls) unasked
 
     -- the end of the run wasn't asked for
     going : s.progress.stops ≡ false
@@ -342,8 +293,8 @@ module _ (plan : Plan) (commands : List Task) (scope : Scope) (longest : ℕ) (s
     no_read late none e until is = by_until until (needs_of plan s (actions.Read until) is) where
       -- what holds in such a setup
       held : (s.progress.phase ≡ phase.Ready) × (has_begun s.progress ≡ true) × (s.progress.prepared < plan.setup)
-          × (s.progress.moment.elapsed < (s.progress.began + 2 * plan.every) + (longest + plan.setup * longest))
-      held = held_by_setup plan longest s both.1 going slow e
+          × (s.progress.moment.elapsed < (s.progress.began + 2 * plan.every) + span)
+      held = held_by_setup plan longest call (longest + call) (7 * (longest + call)) commands s both.1 going slow e
 
       -- something of it was sent
       sent : 0 < s.progress.prepared
@@ -368,17 +319,20 @@ module _ (plan : Plan) (commands : List Task) (scope : Scope) (longest : ℕ) (s
       by_why (inl punctual) = absurd (both_ways (is_out_of_time plan s.progress) punctual late)
       by_why (inr done) = inr done
     by_setup late none false e =
-        let soon = (held_by_setup plan longest s both.1 going slow e).3 in
+        let soon = (held_by_setup plan longest call (longest + call) (7 * (longest + call)) commands s both.1 going slow e).3 in
         let zero_wait = waits_in_read plan s (action_at plan s) wait asked (no_read late none e) in
         inl (omega (arith, soon, zero_wait))
 
     -- the lemma above, where the cycle is out of time: whether something is in flight that hasn't timed out
     by_flight : is_out_of_time plan s.progress ≡ true → (b : Bool) → nat_eq (waiting_of s).current 0 ≡ b → Claim
     by_flight late true e = by_setup late (eqb-true (waiting_of s).current 0 e) (setup_permits plan s.progress (waiting_of s)) refl
-    by_flight late false e = inl (waits_in_flight plan s ((s.progress.began + 2 * plan.every) + span)
-        (deadlines_within ((s.progress.began + 2 * plan.every) + span) s.progress.moment.elapsed s.client.waiting both.0.1
-        (both.0.2 (read_if_slow plan s.progress (waiting_of s) s.progress.phase refl slow)))
-        (eqb-false (waiting_of s).current 0 e) (action_at plan s) wait asked)
+    by_flight late false e =
+        let limit = (s.progress.began + 2 * plan.every) + span in
+        let within = deadlines_within 0 limit s.progress.moment.elapsed s.client.waiting
+        (every_weaker (EndsBy limit) (EndsEarly 0 limit) s.client.waiting (λ q by e. let low = by e in omega (arith, low)) both.0.1)
+        (both.0.2 (read_if_slow plan s.progress (waiting_of s) s.progress.phase refl slow)) in
+        let until = waits_in_flight plan s 0 limit within (eqb-false (waiting_of s).current 0 e) (action_at plan s) wait asked in
+        inl (omega (arith, until))
 
     -- the lemma above, whether the cycle is out of time
     by_time : (b : Bool) → is_out_of_time plan s.progress ≡ b → Claim
@@ -389,10 +343,10 @@ module _ (plan : Plan) (commands : List Task) (scope : Scope) (longest : ℕ) (s
 
 -- the law: each due cycle is recorded by its bound
 pub records_by_bound : RecordsByBound
-records_by_bound longest call readings plan commands scope acts runs some tables few all_few rises calls back unasked = by_last (last_slow plan commands scope [] acts) where
+records_by_bound longest call readings plan commands scope acts runs some listed few all_few rises calls back unasked = by_last (last_slow plan commands scope [] acts) where
   -- how long after it was due a cycle is recorded at the latest
   wait : ℕ
-  wait = bound plan longest call readings
+  wait = bound plan commands longest call readings
 
   -- the moment after a run is the one that was read last
   moment_is : (acts : List Act) → Runs plan commands (opening plan scope) acts → ClockRises 0 acts → (state_after plan commands scope acts).progress.moment.elapsed ≡ latest 0 acts
@@ -417,14 +371,16 @@ records_by_bound longest call readings plan commands scope acts runs some tables
       let more = latest_append 0 before (act ∷ quick) in
       near_in_time plan commands scope some wait before (act ∷ quick) (begun before runs_there rises_there) (begun (before ++ act ∷ quick) runs rises) (omega (arith, now, before_it, on, more))
       (by_reach given.0 read now before_it
-      (asked_in_time plan commands scope longest some tables few all_few before runs_there rises_there (unasked_before before (act ∷ quick) unasked) slow given.0 given.1)) where
+      (asked_in_time plan commands scope longest call some listed few all_few before runs_there rises_there (calls_front plan commands scope call before (act ∷ quick) calls) (unasked_before before (act ∷ quick) unasked) slow given.0 given.1)) where
         -- the moment read last of all acts is near (`IsNear`), if the last call that may take its time wasn't asked to wait for long
         by_reach : let p = (state_after plan commands scope before).progress in
             let near = (state_after plan commands scope (before ++ act ∷ quick)).progress.moment.elapsed in
             (wait_there : ℕ) → latest 0 (before ++ act ∷ quick) ≤ (latest 0 before + wait_there + call) + readings → near ≡ latest 0 (before ++ act ∷ quick) → p.moment.elapsed ≡ latest 0 before
-            → (p.moment.elapsed + wait_there ≤ (p.began + 2 * plan.every) + (longest + plan.setup * longest)) ⊎ IsFinished (commands_in (state_after plan commands scope before).marks) p
+            → (p.moment.elapsed + wait_there ≤ (p.began + 2 * plan.every) + ((longest + plan.setup * longest) + raws_of_setup plan commands * (7 * (longest + call)))) ⊎ IsFinished (commands_in (state_after plan commands scope before).marks) p
             → IsNear plan commands scope some wait before (act ∷ quick)
-        by_reach wait_there read now before_it (inl short) = let one = one_more plan.setup longest in inl (omega (arith, read, now, before_it, short, one))
+        by_reach wait_there read now before_it (inl short) =
+            let p = (state_after plan commands scope before).progress in
+            inl (reaches _ _ (latest 0 before) p.moment.elapsed wait_there call readings p.began (2 * plan.every) plan.setup longest (raws_of_setup plan commands * (7 * (longest + call))) read now before_it short)
         by_reach wait_there read now before_it (inr done) = inr done
 
   -- the lemma above, whether an act may take its time

@@ -1,6 +1,6 @@
 -- How the premises of the bound are computed of acts, and that it doesn't hold after acts that recorded too few commands. An act is one
 -- call on the link, with its result.
-use Rattle.std.proofs.Common.{◌≡◌, ◌⊎◌, inl, inr, ℕ, zero, suc, ◌+◌, ◌<◌, ◌≤◌, Bool, true, false, List, [], ◌∷◌, ◌++◌, length, map, take, drop, min, nat_le, Option, Some, None, refl, sym, ap, ◌∙◌, subst, arith, append_assoc, append-nil, length-append}
+use Rattle.std.proofs.Common.{◌≡◌, ◌⊎◌, inl, inr, ℕ, zero, suc, ◌+◌, ◌<◌, ◌≤◌, Bool, true, false, List, [], ◌∷◌, ◌++◌, length, map, nat_le, Option, Some, None, refl, sym, ap, subst, arith, append_assoc, append-nil, length-append}
 use Rattle.std.proofs.lemmas.Bool.{leb-true, leb-false}
 use Rattle.std.proofs.lemmas.List.{length-map}
 use Rattle.std.proofs.lemmas.List.Elements.{All-cons, All-nil}
@@ -9,15 +9,12 @@ use Rattle.std.specs.List.{Contains}
 use Rattle.gc_client.specs.Rule.{IsEarliest, deadlines}
 use Rattle.gc_texts.specs.declared.tasks.Task.{Task}
 use Rattle.gc_links.specs.Acts.{Act, Told, Gave, Silent}
-use Rattle.gc_station.specs.ActKinds.{moment_in}
-use Rattle.gc_station.specs.Cycles.{first_due, due_after}
 use Rattle.gc_station.specs.EachOnce.{Interleave, RunRequest, all_cycles, commands_of_cycle, of_record, of_text, of_cycles, in_text}
 use Rattle.gc_station.specs.Model.{Model, opening, action_at, waiting_of, moved, with_progress, next_left_out}
 use Rattle.gc_station.specs.Pace.{read_timeout}
 use Rattle.gc_station.specs.Progressing.{turned}
-use Rattle.gc_station.specs.Quiet.{IsListening}
-use Rattle.gc_station.specs.RealTime.{IsAskedToWait, IsReadBy, AreQuick, CallsReturn, ReadingsReturn}
-use Rattle.gc_station.specs.RecordedInTime.{MayTakeTime, AreRecorded, IsInTime}
+use Rattle.gc_station.specs.CallTimes.{MayTakeTime, IsAskedToWait, IsReadBy, AreQuick, CallsReturn, ReadingsReturn}
+use Rattle.gc_station.specs.RecordedInTime.{AreRecorded, IsInTime}
 use Rattle.gc_station.specs.Records.{Record}
 use Rattle.gc_station.specs.Runs.{state_after}
 use Rattle.gc_station.specs.Scopes.{Scope}
@@ -27,7 +24,7 @@ use Rattle.gc_station.specs.declared.progress.Action.{Action}
 use Rattle.gc_station.specs.declared.progress.Action.TheVariants as actions
 use Rattle.gc_station.proofs.Counts.{with_losses_passes}
 use Rattle.gc_station.proofs.Going.{after_all-append}
-use Rattle.gc_station.proofs.RealTime.{latest_append}
+use Rattle.gc_station.proofs.CallTimes.{latest_append, read_later}
 use Rattle.gc_station.proofs.SentAt.{records_stay}
 use Rattle.gc_station.proofs.Walk.{acts_along, moved_changed}
 
@@ -72,14 +69,6 @@ earliest_is (d ∷ ds) = by_others (earliest_is ds) where
 some_wait : (plan : Plan) (s : Model) (o : Action) → (wait : ℕ) × IsAskedToWait plan s o wait
 some_wait plan s (actions.Read until) = let e = earliest_is (deadlines s.client.waiting) in (read_timeout plan s.progress (waiting_of s).fresh until e.0, (e.0, e.1, refl))
 some_wait plan s o = (0, refl)
-
--- what is read by a moment is read by a later one
-read_later : (n m : ℕ) (acts : List Act) → n ≤ m → IsReadBy n acts → IsReadBy m acts
-read_later n m [] le by = tt
-read_later n m (Told x ∷ acts) le by = omega (arith, le, by)
-read_later n m (Gave bytes x ∷ acts) le by = omega (arith, le, by)
-read_later n m (Silent x ∷ acts) le by = omega (arith, le, by)
-read_later n m (act ∷ acts) le by = read_later n m acts le by
 
 -- an act that reads its moment by `n` leaves the moment read last at `n`, if it was that, or earlier
 one_by : (n : ℕ) (act : Act) → IsReadBy n (act ∷ []) → latest n (act ∷ []) ≤ n

@@ -1,7 +1,8 @@
 -- A setup of which something was sent is under way: its last command is alone, and once that was answered well, before its deadline was
 -- read, nothing is outstanding. So if the first command was sent before the cycle was out of time, each later one is sent at most a
--- deadline later than the one before it. An act is one call on the link, with its result.
-use Rattle.std.proofs.Common.{◌≡◌, ℕ, zero, suc, ◌+◌, ◌*◌, ◌-◌, ◌<◌, ◌&&◌, ◌||◌, Bool, true, false, not, if◌then◌else◌, List, [], ◌∷◌, ◌++◌, length, take, drop, Option, Some, None, nat_lt, nat_le, nat_eq, refl, sym, ap, ◌∙◌, subst, arith, append-nil}
+-- deadline later than the one before it; or, after a raw one, once up to seven null procedures were lost. An act is one call on the link,
+-- with its result.
+use Rattle.std.proofs.Common.{◌≡◌, ◌⊎◌, inl, inr, ℕ, suc, ◌+◌, ◌*◌, ◌-◌, ◌<◌, ◌≤◌, ◌&&◌, ◌||◌, Bool, true, false, not, if◌then◌else◌, List, [], ◌∷◌, ◌++◌, length, take, drop, Option, Some, None, nat_lt, nat_le, nat_eq, refl, sym, ap, ◌∙◌, subst, arith, append-nil}
 use Rattle.std.specs.Prelude.{slice_get}
 use Rattle.std.specs.List.{AllByRecursion}
 use Rattle.std.proofs.lemmas.Bool.{both_ways}
@@ -10,6 +11,7 @@ use Rattle.gc_values.proofs.Every.{every_drop}
 use Rattle.gc_catalogue.specs.declared.asked.Asked.{Asked}
 use Rattle.gc_client.specs.Rule.{ById, Settled, hears, heard, settles_at, nothing_settled, fits, place_in, settle, pending_of, send_unless_full}
 use Rattle.gc_client.specs.declared.window.TheConstants.{WINDOW}
+use Rattle.gc_client.specs.declared.pending.Pending.{Pending}
 use Rattle.gc_client.proofs.OneForOne.{length-settle}
 use Rattle.gc_texts.specs.declared.tasks.Task.{Task}
 use Rattle.gc_texts.specs.declared.wish.Wish.{Wish}
@@ -17,6 +19,7 @@ use Rattle.gc_station.specs.Deciding.{later, has_begun, is_up, is_preparing, set
 use Rattle.gc_station.specs.Marks.{commands_in, last_well, records_of}
 use Rattle.gc_station.specs.Model.{Model, waiting_of, with_progress, is_reply, sent_to, client_sent, line_came, line_settles, ends_with_table, is_some_of_table, losing, with_losses}
 use Rattle.gc_station.specs.Progressing.{failing, is_over, is_over_in, loses_all, line_noted}
+use Rattle.gc_station.specs.RecordedInTime.{raw_count}
 use Rattle.gc_station.specs.Records.{Record}
 use Rattle.gc_station.specs.declared.cause.Cause.{Cause}
 use Rattle.gc_station.specs.declared.plan.Plan.{Plan}
@@ -24,7 +27,8 @@ use Rattle.gc_station.specs.declared.progress.Phase.{Phase}
 use Rattle.gc_station.specs.declared.progress.Phase.TheVariants as phase
 use Rattle.gc_station.specs.declared.progress.Progress.{Progress}
 use Rattle.gc_station.specs.declared.progress.Waiting.{Waiting}
-use Rattle.gc_station.proofs.InFlight.{EndsBy, EndsAfter, all_heard}
+use Rattle.gc_station.proofs.HeldUp.{IsTableCall, settle_tables}
+use Rattle.gc_station.proofs.InFlight.{EndsBy, EndsAfter, EndsEarly, all_heard}
 use Rattle.gc_station.proofs.Invariant.{is_before_requests}
 use Rattle.gc_station.proofs.LastCommand.{LastIsAlone, alone_dropped, none_recorded, heard_well}
 use Rattle.gc_station.proofs.Losing.{loses_nothing}
@@ -78,17 +82,6 @@ failed_phase : (up : Bool) (why : Cause) → (is_before_requests (if up then pha
 failed_phase true why = (refl, λ e. cc)
 failed_phase false why = (refl, λ e. cc)
 
--- the task at place k of the first n ones is as all of these are
-pub task_at : (P : Task → Type 0) (n k : ℕ) (tasks : List Task) (task : Task) (others : List Task) → AllByRecursion P (take n tasks) → k < n → drop k tasks ≡ task ∷ others → P task
-task_at P zero k tasks task others all below e = absurd (omega (arith, below))
-task_at P (suc n) k [] task others all below e = none k e where
-  -- without tasks there is none at any place
-  none : (k : ℕ) → drop k [] ≡ task ∷ others → P task
-  none zero f = cc
-  none (suc k) f = cc
-task_at P (suc n) zero (x ∷ tasks) task others all below e = let same : x ≡ task = cc in subst P same all.0
-task_at P (suc n) (suc k) (x ∷ tasks) task others all below e = task_at P n k tasks task others all.1 (omega (arith, below)) e
-
 -- a request is added to those that are outstanding, if there is room
 pub sent_with_room : (c : ById Asked) (command : Wish) (now wait : ℕ) → length c.waiting < WINDOW → (sent_to WINDOW c command now wait).waiting ≡ c.waiting ++ pending_of command.target command.call (later now wait) ∷ []
 sent_with_room c command now wait room = ap (λ (b : Bool). (client_sent c (send_unless_full c command.target command.call (later now wait) b)).waiting) (less (length c.waiting) room) where
@@ -96,23 +89,56 @@ sent_with_room c command now wait room = ap (λ (b : Bool). (client_sent c (send
   less : (n : ℕ) → n < 7 → nat_eq n 7 ≡ false
   less n low = grind (arith, nat_tests, low)
 
-module _ (plan : Plan) (longest : ℕ) where
-  -- the moment by which the last command of the setup that was sent has timed out at the latest: that at which the cycle is out of time,
-  -- and the longest deadline once more than commands of the setup were sent
-  abbrev pub setup_limit : Progress → ℕ
-  setup_limit p = (p.began + 2 * plan.every) + (longest + p.prepared * longest)
+-- of a raw command of the setup, which has `raws` of them before its last command: its deadline `d` is at least `loss` before `limit`
+pub record IsEarly (raws loss limit d : ℕ) : Type 0 where
+  pub raw : 0 < raws
+  pub by : d + loss ≤ limit
 
-  -- the station is to send the next command of its setup at once: nothing is outstanding, no null procedure is wanted, and the moment,
-  -- which was read, is before `setup_limit`
+-- behind a raw command of a setup, which has `raws` of them, null procedures are sent until one is answered. Of a station that counts
+-- `behind` requests after the last answered call of the table, with the moment `now` read last, which is out of date (`due`) or not, and with these
+-- null procedures outstanding: `more` of them may yet be sent, each of which takes `turn` at most, of which `call` is what a call takes;
+-- so all is over by `limit`
+pub record IsFlushing (raws call turn limit behind now : ℕ) (due : Bool) (ws : List (Pending Asked)) : Type 0 where
+  pub raw : 0 < raws
+  pub tables : AllByRecursion IsTableCall ws
+  pub more : ℕ
+  pub enough : WINDOW ≤ behind → WINDOW ≤ length ws + more
+  pub ends : AllByRecursion (EndsEarly (suc (call + more * turn)) limit) ws
+  pub soon : (now + (if due then call else 0)) + more * turn < limit
+
+module _ (plan : Plan) (longest call turn loss : ℕ) (commands : List Task) where
+  -- how many raw commands the setup has before its last command
+  abbrev pub raws : ℕ
+  raws = raw_count (take (plan.setup - 1) commands)
+
+  -- the moment by which the last command of the setup that was sent has timed out at the latest, or, if that is raw, the null procedures
+  -- behind it: that at which the cycle is out of time, the longest deadline once more than commands of the setup were sent, and `loss` for
+  -- each raw one of these
+  abbrev pub setup_limit : Progress → ℕ
+  setup_limit p = (p.began + 2 * plan.every) + ((longest + p.prepared * longest) + raw_count (take p.prepared (take (plan.setup - 1) commands)) * loss)
+
+  -- the deadline `d` of the command of the setup that was sent last is early, if that is raw, and another command follows
+  abbrev pub IsEarlyIn : Progress → (d : ℕ) → Type 0
+  IsEarlyIn p d = p.prepared < plan.setup → IsEarly raws loss (setup_limit p) d
+
+  -- the last command of the setup was just answered: nothing is outstanding, the moment was read, and it is before `setup_limit`; if a
+  -- null procedure is wanted, it is `loss` before that
   abbrev pub IsSettled : Model → Type 0
-  IsSettled x = (x.client.waiting ≡ []) × (x.progress.behind < WINDOW) × (x.progress.clock_due ≡ false) × (x.progress.moment.elapsed < setup_limit x.progress)
+  IsSettled x =
+      (x.client.waiting ≡ []) × (x.progress.clock_due ≡ false)
+      × (((x.progress.behind < WINDOW) × (x.progress.moment.elapsed < setup_limit x.progress))
+      ⊎ ((0 < raws) × (x.progress.moment.elapsed + loss < setup_limit x.progress)))
+
+  -- the last command of the setup was answered, and the next is sent at once, or behind null procedures
+  abbrev pub GoesNext : Model → Type 0
+  GoesNext x = IsSettled x ⊎ IsFlushing raws call turn (setup_limit x.progress) x.progress.behind x.progress.moment.elapsed x.progress.clock_due x.client.waiting
 
   -- of a setup of which something was sent: its last command is alone (`LastIsAlone`), each request ends by `setup_limit`, and if all that
-  -- was sent is settled, the last command was answered well, and another one is left, `IsSettled` holds
+  -- was sent is settled, the last command was answered well, and another one is left, `GoesNext` holds
   abbrev pub IsUnderWay : Model → Type 0
   IsUnderWay x =
-      LastIsAlone x.marks x.client.waiting × AllByRecursion (EndsBy (setup_limit x.progress)) x.client.waiting
-      × (x.progress.prepared < plan.setup → commands_in x.marks ≡ 0 → last_well false x.records ≡ true → IsSettled x)
+      LastIsAlone (IsEarlyIn x.progress) x.marks x.client.waiting × AllByRecursion (EndsBy (setup_limit x.progress)) x.client.waiting
+      × (x.progress.prepared < plan.setup → commands_in x.marks ≡ 0 → last_well false x.records ≡ true → GoesNext x)
 
   -- if something of the setup was sent, and no command of a cycle after it, it is under way
   abbrev pub GoesOn : Model → Type 0
@@ -131,7 +157,12 @@ module _ (plan : Plan) (longest : ℕ) where
       → (is_preparing plan s.progress (waiting_of s) ≡ true) × (0 < s.progress.prepared) × (commands_in s.marks ≡ 0) → last_well false s.records ≡ true
       → s.progress.moment.elapsed < setup_limit s.progress
   soon_if_well s h ready setup well =
-      ((h.1 ready (preparing_then s.progress.preparing _ setup.0) setup.1).2 (some_unsent plan s.progress (waiting_of s) setup.0 setup.2 well) setup.2 well).3
+      by_way ((h.1 ready (preparing_then s.progress.preparing _ setup.0) setup.1).2 (some_unsent plan s.progress (waiting_of s) setup.0 setup.2 well) setup.2 well) where
+        -- the lemma above, by how the setup goes on
+        by_way : GoesNext s → s.progress.moment.elapsed < setup_limit s.progress
+        by_way (inl (empty, read, inl (near, soon))) = soon
+        by_way (inl (empty, read, inr (raw, soon))) = omega (arith, soon)
+        by_way (inr it) = let soon = it.soon in omega (arith, soon)
 
   -- Lines.
 
@@ -156,33 +187,75 @@ module _ (plan : Plan) (longest : ℕ) where
       let n = length (settle k line ws) in
       let e : n ≡ suc k = omega (arith, many) in
       let f : k + 1 ≡ suc k = omega arith in (
-        subst (λ (i : ℕ). LastIsAlone (drop i x.marks) (drop (k + 1) ws)) (sym e) (subst (λ (j : ℕ). LastIsAlone (drop (suc k) x.marks) (drop j ws)) (sym f) (alone_dropped (suc k) x.marks ws h.0)),
+        subst (λ (i : ℕ). LastIsAlone early (drop i x.marks) (drop (k + 1) ws)) (sym e)
+            (subst (λ (j : ℕ). LastIsAlone early (drop (suc k) x.marks) (drop j ws)) (sym f) (alone_dropped early (suc k) x.marks ws h.0)),
         every_drop (EndsBy (setup_limit x.progress)) ws (k + 1) h.1,
         λ few none well. by_test few (subst (λ (i : ℕ). commands_in (drop i x.marks) ≡ 0) e none) well (nat_eq (commands_in x.marks) 0) refl,
       ) where
+        -- which deadlines of raw commands are early
+        early : ℕ → Type 0
+        early = IsEarlyIn x.progress
+
         -- the records of what the line settles
         news : List Record
         news = records_of x.reads x.progress.moment.utc x.marks (settle k line x.client.waiting)
 
+        -- the settlement at place k is the last one
+        last_at : length (settle k line x.client.waiting) - 1 ≡ k
+        last_at = let many = length-settle k line x.client.waiting below in omega (arith, many)
+
+        -- the count of requests after the last answered call of the table is how many are left, if the last settlement is of such a call
+        counts : (b : Bool) → is_some_of_table (slice_get (settle k line x.client.waiting) k) ≡ b
+            → (if ends_with_table (settle k line x.client.waiting) then length (drop (k + 1) x.client.waiting) else x.progress.behind)
+            ≡ (if b then length (drop (k + 1) x.client.waiting) else x.progress.behind)
+        counts b e =
+            ap (λ (t : Bool). if t then length (drop (k + 1) x.client.waiting) else x.progress.behind)
+            (ap (λ n. is_some_of_table (slice_get (settle k line x.client.waiting) n)) last_at ∙ e)
+
+        -- null procedures that were settled
+        flushed : GoesNext x → GoesNext (heard_as line (settles_at x.client line k true) x)
+        flushed (inl it) = let empty : length x.client.waiting ≡ 0 = ap length it.0 in absurd (omega (arith, empty, below))
+        flushed (inr it) =
+            let same = counts true (settle_tables k line x.client.waiting below it.tables) in
+            inr (record {
+              raw = it.raw;
+              tables = every_drop IsTableCall x.client.waiting (k + 1) it.tables;
+              more = it.more;
+              enough = λ far. omega (arith, same, far);
+              ends = every_drop (EndsEarly (suc (call + it.more * turn)) (setup_limit x.progress)) x.client.waiting (k + 1) it.ends;
+              soon = it.soon;
+            })
+
         -- the lemma above, whether commands were outstanding before
         by_test : x.progress.prepared < plan.setup → commands_in (drop (suc k) x.marks) ≡ 0 → last_well false (x.records ++ news) ≡ true
-            → (b : Bool) → nat_eq (commands_in x.marks) 0 ≡ b → IsSettled (heard_as line (settles_at x.client line k true) x)
+            → (b : Bool) → nat_eq (commands_in x.marks) 0 ≡ b → GoesNext (heard_as line (settles_at x.client line k true) x)
         by_test few none well true e =
             let settled : commands_in x.marks ≡ 0 = grind (arith, nat_tests, e) in
             let no_news : news ≡ [] = none_recorded x.reads x.progress.moment.utc x.marks (settle k line x.client.waiting) settled in
-            let it = h.2 few settled (sym (ap (last_well false) (ap (λ rs. x.records ++ rs) no_news ∙ append-nil x.records)) ∙ well) in
-            let empty : length x.client.waiting ≡ 0 = ap length it.0 in absurd (omega (arith, empty, below))
-        by_test few none well false e =
-            let it = heard_well (setup_limit x.progress) x.progress.moment.elapsed line x.reads x.progress.moment.utc k x.marks x.client.waiting (last_well false x.records)
-            h.0 h.1 after below (grind (arith, nat_tests, e)) none (sym (last-append false x.records news) ∙ well) in
-            let f : k + 1 ≡ suc k = omega arith in
-            let left : drop (k + 1) x.client.waiting ≡ [] = ap (λ (j : ℕ). drop j x.client.waiting) f ∙ it.0 in
-            let many = length-settle k line x.client.waiting below in
-            let at : length (settle k line x.client.waiting) - 1 ≡ k = omega (arith, many) in
-            let table : ends_with_table (settle k line x.client.waiting) ≡ true = ap (λ n. is_some_of_table (slice_get (settle k line x.client.waiting) n)) at ∙ it.1 in
-            let behind : (if ends_with_table (settle k line x.client.waiting) then length (drop (k + 1) x.client.waiting) else x.progress.behind) ≡ 0 =
-            ap (λ (t : Bool). if t then length (drop (k + 1) x.client.waiting) else x.progress.behind) table ∙ ap length left in
-            (left, subst (λ (n : ℕ). n < WINDOW) (sym behind) (omega arith), read, it.2)
+            flushed (h.2 few settled (sym (ap (last_well false) (ap (λ rs. x.records ++ rs) no_news ∙ append-nil x.records)) ∙ well))
+        by_test few none well false e = by_table (is_some_of_table (slice_get (settle k line x.client.waiting) k)) refl where
+          -- how the last command was answered
+          it : (drop (suc k) x.client.waiting ≡ []) × (x.progress.moment.elapsed < setup_limit x.progress)
+              × (is_some_of_table (slice_get (settle k line x.client.waiting) k) ≡ false → (d : ℕ) × (x.progress.moment.elapsed < d) × early d)
+          it = heard_well early (setup_limit x.progress) x.progress.moment.elapsed line x.reads x.progress.moment.utc k x.marks x.client.waiting (last_well false x.records)
+              h.0 h.1 after below (grind (arith, nat_tests, e)) none (sym (last-append false x.records news) ∙ well)
+
+          -- nothing is left
+          left : drop (k + 1) x.client.waiting ≡ []
+          left = let f : k + 1 ≡ suc k = omega arith in ap (λ (j : ℕ). drop j x.client.waiting) f ∙ it.0
+
+          -- the lemma above, whether the last command is a call of the table
+          by_table : (b : Bool) → is_some_of_table (slice_get (settle k line x.client.waiting) k) ≡ b → GoesNext (heard_as line (settles_at x.client line k true) x)
+          by_table true e =
+              let near = counts true e in
+              let none_left : length (drop (k + 1) x.client.waiting) ≡ 0 = ap length left in
+              inl (left, read, inl (omega (arith, near, none_left), it.1))
+          by_table false e =
+              let far = it.2 e in
+              let low = far.1 in
+              let it_is = far.2 few in
+              let high = it_is.by in
+              inl (left, read, inr (it_is.raw, omega (arith, low, high)))
 
   -- of a model whose moment was read: each request that hasn't timed out has its deadline after it, and the setup goes on
   abbrev pub Listens : Model → Type 0

@@ -1,7 +1,7 @@
 -- Runs that are computed, this project's own: one over a line on which no connection can be made, in which each due cycle is recorded by
 -- its bound; and for four premises of the bound a run that meets the others, in which one isn't. An act is one call on the link, with
 -- its result.
-use Rattle.std.specs.Prelude.{◌≡◌, ℕ, suc, ◌+◌, ◌<◌, ◌≤◌, Bool, true, false, List, [], ◌∷◌, ◌++◌, map, codes, pos, Some, None}
+use Rattle.std.specs.Prelude.{◌≡◌, ℕ, suc, ◌+◌, ◌<◌, ◌≤◌, Bool, true, false, List, [], ◌∷◌, length, codes, pos, None}
 use Rattle.std.specs.List.{AllByRecursion}
 use Rattle.gc_lines.specs.Lines.{with_end}
 use Rattle.gc_catalogue.specs.declared.answer.Answer.TheVariants.{Long}
@@ -10,15 +10,16 @@ use Rattle.gc_catalogue.specs.declared.asked.Asked.TheVariants.{Table}
 use Rattle.gc_catalogue.specs.declared.call.Call.TheVariants.{InstrumentNo}
 use Rattle.gc_texts.specs.Again.{no_again}
 use Rattle.gc_texts.specs.Codes.{no_codes}
-use Rattle.gc_texts.specs.Endings.{End, Missed}
+use Rattle.gc_texts.specs.Endings.{Missed}
 use Rattle.gc_texts.specs.declared.tasks.Task.{Task}
 use Rattle.gc_links.specs.Acts.{Act, Told, Put, Gave, Silent, Opened, Unopened}
 use Rattle.gc_links.specs.declared.link.Moment.{Moment}
+use Rattle.gc_station.specs.CallTimes.{CallsReturn, ReadingsReturn}
 use Rattle.gc_station.specs.Cycles.{ClockRises}
 use Rattle.gc_station.specs.Model.{opening, Runs}
 use Rattle.gc_station.specs.NextCommand.{no_turn}
-use Rattle.gc_station.specs.RealTime.{CallsReturn, ReadingsReturn, bound}
-use Rattle.gc_station.specs.RecordedInTime.{IsInTime, SetUpIsOfTable}
+use Rattle.gc_station.specs.RealTime.{bound}
+use Rattle.gc_station.specs.RecordedInTime.{IsInTime}
 use Rattle.gc_station.specs.Records.{Record}
 use Rattle.gc_station.specs.Runs.{state_after}
 use Rattle.gc_station.specs.Scopes.{Scope, scoped}
@@ -57,12 +58,12 @@ at now = record { elapsed = now; utc = now; stops = false }
 abbrev pub at_asking : ℕ → Moment
 at_asking now = record { elapsed = now; utc = now; stops = true }
 
--- what has to hold of acts beside the premise that is looked at: they are a run, cycles have due moments, the setup is as
--- `SetUpIsOfTable` says, and the clock doesn't go back
+-- what has to hold of acts beside the premise that is looked at: they are a run, cycles have due moments, the list has each command of
+-- the setup, and the clock doesn't go back
 pub record IsRun (plan : Plan) (commands : List Task) (acts : List Act) : Type 0 where
   pub runs : Runs plan commands (opening plan scope) acts
   pub some : 0 < plan.every
-  pub tables : SetUpIsOfTable plan commands
+  pub listed : plan.setup ≤ length commands
   pub rises : ClockRises 0 acts
 
 -- no deadline of the plan and of the commands is longer than `longest`
@@ -71,7 +72,7 @@ AreAtMost longest plan commands = (plan.deadline ≤ longest) × AllByRecursion 
 
 -- some cycle that was due more than `bound` before the moment read last isn't recorded after these acts
 abbrev pub IsBeyondBound : (longest call readings : ℕ) → Plan → List Task → List Act → Type 0
-IsBeyondBound longest call readings plan commands acts = IsInTime plan commands scope (suc (bound plan longest call readings)) acts → ⊥
+IsBeyondBound longest call readings plan commands acts = IsInTime plan commands scope (suc (bound plan commands longest call readings)) acts → ⊥
 
 -- No connection can be made.
 
@@ -112,7 +113,7 @@ pub record OutageIsRecorded : Type 0 where
   pub readings : ReadingsReturn outage_plan outage_commands scope 0 outage
   pub unasked : asked_after false outage ≡ false
   pub records : (state_after outage_plan outage_commands scope outage).records ≡ missed_record 1 100 ∷ missed_record 2 200 ∷ []
-  pub long : 200 + bound outage_plan 10 5 0 < (state_after outage_plan outage_commands scope outage).progress.moment.elapsed
+  pub long : 200 + bound outage_plan outage_commands 10 5 0 < (state_after outage_plan outage_commands scope outage).progress.moment.elapsed
 
 -- What each premise is needed for.
 

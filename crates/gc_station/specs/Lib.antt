@@ -44,6 +44,7 @@ pub mod Pauses
 pub mod Nearness
 pub mod Qualities
 pub mod Stopping
+pub mod CallTimes
 pub mod RecordedInTime
 pub mod RealTime
 pub mod BoundRuns

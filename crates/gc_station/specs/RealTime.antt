@@ -1,75 +1,39 @@
 -- By when the commands of a due cycle have their records, at each moment that is read: this project's own. What the calls on the link
 -- take is a premise. An act is one call on the link, with its result.
-use Rattle.std.specs.Prelude.{◌≡◌, ℕ, suc, ◌+◌, ◌*◌, ◌<◌, ◌≤◌, max, true, false, List, [], ◌∷◌, ◌++◌, Option, MatchOption}
+use Rattle.std.specs.Prelude.{◌≡◌, ℕ, suc, ◌+◌, ◌*◌, ◌<◌, ◌≤◌, max, true, false, List, ◌∷◌, ◌++◌, length, Option}
 use Rattle.std.specs.Io.KnownBytes.{Appends}
 use Rattle.std.specs.List.{AllByRecursion}
-use Rattle.gc_client.specs.Rule.{IsEarliest, deadlines}
+use Rattle.gc_client.specs.Rule.{deadlines}
 use Rattle.gc_texts.specs.declared.tasks.Task.{Task}
 use Rattle.gc_links.specs.Acts.{Act, AddsActs}
-use Rattle.gc_station.specs.ActKinds.{moment_in, ReadsClock}
+use Rattle.gc_station.specs.ActKinds.{ReadsClock}
+use Rattle.gc_station.specs.CallTimes.{IsAskedToWait, CallsReturn, ReadingsReturn}
 use Rattle.gc_station.specs.Cycles.{ClockRises}
 use Rattle.gc_station.specs.Deciding.{is_out_of_time}
 use Rattle.gc_station.specs.Keeping.{Snapshot, KeepsUp}
-use Rattle.gc_station.specs.Model.{Model, action_at, waiting_of}
-use Rattle.gc_station.specs.Pace.{read_timeout}
-use Rattle.gc_station.specs.Quiet.{IsListening}
-use Rattle.gc_station.specs.RecordedInTime.{MayTakeTime, IsInTime, SetUpIsOfTable, record_bound}
+use Rattle.gc_station.specs.Model.{Model}
+use Rattle.gc_station.specs.RecordedInTime.{IsInTime, record_bound}
 use Rattle.gc_station.specs.Records.{Record, texts_of}
 use Rattle.gc_station.specs.Runs.{state_after, OfEachRun}
 use Rattle.gc_station.specs.Scopes.{Scope}
-use Rattle.gc_station.specs.Silences.{latest}
 use Rattle.gc_station.specs.Stopping.{asked_after}
 use Rattle.gc_station.specs.declared.plan.Plan.{Plan}
-use Rattle.gc_station.specs.declared.progress.Action.{Action}
 use Rattle.gc_station.specs.declared.progress.Action.TheVariants.{Read}
 use Rattle.gc_station.specs.declared.progress.Until.{Until}
 
--- the call of this action is asked to wait for `wait` milliseconds: a read for its time-out (`read_timeout`), the others not at all
-abbrev pub IsAskedToWait : Plan → Model → Action → (wait : ℕ) → Type 0
-IsAskedToWait plan s (Read until) wait =
-    (deadline : Option ℕ) × IsEarliest (deadlines s.client.waiting) deadline × (wait ≡ read_timeout plan s.progress (waiting_of s).fresh until deadline)
-IsAskedToWait plan s _ wait = wait ≡ 0
-
--- the first moment that these acts read is `limit` or earlier, if they read one
-abbrev pub IsReadBy : (limit : ℕ) → List Act → Type 0
-IsReadBy limit [] = Unit {0}
-IsReadBy limit (act ∷ acts) = MatchOption (moment_in act) (IsReadBy limit acts) (λ m. m.elapsed ≤ limit)
-
-module _ (plan : Plan) (commands : List Task) (scope : Scope) where
-  -- none of these acts, which come after the acts `earlier`, may take its time (`MayTakeTime`)
-  abbrev pub AreQuick : (earlier acts : List Act) → Type 0
-  AreQuick earlier [] = Unit {0}
-  AreQuick earlier (act ∷ acts) = (MayTakeTime (action_at plan (state_after plan commands scope earlier)) → ⊥) × AreQuick (earlier ++ act ∷ []) acts
-
-  -- the calls of these acts return: the first moment of the run is read `call` milliseconds after the start of the clock or earlier; and
-  -- from each act that may take its time on, the first moment is read at most `call` milliseconds after its wait is over
-  -- (`IsAskedToWait`), which begins at the moment read last before it
-  pub record CallsReturn (call : ℕ) (acts : List Act) : Type 0 where
-    pub first : IsReadBy call acts
-    pub each : (earlier later : List Act) (act : Act) → acts ≡ earlier ++ act ∷ later
-        → let s = state_after plan commands scope earlier in MayTakeTime (action_at plan s)
-        → (wait : ℕ) × IsAskedToWait plan s (action_at plan s) wait × IsReadBy (latest 0 earlier + wait + call) (act ∷ later)
-
-  -- the readings among these acts return: from each moment that is read on, a row of acts none of which may take its time reads its
-  -- last moment at most `readings` milliseconds later
-  abbrev pub ReadingsReturn : (readings : ℕ) → List Act → Type 0
-  ReadingsReturn readings acts =
-      (earlier quick later : List Act) (told : Act) → acts ≡ earlier ++ told ∷ (quick ++ later) → IsListening told → AreQuick (earlier ++ told ∷ []) quick
-      → latest 0 (earlier ++ told ∷ quick) ≤ latest 0 (earlier ++ told ∷ []) + readings
-
 -- how many milliseconds after its cycle was due a command has its record at the latest: as many as where an action is next that may take
 -- its time (`record_bound`), one call, and the readings behind it
-abbrev pub bound : Plan → (longest call readings : ℕ) → ℕ
-bound plan longest call readings = record_bound plan longest + call + readings
+abbrev pub bound : Plan → List Task → (longest call readings : ℕ) → ℕ
+bound plan commands longest call readings = record_bound plan commands longest call + call + readings
 
 -- after each run whose calls and readings return, each cycle that was due more than `bound` before the moment read last is recorded,
--- where cycles have due moments, the setup is as `SetUpIsOfTable` says, no deadline is longer than `longest`, the clock doesn't go back,
+-- where cycles have due moments, the list has each command of the setup, no deadline is longer than `longest`, the clock doesn't go back,
 -- and the end of the run wasn't asked for. Acts that begin a run are a run, so this holds at each moment that is read
 abbrev pub RecordsByBound : Type 0
 RecordsByBound = (longest call readings : ℕ) → OfEachRun (λ plan commands scope acts.
-    0 < plan.every → SetUpIsOfTable plan commands → plan.deadline ≤ longest → AllByRecursion (λ (task : Task). task.deadline ≤ longest) commands
+    0 < plan.every → plan.setup ≤ length commands → plan.deadline ≤ longest → AllByRecursion (λ (task : Task). task.deadline ≤ longest) commands
     → ClockRises 0 acts → CallsReturn plan commands scope call acts → ReadingsReturn plan commands scope readings acts → asked_after false acts ≡ false
-    → IsInTime plan commands scope (suc (bound plan longest call readings)) acts)
+    → IsInTime plan commands scope (suc (bound plan commands longest call readings)) acts)
 
 -- of a run whose list of turns was `seen` before it and is `seen'` after it: among these is one at which the link had recorded the acts
 -- `done`, and the book the texts of all records of these acts; and those were durable
@@ -91,9 +55,9 @@ LastsByBound =
     (longest call readings : ℕ) (plan : Plan) (commands : List Task) (scope : Scope) (text : Record → List ℕ) (told told' : Option (List Act)) (taken : Option (List ℕ))
     (seen seen' : List Snapshot) (others : List Act) (run : KeepsUp plan commands scope text told told' taken seen seen' others) (done later : List Act) (act : Act)
     → run.acts ≡ done ++ act ∷ later → (ReadsClock act → ⊥)
-    → 0 < plan.every → SetUpIsOfTable plan commands → plan.deadline ≤ longest → AllByRecursion (λ (task : Task). task.deadline ≤ longest) commands
+    → 0 < plan.every → plan.setup ≤ length commands → plan.deadline ≤ longest → AllByRecursion (λ (task : Task). task.deadline ≤ longest) commands
     → ClockRises 0 done → CallsReturn plan commands scope call done → ReadingsReturn plan commands scope readings done → asked_after false done ≡ false
-    → IsInTime plan commands scope (suc (bound plan longest call readings)) done × LastedAt plan commands scope text told taken seen seen' done
+    → IsInTime plan commands scope (suc (bound plan commands longest call readings)) done × LastedAt plan commands scope text told taken seen seen' done
 
 -- no read is asked to wait past the moment at which the cycle is out of time, nor past a deadline of what is in flight, but always for a
 -- millisecond; nor for more than a minute

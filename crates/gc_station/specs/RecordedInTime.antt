@@ -1,10 +1,12 @@
 -- By when the commands of a due cycle have their records: this project's own. An act is one call on the link, with its result.
-use Rattle.std.specs.Prelude.{◌≡◌, ◌⊎◌, ℕ, zero, suc, ◌+◌, ◌*◌, ◌<◌, ◌≤◌, true, false, List, [], ◌∷◌, ◌++◌, length, take}
+use Rattle.std.specs.Prelude.{◌≡◌, ◌⊎◌, ℕ, zero, suc, ◌+◌, ◌-◌, ◌*◌, ◌<◌, ◌≤◌, true, false, if◌then◌else◌, List, [], ◌∷◌, ◌++◌, length, take}
 use Rattle.std.specs.List.{AllByRecursion}
+use Rattle.gc_catalogue.specs.Asked.{is_of_table}
 use Rattle.gc_texts.specs.declared.tasks.Task.{Task}
 use Rattle.gc_links.specs.Acts.{Act}
 use Rattle.gc_links.specs.declared.link.Moment.{Moment}
-use Rattle.gc_station.specs.Behind.{AreOfTable}
+pub use Rattle.gc_station.specs.CallTimes.{MayTakeTime}
+use Rattle.gc_station.specs.CallTimes.{CallsReturn}
 use Rattle.gc_station.specs.Cycles.{ClockRises, first_due, due_after, BeginsAt}
 use Rattle.gc_station.specs.Deciding.{setup_permits, is_preparing}
 use Rattle.gc_station.specs.EachOnce.{AreRecordedOnce, all_cycles}
@@ -16,22 +18,9 @@ use Rattle.gc_station.specs.Scopes.{Scope}
 use Rattle.gc_station.specs.Stopping.{asked_after}
 use Rattle.gc_station.specs.declared.plan.Plan.{Plan}
 use Rattle.gc_station.specs.declared.progress.Action.{Action}
-use Rattle.gc_station.specs.declared.progress.Action.TheVariants.{ReadClock, Renew, Begin, Clear, Skip, Pass, Read, Close, Stop}
+use Rattle.gc_station.specs.declared.progress.Action.TheVariants.{Begin, Skip, Pass, Read}
 use Rattle.gc_station.specs.declared.progress.Progress.{Progress}
 use Rattle.gc_station.specs.declared.progress.Until.{Until}
-
--- the call of this action may take its time: it makes a connection, sends a request or reads. The others are taken as quick: they read
--- the clock alone, send the line feed directly after a connection was made, close a connection, or end the run
-abbrev pub MayTakeTime : Action → Type 0
-MayTakeTime ReadClock = ⊥
-MayTakeTime Renew = ⊥
-MayTakeTime Begin = ⊥
-MayTakeTime Skip = ⊥
-MayTakeTime Pass = ⊥
-MayTakeTime Clear = ⊥
-MayTakeTime (Close why) = ⊥
-MayTakeTime (Stop why) = ⊥
-MayTakeTime _ = Unit {0}
 
 -- each command of the first `n` cycles had its record, in order, or was left out with its attempt, after the first of `acts`
 -- (`before`). By the law `records_stay` these records stay
@@ -77,24 +66,31 @@ RecordsOnceTimedOut = OfEachRun (λ plan commands scope acts.
     → let s = state_after plan commands scope acts in MayTakeTime (action_at plan s) → (waiting_of s).current ≡ 0
     → IsInTime plan commands scope (2 * plan.every) acts)
 
--- the list has each command of the setup, and each of them is a call of the table; so without a setup nothing is said. No command of
--- such a setup waits for a null procedure
-abbrev pub SetUpIsOfTable : Plan → List Task → Type 0
-SetUpIsOfTable plan commands = (plan.setup ≤ length commands) × AreOfTable (take plan.setup commands)
+-- how many of these tasks ask for procedures outside the table
+abbrev pub raw_count : List Task → ℕ
+raw_count [] = 0
+raw_count (task ∷ tasks) = (if is_of_table task.command.call then 0 else 1) + raw_count tasks
 
--- how many milliseconds after its due moment a cycle is recorded at the latest, where no deadline is longer than `longest`: two periods,
--- and then the longest deadline for what is in flight, and for each command of a setup that was begun
-abbrev pub record_bound : Plan → (longest : ℕ) → ℕ
-record_bound plan longest = 2 * plan.every + (1 + plan.setup) * longest
+-- how many raw commands the setup has before its last command. Behind each of them up to seven null procedures may be lost, one after the
+-- other, before the next command of the setup is sent
+abbrev pub raws_of_setup : Plan → List Task → ℕ
+raws_of_setup plan commands = raw_count (take (plan.setup - 1) commands)
+
+-- how many milliseconds after its due moment a cycle is recorded at the latest, where no deadline is longer than `longest`: two periods;
+-- then the longest deadline for what is in flight, and for each command of a setup that was begun; and for each raw command of the setup
+-- before its last seven times the longest deadline and a call, which takes `call` at most, for the null procedures that are lost
+abbrev pub record_bound : Plan → List Task → (longest call : ℕ) → ℕ
+record_bound plan commands longest call = 2 * plan.every + (1 + plan.setup) * longest + raws_of_setup plan commands * (7 * (longest + call))
 
 -- while the end of the run isn't asked for: whenever a run goes on with an action that may take its time, each cycle that was due
--- `record_bound` before the moment read last is recorded, where no deadline is longer than `longest`, and the setup, if there is one,
--- is as `SetUpIsOfTable` says
+-- `record_bound` before the moment read last is recorded, where no deadline is longer than `longest`, and the list has each command of the
+-- setup. If there are raw ones before the last of these, the calls return within `call`; else nothing is said of the calls
 abbrev pub RecordsInTime : Type 0
-RecordsInTime = (longest : ℕ) → OfEachRun (λ plan commands scope acts.
-    0 < plan.every → SetUpIsOfTable plan commands → plan.deadline ≤ longest → AllByRecursion (λ (task : Task). task.deadline ≤ longest) commands
-    → ClockRises 0 acts → asked_after false acts ≡ false → MayTakeTime (action_at plan (state_after plan commands scope acts))
-    → IsInTime plan commands scope (record_bound plan longest) acts)
+RecordsInTime = (longest call : ℕ) → OfEachRun (λ plan commands scope acts.
+    0 < plan.every → plan.setup ≤ length commands → plan.deadline ≤ longest → AllByRecursion (λ (task : Task). task.deadline ≤ longest) commands
+    → ClockRises 0 acts → (raws_of_setup plan commands ≡ 0) ⊎ CallsReturn plan commands scope call acts → asked_after false acts ≡ false
+    → MayTakeTime (action_at plan (state_after plan commands scope acts))
+    → IsInTime plan commands scope (record_bound plan commands longest call) acts)
 
 -- an action that may take its time (`MayTakeTime`) comes directly after an act that read a moment, unless it is the first of the run
 abbrev pub ReadsClockBefore : Type 0

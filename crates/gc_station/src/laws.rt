@@ -309,9 +309,10 @@ pub fn missed_cycles_are_not_sent()
 ///   each cycle that was due two periods before the moment read last has its record, or was left out. The end of the run wasn't
 ///   asked for; and of a setup, if there is one, all is done, nothing was sent, or commands are outstanding.
 /// - `always`: where no deadline is longer than `longest`, so has each command of a cycle that was due two periods before, and `longest`
-///   once more than the setup has commands, whatever is in flight. The end of the run wasn't asked for, and each command of the setup,
-///   if there is one, is in the list and a call of the table: so a setup that was begun goes on at once, and waits for no null
-///   procedure.
+///   once more than the setup has commands, whatever is in flight. The end of the run wasn't asked for, and the list has each command of
+///   the setup. If there are raw ones before its last, seven null procedures may be lost behind each of them before the next command is
+///   sent: then `longest` and `call` count seven times more for each of these, and calls return at most `call` milliseconds after they
+///   are to (`CallsReturn`).
 ///
 /// The first cycle is due when it begins, but at the latest one period after the start of the clock. For each plan and each clock:
 /// - `reads`: an action that connects, sends a request or reads comes directly after an act that read a moment, but for the first
@@ -326,13 +327,14 @@ pub fn each_due_cycle_is_recorded_in_time()
     ensures goes { RecordingEnds }
 {}
 
-/// The rows of a due cycle are written within a bound of real time. If the plan's `every` is above 0, the commands of the setup, if
-/// there is one, are calls of the table, the clock doesn't go back, and the end of the run wasn't asked for:
+/// The rows of a due cycle are written within a bound of real time. If the plan's `every` is above 0, the list has each command of the
+/// setup, the clock doesn't go back, and the end of the run wasn't asked for:
 /// - `recorded`: at each moment that is read, each command of each cycle that was due more than the bound before has its record, or was
-///   left out with its attempt. The bound is two periods, the longest deadline, once more for each command of the setup, `call` and
-///   `readings`: the calls that connect, send or read return at most `call` milliseconds after they are to, together with the line feed
-///   or the close behind them and the reading of the clock (`CallsReturn`); and from there on a row of readings, with the close that
-///   may be among them, takes at most `readings` milliseconds (`ReadingsReturn`).
+///   left out with its attempt. The bound is two periods, the longest deadline, once more for each command of the setup, seven times
+///   more with `call` for each raw one before its last, `call` and `readings`: the calls that connect, send or read return at most
+///   `call` milliseconds after they are to, together with the line feed or the close behind them and the reading of the clock
+///   (`CallsReturn`); and from there on a row of readings, with the close that may be among them, takes at most `readings`
+///   milliseconds (`ReadingsReturn`).
 /// - `lasts`: just before each act of a run but a mere reading of the clock that is so, and all records are durable, as far as the book
 ///   is meant to make them so.
 ///
