@@ -121,7 +121,7 @@ next_place commands p q less some within = omega (arith, less, some, within)
 
 -- once commands had their turn (`GoesOnBy`), `next_is_chained` is what the text says of the next command, or true in a missed
 -- cycle, if no more were unsent than `commands` has
-next_chained : (count : ℕ) (commands : List Task) (p q : Progress) → GoesOnBy count commands p q → p.unsent ≤ length commands → q.next_is_chained ≡ waits_for_answer commands q
+pub next_chained : (count : ℕ) (commands : List Task) (p q : Progress) → GoesOnBy count commands p q → p.unsent ≤ length commands → q.next_is_chained ≡ waits_for_answer commands q
 next_chained count commands p q on within =
     on.chained ∙ ap (λ (b : Bool). b || first_is_chained (drop (place_next commands p + count) commands)) (sym on.missed)
     ∙ ap (λ (xs : List Task). q.missed || first_is_chained xs) (drop_past commands p.unsent count within)

@@ -168,7 +168,7 @@ module _ (plan : Plan) (longest span : ℕ) where
         (asked_along (λ (q : Progress). TimesOutIn q mid.client.waiting) (λ q line e. e) mid.progress (lines_completed mid.rest bytes) told) told
 
     -- all requests end by `limit` once the first of these commands was sent, if they did before, and `limit` is late enough
-    first_ends : (s : Model) (limit : ℕ) (mark : Mark) (left : List Task) → s.progress.moment.elapsed + longest ≤ limit → AllByRecursion (EndsBy limit) s.client.waiting
+    pub first_ends : (s : Model) (limit : ℕ) (mark : Mark) (left : List Task) → s.progress.moment.elapsed + longest ≤ limit → AllByRecursion (EndsBy limit) s.client.waiting
         → AllByRecursion (λ (task : Task). task.deadline ≤ longest) left → AllByRecursion (EndsBy limit) (asks_first mark left s).client.waiting
     first_ends s limit mark [] short h within = h
     first_ends s limit mark (task ∷ others) short h within =

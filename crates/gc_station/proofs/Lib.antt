@@ -87,6 +87,12 @@ mod SettingUp
 mod UnderWay
 mod InTime
 mod RealTime
+mod SendsNoMore
+mod OnceAskedInChain
+mod TimedOutChain
+mod OnceAskedOfTable
+mod OnceAskedInTime
 mod LastingByBound
 mod Returning
 mod BoundRuns
+mod NoPeriodRun

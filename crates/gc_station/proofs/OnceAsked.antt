@@ -58,7 +58,7 @@ module _ (plan : Plan) (commands : List Task) (s : Model) (act : Act) (fine : In
   u = with_progress turned s
 
   -- after an act of this action: with the requests that it sends, no more may be sent than before
-  abbrev Fewer : (o : Action) → Act → Model → Type 0
+  abbrev pub Fewer : (o : Action) → Act → Model → Type 0
   Fewer o a t = requests_by o + requests_left t.progress t.marks ≤ requests_left s.progress s.marks
 
   -- null procedures are calls of the table
@@ -116,7 +116,7 @@ module _ (plan : Plan) (commands : List Task) (s : Model) (act : Act) (fine : In
       omega (arith, unsent, few)
 
   -- once the end of the run was asked for, an act leaves no more that may be sent, and less if it sends a request
-  acts_fewer : (o : Action) → Performs commands s o act → HoldsBefore plan s.progress (waiting_of s) o → s.progress.stops ≡ true → Fewer o act (moved plan commands o u act)
+  pub acts_fewer : (o : Action) → Performs commands s o act → HoldsBefore plan s.progress (waiting_of s) o → s.progress.stops ≡ true → Fewer o act (moved plan commands o u act)
   acts_fewer actions.Begin b needs asked = absurd (both_ways s.progress.stops needs.5 asked)
   acts_fewer actions.Prepare b needs asked = absurd (both_ways s.progress.stops needs.5 asked)
   acts_fewer actions.Renew b needs asked =
@@ -150,13 +150,13 @@ module _ (plan : Plan) (commands : List Task) (s : Model) (act : Act) (fine : In
 -- Where the run may end.
 
 -- the action closes the connection, or ends the run
-abbrev IsEnd : Action → Type 0
+abbrev pub IsEnd : Action → Type 0
 IsEnd (actions.Close why) = Unit {0}
 IsEnd (actions.Stop why) = Unit {0}
 IsEnd _ = ⊥
 
 -- where a run may end whose end was asked for, it ends
-ends_there : (plan : Plan) (p : Progress) (w : Waiting) (at : Phase) → is_stopping p w ≡ true → IsEnd (action_in at plan p w)
+pub ends_there : (plan : Plan) (p : Progress) (w : Waiting) (at : Phase) → is_stopping p w ≡ true → IsEnd (action_in at plan p w)
 ends_there plan p w (phase.Closing why) stopping = tt
 ends_there plan p w (phase.Over why) stopping = tt
 ends_there plan p w at stopping =
@@ -169,12 +169,12 @@ ends_there plan p w at stopping =
       without_turns false = tt
 
 -- if the action that is next is neither, and the end of the run was asked for, it may not end here
-not_resting : (plan : Plan) (p : Progress) (w : Waiting) (o : Action) → action_in p.phase plan p w ≡ o → (IsEnd o → ⊥) → p.stops ≡ true → is_resting p w ≡ false
+pub not_resting : (plan : Plan) (p : Progress) (w : Waiting) (o : Action) → action_in p.phase plan p w ≡ o → (IsEnd o → ⊥) → p.stops ≡ true → is_resting p w ≡ false
 not_resting plan p w o is goes asked = false_from_ne_true (is_resting p w) (λ rests. goes (subst IsEnd is (ends_there plan p w p.phase (ap (λ (b : Bool). b && is_resting p w) asked ∙ rests))))
 
 -- by the tests of `is_resting`: there is a connection, the station has synchronized, and where it is between two chains, something is in
 -- flight that hasn't timed out
-resting_parts : (up begun none between cut : Bool) → ((not up || not begun) || (none && (between || cut))) ≡ false → (up ≡ true) × (begun ≡ true) × (between ≡ true → none ≡ false) × (cut ≡ true → none ≡ false)
+pub resting_parts : (up begun none between cut : Bool) → ((not up || not begun) || (none && (between || cut))) ≡ false → (up ≡ true) × (begun ≡ true) × (between ≡ true → none ≡ false) × (cut ≡ true → none ≡ false)
 resting_parts true true false between cut e = (refl, refl, λ b. refl, λ b. refl)
 resting_parts true true true false false e = (refl, refl, λ b. cc, λ b. cc)
 resting_parts true true true true cut e = cc

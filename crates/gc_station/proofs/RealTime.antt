@@ -39,7 +39,7 @@ use Rattle.gc_station.proofs.UnderWay.{SettingUp, not_permitted}
 use Rattle.gc_station.proofs.Stopping.{asked-append, stops_as_asked}
 
 -- an action may take its time, or it may not
-slow_or_quick : (o : Action) → MayTakeTime o ⊎ (MayTakeTime o → ⊥)
+pub slow_or_quick : (o : Action) → MayTakeTime o ⊎ (MayTakeTime o → ⊥)
 slow_or_quick actions.ReadClock = inr (λ x. x)
 slow_or_quick actions.Renew = inr (λ x. x)
 slow_or_quick actions.Begin = inr (λ x. x)
@@ -51,7 +51,7 @@ slow_or_quick (actions.Stop why) = inr (λ x. x)
 slow_or_quick other = inl tt
 
 -- if the clock doesn't go back in acts, it doesn't in the first of them
-rises_before : (now : ℕ) (xs ys : List Act) → ClockRises now (xs ++ ys) → ClockRises now xs
+pub rises_before : (now : ℕ) (xs ys : List Act) → ClockRises now (xs ++ ys) → ClockRises now xs
 rises_before now [] ys h = tt
 rises_before now (Told m ∷ xs) ys h = (h.0, h.1, rises_before m.elapsed xs ys h.2)
 rises_before now (Gave bytes m ∷ xs) ys h = (h.0, h.1, rises_before m.elapsed xs ys h.2)
@@ -59,7 +59,7 @@ rises_before now (Silent m ∷ xs) ys h = (h.0, h.1, rises_before m.elapsed xs y
 rises_before now (x ∷ xs) ys h = rises_before now xs ys h
 
 -- the moment read last isn't before the start
-latest_rises : (now : ℕ) (xs : List Act) → ClockRises now xs → now ≤ latest now xs
+pub latest_rises : (now : ℕ) (xs : List Act) → ClockRises now xs → now ≤ latest now xs
 latest_rises now [] h = omega arith
 latest_rises now (Told m ∷ xs) h = let here = h.0 in let on = latest_rises m.elapsed xs h.2 in omega (arith, here, on)
 latest_rises now (Gave bytes m ∷ xs) h = let here = h.0 in let on = latest_rises m.elapsed xs h.2 in omega (arith, here, on)
@@ -67,7 +67,7 @@ latest_rises now (Silent m ∷ xs) h = let here = h.0 in let on = latest_rises m
 latest_rises now (x ∷ xs) h = latest_rises now xs h
 
 -- if the clock doesn't go back in acts, it doesn't in the last of them
-rises_behind : (now : ℕ) (xs ys : List Act) → ClockRises now (xs ++ ys) → ClockRises (latest now xs) ys
+pub rises_behind : (now : ℕ) (xs ys : List Act) → ClockRises now (xs ++ ys) → ClockRises (latest now xs) ys
 rises_behind now [] ys h = h
 rises_behind now (Told m ∷ xs) ys h = rises_behind m.elapsed xs ys h.2
 rises_behind now (Gave bytes m ∷ xs) ys h = rises_behind m.elapsed xs ys h.2
@@ -88,20 +88,20 @@ unasked_before xs ys e = false_from_ne_true (asked_after false xs)
 
 module _ (plan : Plan) (commands : List Task) (scope : Scope) where
   -- the model after these acts
-  abbrev at : List Act → Model
+  abbrev pub at : List Act → Model
   at acts = state_after plan commands scope acts
 
   -- the last act that may take its time, of `acts` that come after the acts `earlier`; the acts after it are quick
-  record LastSlow (earlier acts : List Act) : Type 0 where
-    before : List Act
-    act : Act
-    quick : List Act
-    order : earlier ++ acts ≡ before ++ act ∷ quick
-    slow : MayTakeTime (action_at plan (at before))
-    are : AreQuick plan commands scope (before ++ act ∷ []) quick
+  pub record LastSlow (earlier acts : List Act) : Type 0 where
+    pub before : List Act
+    pub act : Act
+    pub quick : List Act
+    pub order : earlier ++ acts ≡ before ++ act ∷ quick
+    pub slow : MayTakeTime (action_at plan (at before))
+    pub are : AreQuick plan commands scope (before ++ act ∷ []) quick
 
   -- all of these acts, which come after the acts `earlier`, are quick, or one of them is the last that may take its time
-  last_slow : (earlier acts : List Act) → AreQuick plan commands scope earlier acts ⊎ LastSlow earlier acts
+  pub last_slow : (earlier acts : List Act) → AreQuick plan commands scope earlier acts ⊎ LastSlow earlier acts
   last_slow earlier [] = inl tt
   last_slow earlier (act ∷ acts) = by_others (last_slow (earlier ++ act ∷ []) acts) where
     -- the lemma above, by the acts after the first
@@ -116,17 +116,17 @@ module _ (plan : Plan) (commands : List Task) (scope : Scope) where
       by_action (inr not_slow) = inl (not_slow, quick)
 
   -- all of these acts, which come after the acts `earlier`, but the first one are quick
-  abbrev AreQuickBehind : (earlier acts : List Act) → Type 0
+  abbrev pub AreQuickBehind : (earlier acts : List Act) → Type 0
   AreQuickBehind earlier [] = Unit {0}
   AreQuickBehind earlier (act ∷ acts) = AreQuick plan commands scope (earlier ++ act ∷ []) acts
 
   -- the same where the first one is quick, too
-  quick_behind : (earlier acts : List Act) → AreQuick plan commands scope earlier acts → AreQuickBehind earlier acts
+  pub quick_behind : (earlier acts : List Act) → AreQuick plan commands scope earlier acts → AreQuickBehind earlier acts
   quick_behind earlier [] are = tt
   quick_behind earlier (act ∷ acts) are = are.1
 
   -- if these acts are quick but for the first, and read their first moment by `limit`, they read the last by `limit + readings`
-  read_by : (readings limit : ℕ) (earlier acts : List Act) → latest 0 earlier ≤ limit → IsReadBy limit acts → AreQuickBehind earlier acts
+  pub read_by : (readings limit : ℕ) (earlier acts : List Act) → latest 0 earlier ≤ limit → IsReadBy limit acts → AreQuickBehind earlier acts
       → ReadingsReturn plan commands scope readings (earlier ++ acts) → latest 0 (earlier ++ acts) ≤ limit + readings
   read_by readings limit earlier [] past by are back = subst (λ (xs : List Act). latest 0 xs ≤ limit + readings) (sym (append-nil earlier)) (omega (arith, past))
   read_by readings limit earlier (Told m ∷ acts) past by are back =

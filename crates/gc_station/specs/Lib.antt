@@ -49,3 +49,4 @@ pub mod RecordedInTime
 pub mod RealTime
 pub mod BoundRuns
 pub mod OnceAsked
+pub mod NoPeriodRun

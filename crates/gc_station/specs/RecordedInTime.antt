@@ -77,14 +77,14 @@ abbrev pub raws_of_setup : Plan → List Task → ℕ
 raws_of_setup plan commands = raw_count (take (plan.setup - 1) commands)
 
 -- how many milliseconds after its due moment a cycle is recorded at the latest, where no deadline is longer than `longest`: two periods;
--- then the longest deadline for what is in flight, and for each command of a setup that was begun; and for each raw command of the setup
--- before its last seven times the longest deadline and a call, which takes `call` at most, for the null procedures that are lost
+-- then the longest deadline for what is in flight, and for each command of a setup that was begun; and for each raw command before the
+-- setup's last one seven times the sum of the longest deadline and `call`, in which seven null procedures are lost
 abbrev pub record_bound : Plan → List Task → (longest call : ℕ) → ℕ
 record_bound plan commands longest call = 2 * plan.every + (1 + plan.setup) * longest + raws_of_setup plan commands * (7 * (longest + call))
 
 -- while the end of the run isn't asked for: whenever a run goes on with an action that may take its time, each cycle that was due
 -- `record_bound` before the moment read last is recorded, where no deadline is longer than `longest`, and the list has each command of the
--- setup. If there are raw ones before the last of these, the calls return within `call`; else nothing is said of the calls
+-- setup. If there are raw ones before the last of these, the calls return in their time (`CallsReturn`); else nothing is said of the calls
 abbrev pub RecordsInTime : Type 0
 RecordsInTime = (longest call : ℕ) → OfEachRun (λ plan commands scope acts.
     0 < plan.every → plan.setup ≤ length commands → plan.deadline ≤ longest → AllByRecursion (λ (task : Task). task.deadline ≤ longest) commands

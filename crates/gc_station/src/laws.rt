@@ -39,9 +39,10 @@ ghost use Rattle.gc_station.specs.Setups.{EachSetUpOnce, SetUpsGoOn, NoneBeforeT
 ghost use Rattle.gc_station.specs.Silences.{HasAllTimedOut, IsMuteFor};
 ghost use Rattle.gc_station.specs.Stopping.{ClosesStale, StopsAtItsClose, EndsOnceStale, GoesOnInItsChain, ClosesBetweenChains};
 ghost use Rattle.gc_station.specs.Tasked.{EachRecordIsOfItsTask};
-ghost use Rattle.gc_station.specs.OnceAsked.{EndsSoonOnceAsked};
+ghost use Rattle.gc_station.specs.OnceAsked.{EndsSoonOnceAsked, FinishesItsChainOnceAsked, FinishesATableChainOnceAsked, EndsByBoundOnceAsked, EndsATableRunByBoundOnceAsked};
 ghost use Rattle.gc_station.specs.RecordedInTime.{RecordsOnceTimedOut, RecordsInTime, ReadsClockBefore, ReadsAwaitSomething, RecordingEnds};
 ghost use Rattle.gc_station.specs.BoundRuns.{OutageIsRecorded, CallsAreNeeded, ReadingsAreNeeded, DeadlinesAreNeeded, UnaskedIsNeeded};
+ghost use Rattle.gc_station.specs.NoPeriodRun.{DueMomentsAreNeeded};
 ghost use Rattle.gc_station.specs.RealTime.{RecordsByBound, LastsByBound, ReadsEndInTime};
 ghost use Rattle.gc_station.specs.Model.{action_at};
 ghost use Rattle.gc_station.specs.Tries.{StopsOnlyAfterAllTries};
@@ -308,11 +309,11 @@ pub fn missed_cycles_are_not_sent()
 /// - `once`: whenever a station connects, sends a request or reads, with nothing in flight that hasn't timed out, each command of
 ///   each cycle that was due two periods before the moment read last has its record, or was left out. The end of the run wasn't
 ///   asked for; and of a setup, if there is one, all is done, nothing was sent, or commands are outstanding.
-/// - `always`: where no deadline is longer than `longest`, so has each command of a cycle that was due two periods before, and `longest`
-///   once more than the setup has commands, whatever is in flight. The end of the run wasn't asked for, and the list has each command of
-///   the setup. If there are raw ones before its last, seven null procedures may be lost behind each of them before the next command is
-///   sent: then `longest` and `call` count seven times more for each of these, and calls return at most `call` milliseconds after they
-///   are to (`CallsReturn`).
+/// - `always`: where no deadline is longer than `longest`, the same holds whatever is in flight, of each cycle that was due
+///   `2 * every + (1 + setup) * longest` milliseconds before. The end of the run wasn't asked for, and the list has each command of the
+///   setup. After each raw command before the setup's last one, seven null procedures may be lost on a bad line before the next command
+///   is sent: so seven times the sum of `longest` and `call` is added for each of these, and calls return at most `call` milliseconds
+///   after they are to (`CallsReturn`).
 ///
 /// The first cycle is due when it begins, but at the latest one period after the start of the clock. For each plan and each clock:
 /// - `reads`: an action that connects, sends a request or reads comes directly after an act that read a moment, but for the first
@@ -330,11 +331,11 @@ pub fn each_due_cycle_is_recorded_in_time()
 /// The rows of a due cycle are written within a bound of real time. If the plan's `every` is above 0, the list has each command of the
 /// setup, the clock doesn't go back, and the end of the run wasn't asked for:
 /// - `recorded`: at each moment that is read, each command of each cycle that was due more than the bound before has its record, or was
-///   left out with its attempt. The bound is two periods, the longest deadline, once more for each command of the setup, seven times
-///   more with `call` for each raw one before its last, `call` and `readings`: the calls that connect, send or read return at most
-///   `call` milliseconds after they are to, together with the line feed or the close behind them and the reading of the clock
-///   (`CallsReturn`); and from there on a row of readings, with the close that may be among them, takes at most `readings`
-///   milliseconds (`ReadingsReturn`).
+///   left out with its attempt. The bound is two periods, the longest deadline, once more for each command of the setup, seven times the
+///   sum of that deadline and `call` for each raw command before the setup's last one, and `call` and `readings`: the calls that connect,
+///   send or read return at most `call` milliseconds after they are to, together with the line feed or the close behind them and the
+///   reading of the clock (`CallsReturn`); and from there on a row of readings, with the close that may be among them, takes at most
+///   `readings` milliseconds (`ReadingsReturn`).
 /// - `lasts`: just before each act of a run but a mere reading of the clock that is so, and all records are durable, as far as the book
 ///   is meant to make them so.
 ///
@@ -353,17 +354,20 @@ pub fn an_outage_is_recorded_by_its_bound()
     ensures { OutageIsRecorded }
 {}
 
-/// Four premises of `each_due_cycle_is_recorded_by_its_bound` are needed: for each of them some run meets all others, and a cycle that
-/// was due more than the bound before isn't recorded. Of the clock, the setup and `every` no such run is given.
+/// Five premises of `each_due_cycle_is_recorded_by_its_bound` are needed: for each of them some run meets all others, and its cycles
+/// aren't recorded in time. Of the clock and the setup no such run is given.
 /// - `calls`: a read returns 800 ms after its time is over.
 /// - `readings`: a reading of the clock takes 800 ms.
 /// - `deadlines`: a deadline is longer than the longest that the bound counts.
 /// - `unasked`: the end of the run was asked for within a chain, which is finished.
+/// - `due_moments`: `every` is 0, no connection can be made, and no cycle has begun when more than the bound has passed since the start
+///   of the clock.
 pub fn what_the_bound_asks_is_needed()
     ensures calls { CallsAreNeeded }
     ensures readings { ReadingsAreNeeded }
     ensures deadlines { DeadlinesAreNeeded }
     ensures unasked { UnaskedIsNeeded }
+    ensures due_moments { DueMomentsAreNeeded }
 {}
 
 /// A station doesn't wait needlessly:
@@ -431,11 +435,29 @@ pub fn stops_between_chains()
     ensures stops { StopsAtItsClose cause.Stopped }
 {}
 
-/// How long a run goes on once a moment was read at which its end was asked for. It makes no connection, and sends no null procedure
-/// of a synchronization. It reads only while something is in flight that hasn't timed out. And it sends at most eight requests for
-/// each command that was left of the cycle, and seven besides: the chain that is under way, a null procedure for each command that
-/// timed out, and further ones for null procedures that did. So it ends at the latest once so many deadlines have passed, each with
-/// what one call takes.
+/// How long a run goes on once a moment was read at which its end was asked for.
+/// - `soon`: it makes no connection, and sends no null procedure of a synchronization. It reads only while something is in flight that
+///   hasn't timed out. And it sends at most eight requests for each command that was left of the cycle, and seven besides.
+/// - `chain`: between two chains it sends none; within one at most eight for each command that was left of it, and seven besides: the
+///   rest of the chain, null procedures that raw commands have to await, and null procedures after a command that timed out.
+/// - `table`: if all commands are calls of the table, it sends within a chain at most one for each command that was left of it, and
+///   seven null procedures, as the chain ends with a command that timed out.
+///
+/// `a_run_ends_by_its_bound_once_asked` says what time that takes.
 pub fn a_run_ends_soon_once_asked()
-    ensures { EndsSoonOnceAsked }
+    ensures soon { EndsSoonOnceAsked }
+    ensures chain { FinishesItsChainOnceAsked }
+    ensures table { FinishesATableChainOnceAsked }
+{}
+
+/// By when a run is at its end once that was asked for: the last moment that it reads comes at most `end_bound requests longest call
+/// readings` milliseconds after the moment at which that was noticed. That is the longest deadline, one call and the readings behind it,
+/// once for what is in flight, and once for each request that is sent after that. After that moment there may be a close, which reads
+/// none and isn't bounded. No deadline is longer than `longest`, the clock doesn't go back, and the calls on the link and the readings of
+/// the clock return in their time, as in `each_due_cycle_is_recorded_by_its_bound`. `requests` is 0 between two chains. Else it is
+/// - `chain`: eight for each command that is left of the chain, and seven; if the chain is broken, none is left;
+/// - `table`: if all commands are calls of the table, one for each command that is left of the chain, and seven.
+pub fn a_run_ends_by_its_bound_once_asked()
+    ensures chain { EndsByBoundOnceAsked }
+    ensures table { EndsATableRunByBoundOnceAsked }
 {}

@@ -1,0 +1,222 @@
+-- How many requests are sent once the end of a run was asked for whose commands are all calls of the table: one for each command that is
+-- left of the chain, and the null procedures after the last one. A null procedure is sent only once that has timed out, and then the
+-- chain doesn't go on. An act is one call on the link, with its result.
+use Rattle.std.proofs.Common.{◌≡◌, inl, inr, ℕ, ◌+◌, ◌*◌, ◌≤◌, ◌&&◌, ◌||◌, Bool, true, false, not, if◌then◌else◌, List, [], ◌∷◌, ◌++◌, nat_eq, refl, sym, ap, ◌∙◌, subst, arith, append_assoc}
+use Rattle.std.proofs.lemmas.Bool.{both_ways, cond_both, false_from_ne_true}
+use Rattle.std.proofs.lemmas.List.{nil_from_length}
+use Rattle.gc_client.specs.Rule.{deadlines}
+use Rattle.gc_texts.specs.declared.tasks.Task.{Task}
+use Rattle.gc_links.specs.Acts.{Act}
+use Rattle.gc_station.specs.Behind.{AreOfTable}
+use Rattle.gc_station.specs.Deciding.{is_up, is_between_chains}
+use Rattle.gc_station.specs.Marks.{last_well}
+use Rattle.gc_station.specs.Model.{Model, opening, action_at, waiting_of, with_progress, moved, losing, after, Performs, Runs}
+use Rattle.gc_station.specs.OnceAsked.{requests_by, requests_sent, chain_left, FinishesATableChainOnceAsked}
+use Rattle.gc_station.specs.Progressing.{turned, loses_all, is_over, is_over_in}
+use Rattle.gc_station.specs.Reasons.{HoldsBefore, MayGo, WantsNull}
+use Rattle.gc_station.specs.Runs.{state_after}
+use Rattle.gc_station.specs.Scopes.{Scope}
+use Rattle.gc_station.specs.Stopping.{asked_after}
+use Rattle.gc_station.specs.declared.plan.Plan.{Plan}
+use Rattle.gc_station.specs.declared.progress.Action.{Action}
+use Rattle.gc_station.specs.declared.progress.Action.TheVariants as actions
+use Rattle.gc_station.specs.declared.progress.Phase.{Phase}
+use Rattle.gc_station.proofs.Closings.{runs_split, needs_of}
+use Rattle.gc_station.proofs.Counts.{with_losses_progress}
+use Rattle.gc_station.proofs.EachRun.{invariant_holds}
+use Rattle.gc_station.proofs.Facts.{action_for}
+use Rattle.gc_station.proofs.Going.{after_all-append}
+use Rattle.gc_station.proofs.HeldUp.{never_held_up}
+use Rattle.gc_station.proofs.InTime.{asked_stays}
+use Rattle.gc_station.proofs.Nulls.{nulls_left, nulls_few}
+use Rattle.gc_station.proofs.OnceAskedInChain.{follows_text, left_in_chain, sends_few_of_chain, quiet_less, sent_less, finishes_its_chain}
+use Rattle.gc_station.proofs.SendsNoMore.{sends_no_more, losing_sends_none}
+use Rattle.gc_station.proofs.Stopping.{asked-append, stops_as_asked}
+use Rattle.gc_station.proofs.TimedOutChain.{CannotGoOn, timed_if_none, goes_not_on}
+
+module _ (plan : Plan) (commands : List Task) (scope : Scope) where
+  -- the model after these acts
+  abbrev at : List Act → Model
+  at acts = state_after plan commands scope acts
+
+  module _ (earlier later : List Act) (act : Act) (runs : Runs plan commands (opening plan scope) (earlier ++ act ∷ later)) (asked : asked_after false earlier ≡ true) where
+    -- the model before the act
+    abbrev s : Model
+    s = at earlier
+
+    -- the next action
+    abbrev o : Action
+    o = action_at plan s
+
+    -- the model after the act, before what is outstanding is lost
+    abbrev t : Model
+    t = moved plan commands o (with_progress turned s) act
+
+    -- these acts and the act
+    abbrev now : List Act
+    now = earlier ++ act ∷ []
+
+    -- the acts before it are a run, and the act performs the next action
+    before : Runs plan commands (opening plan scope) earlier × Performs commands s o act
+    before = runs_split plan commands (opening plan scope) earlier later act runs
+
+    -- so are these acts and those after them
+    behind : Runs plan commands (opening plan scope) (now ++ later)
+    behind = subst (λ (xs : List Act). Runs plan commands (opening plan scope) xs) (sym (append_assoc earlier (act ∷ []) later)) runs
+
+    -- the end of the run was asked for
+    stops : s.progress.stops ≡ true
+    stops = stops_as_asked plan commands scope earlier before.0 ∙ asked
+
+    -- it stays so
+    still : asked_after false now ≡ true
+    still = asked-append false earlier (act ∷ []) ∙ ap (λ (b : Bool). asked_after b (act ∷ [])) asked ∙ asked_stays act
+
+    -- the model after the act
+    there : at now ≡ after plan commands s act
+    there = after_all-append plan commands (opening plan scope) earlier (act ∷ [])
+
+    -- what the acts send, by the first of them and the others
+    sent_both : requests_sent plan commands s (act ∷ later) ≡ requests_by o + requests_sent plan commands (at now) later
+    sent_both = ap (λ (x : Model). requests_by o + requests_sent plan commands x later) (sym there)
+
+    -- where no request follows the act, none does
+    none_behind : sends_no_more (at now).progress ≡ true → requests_sent plan commands (at now) later ≤ 0
+    none_behind over =
+        subst (λ (b : Bool). requests_sent plan commands (at now) later ≤ (if b then 0 else left_in_chain plan commands (at now))) over
+        (sends_few_of_chain plan commands scope now later behind still)
+
+    -- where one may follow, nothing is lost at the end of the act
+    nothing_lost : sends_no_more (at now).progress ≡ false → at now ≡ t
+    nothing_lost open_still =
+        there ∙ ap (λ (b : Bool). losing b t) (false_from_ne_true (loses_all t.progress) (λ lost. both_ways (sends_no_more (at now).progress) open_still
+        (ap (λ (x : Model). sends_no_more x.progress) there ∙ ap sends_no_more (with_losses_progress t) ∙ losing_sends_none t.progress lost)))
+
+    -- the conditions of the action hold
+    needs : HoldsBefore plan s.progress (waiting_of s) o
+    needs = action_for plan s.progress (waiting_of s)
+
+    -- after an act that isn't a send
+    quiet_here : (o ≡ actions.Send → ⊥) → (chain_left commands t.progress ≤ chain_left commands s.progress)
+        × (requests_by o + nulls_left t.progress.behind t.marks ≤ nulls_left s.progress.behind s.marks)
+    quiet_here other = quiet_less plan commands s act (invariant_holds plan commands scope earlier) (follows_text plan commands scope earlier before.0) stops o before.1 needs other
+
+  -- once the chain can't go on, only null procedures are sent
+  cannot_few : (earlier later : List Act) → Runs plan commands (opening plan scope) (earlier ++ later) → asked_after false earlier ≡ true → CannotGoOn (at earlier)
+      → requests_sent plan commands (at earlier) later ≤ nulls_left (at earlier).progress.behind (at earlier).marks
+  cannot_few earlier [] runs asked h = omega arith
+  cannot_few earlier (act ∷ later) runs asked h =
+      by_more (λ on. cannot_few (earlier ++ act ∷ []) later (behind earlier later act runs asked) (still earlier later act runs asked) on)
+      (sends_no_more (at (earlier ++ act ∷ [])).progress) refl where
+        -- the action isn't a send
+        other : action_at plan (at earlier) ≡ actions.Send → ⊥
+        other is = by_going (needs_of plan (at earlier) actions.Send is) where
+          -- the next command may not be sent
+          by_going : HoldsBefore plan (at earlier).progress (waiting_of (at earlier)) actions.Send → ⊥
+          by_going sends = by_chain sends.4 where
+            -- as the chain can't go on
+            by_chain : MayGo (at earlier).progress (waiting_of (at earlier)) → ⊥
+            by_chain (inl free) = both_ways (at earlier).progress.next_is_chained free (sends.7 (stops earlier later act runs asked))
+            by_chain (inr going) = both_ways (last_well false (at earlier).records) (h.2 going.0) going.1
+
+        -- the lemma above, whether a request may follow the act
+        by_more : (CannotGoOn (at (earlier ++ act ∷ [])) → requests_sent plan commands (at (earlier ++ act ∷ [])) later
+            ≤ nulls_left (at (earlier ++ act ∷ [])).progress.behind (at (earlier ++ act ∷ [])).marks)
+            → (b : Bool) → sends_no_more (at (earlier ++ act ∷ [])).progress ≡ b
+            → requests_sent plan commands (at earlier) (act ∷ later) ≤ nulls_left (at earlier).progress.behind (at earlier).marks
+        by_more rest true e =
+            let both = sent_both earlier later act runs asked in
+            let none = none_behind earlier later act runs asked e in
+            let less = (quiet_here earlier later act runs asked other).1 in
+            omega (arith, both, none, less)
+        by_more rest false e =
+            let both = sent_both earlier later act runs asked in
+            let same = nothing_lost earlier later act runs asked e in
+            let less = (quiet_here earlier later act runs asked other).1 in
+            let on = rest (subst (λ (x : Model). CannotGoOn x) (sym same)
+            (goes_not_on plan commands (at earlier) (action_at plan (at earlier)) act (before earlier later act runs asked).1 (needs earlier later act runs asked)
+            (stops earlier later act runs asked) h)) in
+            let nulls = ap (λ (x : Model). nulls_left x.progress.behind x.marks) same in
+            omega (arith, both, less, on, nulls)
+
+  -- if all commands are calls of the table, where a null procedure is next, the chain can't go on
+  cannot_if_flush : AreOfTable commands → (earlier : List Act) → Runs plan commands (opening plan scope) earlier → action_at plan (at earlier) ≡ actions.Flush → CannotGoOn (at earlier)
+  cannot_if_flush all earlier runs is = by_why needs.2 where
+    -- the conditions of a null procedure
+    needs : HoldsBefore plan (at earlier).progress (waiting_of (at earlier)) actions.Flush
+    needs = needs_of plan (at earlier) actions.Flush is
+
+    -- the run isn't over
+    going : is_over (at earlier).progress ≡ false
+    going = ap (λ (x : Phase). is_over_in x || (not (is_up x) && nat_eq (at earlier).progress.turns 0)) needs.0
+
+    -- the lemma above, by why it is wanted
+    by_why : WantsNull plan (at earlier).progress (waiting_of (at earlier)) → CannotGoOn (at earlier)
+    by_why (inl waits) =
+        let some = waits.1 in
+        let none = nil_from_length (deadlines (at earlier).client.waiting) needs.3 in
+        ((invariant_holds plan commands scope earlier).paired, timed_if_none (at earlier).marks (at earlier).client.waiting none, λ settled. absurd (omega (arith, settled, some)))
+    by_why (inr far) =
+        let level = (never_held_up plan commands scope earlier runs all needs.1 going).0 in
+        let room = needs.4.1 in
+        let most = far.1 in
+        absurd (omega (arith, level, room, most))
+
+  -- if all commands are calls of the table, one request is sent for each command that is left of the chain, and seven at most besides
+  table_few : AreOfTable commands → (earlier later : List Act) → Runs plan commands (opening plan scope) (earlier ++ later) → asked_after false earlier ≡ true
+      → requests_sent plan commands (at earlier) later ≤ chain_left commands (at earlier).progress + 7
+  table_few all earlier [] runs asked = omega arith
+  table_few all earlier (act ∷ later) runs asked =
+      by_action (table_few all (earlier ++ act ∷ []) later (behind earlier later act runs asked) (still earlier later act runs asked)) (action_at plan (at earlier)) refl where
+        -- what is claimed
+        Claim : Type 0
+        Claim = requests_sent plan commands (at earlier) (act ∷ later) ≤ chain_left commands (at earlier).progress + 7
+
+        -- the acts before it are a run
+        first : Runs plan commands (opening plan scope) earlier × Performs commands (at earlier) (action_at plan (at earlier)) act
+        first = before earlier later act runs asked
+
+        -- the progress after the act is that before what is outstanding is lost
+        same : (at (earlier ++ act ∷ [])).progress ≡ (moved plan commands (action_at plan (at earlier)) (with_progress turned (at earlier)) act).progress
+        same =
+            ap (λ (x : Model). x.progress) (there earlier later act runs asked)
+            ∙ with_losses_progress (moved plan commands (action_at plan (at earlier)) (with_progress turned (at earlier)) act)
+
+        -- the lemma above, by the action
+        by_action : requests_sent plan commands (at (earlier ++ act ∷ [])) later ≤ chain_left commands (at (earlier ++ act ∷ [])).progress + 7
+            → (o : Action) → action_at plan (at earlier) ≡ o → Claim
+        by_action rest actions.Flush is =
+            let few = cannot_few earlier (act ∷ later) runs asked (cannot_if_flush all earlier first.0 is) in
+            let nulls = nulls_few (at earlier).progress.behind (at earlier).marks in
+            omega (arith, few, nulls)
+        by_action rest actions.Send is =
+            let both = sent_both earlier later act runs asked in
+            let less = sent_less plan commands (at earlier) act (invariant_holds plan commands scope earlier) (follows_text plan commands scope earlier first.0) (stops earlier later act runs asked)
+            (subst (λ (o : Action). Performs commands (at earlier) o act) is first.1) (needs_of plan (at earlier) actions.Send is) in
+            let left : chain_left commands (at (earlier ++ act ∷ [])).progress ≡ chain_left commands (moved plan commands actions.Send (with_progress turned (at earlier)) act).progress =
+            ap (chain_left commands) same ∙ ap (λ (o : Action). chain_left commands (moved plan commands o (with_progress turned (at earlier)) act).progress) is in
+            let one : requests_by (action_at plan (at earlier)) ≡ 1 = ap requests_by is in
+            omega (arith, rest, both, less, left, one)
+        by_action rest actions.Prepare is = absurd (both_ways (at earlier).progress.stops (needs_of plan (at earlier) actions.Prepare is).5 (stops earlier later act runs asked))
+        by_action rest o is =
+            let both = sent_both earlier later act runs asked in
+            let not_send : action_at plan (at earlier) ≡ actions.Send → ⊥ = λ e. let other : o ≡ actions.Send = sym is ∙ e in cc in
+            let less = (quiet_here earlier later act runs asked not_send).0 in
+            let left : chain_left commands (at (earlier ++ act ∷ [])).progress
+            ≡ chain_left commands (moved plan commands (action_at plan (at earlier)) (with_progress turned (at earlier)) act).progress =
+            ap (chain_left commands) same in
+            let none : requests_by (action_at plan (at earlier)) ≡ 0 = ap requests_by is in
+            omega (arith, rest, both, less, left, none)
+
+-- the law: if all commands are calls of the table, a run sends one request for each command that is left of its chain, and seven at most
+-- besides, once its end was asked for
+pub finishes_a_table_chain : FinishesATableChainOnceAsked
+finishes_a_table_chain plan commands scope earlier later all runs asked =
+    cond_both (is_between_chains s.progress) 0 (chain_left commands s.progress + 7) (λ (n : ℕ). requests_sent plan commands s later ≤ n)
+    (λ between.
+    subst (λ (b : Bool). requests_sent plan commands s later ≤ (if b then 0 else 8 * chain_left commands s.progress + 7)) between
+    (finishes_its_chain plan commands scope earlier later runs asked))
+    (λ within. table_few plan commands scope all earlier later runs asked) where
+      -- the model at that moment
+      s : Model
+      s = state_after plan commands scope earlier
