@@ -1,0 +1,13 @@
+pub mod Local
+pub mod Needed
+pub mod Orders
+pub mod Counting
+pub mod Slack
+pub mod Undamaged
+pub mod Strays
+pub mod Rare
+pub mod HeldBack
+pub mod Runs
+pub mod Line
+pub mod Word
+pub mod Synchronized

@@ -1,0 +1,9 @@
+pub mod Damage
+pub mod OneQueue
+pub mod Slack
+pub mod Strays
+pub mod HoldingBack
+pub mod TwoQueues
+pub mod Synchronizing
+pub mod Spreading
+pub mod PremisesMet

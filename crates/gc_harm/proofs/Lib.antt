@@ -1,0 +1,9 @@
+pub mod Counting
+pub mod Well
+pub mod Own
+pub mod WithoutDamage
+pub mod Synchronizing
+pub mod Stretch
+pub mod Rarely
+pub mod HoldingBack
+pub mod DamagedRun

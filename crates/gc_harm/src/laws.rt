@@ -1,0 +1,61 @@
+//! What is proved of the field with damage, for any instrument. To what happens in the field two things are added: a damaged line comes to
+//! the client, any line at any time; and a request that damage made reaches the instrument, any request with an id from 0 to 7, at any
+//! time. An answer is own if its line was made on executing that very request. Each request that the client sends after a synchronization
+//! is a call of the table: in each law on steps this is a premise of its sends. The window counts all outstanding requests, also those that
+//! have timed out: a station's is always seven wide, whatever its `--width`, which limits those that haven't. Each function does nothing:
+//! its contract is the law.
+
+ghost use Rattle.gc_harm.specs.DamagedRun.{IsDamagedRun, IsDamagedStretch};
+ghost use Rattle.gc_harm.specs.Harm.{AnswersAreOwnOrDamaged};
+ghost use Rattle.gc_harm.specs.HoldingBack.{HeldBackDamageIsLocalInField};
+ghost use Rattle.gc_harm.specs.Rarely.{RareDamageIsLocalInField};
+ghost use Rattle.gc_harm.specs.Stretch.{StretchesAreLocal};
+ghost use Rattle.gc_harm.specs.Synchronizing.{OwnEighthIsClean};
+ghost use Rattle.gc_harm.specs.WithoutDamage.{WithoutDamageAllIsOwn};
+
+/// For any instrument, after a clean synchronization: if each send is fresh, each answer was made on executing its very request, or its
+/// line is damaged, and each damaged line makes one such answer at most.
+pub fn answers_are_own_or_damaged<State>()
+    ensures { AnswersAreOwnOrDamaged State }
+{}
+
+/// Without damage each send is fresh, and each answer is own. This is of any instrument, after a clean synchronization, if the client asks
+/// only for calls of the table.
+pub fn without_damage_all_is_own<State>()
+    ensures { WithoutDamageAllIsOwn State }
+{}
+
+/// If damage is rare for the window's width, each send is fresh, and each answer is own or damaged. It is rare if at most k damaged lines
+/// come while a line of any one request is in flight or kept, and the window is at most 7 / (k + 1) wide.
+pub fn rare_damage_is_local_in_field<State>()
+    ensures { RareDamageIsLocalInField State }
+{}
+
+/// The same holds if the client holds back, and no two lines in a row that settle something are damaged. It holds back if it sends only
+/// while the outstanding requests, and those that the last line settled, are together fewer than seven.
+pub fn held_back_damage_is_local_in_field<State>()
+    ensures { HeldBackDamageIsLocalInField State }
+{}
+
+/// If the eighth null procedure is answered by its own reply, the synchronization is clean, whatever was damaged, but for what the
+/// instrument keeps. Whatever is in flight at its start, be it the word, nothing of it is in flight at its end; and what the instrument
+/// keeps has the id 7, or is its reply to a request that damage made.
+pub fn own_eighth_is_clean<State>()
+    ensures { OwnEighthIsClean State }
+{}
+
+/// After such a synchronization each answer is own or damaged, if each send is fresh.
+pub fn stretches_are_local<State>()
+    ensures { StretchesAreLocal State }
+{}
+
+/// A computed run over the simulator meets the premises of the laws on steps. Two of its answers are by damaged lines.
+pub fn some_run_is_damaged()
+    ensures { IsDamagedRun }
+{}
+
+/// A computed synchronization over the simulator, and steps after it, meet the premises of the laws on synchronizations. Seven of its null
+/// procedures are answered by damaged lines.
+pub fn some_stretch_is_damaged()
+    ensures { IsDamagedStretch }
+{}
