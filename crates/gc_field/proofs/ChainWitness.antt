@@ -37,7 +37,7 @@ none_turns (suc zero) task above under e =
     ap (λ (t : Task). turns_telescope t.command.call) (sym (same_Some one task e))
 none_turns (suc (suc p)) task above under e = absurd (omega (arith, under))
 
--- the run's parts are these: one with these steps, and with the three requests by place and moment; and the empty one
+-- the run's parts are these: one with these steps, and with the three commands by place and moment; and the empty one
 -- after the end
 parts_are : parts plan commands scope acts ≡ one_part (asked_each replies) (seen moves) ((0, 15) ∷ (1, 20) ∷ (2, 25) ∷ [])
 unfolding is_elsewhere header_at reply_at digits rounded
@@ -57,11 +57,11 @@ pointed_in_field =
           record {
             runs =
                 runs-append plan commands (opening plan scope) (take 27 acts) (drop 27 acts) (opens_simulator 1 commands scope.reads)
-                (tt, (refl, (tt, (tt, (refl, (tt, (tt, (refl, (tt, (tt, (refl, tt)))))))))));
+                (tt, (refl, (tt, (tt, (refl, (tt, (tt, (refl, (tt, (tt, (refl, (tt, (tt, (refl, tt))))))))))))));
             lines = record { ids = tt; good = opening_fits };
             none = λ h. h;
             shown = subst (AreShownAs simulator_ends at_start program.runs) (sym parts_are) (shown_are, refl, (refl, refl, tt));
-            possible = ((units 24, (tt, (tt, (tt, (tt, (tt, ((8, [], refl), (tt, (tt, (tt, (tt, ((9, [], refl), (tt, (tt, (tt, (tt, ((10, [], refl), tt))))))))))))))))), ((tt, refl), tt));
+            possible = ((units 24, (tt, (tt, (tt, (tt, (tt, ((8, [], refl), (tt, (tt, (tt, (tt, ((9, [], refl), (tt, (tt, (tt, (tt, ((10, [], refl), (tt, (tt, (tt, (tt, ((11, [], refl), tt)))))))))))))))))))))), ((tt, refl), tt));
           };
       records = refl;
       chained = all_chained;

@@ -88,16 +88,16 @@ opens_counting width tasks reads =
     (tt, (refl, (tt, (refl, (tt, (tt, (refl, (tt, (tt, (refl, (tt, (tt, (refl, (tt, (tt, (refl, (tt, (tt, (refl, (tt, (tt, (refl, (tt, (tt, (refl, (tt, (tt, tt)))))))))))))))))))))))))))
 
 -- the first answer was made on executing the first command's request
-first_made : WasMadeOn WINDOW counting stretch.from moves 8 points first_reply
+first_made : WasMadeOn WINDOW counting stretch.from moves 9 points first_reply
 unfolding is_elsewhere header_at reply_at digits
-first_made = record { front = take 3 moves; later = drop 4 moves; split = refl; id = 0; rest = []; reaches = refl; executed = refl; reply = refl }
+first_made = record { front = take 8 moves; later = drop 9 moves; split = refl; id = 1; rest = []; reaches = refl; executed = refl; reply = refl }
 
 -- the third answer was made on executing the third command's request
-third_made : WasMadeOn WINDOW counting stretch.from moves 10 reads_all third_reply
+third_made : WasMadeOn WINDOW counting stretch.from moves 11 reads_all third_reply
 unfolding is_elsewhere header_at reply_at digits
-third_made = record { front = take 13 moves; later = drop 14 moves; split = refl; id = 2; rest = []; reaches = refl; executed = refl; reply = refl }
+third_made = record { front = take 18 moves; later = drop 19 moves; split = refl; id = 3; rest = []; reaches = refl; executed = refl; reply = refl }
 
--- the run's parts are these: one with these steps, and with the three requests by place and moment; and the empty one
+-- the run's parts are these: one with these steps, and with the three commands by place and moment; and the empty one
 -- after the end
 parts_are : parts plan commands scope acts ≡ one_part (asked_each null_replies) (seen moves) ((0, 15) ∷ (1, 20) ∷ (2, 25) ∷ [])
 unfolding is_elsewhere header_at reply_at digits
@@ -120,11 +120,11 @@ counted_in_field =
           record {
             runs =
                 runs-append plan commands (opening plan scope) (take 27 acts) (drop 27 acts) (opens_counting 1 commands scope.reads)
-                (tt, (refl, (tt, (tt, (refl, (tt, (tt, (refl, (tt, (tt, (refl, tt)))))))))));
+                (tt, (refl, (tt, (tt, (refl, (tt, (tt, (refl, (tt, (tt, (refl, (tt, (tt, (refl, tt))))))))))))));
             lines = record { ids = tt; good = tt };
             none = λ h. h;
             shown = subst (AreShownAs counting at_start program.runs) (sym parts_are) (shown_are, refl, (refl, refl, tt));
-            possible = ((units 24, (tt, (tt, (tt, (tt, (tt, ((8, [], refl), (tt, (tt, (tt, (tt, ((9, [], refl), (tt, (tt, (tt, (tt, ((10, [], refl), tt))))))))))))))))), ((tt, refl), tt));
+            possible = ((units 24, (tt, (tt, (tt, (tt, (tt, ((8, [], refl), (tt, (tt, (tt, (tt, ((9, [], refl), (tt, (tt, (tt, (tt, ((10, [], refl), (tt, (tt, (tt, (tt, ((11, [], refl), tt)))))))))))))))))))))), ((tt, refl), tt));
           };
       records = refl;
       chained = all_chained;

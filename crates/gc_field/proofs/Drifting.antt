@@ -28,11 +28,11 @@ drifting_is = keeps_none ℕ drifting (λ line. refl) (λ s id call good small. 
 
 module _ (raw : RawCall) where
   -- the answer was made on executing the second command's request
-  was_made : WasMadeOn WINDOW drifting (left_by_turns drifting turns (none_under_way 5)) (moves raw) 9 (Raw raw) answer
+  was_made : WasMadeOn WINDOW drifting (left_by_turns drifting turns (none_under_way 5)) (moves raw) 10 (Raw raw) answer
   unfolding is_elsewhere header_at reply_at digits
-  was_made = record { front = take 11 (moves raw); later = drop 12 (moves raw); split = refl; id = 1; rest = []; reaches = refl; executed = refl; reply = refl }
+  was_made = record { front = take 16 (moves raw); later = drop 17 (moves raw); split = refl; id = 2; rest = []; reaches = refl; executed = refl; reply = refl }
 
-  -- the run's parts are these: one with these steps, and with the two requests by place and moment; and the empty one
+  -- the run's parts are these: one with these steps, and with the two commands by place and moment; and the empty one
   -- after the end
   parts_are : parts plan (commands raw) scope (acts raw) ≡ one_part (part.Asks ∷ part.Asks ∷ asked_each null_replies) (seen (moves raw)) ((0, 220) ∷ (1, 320) ∷ [])
   unfolding is_elsewhere header_at reply_at digits
@@ -56,14 +56,14 @@ module _ (raw : RawCall) where
                   (tt, (refl, (tt, (refl, (tt, (tt, (refl, (tt, (tt, (refl, (tt, (tt, (tt, (refl, (tt, tt)))))))))))))))
                   (runs-append plan (commands raw) (state_after plan (commands raw) scope (take 15 (acts raw))) (take 24 (drop 15 (acts raw))) (drop 39 (acts raw))
                   (refl, (tt, (tt, (refl, (tt, (tt, (refl, (tt, (tt, (refl, (tt, (tt, (refl, (tt, (tt, (refl, (tt, (tt, (refl, (tt, (tt, (refl, (tt, (tt, tt))))))))))))))))))))))))
-                  (tt, (refl, (tt, (tt, (refl, (tt, (tt, (refl, (tt, (tt, (tt, (refl, (tt, (tt, (tt, (refl, tt)))))))))))))))));
+                  (tt, (refl, (tt, (tt, (refl, (tt, (tt, (refl, (tt, (tt, (refl, (tt, (tt, (tt, (refl, (tt, (tt, (tt, (refl, tt))))))))))))))))))));
               lines = record { ids = tt; good = tt };
               none = λ h. h;
               shown = subst (AreShownAs drifting (none_under_way 5) (program raw).runs) (sym parts_are) (shown_are, refl, (refl, refl, tt));
               possible = (
                 (
                   (tt, (tt, (tt, (tt, (tt, ((tt, refl), units 24)))))),
-                  (tt, (tt, (tt, (tt, (tt, (tt, ((tt, refl), (tt, (tt, (tt, ((tt, refl), (tt, (tt, (tt, (tt, (tt, (tt, ((9, [], refl), tt)))))))))))))))))),
+                  (tt, (tt, (tt, (tt, (tt, ((8, [], refl), (tt, (tt, (tt, (tt, (tt, ((tt, refl), (tt, (tt, (tt, ((tt, refl), (tt, (tt, (tt, (tt, (tt, (tt, ((10, [], refl), tt))))))))))))))))))))))),
                 ),
                 ((tt, refl), tt),
               );

@@ -23,7 +23,7 @@ use Rattle.gc_station.specs.Records.{Record}
 use Rattle.gc_station.specs.Runs.{state_after}
 use Rattle.gc_station.specs.Model.{Model, opening}
 use Rattle.gc_station.proofs.Asked.{parts_begun}
-use Rattle.gc_station.proofs.GoesBehind.{behind_the_table}
+use Rattle.gc_station.proofs.SentWell.{behind_the_table}
 use Rattle.gc_station.proofs.Booking.{Books, settled_by, sent_by, settled_append, sent_append, course_settled, course_sent, course_client, marks_ask_at, all_records, restarting}
 use Rattle.gc_station.proofs.EachRun.{invariant_opening, each_once}
 use Rattle.gc_station.proofs.Following.{BooksInParts, follows}

@@ -23,16 +23,16 @@ use Rattle.gc_field.specs.Witness.{plan, replies, scope}
 use Rattle.gc_station.specs.Links.{parts}
 
 -- the late reply was made on executing the first command's request
-late_made : WasMadeOn WINDOW simulator_ends from moves 8 (Table InstrumentNo) late
+late_made : WasMadeOn WINDOW simulator_ends from moves 9 (Table InstrumentNo) late
 unfolding is_elsewhere header_at reply_at handed exec digits
-late_made = record { front = take 3 moves; later = drop 4 moves; split = refl; id = 0; rest = []; reaches = refl; executed = refl; reply = refl }
+late_made = record { front = take 8 moves; later = drop 9 moves; split = refl; id = 1; rest = []; reaches = refl; executed = refl; reply = refl }
 
 -- the answer was made on executing the second command's request
-answer_made : WasMadeOn WINDOW simulator_ends from moves 9 (Table InstrumentNo) answer
+answer_made : WasMadeOn WINDOW simulator_ends from moves 10 (Table InstrumentNo) answer
 unfolding is_elsewhere header_at reply_at handed exec digits
-answer_made = record { front = take 9 moves; later = drop 10 moves; split = refl; id = 1; rest = []; reaches = refl; executed = refl; reply = refl }
+answer_made = record { front = take 14 moves; later = drop 15 moves; split = refl; id = 2; rest = []; reaches = refl; executed = refl; reply = refl }
 
--- the run's parts are these: one with these steps, and with the two requests by place and moment; and the empty one
+-- the run's parts are these: one with these steps, and with the two commands by place and moment; and the empty one
 -- after the end
 parts_are : parts plan commands scope acts ≡ one_part (asked_each replies) (seen moves) ((0, 15) ∷ (1, 115) ∷ [])
 unfolding is_elsewhere header_at reply_at digits
@@ -47,11 +47,11 @@ late_in_field =
           record {
             runs =
                 runs-append plan commands (opening plan scope) (take 27 acts) (drop 27 acts) (opens_simulator 1 commands scope.reads)
-                (tt, (refl, (tt, (tt, (refl, (tt, (tt, (tt, (refl, tt)))))))));
+                (tt, (refl, (tt, (tt, (refl, (tt, (tt, (refl, (tt, (tt, (tt, (refl, tt))))))))))));
             lines = record { ids = tt; good = opening_fits };
             none = λ h. h;
             shown = subst (AreShownAs simulator_ends at_start program.runs) (sym parts_are) (shown_are, refl, (refl, refl, tt));
-            possible = ((units 24, (tt, (tt, (tt, (tt, (tt, (tt, (tt, (tt, ((8, [], refl), (tt, (tt, ((9, [], refl), tt))))))))))))), ((tt, refl), tt));
+            possible = ((units 24, (tt, (tt, (tt, (tt, (tt, ((8, [], refl), (tt, (tt, (tt, (tt, (tt, (tt, (tt, ((9, [], refl), (tt, (tt, ((10, [], refl), tt)))))))))))))))))), ((tt, refl), tt));
           };
       over = refl;
       records = refl;

@@ -158,17 +158,13 @@ module _ {State : Type 0} (ends : Ends State) (Good : State → Type 0) (kept : 
       let x = course 7 begun (seen before) in
       let count = sent_count s sound before after e in
       let f = faithful_throughout ends Good kept is s sound before after e in
-      elim near [
-        | inl few ↦ (7, omega (arith, count), omega (arith, count, few), inl refl)
-        | inr h ↦ (
-            let got : slice_get w.settled (8 + h.0) ≡ Some h.1 =
-            subst (λ l. slice_get l (8 + h.0) ≡ Some h.1) (sym f.settled) (get_behind nulls_settled x.settlements (8 + h.0) h.0 refl ∙ h.2) in
-            let low : 8 + h.0 < length w.settled = slice_get_within w.settled (8 + h.0) h.1 got in
-            let many : length w.settled ≤ length w.sent = f.one_for_one.count in
-            let r = element_at w.sent (8 + h.0) (omega (arith, low, many)) in
-            let same : h.1.call ≡ r.0.call = (f.one_for_one.same (8 + h.0) h.1 r.0 got r.1).1 in
-            (8 + h.0, omega (arith, low, many), omega (arith, count, h.4), inr (r.0, h.1, r.1, sym (ap is_of_table same) ∙ h.3.0, got, by_reply h.1.outcome h.3.1)))
-      ]
+      let got : slice_get w.settled (8 + near.0) ≡ Some near.1 =
+      subst (λ l. slice_get l (8 + near.0) ≡ Some near.1) (sym f.settled) (get_behind nulls_settled x.settlements (8 + near.0) near.0 refl ∙ near.2) in
+      let low : 8 + near.0 < length w.settled = slice_get_within w.settled (8 + near.0) near.1 got in
+      let many : length w.settled ≤ length w.sent = f.one_for_one.count in
+      let r = element_at w.sent (8 + near.0) (omega (arith, low, many)) in
+      let same : near.1.call ≡ r.0.call = (f.one_for_one.same (8 + near.0) near.1 r.0 got r.1).1 in
+      (8 + near.0, omega (arith, low, many), omega (arith, count, near.4), inr (r.0, near.1, r.1, sym (ap is_of_table same) ∙ near.3.0, got, by_reply near.1.outcome near.3.1))
 
   -- if a sound stretch shows steps in which more than n requests are sent, and each send before which n of them were sent is near
   -- the table, request 8 + n of the stretch is sent after the table (`WentOutBehindTheTable`)

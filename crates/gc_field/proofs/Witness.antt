@@ -1,5 +1,5 @@
 -- The run of one command of `specs/Witness.antt` is in the field, by computation.
-use Rattle.std.proofs.Common.{◌≡◌, inl, inr, ℕ, zero, suc, ◌<◌, List, [], ◌∷◌, Some, refl, sym, subst, arith, lit<}
+use Rattle.std.proofs.Common.{◌≡◌, inl, inr, ℕ, zero, suc, ◌<◌, List, [], ◌∷◌, Some, None, refl, sym, subst, arith, lit<}
 use Rattle.std.proofs.lemmas.Int.{ints}
 use Rattle.std.specs.Prelude.{codes, map, take, drop}
 use Rattle.std.specs.Fmt.{digits}
@@ -55,12 +55,12 @@ unfolding is_elsewhere header_at reply_at digits
 opens_simulator width tasks reads =
     (tt, (refl, (tt, (refl, (tt, (tt, (refl, (tt, (tt, (refl, (tt, (tt, (refl, (tt, (tt, (refl, (tt, (tt, (refl, (tt, (tt, (refl, (tt, (tt, (refl, (tt, (tt, tt)))))))))))))))))))))))))))
 
--- the part with these steps, of a synchronization and of the client, whose requests are of the first cycle: each by its place,
--- and the moment before it was sent
+-- the part with these steps, of a synchronization and of the client, whose requests are the client's null procedure, and then
+-- commands of the first cycle: each by its place, and the moment before it was sent
 abbrev pub part_of : List part.SyncStep → List (Step Asked) → List (ℕ × ℕ) → Part
-part_of sync_steps steps sent = record { sync_steps = sync_steps; steps = steps; marks = map (λ x. Some (record { cycle = 1; place = x.0; sent = x.1; expected = expected_first [] })) sent }
+part_of sync_steps steps sent = record { sync_steps = sync_steps; steps = steps; marks = None ∷ map (λ x. Some (record { cycle = 1; place = x.0; sent = x.1; expected = expected_first [] })) sent }
 
--- the parts of a run that never resynchronizes: the part with these steps and requests, and the empty one after the end
+-- the parts of a run that never resynchronizes: the part with these steps and commands, and the empty one after the end
 abbrev pub one_part : List part.SyncStep → List (Step Asked) → List (ℕ × ℕ) → List Part
 one_part sync_steps steps sent = part_of sync_steps steps sent ∷ idle_part ∷ []
 
@@ -103,20 +103,20 @@ opening_fits =
       kept = tt;
     }
 
--- two equal numbers aren't 6 and 0
-not_six_and_zero : (n m : ℕ) → n ≡ m → n ≡ 6 → m ≡ 0 → ⊥
-not_six_and_zero n m e a b = omega (arith, e, a, b)
+-- two equal numbers aren't 6 and 1
+not_six_and_one : (n m : ℕ) → n ≡ m → n ≡ 6 → m ≡ 1 → ⊥
+not_six_and_one n m e a b = omega (arith, e, a, b)
 
--- the word isn't a subsequence of two ids 0
-pub zeros_lack_the_word : IsSubsequence the_word (0 ∷ 0 ∷ []) → ⊥
-zeros_lack_the_word (inl h) = not_six_and_zero 6 0 h.0 refl refl
-zeros_lack_the_word (inr (inl h)) = not_six_and_zero 6 0 h.0 refl refl
-zeros_lack_the_word (inr (inr h)) = h
+-- the word isn't a subsequence of two ids 1
+pub ones_lack_the_word : IsSubsequence the_word (1 ∷ 1 ∷ []) → ⊥
+ones_lack_the_word (inl h) = not_six_and_one 6 1 h.0 refl refl
+ones_lack_the_word (inr (inl h)) = not_six_and_one 6 1 h.0 refl refl
+ones_lack_the_word (inr (inr h)) = h
 
--- the answer was made on executing the command's request, the client's first one
-was_made : WasMadeOn WINDOW simulator_ends (left_by_turns simulator_ends turns at_start) moves 8 (Table InstrumentNo) answer
+-- the answer was made on executing the command's request, the client's first one after its null procedure
+was_made : WasMadeOn WINDOW simulator_ends (left_by_turns simulator_ends turns at_start) moves 9 (Table InstrumentNo) answer
 unfolding is_elsewhere header_at reply_at handed exec digits
-was_made = record { front = take 3 moves; later = drop 4 moves; split = refl; id = 0; rest = []; reaches = refl; executed = refl; reply = refl }
+was_made = record { front = take 8 moves; later = drop 9 moves; split = refl; id = 1; rest = []; reaches = refl; executed = refl; reply = refl }
 
 -- the steps of a synchronization in which, for each of these lines in order, a null procedure is sent, and then the line is
 -- heard
@@ -126,9 +126,9 @@ asked_each (line ∷ lines) = part.Asks ∷ part.Hears line ∷ asked_each lines
 
 -- what the turns of this run's synchronization show
 abbrev all_sync_steps : List part.SyncStep
-all_sync_steps = part.Asks ∷ part.Hears (codes "%R1P,0,0:0,654321") ∷ part.Hears answer ∷ part.Hears (codes "%R1P,0,6:0") ∷ asked_each (drop 1 replies)
+all_sync_steps = part.Asks ∷ part.Hears (codes "%R1P,0,1:0,654321") ∷ part.Hears answer ∷ part.Hears (codes "%R1P,0,6:0") ∷ asked_each (drop 1 replies)
 
--- the run's parts are these: one with these steps, and with the request for the command at place 0, which was sent
+-- the run's parts are these: one with these steps, and with the command at place 0, which was sent
 -- after the moment 15; and the empty one after the end
 parts_are : parts plan commands scope acts ≡ one_part all_sync_steps (seen moves) ((0, 15) ∷ [])
 unfolding is_elsewhere header_at reply_at digits
@@ -149,11 +149,11 @@ answered_in_field =
             runs =
                 runs-append plan commands (opening plan scope) (take 20 acts) (drop 20 acts)
                 (tt, (refl, (tt, (refl, (tt, (tt, (tt, (tt, (refl, (tt, (tt, (refl, (tt, (tt, (refl, (tt, (tt, (refl, (tt, (tt, tt))))))))))))))))))))
-                (refl, (tt, (tt, (refl, (tt, (tt, (refl, (tt, (tt, (tt, (refl, (tt, (tt, (refl, tt))))))))))))));
+                (refl, (tt, (tt, (refl, (tt, (tt, (refl, (tt, (tt, (tt, (refl, (tt, (tt, (refl, (tt, (tt, (refl, tt)))))))))))))))));
             lines = record { ids = (lit< tt, tt); good = opening_fits };
-            none = zeros_lack_the_word;
+            none = ones_lack_the_word;
             shown = subst (AreShownAs simulator_ends at_start program.runs) (sym parts_are) (shown_are, refl, (refl, refl, tt));
-            possible = ((units 27, (tt, (tt, (tt, (tt, (tt, ((8, [], refl), tt))))))), ((tt, refl), tt));
+            possible = ((units 27, (tt, (tt, (tt, (tt, (tt, ((8, [], refl), (tt, (tt, (tt, (tt, ((9, [], refl), tt)))))))))))), ((tt, refl), tt));
           };
       over = refl;
       records = refl;

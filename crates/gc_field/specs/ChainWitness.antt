@@ -26,7 +26,7 @@ use Rattle.gc_field.specs.Laws.{kept_of}
 use Rattle.gc_field.specs.Pointing.{AreStill}
 use Rattle.gc_field.specs.Runs.{IsInField, Program, program_records}
 use Rattle.gc_field.specs.Shown.{Stretch}
-use Rattle.gc_field.specs.Witness.{plan, scope_saying, at, begun_with, eight_answered, replies, run_and_end}
+use Rattle.gc_field.specs.Witness.{plan, scope_saying, at, begun_with, cycle_begun, null_answered, null_reply, eight_answered, replies, run_and_end}
 
 -- the horizontal direction of a target, in radians
 abbrev pub hz : Decimal
@@ -62,42 +62,43 @@ scope = scope_saying (Long (pos 0))
 
 -- the simulator's reply to the first command
 abbrev pub first_reply : List ℕ
-first_reply = codes "%R1P,0,0:0"
+first_reply = codes "%R1P,0,1:0"
 
 -- the simulator's reply to the second command
 abbrev pub second_reply : List ℕ
-second_reply = codes "%R1P,0,1:0"
+second_reply = codes "%R1P,0,2:0"
 
 -- the simulator's reply to the third command
 abbrev pub third_reply : List ℕ
-third_reply = codes "%R1P,0,2:0,2.25,1.625,110.0625"
+third_reply = codes "%R1P,0,3:0,2.25,1.625,110.0625"
 
--- the acts of the run: the station synchronizes, with `answers` as the replies to its null procedures; then the three commands
--- are sent one after the other, each once the one before it is answered, with the replies a, b and c; and the connection is
--- closed
-abbrev pub acts_with : List (List ℕ) → (a b c : List ℕ) → List Act
-acts_with answers a b c =
+-- the acts of the run: the station synchronizes, with `answers` as the replies to its null procedures, and `own` as that to the
+-- client's; then the three commands are sent one after the other, each once the one before it is answered, with the replies a, b
+-- and c; and the connection is closed
+abbrev pub acts_with : List (List ℕ) → (own a b c : List ℕ) → List Act
+acts_with answers own a b c =
     begun_with answers (
-    Told (at 15)
-    ∷ Put (with_end (codes "%R1Q,9027,0:2.25,1.625,0,0,0"))
+    cycle_begun 15 own (
+    Put (with_end (codes "%R1Q,9027,1:2.25,1.625,0,0,0"))
     ∷ Told (at 15)
     ∷ Gave (with_end a) (at 20)
-    ∷ Put (with_end (codes "%R1Q,2008,1:1,1"))
+    ∷ Put (with_end (codes "%R1Q,2008,2:1,1"))
     ∷ Told (at 20)
     ∷ Gave (with_end b) (at 25)
-    ∷ Put (with_end (codes "%R1Q,2108,2:3000,1"))
+    ∷ Put (with_end (codes "%R1Q,2108,3:3000,1"))
     ∷ Told (at 25)
     ∷ Gave (with_end c) (at 30)
     ∷ Closed
     ∷ []
-    )
+    ))
 
--- what happens once the station has synchronized: each of the three requests reaches the instrument, and its reply (a, b,
--- c) comes
-abbrev pub moves_with : {S : Type 0} → (a b c : List ℕ) → List (Move S)
-moves_with a b c =
+-- what happens once the station has synchronized: the client's null procedure is answered with the reply `own`; each of the
+-- three commands' requests reaches the instrument, and its reply (a, b, c) comes
+abbrev pub moves_with : {S : Type 0} → (own a b c : List ℕ) → List (Move S)
+moves_with own a b c =
     Tells 15
-    ∷ Sends 7 points 115
+    ∷ null_answered 15 own (
+    Sends 7 points 115
     ∷ Tells 15
     ∷ OnLine Up_deliver
     ∷ Tells 20
@@ -113,14 +114,15 @@ moves_with a b c =
     ∷ Tells 30
     ∷ Comes c
     ∷ []
+    )
 
--- the moves of the run before the first request reaches the instrument
+-- the moves of the run before the first command's request reaches the instrument
 abbrev pub until_first : {S : Type 0} → List (Move S) → List (Move S)
-until_first ms = take 3 ms
+until_first ms = take 8 ms
 
--- the moves of the run before the third request reaches the instrument
+-- the moves of the run before the third command's request reaches the instrument
 abbrev pub until_third : {S : Type 0} → List (Move S) → List (Move S)
-until_third ms = take 13 ms
+until_third ms = take 18 ms
 
 -- the records of the run, in which the three commands are answered by the lines a, b and c
 abbrev pub records_with : (a b c : List ℕ) → List Record
@@ -132,11 +134,11 @@ records_with a b c =
 
 -- the acts of the run over the simulator
 abbrev pub acts : List Act
-acts = acts_with replies first_reply second_reply third_reply
+acts = acts_with replies null_reply first_reply second_reply third_reply
 
 -- what happens meanwhile, once the run has synchronized
 abbrev pub moves : List (Move State)
-moves = moves_with first_reply second_reply third_reply
+moves = moves_with null_reply first_reply second_reply third_reply
 
 -- at the start of the run nothing is in flight
 abbrev pub at_start : UnderWay State
@@ -151,13 +153,13 @@ abbrev pub program : Program State
 program = record { plan = plan; commands = commands; scope = scope; acts = acts; runs = run_and_end eight_answered moves }
 
 -- this is a run in the field that recorded all three answers; the third command is of the first one's chain, no command between
--- the two turns the telescope, and nothing disturbs the instrument. So when the third is executed, after both others, the
--- telescope points where the first pointed it
+-- the two turns the telescope, and nothing disturbs the instrument. So when the third is executed, after the client's null
+-- procedure and both others, the telescope points where the first pointed it
 pub record IsPointedInField : Type 0 where
   pub field : IsInField simulator_ends IsFittingState kept_of at_start program
   pub records : program_records program ≡ records_with first_reply second_reply third_reply
   pub chained : AreChained commands 0 2
   pub still : AreStill commands 0 2
   pub undisturbed : IsUndisturbed moves
-  pub executed : (stretch_wire simulator_ends stretch (until_third moves)).executed ≡ 8 ∷ 9 ∷ []
+  pub executed : (stretch_wire simulator_ends stretch (until_third moves)).executed ≡ 8 ∷ 9 ∷ 10 ∷ []
   pub pointing : (stretch_wire simulator_ends stretch (until_third moves)).state.pointing ≡ record { hz = hz; v = v }

@@ -56,25 +56,29 @@ null_replies =
     codes "%R1P,0,6:0,28" ∷ codes "%R1P,0,5:0,29" ∷ codes "%R1P,0,4:0,30" ∷ codes "%R1P,0,3:0,31" ∷ codes "%R1P,0,2:0,32" ∷ codes "%R1P,0,1:0,33"
     ∷ codes "%R1P,0,0:0,34" ∷ codes "%R1P,0,7:0,35" ∷ []
 
+-- the reply to the client's null procedure
+abbrev pub null_reply : List ℕ
+null_reply = codes "%R1P,0,0:0,36"
+
 -- the reply to the first command
 abbrev pub first_reply : List ℕ
-first_reply = codes "%R1P,0,0:0,36"
+first_reply = codes "%R1P,0,1:0,37"
 
 -- the reply to the second command
 abbrev pub second_reply : List ℕ
-second_reply = codes "%R1P,0,1:0,37"
+second_reply = codes "%R1P,0,2:0,38"
 
 -- the reply to the third command
 abbrev pub third_reply : List ℕ
-third_reply = codes "%R1P,0,2:0,38"
+third_reply = codes "%R1P,0,3:0,39"
 
 -- the acts of the run
 abbrev pub acts : List Act
-acts = acts_with null_replies first_reply second_reply third_reply
+acts = acts_with null_replies null_reply first_reply second_reply third_reply
 
 -- what happens once the run has synchronized
 abbrev pub moves : List (Move Counter)
-moves = moves_with first_reply second_reply third_reply
+moves = moves_with null_reply first_reply second_reply third_reply
 
 -- at the start of the run nothing is in flight
 abbrev pub at_start : UnderWay Counter
@@ -100,9 +104,9 @@ pub record IsCountedInField : Type 0 where
   pub records : program_records program ≡ records_with first_reply second_reply third_reply
   pub chained : AreChained commands 0 2
   pub undisturbed : IsUndisturbed moves
-  pub first_made_on : WasMadeOn WINDOW counting stretch.from moves 8 points first_reply
-  pub third_made_on : WasMadeOn WINDOW counting stretch.from moves 10 reads_all third_reply
-  pub before_first : (stretch_wire counting stretch (until_first moves)).executed ≡ []
-  pub before_third : (stretch_wire counting stretch (until_third moves)).executed ≡ 8 ∷ 9 ∷ []
-  pub count_at_first : (stretch_wire counting stretch (until_first moves)).state.count ≡ 35
-  pub count_at_third : (stretch_wire counting stretch (until_third moves)).state.count ≡ 37
+  pub first_made_on : WasMadeOn WINDOW counting stretch.from moves 9 points first_reply
+  pub third_made_on : WasMadeOn WINDOW counting stretch.from moves 11 reads_all third_reply
+  pub before_first : (stretch_wire counting stretch (until_first moves)).executed ≡ 8 ∷ []
+  pub before_third : (stretch_wire counting stretch (until_third moves)).executed ≡ 8 ∷ 9 ∷ 10 ∷ []
+  pub count_at_first : (stretch_wire counting stretch (until_first moves)).state.count ≡ 36
+  pub count_at_third : (stretch_wire counting stretch (until_third moves)).state.count ≡ 38

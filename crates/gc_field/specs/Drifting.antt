@@ -26,7 +26,7 @@ use Rattle.gc_field.specs.Begun.{WasMadeOn}
 use Rattle.gc_field.specs.Field.{Move, Sends, Tells, Comes, OnLine, Anew, Changes}
 use Rattle.gc_field.specs.Instrument.{IsAnInstrument, AnyState, never_kept}
 use Rattle.gc_field.specs.Runs.{IsInField, NoActFollows, Program, program_records}
-use Rattle.gc_field.specs.Witness.{plan_of_width, scope_saying, null_lines, at, eight_answered, exchanged, replies, run_and_end}
+use Rattle.gc_field.specs.Witness.{plan_of_width, scope_saying, null_lines, at, cycle_begun, null_answered, eight_answered, exchanged, replies, run_and_end}
 
 -- an instrument that keeps no reply, and answers every request with its state: `text` gives the parameters of the reply in a
 -- state, and `new` is the state after a start
@@ -57,13 +57,17 @@ scope = scope_saying Nothing
 abbrev pub null_replies : List (List ℕ)
 null_replies = map (λ line. line ++ codes ",12") replies
 
+-- the reply to the client's null procedure
+abbrev pub null_reply : List ℕ
+null_reply = codes "%R1P,0,0:0,12"
+
 -- the reply to the second command
 abbrev pub answer : List ℕ
-answer = codes "%R1P,0,1:0,31"
+answer = codes "%R1P,0,2:0,31"
 
 -- the acts of the run: the first null procedure is sent again at its deadline, and the dead line is closed and connected again;
--- the synchronization goes on there. The first command has timed out; the connection breaks, and the second command's reply
--- comes over the next one
+-- the synchronization goes on there, and the client's null procedure is answered. The first command has timed out; the
+-- connection breaks, and the second command's reply comes over the next one
 abbrev pub acts : RawCall → List Act
 acts raw =
     Opened
@@ -82,11 +86,11 @@ acts raw =
     ∷ Put (10 ∷ [])
     ∷ Told (at 210)
     ∷ exchanged 215 null_lines null_replies (
-    Told (at 220)
-    ∷ Put (with_end (codes "%R1Q,5003,0:"))
+    cycle_begun 220 null_reply (
+    Put (with_end (codes "%R1Q,5003,1:"))
     ∷ Told (at 220)
     ∷ Silent (at 320)
-    ∷ Put (with_end (asked_line (Some 1) (Raw raw)))
+    ∷ Put (with_end (asked_line (Some 2) (Raw raw)))
     ∷ Told (at 320)
     ∷ Broke
     ∷ Closed
@@ -99,19 +103,21 @@ acts raw =
     ∷ Gave (with_end answer) (at 360)
     ∷ Closed
     ∷ []
-    )
+    ))
 
 -- what happens while the station synchronizes: the line loses the first reply to the first null procedure, and that procedure's
 -- second request; and the number that the instrument measures becomes 12
 abbrev pub turns : List (SyncTurn ℕ)
 turns = Asks ∷ Reaches ∷ turn.Down_lose 0 ∷ Asks ∷ turn.Up_lose 0 ∷ turn.Changes 12 ∷ eight_answered
 
--- what happens once the station has synchronized: the first command is answered, and that reply is lost; the second
--- command reaches the instrument after a start, and is answered with what it measures by then, over another connection
+-- what happens once the station has synchronized: the client's null procedure is answered; the first command is answered, and
+-- that reply is lost; the second command reaches the instrument after a start, and is answered with what it measures by then,
+-- over another connection
 abbrev pub moves : RawCall → List (Move ℕ)
 moves raw =
     Tells 220
-    ∷ Sends 7 (Table InstrumentNo) 320
+    ∷ null_answered 220 null_reply (
+    Sends 7 (Table InstrumentNo) 320
     ∷ Tells 220
     ∷ OnLine Up_deliver
     ∷ OnLine (Down_lose 0)
@@ -129,6 +135,7 @@ moves raw =
     ∷ Tells 360
     ∷ Comes answer
     ∷ []
+    )
 
 -- the run as a program (`run_and_end`)
 abbrev pub program : RawCall → Program ℕ
@@ -145,7 +152,7 @@ pub record IsAnsweredByDrifting (raw : RawCall) : Type 0 where
       ≡ plain_record 220 360 0 7 (Table InstrumentNo) end.Lost
       ∷ plain_record 320 360 1 8 (Raw raw) (end.Answered Fine (Some Nothing) answer)
       ∷ []
-  pub made_on : WasMadeOn WINDOW drifting (left_by_turns drifting turns (none_under_way 5)) (moves raw) 9 (Raw raw) answer
+  pub made_on : WasMadeOn WINDOW drifting (left_by_turns drifting turns (none_under_way 5)) (moves raw) 10 (Raw raw) answer
 
 -- `IsAnsweredByDrifting` holds whichever procedure the second command asks for
 abbrev pub SomeRunIsOverADriftingInstrument : Type 0

@@ -20,7 +20,7 @@ use Rattle.gc_field.specs.Field.{Move, Sends, Tells, Comes, OnLine}
 use Rattle.gc_field.specs.Laws.{kept_of}
 use Rattle.gc_field.specs.Runs.{IsInField, NoActFollows, Program, program_records}
 use Rattle.gc_field.specs.Witness as one
-use Rattle.gc_field.specs.Witness.{plan, scope, at, begun_with, eight_answered, replies, run_and_end}
+use Rattle.gc_field.specs.Witness.{plan, scope, at, begun_with, cycle_begun, null_answered, null_reply, eight_answered, replies, run_and_end}
 
 -- two requests for the instrument's number
 abbrev pub commands : List Task
@@ -35,31 +35,32 @@ late = one.answer
 
 -- the reply to the second request
 abbrev pub answer : List ℕ
-answer = codes "%R1P,0,1:0,123456"
+answer = codes "%R1P,0,2:0,123456"
 
--- the acts of the run: the station synchronizes; then nothing comes until the first command's deadline; the second one is sent,
--- and then both replies come
+-- the acts of the run: the station synchronizes, and its client's null procedure is answered; the first command is sent, and
+-- nothing comes until its deadline; the second one is sent, and then both replies come
 abbrev pub acts : List Act
 acts =
     begun_with replies (
-    Told (at 15)
-    ∷ Put (with_end (codes "%R1Q,5003,0:"))
+    cycle_begun 15 null_reply (
+    Put (with_end (codes "%R1Q,5003,1:"))
     ∷ Told (at 15)
     ∷ Silent (at 115)
-    ∷ Put (with_end (codes "%R1Q,5003,1:"))
+    ∷ Put (with_end (codes "%R1Q,5003,2:"))
     ∷ Told (at 115)
     ∷ Gave (with_end late) (at 120)
     ∷ Gave (with_end answer) (at 125)
     ∷ Closed
     ∷ []
-    )
+    ))
 
--- what happens meanwhile: each request reaches the simulator, and each reply comes, that of the first command after
--- its deadline
+-- what happens meanwhile: each request reaches the simulator, and each reply comes, that of the first command after its
+-- deadline
 abbrev pub moves : List (Move State)
 moves =
     Tells 15
-    ∷ Sends 7 (Table InstrumentNo) 115
+    ∷ null_answered 15 null_reply (
+    Sends 7 (Table InstrumentNo) 115
     ∷ Tells 15
     ∷ OnLine Up_deliver
     ∷ Tells 115
@@ -71,6 +72,7 @@ moves =
     ∷ Tells 125
     ∷ Comes answer
     ∷ []
+    )
 
 -- the run as a program (`run_and_end`)
 abbrev pub program : Program State
@@ -90,5 +92,5 @@ pub record IsLateInField : Type 0 where
       ≡ plain_record 15 120 0 7 (Table InstrumentNo) end.Late
       ∷ plain_record 115 125 1 8 (Table InstrumentNo) (end.Answered Fine (Some (Long (pos 123456))) answer)
       ∷ []
-  pub late_made_on : WasMadeOn WINDOW simulator_ends from moves 8 (Table InstrumentNo) late
-  pub answer_made_on : WasMadeOn WINDOW simulator_ends from moves 9 (Table InstrumentNo) answer
+  pub late_made_on : WasMadeOn WINDOW simulator_ends from moves 9 (Table InstrumentNo) late
+  pub answer_made_on : WasMadeOn WINDOW simulator_ends from moves 10 (Table InstrumentNo) answer

@@ -170,7 +170,7 @@ pub fn some_late_record_is_in_the_field()
     ensures { IsLateInField }
 {}
 
-/// Some run resynchronizes, on the same connection, after seven requests have timed out: a request and a reply of these are in
+/// Some run resynchronizes, on the same connection, after six commands have timed out: a request and a reply of these are in
 /// flight then, each with an id that is used again, and the command after that has the answer that was made on executing its
 /// own request.
 pub fn some_run_resynchronizes()

@@ -1,6 +1,6 @@
 -- The eventful run, computed. Which function says what replies say (`reads`) is left open here. `patched` is that function with
 -- the readings of the five replies that answer commands put before it; no other reply of the run is looked at.
-use Rattle.std.proofs.Common.{◌≡◌, inl, ℕ, zero, suc, List, [], ◌∷◌, ◌++◌, Option, Some, None, refl, sym, subst, ap, arith, lit<}
+use Rattle.std.proofs.Common.{◌≡◌, inl, ℕ, zero, suc, List, [], ◌∷◌, ◌++◌, Option, Some, None, refl, sym, subst, ap, arith, lit<, lit≤}
 use Rattle.std.specs.Prelude.{codes, map, option_map, take, drop}
 use Rattle.std.specs.Fmt.{digits}
 use Rattle.gc_lines.specs.Readers.{header_at, reply_at}
@@ -35,7 +35,7 @@ use Rattle.gc_field.specs.Field.{ArePossible, Move, moved, moves, seen}
 use Rattle.gc_field.specs.Instrument.{IsAnInstrument, AnyState, never_kept}
 use Rattle.gc_field.specs.Shown.{AreShownAs, shown}
 use Rattle.gc_field.specs.Witness.{at, replies}
-use Rattle.gc_field.proofs.Witness.{asked_each, units, zeros_lack_the_word}
+use Rattle.gc_field.proofs.Witness.{asked_each, ones_lack_the_word, units}
 use Rattle.gc_promise.specs.Eventful.{IsEventful, acts, acts_until_anew, anew_acts, anew_turns, at_start, commands, executed_moves, first_acts, first_moves}
 use Rattle.gc_promise.specs.Eventful.{first_stretch, heard_acts, heard_moves, last_acts, last_moves, last_stretch, left_by_first, plan, pointed_reply, records, reporting}
 use Rattle.gc_promise.specs.Eventful.{runs, scope, sent_acts, sent_moves, sync_acts, sync_turns, tally}
@@ -50,16 +50,16 @@ reporting_is_instrument = keeps_none (List ℕ) reporting (λ line. refl) (λ s 
 
 -- what the turns of the first synchronization show to the station
 abbrev sync_shown : List part.SyncStep
-sync_shown = part.Asks ∷ part.Hears (codes "%R1Q,0,6:") ∷ part.Hears (codes "%R1P,0,0:0,4") ∷ asked_each replies
+sync_shown = part.Asks ∷ part.Hears (codes "%R1Q,0,6:") ∷ part.Hears (codes "%R1P,0,1:0,4") ∷ asked_each replies
 
 -- what the turns of the second synchronization show to the station
 abbrev anew_shown : List part.SyncStep
 anew_shown =
     part.Asks
-    ∷ part.Hears (codes "%R1P,0,2:0,27")
+    ∷ part.Hears (codes "%R1P,0,4:0,27")
     ∷ part.Hears (codes "%R1P,0,6:0,27")
     ∷ part.Asks
-    ∷ part.Hears (codes "%R1P,0,0:0")
+    ∷ part.Hears (codes "%R1P,0,1:0")
     ∷ part.Hears (codes "%R1P,0,6:0")
     ∷ part.Hears (codes "%R1P,0,5:0")
     ∷ part.Asks
@@ -74,8 +74,8 @@ part_of_cycle cycle sync_steps steps sent =
 -- the parts of the run: until it resynchronizes, from there on, and after its end
 abbrev all_parts : List Part
 all_parts =
-    part_of_cycle 1 sync_shown (seen first_moves) (Some (0, 40) ∷ None ∷ (map (λ place. Some (place, 95)) (2 ∷ 3 ∷ 4 ∷ 5 ∷ 6 ∷ []) ++ None ∷ None ∷ []))
-    ∷ part_of_cycle 3 anew_shown (seen last_moves) (Some (0, 405) ∷ (map (λ place. Some (place, 410)) (1 ∷ 2 ∷ 3 ∷ 4 ∷ 5 ∷ 6 ∷ []) ++ None ∷ []))
+    part_of_cycle 1 sync_shown (seen first_moves) (None ∷ Some (0, 40) ∷ None ∷ (map (λ place. Some (place, 95)) (2 ∷ 3 ∷ 4 ∷ 5 ∷ 6 ∷ []) ++ None ∷ None ∷ []))
+    ∷ part_of_cycle 3 anew_shown (seen last_moves) (None ∷ Some (0, 405) ∷ (map (λ place. Some (place, 410)) (1 ∷ 2 ∷ 3 ∷ 4 ∷ 5 ∷ 6 ∷ []) ++ None ∷ []))
     ∷ idle_part
     ∷ []
 
@@ -114,30 +114,31 @@ possible_append w (m ∷ earlier) later h g = (h.0, possible_append (moves repor
 -- the moves of the first cycle are possible
 first_possible : PossibleFrom (ids_begun first_stretch.from) first_moves
 unfolding is_elsewhere is_near header_at reply_at digits rounded
-first_possible = (tt, (tt, (tt, (tt, (tt, (tt, (tt, (tt, (tt, (tt, ((9, _, refl), (tt, ((tt, refl), units 27)))))))))))))
+first_possible =
+    (tt, (tt, (tt, (tt, (tt, ((8, _, refl), (tt, (tt, (tt, (tt, (tt, (tt, (tt, (tt, (tt, ((10, _, refl), (tt, ((tt, refl), (tt, (tt, (tt, (tt, (tt, (tt, (tt, (tt, (tt, (tt, (tt, (tt, (tt, (tt, (tt, ((11, _, refl), units 12))))))))))))))))))))))))))))))))))
 
 -- the moves of the third cycle are possible
 last_possible : PossibleFrom (ids_begun last_stretch.from) last_moves
 unfolding is_elsewhere is_near header_at reply_at digits rounded
 last_possible =
     possible_append (ids_begun last_stretch.from) sent_moves (executed_moves ++ heard_moves)
-    (tt, (tt, (tt, (tt, (tt, (tt, (tt, (tt, (tt, (tt, (tt, (tt, (tt, (tt, (tt, ((8, _, refl), units 11))))))))))))))))
+    (tt, (tt, (tt, (tt, (tt, (tt, (tt, (tt, (tt, (tt, (tt, (tt, (tt, ((8, _, refl), (tt, (tt, (tt, (tt, (tt, (tt, ((9, _, refl), units 11)))))))))))))))))))))
     (possible_append (moved reporting (by_ids WINDOW reporting) sent_moves (ids_begun last_stretch.from)) executed_moves heard_moves
     ((tt, refl), (tt, ((tt, refl), (tt, ((tt, refl), (tt, (tt, (tt, (tt, (tt, (tt, (tt, (tt, (tt, tt)))))))))))))) (
       refl,
       (
-        (8, _, refl),
+        (9, _, refl),
         (
-          (9, _, refl),
+          (10, _, refl),
           (
-            (10, _, refl),
+            (11, _, refl),
             (
-              (11, _, refl),
+              (12, _, refl),
               (
-                (11, _, refl),
+                (12, _, refl),
                 (
-                  (12, _, refl),
-                  (tt, (tt, (tt, ((tt, refl), (tt, (tt, (tt, (tt, ((13, _, refl), ((15, _, refl), tt)))))))))),
+                  (13, _, refl),
+                  (tt, (tt, (tt, ((tt, refl), (tt, (tt, (tt, (tt, ((14, _, refl), ((16, _, refl), tt)))))))))),
                 ),
               ),
             ),
@@ -154,11 +155,11 @@ command_1_is_chained zero above upto = absurd (omega (arith, above))
 command_1_is_chained (suc zero) above upto = refl
 command_1_is_chained (suc (suc p)) above upto = absurd (omega (arith, upto))
 
--- the reply to command 0 in the first cycle was made on executing the request of command 0, which is request 8, the client's
--- first one, and reaches the instrument at the fourth move
-pointed_reply_was_made : WasMadeOn WINDOW reporting first_stretch.from first_moves 8 points pointed_reply
+-- the reply to command 0 in the first cycle was made on executing the request of command 0, which is request 9, the client's
+-- second one, and reaches the instrument at the ninth move
+pointed_reply_was_made : WasMadeOn WINDOW reporting first_stretch.from first_moves 9 points pointed_reply
 unfolding is_elsewhere is_near header_at reply_at digits rounded
-pointed_reply_was_made = record { front = take 3 first_moves; later = drop 4 first_moves; split = refl; id = 0; rest = []; reaches = refl; executed = refl; reply = refl }
+pointed_reply_was_made = record { front = take 8 first_moves; later = drop 9 first_moves; split = refl; id = 1; rest = []; reaches = refl; executed = refl; reply = refl }
 
 -- The station's part.
 
@@ -183,17 +184,17 @@ module _ (reads : Asked → List ℕ → Reading) where
       (refl, (tt, (tt, (refl, (tt, (tt, (refl, (tt, (tt, (refl, (tt, (tt, (refl, (tt, (tt, (refl, (tt, (tt, (refl, (tt, (tt, (refl, (tt, (tt, tt))))))))))))))))))))))))
 
   -- after the synchronization, the acts until command 1 is skipped are a run
-  first_runs : RunsAfter sync_acts (take 8 first_acts)
+  first_runs : RunsAfter sync_acts (take 11 first_acts)
   unfolding is_elsewhere is_near header_at reply_at digits rounded
-  first_runs = (tt, (refl, (tt, (tt, (refl, (tt, (tt, (tt, tt))))))))
+  first_runs = (tt, (refl, (tt, (tt, (refl, (tt, (tt, (refl, (tt, (tt, (tt, tt)))))))))))
 
-  -- after the acts until command 1 is skipped, those until seven requests have timed out are a run
-  gives_up_runs : RunsAfter (sync_acts ++ take 8 first_acts) (drop 8 first_acts)
+  -- after the acts until command 1 is skipped, those until six requests have timed out are a run
+  gives_up_runs : RunsAfter (sync_acts ++ take 11 first_acts) (drop 11 first_acts)
   unfolding is_elsewhere is_near header_at reply_at digits rounded
   gives_up_runs =
       (refl, (tt, (refl, (tt, (refl, (tt, (refl, (tt, (refl, (tt, (tt, (refl, (tt, (tt, (refl, (tt, (tt, (refl, (tt, (tt, (tt, (refl, (tt, (tt, tt))))))))))))))))))))))))
 
-  -- after the acts until seven requests have timed out, those until the fourth connection is made are a run
+  -- after the acts until six requests have timed out, those until the fourth connection is made are a run
   anew_runs : RunsAfter acts_until_anew (take 16 anew_acts)
   unfolding is_elsewhere is_near header_at reply_at digits rounded
   anew_runs = (tt, (refl, (tt, (tt, (refl, (tt, (tt, (refl, (tt, (tt, (refl, (tt, (tt, (tt, (refl, (tt, tt))))))))))))))))
@@ -212,7 +213,7 @@ module _ (reads : Asked → List ℕ → Reading) where
   answers_runs : RunsAfter (acts_until_anew ++ (anew_acts ++ take 9 sent_acts)) (drop 9 sent_acts)
   unfolding is_elsewhere is_near header_at reply_at digits rounded
   answers_runs =
-      (refl, (tt, (tt, (refl, (tt, (refl, (tt, (refl, (tt, (refl, (tt, (refl, (tt, ((refl, lit< tt), tt))))))))))))))
+      (refl, (tt, (tt, (refl, (tt, (tt, (refl, (tt, (refl, (tt, (refl, (tt, (refl, (tt, (refl, (tt, ((refl, lit< tt), tt)))))))))))))))))
 
   -- after the acts until the last request is cut, those until the end are a run
   late_runs : RunsAfter (acts_until_anew ++ (anew_acts ++ sent_acts)) heard_acts
@@ -226,7 +227,7 @@ module _ (reads : Asked → List ℕ → Reading) where
       runs-append plan commands (opening plan patched_scope) acts_until_anew (anew_acts ++ last_acts)
       (runs-append plan commands (opening plan patched_scope) sync_acts first_acts
       (runs-append plan commands (opening plan patched_scope) (take 16 sync_acts) (drop 16 sync_acts) sync_runs answers_eight)
-      (runs-append plan commands (state_after plan commands patched_scope sync_acts) (take 8 first_acts) (drop 8 first_acts) first_runs gives_up_runs))
+      (runs-append plan commands (state_after plan commands patched_scope sync_acts) (take 11 first_acts) (drop 11 first_acts) first_runs gives_up_runs))
       (runs-append plan commands (state_after plan commands patched_scope acts_until_anew) anew_acts last_acts
       (runs-append plan commands (state_after plan commands patched_scope acts_until_anew) (take 16 anew_acts) (drop 16 anew_acts) anew_runs answers_six)
       (runs-append plan commands (state_after plan commands patched_scope (acts_until_anew ++ anew_acts)) sent_acts heard_acts
@@ -243,11 +244,11 @@ module _ (reads : Asked → List ℕ → Reading) where
   unfolding is_elsewhere is_near header_at reply_at digits rounded
   written = refl
 
-  -- after the acts `acts_until_anew`, by which seven requests have timed out, the next act, which reads the moment 365, makes the
+  -- after the acts `acts_until_anew`, by which six requests have timed out, the next act, which reads the moment 365, makes the
   -- station resynchronize
   begins_anew : SynchronizesAnew plan commands patched_scope acts_until_anew (Told (at 365))
   unfolding is_elsewhere is_near header_at reply_at digits rounded
-  begins_anew = record { resynchronizes = record { renews = refl; moment = at 365; told = refl; why = inl refl; given_up = refl }; word = refl; client = refl }
+  begins_anew = record { resynchronizes = record { renews = refl; moment = at 365; told = refl; why = inl (lit≤ tt); given_up = refl }; word = refl; client = refl }
 
   -- with the patched readings the run is eventful
   patched_is_eventful : IsEventful (patched reads)
@@ -259,7 +260,7 @@ module _ (reads : Asked → List ℕ → Reading) where
             record {
               runs = all_run;
               lines = record { ids = (lit< tt, tt); good = tt };
-              none = zeros_lack_the_word;
+              none = ones_lack_the_word;
               shown = subst (AreShownAs reporting at_start runs) (sym parts_are) (sync_turns_show, refl, (anew_turns_show, refl, (refl, refl, tt)));
               possible = ((sync_possible, first_possible), ((anew_possible, last_possible), ((tt, refl), tt)));
             };

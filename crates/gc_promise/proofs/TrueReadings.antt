@@ -52,33 +52,33 @@ module _ (call : Call) where
   -- of a call with no values in its answers, the reply to command 0 says nothing but that the call was carried out
   pointed_says : (call_fields call).answer ≡ shape.Nothing → ReadsBy IsAskedReading (Table call) pointed_reply (Value Nothing)
   unfolding header_at reply_at digits
-  pointed_says of_call = value_says pointed_reply [] 0 Nothing refl of_call (no_params [] [] refl refl)
+  pointed_says of_call = value_says pointed_reply [] 1 Nothing refl of_call (no_params [] [] refl refl)
 
   -- of a call that asks for angles and a distance, the reply to command 1 says those at target 7
   measured_says : (call_fields call).answer ≡ shape.Measured → ReadsBy IsAskedReading (Table call) measured_reply (Value at_target)
   unfolding header_at reply_at digits rounded
   measured_says of_call =
-      value_says measured_reply (codes "2.25,1.625,110.0625") 1 at_target refl of_call (written_reads (answer_fields at_target).values (tt, (tt, (tt, tt))))
+      value_says measured_reply (codes "2.25,1.625,110.0625") 2 at_target refl of_call (written_reads (answer_fields at_target).values (tt, (tt, (tt, tt))))
 
   -- of a call that asks for angles and a distance, the reply to command 2 says those of `elsewhere_answer`, where target 8
   -- doesn't stand
   elsewhere_says : (call_fields call).answer ≡ shape.Measured → ReadsBy IsAskedReading (Table call) elsewhere_reply (Value elsewhere_answer)
   unfolding header_at reply_at digits rounded
-  elsewhere_says of_call = value_says elsewhere_reply (codes "0.5,1.5,87.25") 2 elsewhere_answer refl of_call (written_reads (answer_fields elsewhere_answer).values (tt, (tt, (tt, tt))))
+  elsewhere_says of_call = value_says elsewhere_reply (codes "0.5,1.5,87.25") 3 elsewhere_answer refl of_call (written_reads (answer_fields elsewhere_answer).values (tt, (tt, (tt, tt))))
 
   -- of a call that asks for a whole number, the reply to command 3 says the number 31
   numbered_says : (call_fields call).answer ≡ shape.Long → ReadsBy IsAskedReading (Table call) numbered_reply (Value (Long (pos 31)))
   unfolding header_at reply_at digits
   numbered_says of_call =
-      value_says numbered_reply (codes "31") 3 (Long (pos 31)) refl of_call (written_reads (value.Long (pos 31) ∷ []) ((omega (arith, ints), omega (arith, ints)), tt))
+      value_says numbered_reply (codes "31") 4 (Long (pos 31)) refl of_call (written_reads (value.Long (pos 31) ∷ []) ((omega (arith, ints), omega (arith, ints)), tt))
 
   -- of a call that asks for a whole number, the reply to command 4 doesn't read: it has too few values
   empty_says : (call_fields call).answer ≡ shape.Long → ReadsBy IsAskedReading (Table call) empty_reply (Unreadable Count)
   unfolding header_at reply_at digits
   empty_says of_call =
       record {
-        reply = replied 4 [];
-        is_reply = reply_found empty_reply (replied 4 []) refl;
+        reply = replied 5 [];
+        is_reply = reply_found empty_reply (replied 5 []) refl;
         is_reading = (refl, refl, (Long (pos 0), sym of_call, faulty_items [] (0, refl) (wrong_count refl (omega arith) (λ e. absurd (omega (arith, e))))));
       }
 

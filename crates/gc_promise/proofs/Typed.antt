@@ -25,27 +25,27 @@ reply_of_bytes line params id reads small =
 -- the reply to command 0 is of bytes
 pointed_of_bytes : IsReplyOfBytes pointed_reply
 unfolding header_at reply_at digits
-pointed_of_bytes = reply_of_bytes pointed_reply [] 0 refl refl
+pointed_of_bytes = reply_of_bytes pointed_reply [] 1 refl refl
 
 -- the reply to command 1 is of bytes
 measured_of_bytes : IsReplyOfBytes measured_reply
 unfolding header_at reply_at digits
-measured_of_bytes = reply_of_bytes measured_reply (codes "2.25,1.625,110.0625") 1 refl refl
+measured_of_bytes = reply_of_bytes measured_reply (codes "2.25,1.625,110.0625") 2 refl refl
 
 -- the reply to command 2 is of bytes
 elsewhere_of_bytes : IsReplyOfBytes elsewhere_reply
 unfolding header_at reply_at digits
-elsewhere_of_bytes = reply_of_bytes elsewhere_reply (codes "0.5,1.5,87.25") 2 refl refl
+elsewhere_of_bytes = reply_of_bytes elsewhere_reply (codes "0.5,1.5,87.25") 3 refl refl
 
 -- the reply to command 3 is of bytes
 numbered_of_bytes : IsReplyOfBytes numbered_reply
 unfolding header_at reply_at digits
-numbered_of_bytes = reply_of_bytes numbered_reply (codes "31") 3 refl refl
+numbered_of_bytes = reply_of_bytes numbered_reply (codes "31") 4 refl refl
 
 -- the reply to command 4 is of bytes
 empty_of_bytes : IsReplyOfBytes empty_reply
 unfolding header_at reply_at digits
-empty_of_bytes = reply_of_bytes empty_reply [] 4 refl refl
+empty_of_bytes = reply_of_bytes empty_reply [] 5 refl refl
 
 -- the ending of command 0 is of bytes (`IsEndOfBytes`)
 points_end : IsEndOfBytes points_record.end

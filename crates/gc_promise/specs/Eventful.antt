@@ -1,8 +1,8 @@
 -- An eventful run, this project's own. Each kind of act of a link comes in it, but for a clock that can't be read, which ends a
 -- run; each kind of turn and of move, but for a lost line feed that joins two requests; and each of the seven ways in which a
 -- command may end. Of its three cycles the second is missed. In the first one the reply to the first command of a chain is
--- lost, and so the second one is skipped; then seven requests have timed out, and the station resynchronizes, with requests and
--- a reply of before in flight. In the third both commands of the chain are answered.
+-- lost, and so the second one is skipped; the reply to the third command is late; then six requests have timed out, and the
+-- station resynchronizes, with requests and a reply of before in flight. In the third both commands of the chain are answered.
 use Rattle.std.specs.Prelude.{◌≡◌, ℕ, suc, ◌+◌, Bool, true, false, List, [], ◌∷◌, ◌++◌, ◌==◌, if◌then◌else◌, codes, drop, map, pos, refl, replicate, Option, Some, None}
 use Rattle.std.specs.List.{flat_map}
 use Rattle.gc_lines.specs.Lines.{with_end}
@@ -43,7 +43,7 @@ use Rattle.gc_field.specs.Instrument.{IsAnInstrument, AnyState, never_kept}
 use Rattle.gc_field.specs.Plain.{plain_task}
 use Rattle.gc_field.specs.Runs.{IsInField, NoActFollows, Program, program_records, world}
 use Rattle.gc_field.specs.Shown.{Stretch}
-use Rattle.gc_field.specs.Witness.{null_lines, at, eight_answered, exchanged, plan_of_width, replies, run_and_end}
+use Rattle.gc_field.specs.Witness.{null_lines, at, cycle_begun, null_answered, null_exchanged, null_reply, eight_answered, exchanged, plan_of_width, replies, run_and_end}
 
 -- The instrument.
 
@@ -82,45 +82,45 @@ commands =
     ∷ task 2 8 reads_all false (near_place 8 (decimal (pos 125) 2 refl) (decimal (pos 15) 1 refl))
     ∷ map (λ target. task (2 + target) target (Table InstrumentNo) false None) (1 ∷ 2 ∷ 3 ∷ 4 ∷ [])
 
--- the request line of command 0. The number of a command is its id, in the first cycle and in the third
+-- the request line of command 0. The id of a command is one more than its number, in the first cycle and in the third
 abbrev pub point_line : List ℕ
-point_line = codes "%R1Q,9027,0:2.25,1.625,0,0,0"
+point_line = codes "%R1Q,9027,1:2.25,1.625,0,0,0"
 
 -- the request line of command 1
 abbrev pub measure_line : List ℕ
-measure_line = codes "%R1Q,2108,1:3000,1"
+measure_line = codes "%R1Q,2108,2:3000,1"
 
 -- the request lines of commands 2 to 5
 abbrev pub four_lines : List (List ℕ)
-four_lines = codes "%R1Q,2108,2:3000,1" ∷ codes "%R1Q,5003,3:" ∷ codes "%R1Q,5003,4:" ∷ codes "%R1Q,5003,5:" ∷ []
+four_lines = codes "%R1Q,2108,3:3000,1" ∷ codes "%R1Q,5003,4:" ∷ codes "%R1Q,5003,5:" ∷ codes "%R1Q,5003,6:" ∷ []
 
 -- the request line of command 6
 abbrev pub last_line : List ℕ
-last_line = codes "%R1Q,5003,6:"
+last_line = codes "%R1Q,5003,7:"
 
 -- the request line of the null procedure with this id, a single digit (48 is the digit 0)
 abbrev pub null_line : ℕ → List ℕ
 null_line id = codes "%R1Q,0," ++ (48 + id) ∷ codes ":"
 
--- the reply to command 0 in the third cycle, `%R1P,0,0:0`: without parameters, as the simulator's to its first command
+-- the reply to command 0 in the third cycle, `%R1P,0,1:0`: without parameters, as the simulator's to its first command
 abbrev pub pointed_reply : List ℕ
 pointed_reply = first_reply
 
 -- the reply to command 1 in the third cycle: angles and distance, where target 7 stands
 abbrev pub measured_reply : List ℕ
-measured_reply = codes "%R1P,0,1:0,2.25,1.625,110.0625"
+measured_reply = codes "%R1P,0,2:0,2.25,1.625,110.0625"
 
 -- the reply to command 2 in the third cycle: angles and distance, where target 8 doesn't stand
 abbrev pub elsewhere_reply : List ℕ
-elsewhere_reply = codes "%R1P,0,2:0,0.5,1.5,87.25"
+elsewhere_reply = codes "%R1P,0,3:0,0.5,1.5,87.25"
 
 -- the reply to command 3 in the third cycle: a number
 abbrev pub numbered_reply : List ℕ
-numbered_reply = codes "%R1P,0,3:0,31"
+numbered_reply = codes "%R1P,0,4:0,31"
 
 -- the reply to command 4 in the third cycle, without the number that it should have
 abbrev pub empty_reply : List ℕ
-empty_reply = codes "%R1P,0,4:0"
+empty_reply = codes "%R1P,0,5:0"
 
 -- the scope of this run: at most two hundred acts, nothing that is watched, and what each reply says of its call
 abbrev pub scope : (Asked → List ℕ → Reading) → Scope
@@ -149,7 +149,7 @@ sends_all now deadline targets = send_all now deadline targets []
 
 -- in flight at the start are a reply and a request, each with the id that command 0 will have
 abbrev pub at_start : UnderWay (List ℕ)
-at_start = record { up = record { id = 0; call = Table InstrumentNo } ∷ []; down = codes "%R1P,0,0:0,4" ∷ []; state = codes "5" }
+at_start = record { up = record { id = 1; call = Table InstrumentNo } ∷ []; down = codes "%R1P,0,1:0,4" ∷ []; state = codes "5" }
 
 -- the acts: an attempt to connect fails. The first connection is made, and the first null procedure is sent over it. The null
 -- procedure's echo and the old reply come in one piece. The connection breaks. The second connection is made. Over it all eight
@@ -163,7 +163,7 @@ sync_acts =
     ∷ Put (10 ∷ [])
     ∷ Told (at 10)
     ∷ puts 10 (null_line 6 ∷ [])
-    ++ gave 12 (null_line 6 ∷ codes "%R1P,0,0:0,4" ∷ [])
+    ++ gave 12 (null_line 6 ∷ codes "%R1P,0,1:0,4" ∷ [])
     ∷ Broke
     ∷ connects_again 15 35
     ++ exchanged 40 null_lines replies []
@@ -190,35 +190,38 @@ sync_turns =
 
 -- The first cycle.
 
--- the acts: command 0 is sent, and no reply to it comes until its deadline. A null procedure is sent, and its reply settles
--- command 0 as lost. Command 1, which is chained to command 0, is skipped. Commands 2 to 6 are sent. After their deadline a null
--- procedure is sent, and after its deadline another one. No reply comes to any of these seven requests. Once the last of them has
--- timed out, the line is dead: the second connection is closed, and the third is made
+-- the acts: the client's null procedure is answered. Command 0 is sent, and no reply to it comes until its deadline. A null
+-- procedure is sent, and its reply settles command 0 as lost. Command 1, which is chained to command 0, is skipped. Commands 2 to
+-- 6 are sent. At their deadline the reply to command 2 comes, which is late. A null procedure is sent, and after its deadline
+-- another one. No reply comes to any of these six requests. Once the last of them has timed out, the line is dead: the second
+-- connection is closed, and the third is made
 abbrev pub first_acts : List Act
 first_acts =
-    Told (at 40)
-    ∷ puts 40 (point_line ∷ [])
+    cycle_begun 40 null_reply (
+    puts 40 (point_line ∷ [])
     ++ Silent (at 90)
-    ∷ puts 90 (null_line 1 ∷ [])
-    ++ gave 95 (codes "%R1P,0,1:0" ∷ [])
+    ∷ puts 90 (null_line 2 ∷ [])
+    ++ gave 95 (codes "%R1P,0,2:0" ∷ [])
     ∷ Told (at 95)
     ∷ puts 95 (four_lines ++ last_line ∷ [])
-    ++ Silent (at 145)
-    ∷ puts 145 (null_line 7 ∷ [])
+    ++ gave 145 (codes "%R1P,0,3:0,27" ∷ [])
+    ∷ puts 145 (null_line 0 ∷ [])
     ++ Silent (at 245)
-    ∷ puts 245 (null_line 0 ∷ [])
+    ∷ puts 245 (null_line 1 ∷ [])
     ++ Silent (at 345)
     ∷ connects_again 345 355
     ++ Silent (at 365)
     ∷ []
+    )
 
--- what happens meanwhile: command 0 is executed, and its reply is lost. Command 2 is executed, and its reply stays in flight. The
--- requests of commands 3 to 5 are lost, and so is that of the first of the two null procedures; the requests of command 6 and of
--- the other one stay in flight
+-- what happens meanwhile: command 0 is executed, and its reply is lost. Commands 2 and 3 are executed, and the reply to command 3
+-- stays in flight. The requests of commands 4 and 6 are lost, and so is that of the first of the two null procedures; the requests
+-- of command 5 and of the other one stay in flight
 abbrev pub first_moves : List (Move (List ℕ))
 first_moves =
     Tells 40
-    ∷ Sends 7 points 90
+    ∷ null_answered 40 null_reply (
+    Sends 7 points 90
     ∷ Tells 40
     ∷ OnLine Up_deliver
     ∷ OnLine (Down_lose 0)
@@ -227,17 +230,15 @@ first_moves =
     ∷ Tells 90
     ∷ OnLine Up_deliver
     ∷ Tells 95
-    ∷ Comes (codes "%R1P,0,1:0")
+    ∷ Comes (codes "%R1P,0,2:0")
     ∷ Tells 95
     ∷ Changes (codes "27")
     ∷ Sends 8 reads_all 145
     ∷ Tells 95
     ∷ sends_all 95 145 (1 ∷ 2 ∷ 3 ∷ 4 ∷ [])
-    ++ OnLine Up_deliver
-    ∷ OnLine (Up_lose 0)
-    ∷ OnLine (Up_lose 0)
-    ∷ OnLine (Up_lose 0)
-    ∷ Tells 145
+    ++ map OnLine (Up_deliver ∷ Up_deliver ∷ Up_lose 0 ∷ Up_lose 1 ∷ [])
+    ++ Tells 145
+    ∷ Comes (codes "%R1P,0,3:0,27")
     ∷ Sends 0 (Table NullProc) 245
     ∷ Tells 145
     ∷ OnLine (Up_lose 1)
@@ -245,20 +246,21 @@ first_moves =
     ∷ Sends 0 (Table NullProc) 345
     ∷ Tells 245
     ∷ map Tells (345 ∷ 345 ∷ 355 ∷ 355 ∷ 365 ∷ 365 ∷ [])
+    )
 
 -- The station resynchronizes.
 
--- the acts: the first null procedure is sent. The replies to commands 2 and 6 of the first cycle come; the one to command 6 has
+-- the acts: the first null procedure is sent. The replies to commands 3 and 5 of the first cycle come; the one to command 5 has
 -- its id, and so answers it. The second is sent. Three replies come in one piece: to the last null procedure of the first cycle,
--- which has the id 0, to the first one here, and to the second. The third is sent. The third connection ends, and the fourth is
+-- which has the id 1, to the first one here, and to the second. The third is sent. The third connection ends, and the fourth is
 -- made, over which the null procedures from the third on are sent and answered
 abbrev pub anew_acts : List Act
 anew_acts =
     Told (at 365)
     ∷ puts 365 (null_line 6 ∷ [])
-    ++ gave 370 (codes "%R1P,0,2:0,27" ∷ codes "%R1P,0,6:0,27" ∷ [])
+    ++ gave 370 (codes "%R1P,0,4:0,27" ∷ codes "%R1P,0,6:0,27" ∷ [])
     ∷ puts 370 (null_line 5 ∷ [])
-    ++ gave 375 (codes "%R1P,0,0:0" ∷ codes "%R1P,0,6:0" ∷ codes "%R1P,0,5:0" ∷ [])
+    ++ gave 375 (codes "%R1P,0,1:0" ∷ codes "%R1P,0,6:0" ∷ codes "%R1P,0,5:0" ∷ [])
     ∷ puts 375 (null_line 4 ∷ [])
     ++ Ended
     ∷ connects_again 375 395
@@ -283,11 +285,12 @@ anew_turns =
 -- The second cycle, and the third.
 
 -- the acts, first: the clock is read nine times: the second cycle begins and is missed, its seven commands are left out, and the
--- third cycle begins. Command 0 is sent and answered. Commands 1 to 6 are sent; the request of command 6 is cut after five bytes
+-- third cycle begins. The client's null procedure is answered, and command 0 is sent and answered. Commands 1 to 6 are sent; the
+-- request of command 6 is cut after five bytes
 abbrev pub sent_acts : List Act
 sent_acts =
     map (λ now. Told (at now)) (replicate 9 405)
-    ++ puts 405 (point_line ∷ [])
+    ++ null_exchanged 405 null_reply (puts 405 (point_line ∷ []))
     ++ gave 410 (pointed_reply ∷ [])
     ∷ puts 410 (measure_line ∷ four_lines)
     ++ Cut (with_end last_line) 5
@@ -303,8 +306,8 @@ heard_acts =
     ++ Silent (at 430)
     ∷ gave 435 (codes "?" ∷ pointed_reply ∷ measured_reply ∷ elsewhere_reply ∷ numbered_reply ∷ numbered_reply ∷ empty_reply ∷ [])
     ∷ Silent (at 460)
-    ∷ puts 460 (null_line 7 ∷ [])
-    ++ gave 465 (codes "%R1P,0,5:0,31" ∷ codes "%R1P,0,7:0,31" ∷ [])
+    ∷ puts 460 (null_line 0 ∷ [])
+    ++ gave 465 (codes "%R1P,0,6:0,31" ∷ codes "%R1P,0,0:0,31" ∷ [])
     ∷ Closed
     ∷ []
 
@@ -312,13 +315,13 @@ heard_acts =
 abbrev pub last_acts : List Act
 last_acts = sent_acts ++ heard_acts
 
--- what happens meanwhile, first: the seven commands are sent; the line repeats the request of command 0, which is executed twice
+-- what happens meanwhile, first: the null procedure is answered, and the seven commands are sent; the line repeats the request of
+-- command 0, which is executed twice
 abbrev pub sent_moves : List (Move (List ℕ))
 sent_moves =
     map Tells (replicate 9 405)
-    ++ Sends 7 points 455
-    ∷ Tells 405
-    ∷ map OnLine (Up_repeat 0 ∷ Up_deliver ∷ Up_deliver ∷ [])
+    ++ null_answered 405 null_reply (Sends 7 points 455 ∷ Tells 405 ∷ [])
+    ++ map OnLine (Up_repeat 0 ∷ Up_deliver ∷ Up_deliver ∷ [])
     ++ Tells 410
     ∷ Comes pointed_reply
     ∷ Sends 7 reads_all 460
@@ -351,7 +354,7 @@ heard_moves =
     ∷ Changes (codes "31")
     ∷ map OnLine (Up_deliver ∷ Up_lose 0 ∷ Up_deliver ∷ [])
     ++ Tells 465
-    ∷ map Comes (codes "%R1P,0,5:0,31" ∷ codes "%R1P,0,7:0,31" ∷ [])
+    ∷ map Comes (codes "%R1P,0,6:0,31" ∷ codes "%R1P,0,0:0,31" ∷ [])
 
 -- all that happens during `last_acts`
 abbrev pub last_moves : List (Move (List ℕ))
@@ -359,7 +362,7 @@ last_moves = sent_moves ++ (executed_moves ++ heard_moves)
 
 -- The whole run.
 
--- the acts until seven requests have timed out
+-- the acts until six requests have timed out
 abbrev pub acts_until_anew : List Act
 acts_until_anew = sync_acts ++ first_acts
 
@@ -436,7 +439,7 @@ abbrev pub records : List Record
 records =
     ended_record (Some 40) 95 1 0 7 points end.Lost
     ∷ ended_record None 95 1 1 7 reads_all end.Skipped
-    ∷ ended_record (Some 95) 365 1 2 8 reads_all end.Lost
+    ∷ ended_record (Some 95) 145 1 2 8 reads_all end.Late
     ∷ ended_record (Some 95) 365 1 3 1 (Table InstrumentNo) end.Lost
     ∷ ended_record (Some 95) 365 1 4 2 (Table InstrumentNo) end.Lost
     ∷ ended_record (Some 95) 365 1 5 3 (Table InstrumentNo) end.Lost
@@ -459,7 +462,7 @@ records =
 
 -- how many commands ended in each of the seven ways; no chain is sent again
 abbrev pub tally : Tally
-tally = record { answered = 3; refused = 0; late = 1; lost = 7; skipped = 1; unreadable = 1; missed = 7; elsewhere = 1; again = 0 }
+tally = record { answered = 3; refused = 0; late = 2; lost = 6; skipped = 1; unreadable = 1; missed = 7; elsewhere = 1; again = 0 }
 
 -- What the run shows.
 
@@ -481,12 +484,12 @@ pub record IsEventful (reads : Asked → List ℕ → Reading) : Type 0 where
   -- command 1 is sent only once command 0 was answered well
   pub chained : AreChained commands 0 1
   -- a reply is lost: in the first cycle, too, the instrument made this line on executing the request of command 0
-  pub made : WasMadeOn WINDOW reporting first_stretch.from first_stretch.moves 8 points pointed_reply
-  -- the station resynchronizes where seven requests wait that have all timed out. Two requests and a reply are in flight then
+  pub made : WasMadeOn WINDOW reporting first_stretch.from first_stretch.moves 9 points pointed_reply
+  -- the station resynchronizes where six requests wait that have all timed out. Two requests and a reply are in flight then
   pub begins_anew : SynchronizesAnew plan commands (scope reads) acts_until_anew (Told (at 365))
-  pub up : left_by_first.up ≡ record { id = 6; call = Table InstrumentNo } ∷ record { id = 0; call = Table NullProc } ∷ []
-  pub down : left_by_first.down ≡ codes "%R1P,0,2:0,27" ∷ []
-  -- the instrument starts again in the third cycle, after five executions
-  pub starts : (world reporting last_stretch).wire.starts ≡ 5 ∷ []
+  pub up : left_by_first.up ≡ record { id = 6; call = Table InstrumentNo } ∷ record { id = 1; call = Table NullProc } ∷ []
+  pub down : left_by_first.down ≡ codes "%R1P,0,4:0,27" ∷ []
+  -- the instrument starts again in the third cycle, after six executions
+  pub starts : (world reporting last_stretch).wire.starts ≡ 6 ∷ []
   -- five connections are made
   pub connected : connections acts ≡ 5

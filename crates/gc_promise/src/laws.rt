@@ -37,7 +37,7 @@ pub fn rows_are_their_own<State>()
 
 /// Some run meets all premises of `rows_are_their_own`, with every function that gives what replies say, and its rows are its
 /// own. Its synchronization goes on over a second connection, among earlier lines. In one cycle the reply to the first command
-/// of a chain is lost and its request times out, so the second command is skipped; then seven requests time out, a dead line is
+/// of a chain is lost and its request times out, so the second command is skipped; then six requests time out, a dead line is
 /// connected again, and the station resynchronizes, with earlier requests and an earlier reply in flight. One cycle is missed.
 /// In another both commands of the chain are answered, the instrument, which changes by itself, restarts, a request is cut, and
 /// a fifth connection is made. Commands end in each of the seven ways. The rows of the five that have a reply in time are

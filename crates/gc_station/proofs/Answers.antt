@@ -33,6 +33,7 @@ use Rattle.gc_station.specs.Runs.{state_after, OfEachRecord}
 use Rattle.gc_station.specs.ActKinds.{moment_in, Puts, ReadsClock, IsOpening, ReadsLink}
 use Rattle.gc_station.specs.Model.{Model, opening, action_at, waiting_of, next_request_text, null_text, first_text, with_progress, is_heard, client_sent, asks_first, asks_next, after_pass, with_more_passes, next_left_out, with_listed, listed_after_skip, with_more_records, unsent_record, end_unsent, first_unsent_record, after_clock, after_put, after_open, after_read, Performs, moved, Runs, cycle_length, place_to_send, text_or_null, asks_setup, null_request, request_or_null, asks_for}
 use Rattle.gc_station.specs.NextCommand.{mark_next, place_next, upcoming_after, mark_setup}
+use Rattle.gc_station.proofs.InCycle.{within_window}
 use Rattle.gc_station.proofs.EachRun.{invariant_holds}
 use Rattle.gc_station.proofs.Outs.{prepare_cycle, prepare_place, send_cycle, send_place, sending_asks}
 use Rattle.gc_station.proofs.Facts.{action_for}
@@ -251,7 +252,7 @@ module _ (plan : Plan) (commands : List Task) (scope : Scope) (acts : List Act) 
       let s = here in
       put_honest plan commands scope (acts ++ act ∷ []) _ (λ (x : Model). with_progress (setup_sent plan) (asks_setup plan commands x)) (with_progress turned s) act
       (setup_honest act (drop s.progress.prepared commands) (mark_setup commands s.progress) fine h
-      (record { sends = inr is; cycle = sym (prepare_cycle plan s is); place = sym (prepare_place plan commands s is); sent = refl }) needs.3.1
+      (record { sends = inr is; cycle = sym (prepare_cycle plan s is); place = sym (prepare_place plan commands s is); sent = refl }) (within_window _ _ needs.3.1)
       (ap (λ n. drop n commands) (prepare_place plan commands s is)) o)
   moved_honest actions.Send act tail fine h is needs o ends =
       let s = here in
@@ -260,7 +261,7 @@ module _ (plan : Plan) (commands : List Task) (scope : Scope) (acts : List Act) 
       (with_progress turned s) act
       (first_honest act (upcoming_after 1 commands s.progress)
       (drop (place_next commands s.progress) commands) (mark_next plan commands s.progress) fine h
-      (record { sends = inl is; cycle = sym (send_cycle plan s is); place = sym (send_place plan commands s is); sent = refl }) needs.3.1
+      (record { sends = inl is; cycle = sym (send_cycle plan s is); place = sym (send_place plan commands s is); sent = refl }) (within_window _ _ needs.3.1)
       (ap (λ n. drop n commands) (send_place plan commands s is)) o)
   moved_honest actions.Skip act tail fine h is needs o ends =
       let s = here in
@@ -275,7 +276,7 @@ module _ (plan : Plan) (commands : List Task) (scope : Scope) (acts : List Act) 
   moved_honest actions.Flush act tail fine h is needs o ends =
       let s = here in
       put_honest plan commands scope (acts ++ act ∷ []) _ (λ (x : Model). with_progress request_noted (asks_for (null_request plan) x)) (with_progress turned s) act
-      (null_honest act request_noted fine h needs.4.1 (λ above. subst IsAsking (sym is) tt) o)
+      (null_honest act request_noted fine h (within_window _ _ needs.4.1) (λ above. subst IsAsking (sym is) tt) o)
   moved_honest (actions.Read until) act tail fine h is needs o ends = read_honest until act tail fine h o ends
   moved_honest (actions.Close why) act tail fine h is needs o ends = honest_without_moment plan commands scope acts act _ _ _ (ap moment_in o) h
   moved_honest (actions.Stop why) act tail fine h is needs o ends = absurd o

@@ -142,8 +142,8 @@ module _ (plan : Plan) (commands : List Task) (scope : Scope) (acts : List Act) 
         left = ap (λ (x : Model). x.progress.word) (after_all-append plan commands (opening plan scope) acts (act ∷ [])) ∙ word_after plan commands here act obeys begins;
       }
 
-  -- `SynchronizesAnew` holds of an act of a run at which the station resynchronizes: it reads the clock where seven requests are
-  -- outstanding, all timed out; after it the client is new, and all eight ids are left
+  -- `SynchronizesAnew` holds of an act of a run at which the station resynchronizes: it reads the clock where all outstanding
+  -- requests have timed out; after it the client is new, and all eight ids are left
   of_resynchronizing : Performs commands here (action_at plan here) act → has_begun here.progress ≡ true → has_begun there.progress ≡ false → SynchronizesAnew plan commands scope acts act
   of_resynchronizing obeys begun begins =
       let far = progress_after_act plan commands scope acts act in

@@ -2,7 +2,7 @@
 -- that; its steps are to send, to hear a line, to read the clock and to restart. `behind_by` counts, over steps, the requests
 -- after the last call of the table that a reply ended, and `CountsBehind` says that a count is right for a course. A part reaches
 -- from one synchronization to the next. An act is one call on the link, with its result.
-use Rattle.std.proofs.Common.{◌≡◌, ◌⊎◌, inl, inr, ℕ, zero, suc, ◌+◌, ◌-◌, ◌<◌, ◌≤◌, Bool, true, false, List, [], ◌∷◌, ◌++◌, length, map, Option, Some, None, refl, sym, ap, ◌∙◌, subst, arith, append_assoc, append-nil, if◌then◌else◌, nat_lt}
+use Rattle.std.proofs.Common.{◌≡◌, ℕ, zero, suc, ◌+◌, ◌-◌, ◌<◌, ◌≤◌, Bool, true, false, List, [], ◌∷◌, ◌++◌, length, map, Option, Some, None, refl, sym, ap, ◌∙◌, subst, arith, append_assoc, append-nil, if◌then◌else◌, nat_lt}
 use Rattle.std.specs.Prelude.{slice_get}
 use Rattle.std.proofs.lemmas.Bool.{ltb-true, cond_both, ltb-false}
 use Rattle.std.proofs.lemmas.List.{length-map, length-append}
@@ -36,11 +36,10 @@ abbrev pub behind_by : ById Asked → (b : ℕ) → List (Step Asked) → ℕ
 behind_by c b [] = b
 behind_by c b (step ∷ steps) = behind_by (client_stepped c step) (behind_step c b step) steps
 
--- at most `b` requests were sent in all; or at most `b` were sent after some call of the table that a reply ended
+-- at most `b` requests were sent after some call of the table that a reply ended
 abbrev pub IsAtMostBehind : Course Asked → (b : ℕ) → Type 0
 IsAtMostBehind x b =
-    (length x.sent ≤ b)
-    ⊎ ((k : ℕ) × (s : Settlement Asked) × (slice_get x.settlements k ≡ Some s) × IsRepliedTableCall s × (length x.sent ≤ suc k + b))
+    (k : ℕ) × (s : Settlement Asked) × (slice_get x.settlements k ≡ Some s) × IsRepliedTableCall s × (length x.sent ≤ suc k + b)
 
 -- if the count `b` is below seven, `IsAtMostBehind` holds of it
 abbrev pub CountsBehind : Course Asked → (b : ℕ) → Type 0
@@ -88,7 +87,7 @@ ends_replied c line (Some id) e = by_test _ _ refl e where
       }
 
 -- a course that accounts for its sends sent as many requests as it has settlements and outstanding requests
-settled_and_waiting : (x : Course Asked) → AccountsForSends x → length x.settlements + length x.client.waiting ≡ length x.sent
+pub settled_and_waiting : (x : Course Asked) → AccountsForSends x → length x.settlements + length x.client.waiting ≡ length x.sent
 settled_and_waiting x one =
     let a = length-append (map of_settled x.settlements) (map of_pending x.client.waiting) in
     let b = length-map x.settlements of_settled in
@@ -99,17 +98,13 @@ settled_and_waiting x one =
 -- `IsAtMostBehind` is preserved if settlements are added, whatever client is left
 at_most_more : (x : Course Asked) (more : List (Settlement Asked)) (client : ById Asked) (b : ℕ) → IsAtMostBehind x b
     → IsAtMostBehind (record { sent = x.sent; settlements = x.settlements ++ more; client = client }) b
-at_most_more x more client b (inl few) = inl few
-at_most_more x more client b (inr (k, s, at, replied, near)) = inr (k, s, get_more x.settlements more k s at, replied, near)
+at_most_more x more client b (k, s, at, replied, near) = (k, s, get_more x.settlements more k s at, replied, near)
 
 -- `IsAtMostBehind` is preserved by a send, with the count one higher, whether the client refuses the send (`None`) or not
 at_most_sent : (x : Course Asked) (target : ℕ) (call : Asked) (o : Option (Sending (ById Asked))) (b : ℕ) → IsAtMostBehind x b → IsAtMostBehind (sent_on x target call o) (b + 1)
-at_most_sent x target call None b (inl few) = inl (omega (arith, few))
-at_most_sent x target call None b (inr (k, s, at, replied, near)) = inr (k, s, at, replied, omega (arith, near))
-at_most_sent x target call (Some sending) b (inl few) =
-    let more = length-append x.sent (record { target = target; call = call } ∷ []) in inl (omega (arith, more, few))
-at_most_sent x target call (Some sending) b (inr (k, s, at, replied, near)) =
-    let more = length-append x.sent (record { target = target; call = call } ∷ []) in inr (k, s, at, replied, omega (arith, more, near))
+at_most_sent x target call None b (k, s, at, replied, near) = (k, s, at, replied, omega (arith, near))
+at_most_sent x target call (Some sending) b (k, s, at, replied, near) =
+    let more = length-append x.sent (record { target = target; call = call } ∷ []) in (k, s, at, replied, omega (arith, more, near))
 
 -- if `one_more_in_window` of a number is below seven, so is the number, and the former is the number plus 1
 one_more_if_below : (b : ℕ) → one_more_in_window b < WINDOW → (b < WINDOW) × (one_more_in_window b ≡ b + 1)
@@ -133,7 +128,7 @@ counts_step x b (Hear line) one h low = by_test (ends_with_table (hears x.client
       let k = length x.settlements + (length y.settlements - 1) in
       let many = length-append x.settlements y.settlements in
       let all = settled_and_waiting (course_after WINDOW x (Hear line)) one in
-      inr (k, last.last, get_behind x.settlements y.settlements k (length y.settlements - 1) refl ∙ last.at, last.replied, omega (arith, many, all, last.some))
+      (k, last.last, get_behind x.settlements y.settlements k (length y.settlements - 1) refl ∙ last.at, last.replied, omega (arith, many, all, last.some))
 counts_step x b (Expire now) one h low = h low
 counts_step x b Restart one h low = at_most_more x (restarts x.client).settlements (restarts x.client).client b (h low)
 
@@ -170,8 +165,4 @@ counts_steps done (step ∷ steps) b h =
 
 -- if `CountsBehind` holds of a count below seven, `IsNearTheTable` holds of the course
 pub near_by_count : (x : Course Asked) (b : ℕ) → CountsBehind x b → b < WINDOW → IsNearTheTable x
-near_by_count x b h low = by_case (h low) where
-  -- the lemma above, by the case of `IsAtMostBehind`
-  by_case : IsAtMostBehind x b → IsNearTheTable x
-  by_case (inl few) = inl (omega (arith, few, low))
-  by_case (inr (k, s, at, replied, near)) = inr (k, s, at, replied, omega (arith, near, low))
+near_by_count x b h low = let it = h low in (it.0, it.1, it.2, it.3, let near = it.4 in omega (arith, near, low))

@@ -46,9 +46,9 @@ pub deadlines_needed : DeadlinesAreNeeded
 unfolding is_elsewhere header_at reply_at digits
 deadlines_needed =
     record {
-      is = record { runs = (tt, (refl, (tt, (refl, (tt, (tt, (refl, (tt, (tt, (refl, (tt, (tt, (refl, (tt, (tt, (refl, (tt, (tt, (refl, (tt, (tt, (refl, (tt, (tt, (refl, (tt, (tt, (tt, (refl, (tt, (tt, (tt, (tt, tt))))))))))))))))))))))))))))))))); some = lit< tt; listed = lit≤ tt; rises = (lit≤ tt, lit≤ tt, (lit≤ tt, lit≤ tt, (lit≤ tt, lit≤ tt, (lit≤ tt, lit≤ tt, (lit≤ tt, lit≤ tt, (lit≤ tt, lit≤ tt, (lit≤ tt, lit≤ tt, (lit≤ tt, lit≤ tt, (lit≤ tt, lit≤ tt, (lit≤ tt, lit≤ tt, (lit≤ tt, lit≤ tt, (lit≤ tt, lit≤ tt, (lit≤ tt, lit≤ tt, (lit≤ tt, lit≤ tt, (lit≤ tt, lit≤ tt, (lit≤ tt, lit≤ tt, (lit≤ tt, lit≤ tt, (lit≤ tt, lit≤ tt, (lit≤ tt, lit≤ tt, (lit≤ tt, lit≤ tt, (lit≤ tt, lit≤ tt, (lit≤ tt, lit≤ tt, tt)))))))))))))))))))))) };
-      calls = calls_soon quick_plan slow_commands scope 10 long_deadline (lit≤ tt) (λ slow. lit≤ tt, (λ slow. lit≤ tt, (λ slow. lit≤ tt, (λ slow. lit≤ tt, (λ slow. lit≤ tt, (λ slow. lit≤ tt, (λ slow. lit≤ tt, (λ slow. lit≤ tt, (λ slow. lit≤ tt, (λ slow. lit≤ tt, (λ slow. lit≤ tt, (λ slow. lit≤ tt, (λ slow. lit≤ tt, (λ slow. lit≤ tt, (λ slow. lit≤ tt, (λ slow. lit≤ tt, (λ slow. lit≤ tt, (λ slow. lit≤ tt, (λ slow. lit≤ tt, (λ slow. lit≤ tt, (λ slow. lit≤ tt, (λ slow. lit≤ tt, (λ slow. lit≤ tt, (λ slow. lit≤ tt, (λ slow. lit≤ tt, (λ slow. lit≤ tt, (λ slow. lit≤ tt, (λ slow. lit≤ tt, (λ slow. lit≤ tt, (λ slow. lit≤ tt, (λ slow. lit≤ tt, (λ slow. lit≤ tt, (λ slow. lit≤ tt, tt)))))))))))))))))))))))))))))))));
-      readings = readings_at_once quick_plan slow_commands scope long_deadline (inr tt, (inr tt, (inr (lit≤ tt), (inr tt, (inr (lit≤ tt), (inr (lit≤ tt), (inr tt, (inr (lit≤ tt), (inr (lit≤ tt), (inr tt, (inr (lit≤ tt), (inr (lit≤ tt), (inr tt, (inr (lit≤ tt), (inr (lit≤ tt), (inr tt, (inr (lit≤ tt), (inr (lit≤ tt), (inr tt, (inr (lit≤ tt), (inr (lit≤ tt), (inr tt, (inr (lit≤ tt), (inr (lit≤ tt), (inr tt, (inr (lit≤ tt), (inr (lit≤ tt), (inr (lit≤ tt), (inr tt, (inr (lit≤ tt), (inl tt, (inl tt, (inl tt, tt)))))))))))))))))))))))))))))))));
+      is = record { runs = (tt, (refl, (tt, (refl, (tt, (tt, (refl, (tt, (tt, (refl, (tt, (tt, (refl, (tt, (tt, (refl, (tt, (tt, (refl, (tt, (tt, (refl, (tt, (tt, (refl, (tt, (tt, (tt, (refl, (tt, (tt, (refl, (tt, (tt, (tt, (tt, tt)))))))))))))))))))))))))))))))))))); some = lit< tt; listed = lit≤ tt; rises = (lit≤ tt, lit≤ tt, (lit≤ tt, lit≤ tt, (lit≤ tt, lit≤ tt, (lit≤ tt, lit≤ tt, (lit≤ tt, lit≤ tt, (lit≤ tt, lit≤ tt, (lit≤ tt, lit≤ tt, (lit≤ tt, lit≤ tt, (lit≤ tt, lit≤ tt, (lit≤ tt, lit≤ tt, (lit≤ tt, lit≤ tt, (lit≤ tt, lit≤ tt, (lit≤ tt, lit≤ tt, (lit≤ tt, lit≤ tt, (lit≤ tt, lit≤ tt, (lit≤ tt, lit≤ tt, (lit≤ tt, lit≤ tt, (lit≤ tt, lit≤ tt, (lit≤ tt, lit≤ tt, (lit≤ tt, lit≤ tt, (lit≤ tt, lit≤ tt, (lit≤ tt, lit≤ tt, (lit≤ tt, lit≤ tt, (lit≤ tt, lit≤ tt, tt)))))))))))))))))))))))) };
+      calls = calls_soon quick_plan slow_commands scope 10 long_deadline (lit≤ tt) (λ slow. lit≤ tt, (λ slow. lit≤ tt, (λ slow. lit≤ tt, (λ slow. lit≤ tt, (λ slow. lit≤ tt, (λ slow. lit≤ tt, (λ slow. lit≤ tt, (λ slow. lit≤ tt, (λ slow. lit≤ tt, (λ slow. lit≤ tt, (λ slow. lit≤ tt, (λ slow. lit≤ tt, (λ slow. lit≤ tt, (λ slow. lit≤ tt, (λ slow. lit≤ tt, (λ slow. lit≤ tt, (λ slow. lit≤ tt, (λ slow. lit≤ tt, (λ slow. lit≤ tt, (λ slow. lit≤ tt, (λ slow. lit≤ tt, (λ slow. lit≤ tt, (λ slow. lit≤ tt, (λ slow. lit≤ tt, (λ slow. lit≤ tt, (λ slow. lit≤ tt, (λ slow. lit≤ tt, (λ slow. lit≤ tt, (λ slow. lit≤ tt, (λ slow. lit≤ tt, (λ slow. lit≤ tt, (λ slow. lit≤ tt, (λ slow. lit≤ tt, (λ slow. lit≤ tt, (λ slow. lit≤ tt, (λ slow. lit≤ tt, tt))))))))))))))))))))))))))))))))))));
+      readings = readings_at_once quick_plan slow_commands scope long_deadline (inr tt, (inr tt, (inr (lit≤ tt), (inr tt, (inr (lit≤ tt), (inr (lit≤ tt), (inr tt, (inr (lit≤ tt), (inr (lit≤ tt), (inr tt, (inr (lit≤ tt), (inr (lit≤ tt), (inr tt, (inr (lit≤ tt), (inr (lit≤ tt), (inr tt, (inr (lit≤ tt), (inr (lit≤ tt), (inr tt, (inr (lit≤ tt), (inr (lit≤ tt), (inr tt, (inr (lit≤ tt), (inr (lit≤ tt), (inr tt, (inr (lit≤ tt), (inr (lit≤ tt), (inr (lit≤ tt), (inr tt, (inr (lit≤ tt), (inr (lit≤ tt), (inr tt, (inr (lit≤ tt), (inl tt, (inl tt, (inl tt, tt))))))))))))))))))))))))))))))))))));
       unasked = refl;
       beyond = not_in_time quick_plan slow_commands scope 14 long_deadline (lit< tt) (λ n. lit< tt) (lit≤ tt);
     }
@@ -58,9 +58,9 @@ pub unasked_needed : UnaskedIsNeeded
 unfolding is_elsewhere header_at reply_at digits
 unasked_needed =
     record {
-      is = record { runs = (tt, (refl, (tt, (refl, (tt, (tt, (refl, (tt, (tt, (refl, (tt, (tt, (refl, (tt, (tt, (refl, (tt, (tt, (refl, (tt, (tt, (refl, (tt, (tt, (refl, (tt, (tt, (tt, (refl, (tt, (tt, (refl, (tt, (tt, (refl, (tt, (tt, tt))))))))))))))))))))))))))))))))))))); some = lit< tt; listed = lit≤ tt; rises = (lit≤ tt, lit≤ tt, (lit≤ tt, lit≤ tt, (lit≤ tt, lit≤ tt, (lit≤ tt, lit≤ tt, (lit≤ tt, lit≤ tt, (lit≤ tt, lit≤ tt, (lit≤ tt, lit≤ tt, (lit≤ tt, lit≤ tt, (lit≤ tt, lit≤ tt, (lit≤ tt, lit≤ tt, (lit≤ tt, lit≤ tt, (lit≤ tt, lit≤ tt, (lit≤ tt, lit≤ tt, (lit≤ tt, lit≤ tt, (lit≤ tt, lit≤ tt, (lit≤ tt, lit≤ tt, (lit≤ tt, lit≤ tt, (lit≤ tt, lit≤ tt, (lit≤ tt, lit≤ tt, (lit≤ tt, lit≤ tt, (lit≤ tt, lit≤ tt, (lit≤ tt, lit≤ tt, (lit≤ tt, lit≤ tt, (lit≤ tt, lit≤ tt, tt)))))))))))))))))))))))) };
+      is = record { runs = (tt, (refl, (tt, (refl, (tt, (tt, (refl, (tt, (tt, (refl, (tt, (tt, (refl, (tt, (tt, (refl, (tt, (tt, (refl, (tt, (tt, (refl, (tt, (tt, (refl, (tt, (tt, (tt, (refl, (tt, (tt, (refl, (tt, (tt, (refl, (tt, (tt, (refl, (tt, (tt, tt)))))))))))))))))))))))))))))))))))))))); some = lit< tt; listed = lit≤ tt; rises = (lit≤ tt, lit≤ tt, (lit≤ tt, lit≤ tt, (lit≤ tt, lit≤ tt, (lit≤ tt, lit≤ tt, (lit≤ tt, lit≤ tt, (lit≤ tt, lit≤ tt, (lit≤ tt, lit≤ tt, (lit≤ tt, lit≤ tt, (lit≤ tt, lit≤ tt, (lit≤ tt, lit≤ tt, (lit≤ tt, lit≤ tt, (lit≤ tt, lit≤ tt, (lit≤ tt, lit≤ tt, (lit≤ tt, lit≤ tt, (lit≤ tt, lit≤ tt, (lit≤ tt, lit≤ tt, (lit≤ tt, lit≤ tt, (lit≤ tt, lit≤ tt, (lit≤ tt, lit≤ tt, (lit≤ tt, lit≤ tt, (lit≤ tt, lit≤ tt, (lit≤ tt, lit≤ tt, (lit≤ tt, lit≤ tt, (lit≤ tt, lit≤ tt, (lit≤ tt, lit≤ tt, (lit≤ tt, lit≤ tt, tt)))))))))))))))))))))))))) };
       few = (lit≤ tt, (lit≤ tt, (lit≤ tt, (lit≤ tt, (lit≤ tt, tt)))));
-      calls = calls_soon quick_plan chain_commands scope 10 asked_in_chain (lit≤ tt) (λ slow. lit≤ tt, (λ slow. lit≤ tt, (λ slow. lit≤ tt, (λ slow. lit≤ tt, (λ slow. lit≤ tt, (λ slow. lit≤ tt, (λ slow. lit≤ tt, (λ slow. lit≤ tt, (λ slow. lit≤ tt, (λ slow. lit≤ tt, (λ slow. lit≤ tt, (λ slow. lit≤ tt, (λ slow. lit≤ tt, (λ slow. lit≤ tt, (λ slow. lit≤ tt, (λ slow. lit≤ tt, (λ slow. lit≤ tt, (λ slow. lit≤ tt, (λ slow. lit≤ tt, (λ slow. lit≤ tt, (λ slow. lit≤ tt, (λ slow. lit≤ tt, (λ slow. lit≤ tt, (λ slow. lit≤ tt, (λ slow. lit≤ tt, (λ slow. lit≤ tt, (λ slow. lit≤ tt, (λ slow. lit≤ tt, (λ slow. lit≤ tt, (λ slow. lit≤ tt, (λ slow. lit≤ tt, (λ slow. lit≤ tt, (λ slow. lit≤ tt, (λ slow. lit≤ tt, (λ slow. lit≤ tt, (λ slow. lit≤ tt, (λ slow. lit≤ tt, tt)))))))))))))))))))))))))))))))))))));
-      readings = readings_at_once quick_plan chain_commands scope asked_in_chain (inr tt, (inr tt, (inr (lit≤ tt), (inr tt, (inr (lit≤ tt), (inr (lit≤ tt), (inr tt, (inr (lit≤ tt), (inr (lit≤ tt), (inr tt, (inr (lit≤ tt), (inr (lit≤ tt), (inr tt, (inr (lit≤ tt), (inr (lit≤ tt), (inr tt, (inr (lit≤ tt), (inr (lit≤ tt), (inr tt, (inr (lit≤ tt), (inr (lit≤ tt), (inr tt, (inr (lit≤ tt), (inr (lit≤ tt), (inr tt, (inr (lit≤ tt), (inr (lit≤ tt), (inr (lit≤ tt), (inr tt, (inr (lit≤ tt), (inl tt, (inr tt, (inr (lit≤ tt), (inl tt, (inr tt, (inr (lit≤ tt), (inl tt, tt)))))))))))))))))))))))))))))))))))));
+      calls = calls_soon quick_plan chain_commands scope 10 asked_in_chain (lit≤ tt) (λ slow. lit≤ tt, (λ slow. lit≤ tt, (λ slow. lit≤ tt, (λ slow. lit≤ tt, (λ slow. lit≤ tt, (λ slow. lit≤ tt, (λ slow. lit≤ tt, (λ slow. lit≤ tt, (λ slow. lit≤ tt, (λ slow. lit≤ tt, (λ slow. lit≤ tt, (λ slow. lit≤ tt, (λ slow. lit≤ tt, (λ slow. lit≤ tt, (λ slow. lit≤ tt, (λ slow. lit≤ tt, (λ slow. lit≤ tt, (λ slow. lit≤ tt, (λ slow. lit≤ tt, (λ slow. lit≤ tt, (λ slow. lit≤ tt, (λ slow. lit≤ tt, (λ slow. lit≤ tt, (λ slow. lit≤ tt, (λ slow. lit≤ tt, (λ slow. lit≤ tt, (λ slow. lit≤ tt, (λ slow. lit≤ tt, (λ slow. lit≤ tt, (λ slow. lit≤ tt, (λ slow. lit≤ tt, (λ slow. lit≤ tt, (λ slow. lit≤ tt, (λ slow. lit≤ tt, (λ slow. lit≤ tt, (λ slow. lit≤ tt, (λ slow. lit≤ tt, (λ slow. lit≤ tt, (λ slow. lit≤ tt, (λ slow. lit≤ tt, tt))))))))))))))))))))))))))))))))))))))));
+      readings = readings_at_once quick_plan chain_commands scope asked_in_chain (inr tt, (inr tt, (inr (lit≤ tt), (inr tt, (inr (lit≤ tt), (inr (lit≤ tt), (inr tt, (inr (lit≤ tt), (inr (lit≤ tt), (inr tt, (inr (lit≤ tt), (inr (lit≤ tt), (inr tt, (inr (lit≤ tt), (inr (lit≤ tt), (inr tt, (inr (lit≤ tt), (inr (lit≤ tt), (inr tt, (inr (lit≤ tt), (inr (lit≤ tt), (inr tt, (inr (lit≤ tt), (inr (lit≤ tt), (inr tt, (inr (lit≤ tt), (inr (lit≤ tt), (inr (lit≤ tt), (inr tt, (inr (lit≤ tt), (inr (lit≤ tt), (inr tt, (inr (lit≤ tt), (inl tt, (inr tt, (inr (lit≤ tt), (inl tt, (inr tt, (inr (lit≤ tt), (inl tt, tt))))))))))))))))))))))))))))))))))))))));
       beyond = not_in_time quick_plan chain_commands scope 23 asked_in_chain (lit< tt) (λ n. lit< tt) (lit≤ tt);
     }

@@ -2,6 +2,7 @@
 -- the next command, leaves out attempts, or begins a cycle. And which actions leave the connection open. An act is one call on
 -- the link, with its result.
 use Rattle.std.proofs.Common.{◌≡◌, ◌⊎◌, inl, inr, ℕ, ◌-◌, true, false, List, [], refl, sym, ap, ◌∙◌, subst}
+use Rattle.std.proofs.lemmas.Bool.{both_ways, false_from_ne_true}
 use Rattle.gc_texts.specs.declared.tasks.Task.{Task}
 use Rattle.gc_station.specs.declared.cause.Cause.{Cause}
 use Rattle.gc_station.specs.declared.cause.Cause.TheVariants as cause
@@ -99,6 +100,29 @@ moved_steps plan commands action s act =
     still s.progress _ (ap (λ (x : Model). x.progress.left) is) (ap (λ (x : Model). x.progress.unsent) is) (ap (λ (x : Model). x.progress.missed) is)
     (ap (λ (x : Model). x.progress.next_is_chained) is)
     (ap (λ (x : Model). x.progress.chain_unbroken) is)
+
+-- no act but that of a send mends a broken chain
+pub stays_broken : (plan : Plan) (commands : List Task) (action : Action) (s : Model) (act : Act) → (action ≡ Send → ⊥) → s.progress.chain_unbroken ≡ false
+    → (moved plan commands action s act).progress.chain_unbroken ≡ false
+stays_broken plan commands action s act other broken = by_action action (moved_steps plan commands action s act) other where
+  -- a chain that is unbroken after an act that keeps the place was so before
+  kept : (q : Progress) → Still s.progress q → q.chain_unbroken ≡ false
+  kept q k = false_from_ne_true q.chain_unbroken (λ e. both_ways s.progress.chain_unbroken broken (k.chain_unbroken e))
+
+  -- the lemma above, by the action
+  by_action : (a : Action) → ChangesChain plan commands a s.progress (moved plan commands a s act).progress → (a ≡ Send → ⊥) → (moved plan commands a s act).progress.chain_unbroken ≡ false
+  by_action Begin (inl k) differs = kept _ k
+  by_action Begin (inr first) differs = first.chain_unbroken
+  by_action Renew (inl k) differs = kept _ k
+  by_action Renew (inr both) differs = both.1
+  by_action Send on differs = absurd (differs refl)
+  by_action Skip (inl k) differs = kept _ k
+  by_action Skip (inr both) differs = both.1
+  by_action Pass (inl k) differs = kept _ k
+  by_action Pass (inr both) differs = both.1
+  by_action Prepare both differs = both.1
+  by_action (Close why) both differs = both.1
+  by_action other k differs = kept _ k
 
 -- no act but that of a close closes the connection
 pub stays_open : (plan : Plan) (commands : List Task) (next : Action) (s : Model) (act : Act) → Performs commands s next act → ((why : Cause) → next ≡ Close why → ⊥) → KeepsOpen act

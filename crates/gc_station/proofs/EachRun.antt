@@ -33,6 +33,7 @@ use Rattle.gc_station.specs.Runs.{state_after}
 use Rattle.gc_station.specs.Tasked.{EachRecordIsOfItsTask}
 use Rattle.gc_station.specs.Model.{Model, opening, action_at, waiting_of, with_progress, asks_first, asks_next, next_left_out, with_more_passes, with_listed, listed_after_skip, after_pass, with_more_records, end_unsent, unsent_record, first_unsent_record, after_clock, moved, after, after_all, cycle_length, asks_setup, request_for, null_request, request_or_null, asks_for}
 use Rattle.gc_station.specs.NextCommand.{place_next, commands_left, expected_first, mark_next, upcoming_after, mark_setup, cycles_begun}
+use Rattle.gc_station.proofs.InCycle.{within_window}
 use Rattle.gc_station.proofs.Acting.{mid_fail, mid_moment, mid_clock, mid_put, mid_open, mid_close, mid_read}
 use Rattle.gc_station.proofs.Each.{row_empty, reached_whole}
 use Rattle.gc_station.proofs.Facts.{action_for}
@@ -203,19 +204,19 @@ mid_moved plan commands s action.Ask act fine is = let t = with_progress turned 
 mid_moved plan commands s action.Prepare act fine is =
     let t = with_progress turned s in
     mid_put plan commands _ (λ (x : Model). with_progress (setup_sent plan) (asks_setup plan commands x)) t act
-    (mid_prepares plan commands t (drop t.progress.prepared commands) refl is.0 is.3.1 (mid_act_of plan commands s fine))
+    (mid_prepares plan commands t (drop t.progress.prepared commands) refl is.0 (within_window _ _ is.3.1) (mid_act_of plan commands s fine))
 mid_moved plan commands s action.Send act fine is =
     let t = with_progress turned s in
     mid_put plan commands _ (λ (x : Model). with_progress (sent (upcoming_after 1 commands x.progress)) (asks_next plan commands x)) t act
     (mid_first plan commands (upcoming_after 1 commands t.progress) t (drop (place_next commands t.progress) commands) refl
-    is.0 is.2 is.3.1 (mid_act_of plan commands s fine))
+    is.0 is.2 (within_window _ _ is.3.1) (mid_act_of plan commands s fine))
 mid_moved plan commands s action.Skip act fine is =
     let t = with_progress turned s in
     mid_skip plan commands (upcoming_after 1 commands t.progress) t act (going_on plan s.progress (waiting_of s) is.0) is.2 is.3 (mid_act_of plan commands s fine)
 mid_moved plan commands s action.Pass act fine is = mid_pass plan commands (with_progress turned s) act (going_on plan s.progress (waiting_of s) is.0) is.2 (mid_act_of plan commands s fine)
 mid_moved plan commands s action.Flush act fine is =
     let t = with_progress turned s in
-    mid_put plan commands _ (λ (x : Model). with_progress request_noted (asks_for (null_request plan) x)) t act (mid_flushed plan commands t is.0 is.4.1 (mid_act_of plan commands s fine))
+    mid_put plan commands _ (λ (x : Model). with_progress request_noted (asks_for (null_request plan) x)) t act (mid_flushed plan commands t is.0 (within_window _ _ is.4.1) (mid_act_of plan commands s fine))
 mid_moved plan commands s (action.Read until) act fine is = mid_read plan commands until (with_progress turned s) act (mid_act_of plan commands s fine)
 mid_moved plan commands s (action.Close why) act fine is =
     mid_close plan commands (with_progress turned s) why (close_done plan commands s (waiting_of s) why fine is) (mid_act_of plan commands s fine)

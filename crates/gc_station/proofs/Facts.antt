@@ -15,7 +15,7 @@ use Rattle.gc_station.specs.declared.progress.Waiting.{Waiting}
 use Rattle.gc_station.specs.Reasons.{HoldsBefore, MayPrepare, IsOutOfTime, IsGoingOn, IsOverdue, IsPreparedOrOverdue}
 use Rattle.gc_station.specs.Deciding.{has_begun, is_up, is_dead, is_due, is_idle, is_finished, action_of, action_in, action_on, action_of_phase, action_ready, action_begun, action_beginning, action_to_send, action_waiting, action_without_turns, is_stale, is_resting, is_stopping, is_held_back, action_cycle, action_to_prepare, action_preparing, action_in_setup, is_preparing, is_out_of_time, waits_out, has_no_time_left, is_overdue, action_overdue, may_abandon, setup_permits}
 use Rattle.gc_station.specs.Stations.{SuitsAction}
-use Rattle.gc_station.proofs.InCycle.{Awake, Holds, IsAtWork, IsInChainIfStopping, Timely, Wakes, above_zero, awake_reads, awake_up, cycle_for, dead_parts, finished_by_test, has_connection_for, held_back_for, in_chain_if_stopping, not_zero, or_first, resting_by_test, room_for, to_send_for, waiting_for_reply, zero_if_not_above}
+use Rattle.gc_station.proofs.InCycle.{within_window, Awake, Holds, IsAtWork, IsInChainIfStopping, Timely, Wakes, above_zero, awake_reads, awake_up, cycle_for, dead_parts, finished_by_test, has_connection_for, held_back_for, in_chain_if_stopping, not_zero, or_first, resting_by_test, room_for, to_send_for, waiting_for_reply, zero_if_not_above}
 
 -- for a station at work, `Holds` is true of `action_to_send` with `Prepare`, if the next command of the
 -- setup may be sent (`MayPrepare`), and the end of the run wasn't asked for
@@ -247,10 +247,10 @@ action_wakes plan p w = (in_for plan p.phase p w refl).2
 -- the conditions of an action give what its call needs (`SuitsAction`)
 suits_if_holds : (plan : Plan) (p : Progress) (w : Waiting) (next : Action) → HoldsBefore plan p w next → SuitsAction p w.all next
 suits_if_holds plan p w action.Ask is = is.1
-suits_if_holds plan p w action.Prepare is = is.3.1
-suits_if_holds plan p w action.Send is = (is.2, is.3.1)
+suits_if_holds plan p w action.Prepare is = within_window _ _ is.3.1
+suits_if_holds plan p w action.Send is = (is.2, (within_window _ _ is.3.1))
 suits_if_holds plan p w action.Skip is = is.2
-suits_if_holds plan p w action.Flush is = is.4.1
+suits_if_holds plan p w action.Flush is = within_window _ _ is.4.1
 suits_if_holds plan p w next is = tt
 
 -- the action that is next has what its call needs

@@ -37,7 +37,7 @@ use Rattle.gc_station.specs.declared.station.Station.{Station}
 use Rattle.gc_station.specs.Attempts.{listed_after_settlements}
 use Rattle.gc_station.specs.Marks.{commands_in, records_of, last_well}
 use Rattle.gc_station.specs.Watching.{fresh_after, cut_to}
-use Rattle.gc_station.specs.Progressing.{behind_noted, line_noted, bytes_noted, early_noted, after_failure, closed, failing, lines_synchronizing, line_synchronizing}
+use Rattle.gc_station.specs.Progressing.{behind_noted, ended_noted, line_noted, bytes_noted, early_noted, after_failure, closed, failing, lines_synchronizing, line_synchronizing}
 use Rattle.gc_station.specs.Records.{Record, Grew, texts_of, WritesPart, WritesBy}
 use Rattle.gc_station.specs.Model.{Model, Performs, line_came, lines_came, lines_completed, lines_taken, with_rest, with_progress, with_moment, waiting_of, settles, piece_heard}
 use Rattle.gc_station.specs.Stations.{waiting_of_station, Refines, Took, TookPart, RefinesOrTookPart, Makes, ReadsMoment, DropsMarks, as_seen, station_expiring}
@@ -325,6 +325,11 @@ pub refines_settled : (mid : Station) (p : Progress) (t t' : Bool) (n n' : ℕ) 
     → Refines (record mid { progress = p }) (with_progress (behind_noted t' n') s)
 refines_settled mid p t t' n n' s stands e f is =
     refines_with mid p (behind_noted t' n') s stands (is ∙ ap (λ b. behind_noted b n mid.progress) e ∙ ap (λ m. behind_noted t' m mid.progress) f)
+
+-- a station that noted how many requests a line ended is as the model that noted it
+pub refines_ended : (mid : Station) (p : Progress) (n n' : ℕ) (s : Model) → Refines mid s → n ≡ n' → p ≡ ended_noted n mid.progress
+    → Refines (record mid { progress = p }) (with_progress (ended_noted n') s)
+refines_ended mid p n n' s stands e is = refines_with mid p (ended_noted n') s stands (is ∙ ap (λ m. ended_noted m mid.progress) e)
 
 -- a station whose progress changed, and whose requests timed out at a moment, is as the model at that moment
 pub refines_expired : (station new : Station) (p q : Progress) (m : Moment) (s : Model) → Refines station s → p ≡ q

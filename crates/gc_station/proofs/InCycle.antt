@@ -1,6 +1,6 @@
 -- What holds if an action of a station in its cycles is next: its conditions (`HoldsBefore`), that a cycle begins only if it is due, and
 -- whether the moment was read (`Timely`, `Wakes`). `Holds` has all of these, and is shown once for each function that decides.
-use Rattle.std.proofs.Common.{◌≡◌, ℕ, ◌<◌, ◌≤◌, ◌⊎◌, ◌&&◌, ◌||◌, Bool, true, false, not, nat_lt, nat_eq, refl, sym, ap, ◌∙◌, inl, inr, arith}
+use Rattle.std.proofs.Common.{◌+◌, ◌≡◌, ℕ, ◌<◌, ◌≤◌, ◌⊎◌, ◌&&◌, ◌||◌, Bool, true, false, not, nat_lt, nat_eq, refl, sym, ap, ◌∙◌, inl, inr, arith}
 use Rattle.std.proofs.lemmas.Bool.{ltb-true, ltb-false, eqb-true, not-true, and_parts, and_cases, not-false, false_from_ne_true, cond_both}
 use Rattle.std.proofs.lemmas.Bool.Decides.{nat_tests}
 use Rattle.gc_client.specs.declared.window.TheConstants.{WINDOW}
@@ -47,12 +47,18 @@ not_zero n some = grind (arith, nat_tests, some)
 -- Room for a request.
 
 -- where `has_room_to_ask` says so, there is room
-room_by_test : (plan : Plan) (w : Waiting) → has_room_to_ask plan w ≡ true → HasRoomToAsk plan w
-room_by_test plan w e = let it = and_parts (nat_lt w.current (width_of plan)) (nat_lt w.all WINDOW) e in (ltb-true w.current (width_of plan) it.0, ltb-true w.all WINDOW it.1)
+room_by_test : (plan : Plan) (p : Progress) (w : Waiting) → has_room_to_ask plan p w ≡ true → HasRoomToAsk plan p w
+room_by_test plan p w e =
+    let it = and_parts (nat_lt w.current (width_of plan)) (nat_lt (w.all + p.last_ended) WINDOW) e in
+    (ltb-true w.current (width_of plan) it.0, ltb-true (w.all + p.last_ended) WINDOW it.1)
+
+-- if there is room, fewer than seven requests are outstanding
+pub within_window : (all last : ℕ) → all + last < WINDOW → all < WINDOW
+within_window all last room = omega (arith, room)
 
 -- there is no room for a request: one of the two tests of `has_room_to_ask` fails
-abbrev pub LacksRoom : Plan → Waiting → Type 0
-LacksRoom plan w = (nat_lt w.current (width_of plan) ≡ false) ⊎ (nat_lt w.all WINDOW ≡ false)
+abbrev pub LacksRoom : Plan → Progress → Waiting → Type 0
+LacksRoom plan p w = (nat_lt w.current (width_of plan) ≡ false) ⊎ (nat_lt (w.all + p.last_ended) WINDOW ≡ false)
 
 -- if the line is dead, it is silent, and all outstanding requests have timed out
 pub dead_parts : (plan : Plan) (p : Progress) (w : Waiting) → is_dead plan p w ≡ true → (is_silent plan p w ≡ true) × (w.current ≡ 0)
@@ -118,13 +124,13 @@ awake_up p (now, is) = ap is_up is
 pub awake_reads : (p : Progress) → Awake p → CanRead p
 awake_reads p (now, is) = (now, λ c. let other : Ready ≡ Clearing = sym is ∙ c in cc)
 
--- if all outstanding requests have timed out, seven are outstanding
-abbrev pub SevenIfAllTimedOut : Waiting → Type 0
-SevenIfAllTimedOut w = w.current ≡ 0 → WINDOW ≤ w.all
+-- if all outstanding requests have timed out, these, and those that the last line ended that ended any, are together seven or more
+abbrev pub SevenIfAllTimedOut : Progress → Waiting → Type 0
+SevenIfAllTimedOut p w = w.current ≡ 0 → WINDOW ≤ w.all + p.last_ended
 
 -- for a station at work, `Holds` is true of `action_waiting`, if no command may be sent where something is in flight that hasn't timed
--- out, and seven requests are outstanding where all have timed out and the line isn't dead
-waiting_for : (plan : Plan) (p : Progress) (w : Waiting) → IsAtWork p → (0 < w.current → NothingMayGo plan p w) → (is_dead plan p w ≡ false → SevenIfAllTimedOut w) → Holds plan p w (action_waiting plan p w)
+-- out, and `SevenIfAllTimedOut` where the line isn't dead
+waiting_for : (plan : Plan) (p : Progress) (w : Waiting) → IsAtWork p → (0 < w.current → NothingMayGo plan p w) → (is_dead plan p w ≡ false → SevenIfAllTimedOut p w) → Holds plan p w (action_waiting plan p w)
 waiting_for plan p w work nothing full =
     let P = Holds plan p w in
     let up = awake_up p work.awake in
@@ -144,38 +150,38 @@ waiting_for_reply plan p w work some waits = waiting_for plan p w work (λ _. in
 width_above_zero : (plan : Plan) → 0 < width_of plan
 width_above_zero plan = omega arith
 
--- if there is no room, seven are outstanding if all outstanding requests have timed out
-seven_if_no_room : (plan : Plan) (w : Waiting) → LacksRoom plan w → SevenIfAllTimedOut w
-seven_if_no_room plan w (inl e) none = let few : width_of plan ≤ w.current = ltb-false w.current (width_of plan) e in absurd (omega (arith, none, few, width_above_zero plan))
-seven_if_no_room plan w (inr e) none = ltb-false w.all WINDOW e
+-- so it is if there is no room
+seven_if_no_room : (plan : Plan) (p : Progress) (w : Waiting) → LacksRoom plan p w → SevenIfAllTimedOut p w
+seven_if_no_room plan p w (inl e) none = let few : width_of plan ≤ w.current = ltb-false w.current (width_of plan) e in absurd (omega (arith, none, few, width_above_zero plan))
+seven_if_no_room plan p w (inr e) none = ltb-false (w.all + p.last_ended) WINDOW e
 
--- if there is no room, or the line is dead, and it isn't dead, seven are outstanding if all outstanding requests have timed out
-seven_if_alive : (plan : Plan) (p : Progress) (w : Waiting) → (has_room_to_ask plan w ≡ false) ⊎ (not (is_dead plan p w) ≡ false) → is_dead plan p w ≡ false → SevenIfAllTimedOut w
-seven_if_alive plan p w (inl none) alive = seven_if_no_room plan w (and_cases (nat_lt w.current (width_of plan)) (nat_lt w.all WINDOW) none)
+-- and so it is if there is no room, or the line is dead, and it isn't dead
+seven_if_alive : (plan : Plan) (p : Progress) (w : Waiting) → (has_room_to_ask plan p w ≡ false) ⊎ (not (is_dead plan p w) ≡ false) → is_dead plan p w ≡ false → SevenIfAllTimedOut p w
+seven_if_alive plan p w (inl none) alive = seven_if_no_room plan p w (and_cases (nat_lt w.current (width_of plan)) (nat_lt (w.all + p.last_ended) WINDOW) none)
 seven_if_alive plan p w (inr dead) alive = let both : true ≡ false = sym (not-false (is_dead plan p w) dead) ∙ alive in cc
 
 -- if there is no room, or the line is dead, no command may be sent where something is in flight that hasn't timed out
-nothing_if_no_room : (plan : Plan) (p : Progress) (w : Waiting) → (has_room_to_ask plan w ≡ false) ⊎ (not (is_dead plan p w) ≡ false) → 0 < w.current → NothingMayGo plan p w
-nothing_if_no_room plan p w (inl none) some = by_test (and_cases (nat_lt w.current (width_of plan)) (nat_lt w.all WINDOW) none) where
+nothing_if_no_room : (plan : Plan) (p : Progress) (w : Waiting) → (has_room_to_ask plan p w ≡ false) ⊎ (not (is_dead plan p w) ≡ false) → 0 < w.current → NothingMayGo plan p w
+nothing_if_no_room plan p w (inl none) some = by_test (and_cases (nat_lt w.current (width_of plan)) (nat_lt (w.all + p.last_ended) WINDOW) none) where
   -- the lemma above, by which test fails
-  by_test : LacksRoom plan w → NothingMayGo plan p w
+  by_test : LacksRoom plan p w → NothingMayGo plan p w
   by_test (inl full) = inl (ltb-false w.current (width_of plan) full)
-  by_test (inr full) = inr (inl (ltb-false w.all WINDOW full))
+  by_test (inr full) = inr (inl (ltb-false (w.all + p.last_ended) WINDOW full))
 nothing_if_no_room plan p w (inr dead) some = let none = (dead_parts plan p w (not-false (is_dead plan p w) dead)).1 in absurd (omega (arith, none, some))
 
 -- `action_room` is the action o if there is room for a request and the line isn't dead, and else the action of a station that
 -- waits. For a station at work, `Holds` is true of it, if `Holds` is true of o where there is room and the line isn't dead
-pub room_for : (plan : Plan) (p : Progress) (w : Waiting) (o : Action) → IsAtWork p → (HasRoomToAsk plan w → is_dead plan p w ≡ false → Holds plan p w o)
+pub room_for : (plan : Plan) (p : Progress) (w : Waiting) (o : Action) → IsAtWork p → (HasRoomToAsk plan p w → is_dead plan p w ≡ false → Holds plan p w o)
     → Holds plan p w (action_room plan p w o)
 room_for plan p w o work step =
-    cond_both (has_room_to_ask plan w && not (is_dead plan p w)) o _ (Holds plan p w)
-    (λ e. let it = and_parts (has_room_to_ask plan w) (not (is_dead plan p w)) e in step (room_by_test plan w it.0) (not-true (is_dead plan p w) it.1))
-    (λ e. let lacks = and_cases (has_room_to_ask plan w) (not (is_dead plan p w)) e in waiting_for plan p w work (nothing_if_no_room plan p w lacks) (seven_if_alive plan p w lacks))
+    cond_both (has_room_to_ask plan p w && not (is_dead plan p w)) o _ (Holds plan p w)
+    (λ e. let it = and_parts (has_room_to_ask plan p w) (not (is_dead plan p w)) e in step (room_by_test plan p w it.0) (not-true (is_dead plan p w) it.1))
+    (λ e. let lacks = and_cases (has_room_to_ask plan p w) (not (is_dead plan p w)) e in waiting_for plan p w work (nothing_if_no_room plan p w lacks) (seven_if_alive plan p w lacks))
 
 -- for a station at work, `Holds` is true of `action_to_send` with the action o, if it is true of o
 -- where there is room, the line isn't dead and the count `behind` is below seven, and a null procedure is wanted where that
 -- count isn't
-pub to_send_for : (plan : Plan) (p : Progress) (w : Waiting) (o : Action) → (work : IsAtWork p) → (near : p.behind < WINDOW → HasRoomToAsk plan w → is_dead plan p w ≡ false → Holds plan p w o)
+pub to_send_for : (plan : Plan) (p : Progress) (w : Waiting) (o : Action) → (work : IsAtWork p) → (near : p.behind < WINDOW → HasRoomToAsk plan p w → is_dead plan p w ≡ false → Holds plan p w o)
     → (far : WINDOW ≤ p.behind → WantsNull plan p w) → Holds plan p w (action_to_send plan p w o)
 to_send_for plan p w o work near far =
     let P = Holds plan p w in

@@ -71,7 +71,11 @@ mod Pauses
 mod Qualified
 pub mod Nearly
 pub mod Behind
-pub mod GoesBehind
+mod NoneEnded
+mod FirstReply
+mod GoesBehind
+pub mod SentWell
+pub mod HoldingBack
 mod HeldUp
 mod Stopping
 mod Unbroken

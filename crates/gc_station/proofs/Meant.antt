@@ -20,6 +20,7 @@ use Rattle.gc_station.specs.Reasons.{HoldsBefore}
 use Rattle.gc_station.specs.ActKinds.{Puts, ReadsClock, IsOpening, ReadsLink}
 use Rattle.gc_station.specs.Model.{Model, action_at, waiting_of, next_request_text, null_text, first_text, Performs, text_or_null, request_for, null_request, request_or_null}
 use Rattle.gc_station.specs.NextCommand.{place_next, mark_next, mark_setup}
+use Rattle.gc_station.proofs.InCycle.{within_window}
 use Rattle.gc_station.proofs.Facts.{action_for}
 use Rattle.gc_station.proofs.Invariant.{Invariant}
 
@@ -104,13 +105,13 @@ module _ (plan : Plan) (commands : List Task) where
   put_by_action s action.Clear act bytes fine is obeys e begun = inl (puts_same (10 ∷ []) bytes act e obeys, refl)
   put_by_action s action.Ask act bytes fine is obeys e begun = absurd (both_ways (has_begun s.progress) is.1 begun)
   put_by_action s action.Renew act bytes fine is obeys e begun = absurd (never_puts act bytes e (inl obeys))
-  put_by_action s action.Flush act bytes fine is obeys e begun = inr (request_put s (null_request plan) bytes is.4.1 (puts_same (next_request_text s.client (Table NullProc)) bytes act e obeys))
+  put_by_action s action.Flush act bytes fine is obeys e begun = inr (request_put s (null_request plan) bytes (within_window _ _ is.4.1) (puts_same (next_request_text s.client (Table NullProc)) bytes act e obeys))
   put_by_action s action.Prepare act bytes fine is obeys e begun =
-      let left = drop s.progress.prepared commands in inr (setup_put s left bytes is.3.1 (puts_same (text_or_null s.progress.moment.utc s.client left) bytes act e obeys))
+      let left = drop s.progress.prepared commands in inr (setup_put s left bytes (within_window _ _ is.3.1) (puts_same (text_or_null s.progress.moment.utc s.client left) bytes act e obeys))
   put_by_action s action.Send act bytes fine is obeys e begun =
       let left = drop (place_next commands s.progress) commands in
       let many : length left ≡ length commands - place_next commands s.progress = length-drop (place_next commands s.progress) commands in
-      inr (first_put s (mark_next plan commands s.progress) left bytes (omega (arith, many, is.2, fine.unsent)) is.3.1 (puts_same (first_text s.progress.moment.utc s.client left) bytes act e obeys))
+      inr (first_put s (mark_next plan commands s.progress) left bytes (omega (arith, many, is.2, fine.unsent)) (within_window _ _ is.3.1) (puts_same (first_text s.progress.moment.utc s.client left) bytes act e obeys))
   put_by_action s action.ReadClock act bytes fine is obeys e begun = absurd (never_puts act bytes e (inl obeys))
   put_by_action s action.Skip act bytes fine is obeys e begun = absurd (never_puts act bytes e (inl obeys))
   put_by_action s action.Pass act bytes fine is obeys e begun = absurd (never_puts act bytes e (inl obeys))

@@ -12,6 +12,7 @@ use Rattle.gc_client.specs.declared.pending.Pending.{Pending}
 use Rattle.gc_client.specs.declared.window.TheConstants.{WINDOW}
 use Rattle.gc_client.proofs.OneForOne.{length-settle}
 use Rattle.gc_texts.specs.declared.tasks.Task.{Task}
+use Rattle.gc_station.specs.Deciding.{has_begun}
 use Rattle.gc_station.specs.Marks.{commands_in}
 use Rattle.gc_station.specs.Model.{Model, with_progress, is_reply, line_came, line_settles, ends_with_table, is_some_of_table}
 use Rattle.gc_station.specs.Parts.{MarksAsk}
@@ -137,6 +138,21 @@ nulls_left behind marks = if nat_lt 0 (commands_in marks) || nat_le WINDOW behin
 abbrev pub requests_left : Progress → List (Option Mark) → ℕ
 requests_left p marks = 8 * p.unsent + nulls_left p.behind marks
 
+-- how many null procedures may still be sent of the model `t` after an act: none while the station synchronizes, since a run whose end was
+-- asked for ends there
+abbrev pub nulls_after : Model → ℕ
+nulls_after t = if has_begun t.progress then nulls_left t.progress.behind t.marks else 0
+
+-- they are at most as many as if it had synchronized
+pub nulls_after_most : (t : Model) → nulls_after t ≤ nulls_left t.progress.behind t.marks
+nulls_after_most t =
+    let n = nulls_left t.progress.behind t.marks in
+    cond_both (has_begun t.progress) n 0 (λ (m : ℕ). m ≤ n) (λ e. omega arith) (λ e. omega arith)
+
+-- and as many if it has
+pub nulls_after_begun : (t : Model) → has_begun t.progress ≡ true → nulls_after t ≡ nulls_left t.progress.behind t.marks
+nulls_after_begun t e = ap (λ (b : Bool). if b then nulls_left t.progress.behind t.marks else 0) e
+
 -- at most seven null procedures are
 pub nulls_few : (behind : ℕ) (marks : List (Option Mark)) → nulls_left behind marks ≤ 7
 nulls_few behind marks = cond_both (nat_lt 0 (commands_in marks) || nat_le WINDOW behind) (7 - tail_nulls marks) 0 (λ (n : ℕ). n ≤ 7) (λ e. omega arith) (λ e. omega arith)
@@ -164,17 +180,6 @@ nulls_if_neither behind marks none near = by_tests (nat_lt 0 (commands_in marks)
   by_tests false false e f = refl
   by_tests true c e f = cc
   by_tests false true e f = cc
-
--- with fewer requests since such a call, no more null procedures
-pub nulls_fewer : (behind : ℕ) (marks : List (Option Mark)) → nulls_left 0 marks ≤ nulls_left behind marks
-nulls_fewer behind marks = by_test (nat_eq (commands_in marks) 0) refl where
-  -- the lemma above, whether commands are outstanding
-  by_test : (b : Bool) → nat_eq (commands_in marks) 0 ≡ b → nulls_left 0 marks ≤ nulls_left behind marks
-  by_test true e = let none = nulls_if_neither 0 marks (eqb-true (commands_in marks) 0 e) (omega arith) in omega (arith, none)
-  by_test false e =
-      let some : 0 < commands_in marks = grind (arith, nat_tests, e) in
-      let one = nulls_if_some 0 marks some in
-      let two = nulls_if_some behind marks some in omega (arith, one, two)
 
 -- Lines.
 

@@ -1,7 +1,7 @@
 -- How long a run goes on once its end was asked for: what a read waits for then, and how many requests are sent. Each request leaves less
 -- that may be sent: a command of the cycle, or one of the null procedures after the last command (`requests_left`). An act is one call on
 -- the link, with its result.
-use Rattle.std.proofs.Common.{◌≡◌, inl, inr, ℕ, suc, ◌+◌, ◌*◌, ◌-◌, ◌<◌, ◌≤◌, ◌&&◌, ◌||◌, Bool, true, false, not, if◌then◌else◌, List, [], ◌∷◌, ◌++◌, length, map, Option, None, nat_lt, nat_le, nat_eq, refl, sym, ap, ◌∙◌, subst, arith, append_assoc}
+use Rattle.std.proofs.Common.{◌≡◌, ◌⊎◌, inl, inr, ℕ, suc, ◌+◌, ◌*◌, ◌-◌, ◌<◌, ◌≤◌, ◌&&◌, ◌||◌, Bool, true, false, not, if◌then◌else◌, List, [], ◌∷◌, ◌++◌, length, map, Option, None, nat_lt, nat_le, nat_eq, refl, sym, ap, ◌∙◌, subst, arith, append_assoc}
 use Rattle.std.proofs.lemmas.List.{length-map}
 use Rattle.std.proofs.lemmas.Bool.{both_ways, cond_both, and_parts, false_from_ne_true}
 use Rattle.std.proofs.lemmas.Bool.Decides.{nat_tests}
@@ -17,7 +17,7 @@ use Rattle.gc_station.specs.NextCommand.{commands_before}
 use Rattle.gc_station.specs.Model.{Model, opening, action_at, waiting_of, with_progress, with_rest, lines_completed, is_heard, after_piece, moved, losing, with_losses, after, Performs, Runs}
 use Rattle.gc_station.specs.OnceAsked.{requests_by, requests_sent, EndsSoonOnceAsked}
 use Rattle.gc_station.specs.Progressing.{turned, loses_all, is_over, time_passed, quieted, one_more_in_window}
-use Rattle.gc_station.specs.Reasons.{HoldsBefore, AwaitsSomething, WantsNull}
+use Rattle.gc_station.specs.Reasons.{HoldsBefore, AwaitsSomething, WantsNull, IsOverdue}
 use Rattle.gc_station.specs.RecordedInTime.{MayTakeTime}
 use Rattle.gc_station.specs.Runs.{state_after, WhereNext}
 use Rattle.gc_station.specs.Scopes.{Scope}
@@ -34,6 +34,7 @@ use Rattle.gc_station.specs.declared.progress.Progress.{Progress}
 use Rattle.gc_station.specs.declared.progress.Until.{Until}
 use Rattle.gc_station.specs.declared.progress.Until.TheVariants.{Limit, Due}
 use Rattle.gc_station.specs.declared.progress.Waiting.{Waiting}
+use Rattle.gc_station.proofs.Asked.{begun_if_nothing_lost}
 use Rattle.gc_station.proofs.Closings.{came_phase, needs_of, runs_split}
 use Rattle.gc_station.proofs.Counts.{with_losses_progress}
 use Rattle.gc_station.proofs.EachRun.{invariant_holds}
@@ -43,16 +44,17 @@ use Rattle.gc_station.proofs.Always.{always_of_progress}
 use Rattle.gc_station.proofs.Going.{after_all-append}
 use Rattle.gc_station.proofs.InTime.{asked_stays}
 use Rattle.gc_station.proofs.Invariant.{Invariant, is_before_requests}
+use Rattle.gc_station.proofs.NoneEnded.{NoneEndedBefore, none_ended_holds}
 use Rattle.gc_station.proofs.Outages.{not_overdue}
 use Rattle.gc_station.proofs.Records.{commands-append}
 use Rattle.gc_station.proofs.Stopping.{asked-append, stops_as_asked}
 use Rattle.gc_station.proofs.Turns.{no_act_once_over}
 use Rattle.gc_station.proofs.Walk.{came_along, asked_along, quieted_along, closed_along, moved_changed, model_sent, walk, piece_before}
-use Rattle.gc_station.proofs.Nulls.{tail_nulls, nulls_within, nulls_more, NullsAreOfTable, nulls_of_table, nulls_expired, nulls_left, requests_left, nulls_few, nulls_if_some, nulls_if_far, nulls_fewer, Listens, line_heard}
+use Rattle.gc_station.proofs.Nulls.{tail_nulls, nulls_within, nulls_more, NullsAreOfTable, nulls_of_table, nulls_expired, nulls_left, requests_left, nulls_few, nulls_if_some, nulls_if_far, nulls_after, nulls_after_most, nulls_after_begun, Listens, line_heard}
 
 -- Acts.
 
-module _ (plan : Plan) (commands : List Task) (s : Model) (act : Act) (fine : Invariant plan commands s) where
+module _ (plan : Plan) (commands : List Task) (s : Model) (act : Act) (fine : Invariant plan commands s) (before : NoneEndedBefore s.progress) where
   -- the model before the act, with its turn taken
   abbrev u : Model
   u = with_progress turned s
@@ -115,25 +117,26 @@ module _ (plan : Plan) (commands : List Task) (s : Model) (act : Act) (fine : In
       let few = it.0.3 in
       omega (arith, unsent, few)
 
-  -- once the end of the run was asked for, an act leaves no more that may be sent, and less if it sends a request
-  pub acts_fewer : (o : Action) → Performs commands s o act → HoldsBefore plan s.progress (waiting_of s) o → s.progress.stops ≡ true → Fewer o act (moved plan commands o u act)
-  acts_fewer actions.Begin b needs asked = absurd (both_ways s.progress.stops needs.5 asked)
-  acts_fewer actions.Prepare b needs asked = absurd (both_ways s.progress.stops needs.5 asked)
-  acts_fewer actions.Renew b needs asked =
-      let fewer = nulls_fewer s.progress.behind s.marks in
-      walk plan commands (Fewer actions.Renew) actions.Renew u act b (λ m. omega (arith, fewer), λ n. same)
-  acts_fewer actions.Ask b needs asked =
-      let fewer = nulls_fewer s.progress.behind s.marks in
+  -- once the end of the run was asked for, an act leaves no more that may be sent, and less if it sends a request, unless the station
+  -- resynchronizes
+  others_fewer : (o : Action) → (o ≡ actions.Renew → ⊥) → Performs commands s o act → HoldsBefore plan s.progress (waiting_of s) o → s.progress.stops ≡ true → Fewer o act (moved plan commands o u act)
+  others_fewer actions.Begin other b needs asked = absurd (both_ways s.progress.stops needs.5 asked)
+  others_fewer actions.Prepare other b needs asked = absurd (both_ways s.progress.stops needs.5 asked)
+  others_fewer actions.Renew other b needs asked = absurd (other refl)
+  others_fewer actions.Ask other b needs asked =
+      let none = before needs.1 in
+      let more : one_more_in_window s.progress.behind ≡ s.progress.behind = ap one_more_in_window none ∙ sym none in
+      let fewer : nulls_left (one_more_in_window s.progress.behind) s.marks ≡ nulls_left s.progress.behind s.marks = ap (λ (n : ℕ). nulls_left n s.marks) more in
       walk plan commands (Fewer actions.Ask) actions.Ask u act b (λ m. omega (arith, fewer), λ n. omega (arith, fewer))
-  acts_fewer actions.Send b needs asked =
+  others_fewer actions.Send other b needs asked =
       walk plan commands (Fewer actions.Send) actions.Send u act b (
         λ m. sent_fewer (model_sent plan commands u).progress.behind (model_sent plan commands u).marks needs.2,
         λ n. sent_fewer (model_sent plan commands u).progress.behind (model_sent plan commands u).marks needs.2,
       )
-  acts_fewer actions.Flush b needs asked = walk plan commands (Fewer actions.Flush) actions.Flush u act b (λ m. flushed_fewer needs, λ n. flushed_fewer needs)
-  acts_fewer actions.Skip b needs asked = walk plan commands (Fewer actions.Skip) actions.Skip u act b (λ m. omega arith, λ n. same)
-  acts_fewer actions.Pass b needs asked = walk plan commands (Fewer actions.Pass) actions.Pass u act b (λ m. omega arith, λ n. same)
-  acts_fewer (actions.Read until) b needs asked =
+  others_fewer actions.Flush other b needs asked = walk plan commands (Fewer actions.Flush) actions.Flush u act b (λ m. flushed_fewer needs, λ n. flushed_fewer needs)
+  others_fewer actions.Skip other b needs asked = walk plan commands (Fewer actions.Skip) actions.Skip u act b (λ m. omega arith, λ n. same)
+  others_fewer actions.Pass other b needs asked = walk plan commands (Fewer actions.Pass) actions.Pass u act b (λ m. omega arith, λ n. same)
+  others_fewer (actions.Read until) other b needs asked =
       walk plan commands (Fewer (actions.Read until)) (actions.Read until) u act b (
         λ bytes m. gave_fewer until bytes m,
         λ m. quieted_along (λ (q : Progress). 0 + requests_left q s.marks ≤ requests_left s.progress s.marks) plan s.progress.phase (time_passed until m u.progress) same same same,
@@ -141,11 +144,27 @@ module _ (plan : Plan) (commands : List Task) (s : Model) (act : Act) (fine : In
         same,
         same,
       )
-  acts_fewer (actions.Close why) b needs asked =
+  others_fewer (actions.Close why) other b needs asked =
       walk plan commands (Fewer (actions.Close why)) (actions.Close why) u act b
       (closed_along (λ (q : Progress). 0 + requests_left q s.marks ≤ requests_left s.progress s.marks) plan (waiting_of (with_rest [] u)) why u.progress same same)
-  acts_fewer (actions.Stop why) b needs asked = absurd b
-  acts_fewer o b needs asked = walk plan commands (Fewer o) o u act b (λ m. same, λ n. same)
+  others_fewer (actions.Stop why) other b needs asked = absurd b
+  others_fewer o other b needs asked = walk plan commands (Fewer o) o u act b (λ m. same, λ n. same)
+
+  -- after an act of this action: with the requests that it sends, no more may be sent than before
+  abbrev pub LeavesFewer : Action → Model → Type 0
+  LeavesFewer o t = requests_by o + (8 * t.progress.unsent + nulls_after t) ≤ requests_left s.progress s.marks
+
+  -- once the end of the run was asked for, an act leaves no more that may be sent, and less if it sends a request
+  pub acts_fewer : (o : Action) → Performs commands s o act → HoldsBefore plan s.progress (waiting_of s) o → s.progress.stops ≡ true → LeavesFewer o (moved plan commands o u act)
+  acts_fewer actions.Renew b needs asked =
+      let n = nulls_left s.progress.behind s.marks in
+      let none : 0 + (8 * s.progress.unsent + 0) ≤ 8 * s.progress.unsent + n = omega arith in
+      let most = cond_both (has_begun s.progress) n 0 (λ (m : ℕ). 0 + (8 * s.progress.unsent + m) ≤ 8 * s.progress.unsent + n) (λ e. omega arith) (λ e. omega arith) in
+      walk plan commands (λ (a : Act). LeavesFewer actions.Renew) actions.Renew u act b (λ m. none, λ x. most)
+  acts_fewer o b needs asked =
+      let all = others_fewer o (λ e. cc) b needs asked in
+      let most = nulls_after_most (moved plan commands o u act) in
+      omega (arith, all, most)
 
 -- Where the run may end.
 
@@ -315,8 +334,8 @@ module _ (plan : Plan) (commands : List Task) (scope : Scope) where
     stops = stops_as_asked plan commands scope earlier runs ∙ asked
 
     -- with the requests that the act sends, no more may be sent
-    fewer : requests_by o + requests_left t.progress t.marks ≤ requests_left s.progress s.marks
-    fewer = acts_fewer plan commands s act (invariant_holds plan commands scope earlier) o obeys (action_for plan s.progress (waiting_of s)) stops
+    fewer : requests_by o + (8 * t.progress.unsent + nulls_after t) ≤ requests_left s.progress s.marks
+    fewer = acts_fewer plan commands s act (invariant_holds plan commands scope earlier) (none_ended_holds plan commands scope earlier runs) o obeys (action_for plan s.progress (waiting_of s)) stops
 
     -- while the station synchronizes, the run ends
     ended : has_begun s.progress ≡ false → requests_by o + may_send (with_losses t) ≤ 0
@@ -347,7 +366,10 @@ module _ (plan : Plan) (commands : List Task) (scope : Scope) where
     by_test false e = subst (λ (n : ℕ). requests_by o + may_send (with_losses t) ≤ n) (ap (λ (b : Bool). if b then 0 else requests_left s.progress s.marks) (sym e)) (by_losses (loses_all t.progress) refl) where
       -- by whether all is lost after it
       by_losses : (b : Bool) → loses_all t.progress ≡ b → requests_by o + may_send (losing b t) ≤ requests_left s.progress s.marks
-      by_losses false f = subst (λ (c : Bool). requests_by o + (if c then 0 else requests_left t.progress t.marks) ≤ requests_left s.progress s.marks) (sym f) fewer
+      by_losses false f =
+          let same = nulls_after_begun t (begun_if_nothing_lost t f) in
+          let all : requests_by o + requests_left t.progress t.marks ≤ requests_left s.progress s.marks = omega (arith, fewer, same) in
+          subst (λ (c : Bool). requests_by o + (if c then 0 else requests_left t.progress t.marks) ≤ requests_left s.progress s.marks) (sym f) all
       by_losses true f =
           let none : may_send (losing true t) ≡ 0 = ap (λ (b : Bool). if b then 0 else requests_left (losing true t).progress (losing true t).marks) f in
           omega (arith, none, fewer)

@@ -28,7 +28,9 @@ use Rattle.gc_station.proofs.Going.{after_all-append}
 use Rattle.gc_station.proofs.InTime.{asked_stays}
 use Rattle.gc_station.proofs.Interleaving.{drop_past}
 use Rattle.gc_station.proofs.Invariant.{Invariant}
-use Rattle.gc_station.proofs.Nulls.{nulls_left, nulls_few}
+use Rattle.gc_station.proofs.NoneEnded.{NoneEndedBefore, none_ended_holds}
+use Rattle.gc_station.proofs.Asked.{begun_if_nothing_lost}
+use Rattle.gc_station.proofs.Nulls.{nulls_left, nulls_few, nulls_after, nulls_after_most, nulls_after_begun}
 use Rattle.gc_station.proofs.OnceAsked.{acts_fewer}
 use Rattle.gc_station.proofs.SendsNoMore.{sends_no_more, losing_sends_none, none_follows}
 use Rattle.gc_station.proofs.Stopping.{asked-append, stops_as_asked}
@@ -151,7 +153,7 @@ module _ (plan : Plan) (commands : List Task) where
         omega (arith, same)
     by_test false e = let none = broken_left q e in omega (arith, none)
 
-  module _ (s : Model) (act : Act) (fine : Invariant plan commands s) (text : FollowsText s.progress) (stops : s.progress.stops ≡ true) where
+  module _ (s : Model) (act : Act) (fine : Invariant plan commands s) (before : NoneEndedBefore s.progress) (text : FollowsText s.progress) (stops : s.progress.stops ≡ true) where
     -- the model after an act of this action
     abbrev pub then_is : Action → Model
     then_is o = moved plan commands o (with_progress turned s) act
@@ -160,19 +162,22 @@ module _ (plan : Plan) (commands : List Task) where
     abbrev pub LeavesLess : Action → Type 0
     LeavesLess o =
         (chain_left commands (then_is o).progress ≤ chain_left commands s.progress)
-        × (requests_by o + nulls_left (then_is o).progress.behind (then_is o).marks ≤ nulls_left s.progress.behind s.marks)
+        × (requests_by o + nulls_after (then_is o) ≤ nulls_left s.progress.behind s.marks)
 
     -- so it is at the same command
     still_less : (o : Action) → Performs commands s o act → HoldsBefore plan s.progress (waiting_of s) o → Still (turned s.progress) (then_is o).progress → LeavesLess o
     still_less o obeys needs k =
-        let fewer = acts_fewer plan commands s act fine o obeys needs stops in
+        let fewer = acts_fewer plan commands s act fine before o obeys needs stops in
         let same = k.unsent in
         (still_left (turned s.progress) (then_is o).progress k, omega (arith, fewer, same))
 
     -- and once a chain is broken, if the act sends nothing and leaves the marks
     broken_less : (o : Action) → requests_by o ≡ 0 → nulls_left (then_is o).progress.behind (then_is o).marks ≡ nulls_left s.progress.behind s.marks
         → (then_is o).progress.chain_unbroken ≡ false → LeavesLess o
-    broken_less o quiet nulls broken = let none = broken_left (then_is o).progress broken in (omega (arith, none), omega (arith, quiet, nulls))
+    broken_less o quiet nulls broken =
+        let none = broken_left (then_is o).progress broken in
+        let most = nulls_after_most (then_is o) in
+        (omega (arith, none), omega (arith, quiet, nulls, most))
 
     -- so it is after an act of each action but a send
     pub quiet_less : (o : Action) → Performs commands s o act → HoldsBefore plan s.progress (waiting_of s) o → (o ≡ actions.Send → ⊥) → LeavesLess o
@@ -243,11 +248,13 @@ module _ (plan : Plan) (commands : List Task) where
           omega (arith, more, others, left, was)
 
     -- an act of each action leaves no more requests that may be sent within the chain, and less if it sends one
-    chain_fewer : (o : Action) → Performs commands s o act → HoldsBefore plan s.progress (waiting_of s) o → requests_by o + left_in_chain (then_is o) ≤ left_in_chain s
+    chain_fewer : (o : Action) → Performs commands s o act → HoldsBefore plan s.progress (waiting_of s) o
+        → requests_by o + (8 * chain_left commands (then_is o).progress + nulls_after (then_is o)) ≤ left_in_chain s
     chain_fewer actions.Send obeys needs =
         let less = sent_less obeys needs in
         let few = nulls_few (then_is actions.Send).progress.behind (then_is actions.Send).marks in
-        omega (arith, less, few)
+        let most = nulls_after_most (then_is actions.Send) in
+        omega (arith, less, few, most)
     chain_fewer o obeys needs =
         let both = quiet_less o obeys needs (λ e. cc) in
         let chain = both.0 in
@@ -283,9 +290,9 @@ module _ (plan : Plan) (commands : List Task) (scope : Scope) where
     stops = stops_as_asked plan commands scope earlier runs ∙ asked
 
     -- with the requests that the act sends, no more may be sent within the chain
-    fewer : requests_by o + left_in_chain plan commands t ≤ left_in_chain plan commands s
+    fewer : requests_by o + (8 * chain_left commands t.progress + nulls_after t) ≤ left_in_chain plan commands s
     fewer =
-        chain_fewer plan commands s act (invariant_holds plan commands scope earlier) (follows_text plan commands scope earlier runs) stops o obeys (action_for plan s.progress (waiting_of s))
+        chain_fewer plan commands s act (invariant_holds plan commands scope earlier) (none_ended_holds plan commands scope earlier runs) (follows_text plan commands scope earlier runs) stops o obeys (action_for plan s.progress (waiting_of s))
 
     -- where no request follows, nothing may be sent
     none_of : (x : Model) → sends_no_more x.progress ≡ true → may_send_of_chain x ≡ 0
@@ -305,7 +312,9 @@ module _ (plan : Plan) (commands : List Task) (scope : Scope) where
           by_losses : (b : Bool) → loses_all t.progress ≡ b → requests_by o + may_send_of_chain (losing b t) ≤ left_in_chain plan commands s
           by_losses true f = let none = none_of (losing true t) (losing_sends_none t.progress f) in omega (arith, none, fewer)
           by_losses false f =
-              cond_both (sends_no_more t.progress) 0 (left_in_chain plan commands t) (λ (n : ℕ). requests_by o + n ≤ left_in_chain plan commands s) (λ g. omega (arith, fewer)) (λ g. fewer)
+              let same = nulls_after_begun t (begun_if_nothing_lost t f) in
+              let all : requests_by o + left_in_chain plan commands t ≤ left_in_chain plan commands s = omega (arith, fewer, same) in
+              cond_both (sends_no_more t.progress) 0 (left_in_chain plan commands t) (λ (n : ℕ). requests_by o + n ≤ left_in_chain plan commands s) (λ g. omega (arith, all)) (λ g. all)
 
   -- the requests that acts send were left to be sent
   pub sends_few_of_chain : (earlier later : List Act) → Runs plan commands (opening plan scope) (earlier ++ later) → asked_after false earlier ≡ true

@@ -1,13 +1,13 @@
 -- How many requests are sent once the end of a run was asked for whose commands are all calls of the table: one for each command that is
--- left of the chain, and the null procedures after the last one. A null procedure is sent only once that has timed out, and then the
--- chain doesn't go on. An act is one call on the link, with its result.
-use Rattle.std.proofs.Common.{◌≡◌, inl, inr, ℕ, ◌+◌, ◌*◌, ◌≤◌, ◌&&◌, ◌||◌, Bool, true, false, not, if◌then◌else◌, List, [], ◌∷◌, ◌++◌, nat_eq, refl, sym, ap, ◌∙◌, subst, arith, append_assoc}
+-- left of the chain, and the null procedures after the last one. A null procedure is sent only once that has timed out, or before the
+-- first command since a synchronization; and then the chain doesn't go on. An act is one call on the link, with its result.
+use Rattle.std.proofs.Common.{◌≡◌, ◌⊎◌, inl, inr, ℕ, ◌+◌, ◌*◌, ◌≤◌, ◌&&◌, ◌||◌, Bool, true, false, not, if◌then◌else◌, List, [], ◌∷◌, ◌++◌, nat_eq, refl, sym, ap, ◌∙◌, subst, arith, append_assoc}
 use Rattle.std.proofs.lemmas.Bool.{both_ways, cond_both, false_from_ne_true}
 use Rattle.std.proofs.lemmas.List.{nil_from_length}
 use Rattle.gc_client.specs.Rule.{deadlines}
 use Rattle.gc_texts.specs.declared.tasks.Task.{Task}
 use Rattle.gc_links.specs.Acts.{Act}
-use Rattle.gc_station.specs.Behind.{AreOfTable}
+use Rattle.gc_station.specs.Behind.{AreOfTable, AwaitsFirstReply, IsNotHeldUp}
 use Rattle.gc_station.specs.Deciding.{is_up, is_between_chains}
 use Rattle.gc_station.specs.Marks.{last_well}
 use Rattle.gc_station.specs.Model.{Model, opening, action_at, waiting_of, with_progress, moved, losing, after, Performs, Runs}
@@ -21,6 +21,7 @@ use Rattle.gc_station.specs.declared.plan.Plan.{Plan}
 use Rattle.gc_station.specs.declared.progress.Action.{Action}
 use Rattle.gc_station.specs.declared.progress.Action.TheVariants as actions
 use Rattle.gc_station.specs.declared.progress.Phase.{Phase}
+use Rattle.gc_station.proofs.ChainSteps.{stays_broken}
 use Rattle.gc_station.proofs.Closings.{runs_split, needs_of}
 use Rattle.gc_station.proofs.Counts.{with_losses_progress}
 use Rattle.gc_station.proofs.EachRun.{invariant_holds}
@@ -28,7 +29,9 @@ use Rattle.gc_station.proofs.Facts.{action_for}
 use Rattle.gc_station.proofs.Going.{after_all-append}
 use Rattle.gc_station.proofs.HeldUp.{never_held_up}
 use Rattle.gc_station.proofs.InTime.{asked_stays}
-use Rattle.gc_station.proofs.Nulls.{nulls_left, nulls_few}
+use Rattle.gc_station.proofs.NoneEnded.{none_ended_holds}
+use Rattle.gc_station.proofs.Asked.{begun_if_nothing_lost}
+use Rattle.gc_station.proofs.Nulls.{nulls_left, nulls_few, nulls_after, nulls_after_begun}
 use Rattle.gc_station.proofs.OnceAskedInChain.{follows_text, left_in_chain, sends_few_of_chain, quiet_less, sent_less, finishes_its_chain}
 use Rattle.gc_station.proofs.SendsNoMore.{sends_no_more, losing_sends_none}
 use Rattle.gc_station.proofs.Stopping.{asked-append, stops_as_asked}
@@ -87,10 +90,14 @@ module _ (plan : Plan) (commands : List Task) (scope : Scope) where
         (sends_few_of_chain plan commands scope now later behind still)
 
     -- where one may follow, nothing is lost at the end of the act
+    none_lost : sends_no_more (at now).progress ≡ false → loses_all t.progress ≡ false
+    none_lost open_still =
+        false_from_ne_true (loses_all t.progress) (λ lost. both_ways (sends_no_more (at now).progress) open_still
+        (ap (λ (x : Model). sends_no_more x.progress) there ∙ ap sends_no_more (with_losses_progress t) ∙ losing_sends_none t.progress lost))
+
+    -- so the model is that before it
     nothing_lost : sends_no_more (at now).progress ≡ false → at now ≡ t
-    nothing_lost open_still =
-        there ∙ ap (λ (b : Bool). losing b t) (false_from_ne_true (loses_all t.progress) (λ lost. both_ways (sends_no_more (at now).progress) open_still
-        (ap (λ (x : Model). sends_no_more x.progress) there ∙ ap sends_no_more (with_losses_progress t) ∙ losing_sends_none t.progress lost)))
+    nothing_lost open_still = there ∙ ap (λ (b : Bool). losing b t) (none_lost open_still)
 
     -- the conditions of the action hold
     needs : HoldsBefore plan s.progress (waiting_of s) o
@@ -98,11 +105,21 @@ module _ (plan : Plan) (commands : List Task) (scope : Scope) where
 
     -- after an act that isn't a send
     quiet_here : (o ≡ actions.Send → ⊥) → (chain_left commands t.progress ≤ chain_left commands s.progress)
-        × (requests_by o + nulls_left t.progress.behind t.marks ≤ nulls_left s.progress.behind s.marks)
-    quiet_here other = quiet_less plan commands s act (invariant_holds plan commands scope earlier) (follows_text plan commands scope earlier before.0) stops o before.1 needs other
+        × (requests_by o + nulls_after t ≤ nulls_left s.progress.behind s.marks)
+    quiet_here other = quiet_less plan commands s act (invariant_holds plan commands scope earlier) (none_ended_holds plan commands scope earlier before.0) (follows_text plan commands scope earlier before.0) stops o before.1 needs other
+
+  -- the chain of the model can't go on, since a command of it has timed out, or since it is broken
+  abbrev EndsHere : Model → Type 0
+  EndsHere s = CannotGoOn s ⊎ (s.progress.chain_unbroken ≡ false)
+
+  -- an act that isn't a send keeps it so, once the end of the run was asked for
+  ends_still : (s : Model) (act : Act) → Performs commands s (action_at plan s) act → HoldsBefore plan s.progress (waiting_of s) (action_at plan s) → s.progress.stops ≡ true
+      → (action_at plan s ≡ actions.Send → ⊥) → EndsHere s → EndsHere (moved plan commands (action_at plan s) (with_progress turned s) act)
+  ends_still s act obeys holds asked other (inl h) = inl (goes_not_on plan commands s (action_at plan s) act obeys holds asked h)
+  ends_still s act obeys holds asked other (inr broken) = inr (stays_broken plan commands (action_at plan s) (with_progress turned s) act other broken)
 
   -- once the chain can't go on, only null procedures are sent
-  cannot_few : (earlier later : List Act) → Runs plan commands (opening plan scope) (earlier ++ later) → asked_after false earlier ≡ true → CannotGoOn (at earlier)
+  cannot_few : (earlier later : List Act) → Runs plan commands (opening plan scope) (earlier ++ later) → asked_after false earlier ≡ true → EndsHere (at earlier)
       → requests_sent plan commands (at earlier) later ≤ nulls_left (at earlier).progress.behind (at earlier).marks
   cannot_few earlier [] runs asked h = omega arith
   cannot_few earlier (act ∷ later) runs asked h =
@@ -113,14 +130,15 @@ module _ (plan : Plan) (commands : List Task) (scope : Scope) where
         other is = by_going (needs_of plan (at earlier) actions.Send is) where
           -- the next command may not be sent
           by_going : HoldsBefore plan (at earlier).progress (waiting_of (at earlier)) actions.Send → ⊥
-          by_going sends = by_chain sends.4 where
+          by_going sends = by_chain sends.4 h where
             -- as the chain can't go on
-            by_chain : MayGo (at earlier).progress (waiting_of (at earlier)) → ⊥
-            by_chain (inl free) = both_ways (at earlier).progress.next_is_chained free (sends.7 (stops earlier later act runs asked))
-            by_chain (inr going) = both_ways (last_well false (at earlier).records) (h.2 going.0) going.1
+            by_chain : MayGo (at earlier).progress (waiting_of (at earlier)) → EndsHere (at earlier) → ⊥
+            by_chain (inl free) ends = both_ways (at earlier).progress.next_is_chained free (sends.7 (stops earlier later act runs asked))
+            by_chain (inr going) (inl timed) = both_ways (last_well false (at earlier).records) (timed.2 going.0) going.1
+            by_chain (inr going) (inr broken) = both_ways (at earlier).progress.chain_unbroken broken going.2
 
         -- the lemma above, whether a request may follow the act
-        by_more : (CannotGoOn (at (earlier ++ act ∷ [])) → requests_sent plan commands (at (earlier ++ act ∷ [])) later
+        by_more : (EndsHere (at (earlier ++ act ∷ [])) → requests_sent plan commands (at (earlier ++ act ∷ [])) later
             ≤ nulls_left (at (earlier ++ act ∷ [])).progress.behind (at (earlier ++ act ∷ [])).marks)
             → (b : Bool) → sends_no_more (at (earlier ++ act ∷ [])).progress ≡ b
             → requests_sent plan commands (at earlier) (act ∷ later) ≤ nulls_left (at earlier).progress.behind (at earlier).marks
@@ -133,14 +151,14 @@ module _ (plan : Plan) (commands : List Task) (scope : Scope) where
             let both = sent_both earlier later act runs asked in
             let same = nothing_lost earlier later act runs asked e in
             let less = (quiet_here earlier later act runs asked other).1 in
-            let on = rest (subst (λ (x : Model). CannotGoOn x) (sym same)
-            (goes_not_on plan commands (at earlier) (action_at plan (at earlier)) act (before earlier later act runs asked).1 (needs earlier later act runs asked)
-            (stops earlier later act runs asked) h)) in
+            let on = rest (subst (λ (x : Model). EndsHere x) (sym same)
+            (ends_still (at earlier) act (before earlier later act runs asked).1 (needs earlier later act runs asked) (stops earlier later act runs asked) other h)) in
             let nulls = ap (λ (x : Model). nulls_left x.progress.behind x.marks) same in
-            omega (arith, both, less, on, nulls)
+            let begun = nulls_after_begun (t earlier later act runs asked) (begun_if_nothing_lost (t earlier later act runs asked) (none_lost earlier later act runs asked e)) in
+            omega (arith, both, less, on, nulls, begun)
 
   -- if all commands are calls of the table, where a null procedure is next, the chain can't go on
-  cannot_if_flush : AreOfTable commands → (earlier : List Act) → Runs plan commands (opening plan scope) earlier → action_at plan (at earlier) ≡ actions.Flush → CannotGoOn (at earlier)
+  cannot_if_flush : AreOfTable commands → (earlier : List Act) → Runs plan commands (opening plan scope) earlier → action_at plan (at earlier) ≡ actions.Flush → EndsHere (at earlier)
   cannot_if_flush all earlier runs is = by_why needs.2 where
     -- the conditions of a null procedure
     needs : HoldsBefore plan (at earlier).progress (waiting_of (at earlier)) actions.Flush
@@ -151,16 +169,16 @@ module _ (plan : Plan) (commands : List Task) (scope : Scope) where
     going = ap (λ (x : Phase). is_over_in x || (not (is_up x) && nat_eq (at earlier).progress.turns 0)) needs.0
 
     -- the lemma above, by why it is wanted
-    by_why : WantsNull plan (at earlier).progress (waiting_of (at earlier)) → CannotGoOn (at earlier)
+    by_why : WantsNull plan (at earlier).progress (waiting_of (at earlier)) → EndsHere (at earlier)
     by_why (inl waits) =
         let some = waits.1 in
         let none = nil_from_length (deadlines (at earlier).client.waiting) needs.3 in
-        ((invariant_holds plan commands scope earlier).paired, timed_if_none (at earlier).marks (at earlier).client.waiting none, λ settled. absurd (omega (arith, settled, some)))
-    by_why (inr far) =
-        let level = (never_held_up plan commands scope earlier runs all needs.1 going).0 in
-        let room = needs.4.1 in
-        let most = far.1 in
-        absurd (omega (arith, level, room, most))
+        inl ((invariant_holds plan commands scope earlier).paired, timed_if_none (at earlier).marks (at earlier).client.waiting none, λ settled. absurd (omega (arith, settled, some)))
+    by_why (inr far) = by_reply (never_held_up plan commands scope earlier runs all needs.1 going) where
+      -- whether a reply has ended a request since the synchronization
+      by_reply : AwaitsFirstReply (at earlier) ⊎ IsNotHeldUp plan (at earlier) → EndsHere (at earlier)
+      by_reply (inl awaits) = inr awaits.2
+      by_reply (inr free) = let level = free.0 in let room = needs.4.1 in let most = far.1 in absurd (omega (arith, level, room, most))
 
   -- if all commands are calls of the table, one request is sent for each command that is left of the chain, and seven at most besides
   table_few : AreOfTable commands → (earlier later : List Act) → Runs plan commands (opening plan scope) (earlier ++ later) → asked_after false earlier ≡ true
@@ -191,7 +209,7 @@ module _ (plan : Plan) (commands : List Task) (scope : Scope) where
             omega (arith, few, nulls)
         by_action rest actions.Send is =
             let both = sent_both earlier later act runs asked in
-            let less = sent_less plan commands (at earlier) act (invariant_holds plan commands scope earlier) (follows_text plan commands scope earlier first.0) (stops earlier later act runs asked)
+            let less = sent_less plan commands (at earlier) act (invariant_holds plan commands scope earlier) (none_ended_holds plan commands scope earlier first.0) (follows_text plan commands scope earlier first.0) (stops earlier later act runs asked)
             (subst (λ (o : Action). Performs commands (at earlier) o act) is first.1) (needs_of plan (at earlier) actions.Send is) in
             let left : chain_left commands (at (earlier ++ act ∷ [])).progress ≡ chain_left commands (moved plan commands actions.Send (with_progress turned (at earlier)) act).progress =
             ap (chain_left commands) same ∙ ap (λ (o : Action). chain_left commands (moved plan commands o (with_progress turned (at earlier)) act).progress) is in

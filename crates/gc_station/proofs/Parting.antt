@@ -28,6 +28,7 @@ use Rattle.gc_station.specs.declared.mark.Mark.{Mark}
 use Rattle.gc_station.specs.Model.{Model, waiting_of, Performs, with_progress, with_moment, with_rest, asks_first, unsent_record, first_unsent_record, line_came, lines_came, lines_completed, is_heard, after_piece, after_read, moved, request_for, null_request, request_or_null, asks_for}
 use Rattle.gc_station.specs.NextCommand.{place_next, mark_next, mark_setup}
 use Rattle.gc_station.specs.Scopes.{Reads}
+use Rattle.gc_station.proofs.InCycle.{within_window}
 use Rattle.gc_station.proofs.Asked.{sync_part_only_sync_steps}
 use Rattle.gc_station.proofs.Booking.{Books, books_sync_steps, sent_of-append_records, books_both, books_nothing, books_moment, books_line, books_send}
 use Rattle.gc_station.proofs.Invariant.{Paired, Invariant}
@@ -140,15 +141,15 @@ module _ (plan : Plan) (commands : List Task) where
   leads_synchronized s action.Clear act fine is obeys begun = walk plan commands (LeadsByPart action.Clear s) action.Clear (with_progress turned s) act obeys (λ m. leads_idle s, λ n. leads_idle s)
   leads_synchronized s action.Ask act fine is obeys begun = absurd (both_ways (has_begun s.progress) is.1 begun)
   leads_synchronized s action.Flush act fine is obeys begun =
-      walk plan commands (LeadsByPart action.Flush s) action.Flush (with_progress turned s) act obeys (λ m. leads_null s is.4.1, λ n. leads_null s is.4.1)
+      walk plan commands (LeadsByPart action.Flush s) action.Flush (with_progress turned s) act obeys (λ m. leads_null s (within_window _ _ is.4.1), λ n. leads_null s (within_window _ _ is.4.1))
   leads_synchronized s action.Prepare act fine is obeys begun =
-      let prepares = leads_setup s (drop s.progress.prepared commands) refl is.3.1 in
+      let prepares = leads_setup s (drop s.progress.prepared commands) refl (within_window _ _ is.3.1) in
       walk plan commands (LeadsByPart action.Prepare s) action.Prepare (with_progress turned s) act obeys (λ m. prepares, λ n. prepares)
   leads_synchronized s action.Send act fine is obeys begun =
       let left = drop (place_next commands s.progress) commands in
       let many : length left ≡ length commands - place_next commands s.progress = length-drop (place_next commands s.progress) commands in
       let sends = subst (λ (t : Model). Leads commands s (put_part plan commands s action.Send) t) (sym (sent_same plan commands (with_progress turned s)))
-      (leads_first s (mark_next plan commands s.progress) left refl (omega (arith, many, is.2, fine.unsent)) is.3.1) in
+      (leads_first s (mark_next plan commands s.progress) left refl (omega (arith, many, is.2, fine.unsent)) (within_window _ _ is.3.1)) in
       walk plan commands (LeadsByPart action.Send s) action.Send (with_progress turned s) act obeys (λ m. sends, λ n. sends)
   leads_synchronized s action.Skip act fine is obeys begun =
       let books = Books s.reads commands s.client s.marks (sent_of s.records) in

@@ -33,7 +33,7 @@ use Rattle.gc_station.proofs.Always.{always}
 use Rattle.gc_station.proofs.Each.{row, row_moment, row_settles, more_waiting, marked_none, waiting_marked}
 use Rattle.gc_station.proofs.EachRun.{invariant_holds}
 use Rattle.gc_station.proofs.Facts.{action_for}
-use Rattle.gc_station.proofs.InCycle.{not_zero}
+use Rattle.gc_station.proofs.InCycle.{within_window, not_zero}
 use Rattle.gc_station.proofs.Invariant.{Paired, Invariant}
 use Rattle.gc_station.proofs.Midway.{sent_with_room}
 use Rattle.gc_station.proofs.Walk.{came_along, losing_along, closed_along, moved_changed, walk}
@@ -124,7 +124,7 @@ module _ (plan : Plan) (commands : List Task) where
       let some : 0 < length left = omega (arith, many, is.2, fine.unsent) in
       let below = fine.begun is.2 in
       let cycle : 0 < cycles_begun plan p = omega (arith, below) in
-      let last = sent_last (mark_next plan commands p) left t fine.paired is.3.1 some cycle in
+      let last = sent_last (mark_next plan commands p) left t fine.paired (within_window _ _ is.3.1) some cycle in
       walk plan commands (λ a (u : Model). LastIsOfCycle u) action.Send t act o (λ m e. last, λ n e. last)
   last_moved action.Prepare s act fine is o h = walk plan commands (λ a (u : Model). LastIsOfCycle u) action.Prepare (with_progress turned s) act o (λ m e. cc, λ n e. cc)
   last_moved action.Skip s act fine is o h =
@@ -143,7 +143,7 @@ module _ (plan : Plan) (commands : List Task) where
       let d = later s.progress.moment.elapsed plan.deadline in
       let p = pending_of 0 (Table NullProc) d in
       let same : row_of (asks_for (null_request plan) (with_progress turned s)) ≡ row_of s =
-      ap (λ (c : _). row (s.marks ++ None ∷ []) c.waiting s.records) (sent_with_room s.client 0 (Table NullProc) d is.4.1)
+      ap (λ (c : _). row (s.marks ++ None ∷ []) c.waiting s.records) (sent_with_room s.client 0 (Table NullProc) d (within_window _ _ is.4.1))
       ∙ ap (λ xs. map of_record s.records ++ xs) (more_waiting s.marks s.client.waiting None p fine.paired ∙ append-nil _) in
       walk plan commands (λ a (u : Model). LastIsOfCycle u) action.Flush (with_progress turned s) act o (λ m. last_cycle_of_same_row same h, λ n. last_cycle_of_same_row same h)
   last_moved (action.Read until) s act fine is o h =

@@ -39,6 +39,7 @@ use Rattle.gc_station.specs.declared.progress.Phase.TheVariants as phase
 use Rattle.gc_station.specs.declared.progress.Progress.{Progress}
 use Rattle.gc_station.specs.declared.progress.Until.{Until}
 use Rattle.gc_station.specs.declared.progress.Until.TheVariants.{Limit, Due}
+use Rattle.gc_station.proofs.InCycle.{within_window}
 use Rattle.gc_station.proofs.BehindRaw.{raws_rise, raws_within, raws_next, raw_text, may_flush, flushed_again}
 use Rattle.gc_station.proofs.CallTimes.{IsTimely, deadlines_within, waits_in_flight}
 use Rattle.gc_station.proofs.Closings.{came_phase}
@@ -336,7 +337,7 @@ module _ (plan : Plan) (longest call turn loss : ℕ) (commands : List Task) (sp
           let one = pending_of command.target command.call (later s.progress.moment.elapsed task.deadline) in
           let more = commands-append s.marks (Some mark ∷ []) in (
             subst (λ (ws : List (Pending Asked)). LastIsAlone (Early (suc k) (limit_of s.progress.began (suc k))) (s.marks ++ Some mark ∷ []) ws)
-                (sym (sent_with_room s.client command s.progress.moment.elapsed task.deadline may.3.1))
+                (sym (sent_with_room s.client command s.progress.moment.elapsed task.deadline (within_window _ _ may.3.1)))
                 (alone_sent (Early (suc k) (limit_of s.progress.began (suc k))) mark one (λ raw. early mark.sent raw) s.marks s.client.waiting paired),
             omega (arith, more),
           ) where
@@ -380,14 +381,14 @@ module _ (plan : Plan) (longest call turn loss : ℕ) (commands : List Task) (sp
     flushed_under needs punctual answered under =
         let one = pending_of 0 (Table NullProc) (later s.progress.moment.elapsed plan.deadline) in (
           subst (λ (ws : List (Pending Asked)). LastIsAlone (Early s.progress.prepared (limit_at s.progress)) (s.marks ++ None ∷ []) ws)
-              (sym (sent_with_room s.client (null_request plan).command s.progress.moment.elapsed plan.deadline needs.4.1))
+              (sym (sent_with_room s.client (null_request plan).command s.progress.moment.elapsed plan.deadline (within_window _ _ needs.4.1)))
               (alone_flushed (Early s.progress.prepared (limit_at s.progress)) one s.marks s.client.waiting paired (nil_from_length (deadlines s.client.waiting) needs.3) under.0),
           null_ends plan longest span commands few all_few u (limit_at s.progress) (short (setup_permits plan s.progress (waiting_of s)) refl) under.1,
           λ left none well.
               let more = commands-append s.marks (None ∷ []) in
               let settled : commands_in s.marks ≡ 0 = omega (arith, none, more) in
               let far = wanted settled needs.2 in
-              inr (flushed_again plan longest call turn loss commands few turns losses s far needs.4.1 (may_flush plan longest call turn loss commands few turns losses s far needs.4.1 (under.2 left settled well))),
+              inr (flushed_again plan longest call turn loss commands few turns losses s far (within_window _ _ needs.4.1) (may_flush plan longest call turn loss commands few turns losses s far (within_window _ _ needs.4.1) (under.2 left settled well))),
         ) where
           -- where no command is outstanding, a null procedure is wanted as seven requests were sent behind the last answered call of the table
           wanted : commands_in s.marks ≡ 0 → WantsNull plan s.progress (waiting_of s) → WINDOW ≤ s.progress.behind
@@ -401,7 +402,7 @@ module _ (plan : Plan) (longest call turn loss : ℕ) (commands : List Task) (sp
               let it = not_permitted plan s.progress (waiting_of s) e in
               let well = answered e in
               let far = wanted it.2 needs.2 in
-              let f = may_flush plan longest call turn loss commands few turns losses s far needs.4.1 (under.2 (some_unsent plan s.progress (waiting_of s) it.0 it.2 well) it.2 well) in
+              let f = may_flush plan longest call turn loss commands few turns losses s far (within_window _ _ needs.4.1) (under.2 (some_unsent plan s.progress (waiting_of s) it.0 it.2 well) it.2 well) in
               let soon = f.soon in
               omega (arith, soon, turns)
 

@@ -26,6 +26,7 @@ use Rattle.gc_station.specs.declared.plan.Plan.{Plan}
 use Rattle.gc_station.specs.declared.progress.Action.{Action}
 use Rattle.gc_station.specs.declared.progress.Action.TheVariants as actions
 use Rattle.gc_station.specs.declared.progress.Progress.{Progress}
+use Rattle.gc_station.proofs.InCycle.{within_window}
 use Rattle.gc_station.proofs.Records.{commands-append, records-none, last-append}
 use Rattle.gc_station.proofs.Walk.{came_along, walk}
 
@@ -220,7 +221,7 @@ module _ (plan : Plan) (commands : List Task) where
     by_going (inl free) = both_ways s.progress.next_is_chained free (needs.7 stops)
     by_going (inr going) = both_ways (last_well false s.records) (h.2 going.0) going.1
   goes_not_on s actions.Flush act obeys needs stops h =
-      let on = null_asked (with_progress turned s) needs.4.1 h in
+      let on = null_asked (with_progress turned s) (within_window _ _ needs.4.1) h in
       walk plan commands (λ (a : Act) (t : Model). CannotGoOn t) actions.Flush (with_progress turned s) act obeys (λ m. on, λ n. on)
   goes_not_on s actions.Skip act obeys needs stops h =
       walk plan commands (λ (a : Act) (t : Model). CannotGoOn t) actions.Skip (with_progress turned s) act obeys (

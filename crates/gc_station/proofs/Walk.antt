@@ -173,6 +173,7 @@ progress_of Renew p q = record (told_of p q) {
   asked = q.asked;
   chain_unbroken = q.chain_unbroken;
   behind = q.behind;
+  last_ended = q.last_ended;
   preparing = q.preparing;
   prepared = q.prepared;
   attempt = q.attempt;
@@ -202,6 +203,7 @@ progress_of (Read until) p q = record (told_of p q) {
   tries = q.tries;
   pause = q.pause;
   behind = q.behind;
+  last_ended = q.last_ended;
 }
 progress_of (Close why) p q = connecting_of p q
 progress_of (Stop why) p q = p
@@ -233,7 +235,7 @@ changed action s t = record (changed_by action s t) {
 
 -- the progress p with those fields of q that lines change which are heard while the station synchronizes
 abbrev asked_of : (p q : Progress) → Progress
-asked_of p q = record p { word = q.word; again = q.again; alive = q.alive; asked = q.asked; behind = q.behind }
+asked_of p q = record p { word = q.word; again = q.again; alive = q.alive; asked = q.asked; behind = q.behind; last_ended = q.last_ended }
 
 -- lines that are heard while the station synchronizes change no other fields than `asked_of` says
 lines_changed : (p : Progress) (lines : List (List ℕ)) → lines_synchronizing p lines ≡ asked_of p (lines_synchronizing p lines)

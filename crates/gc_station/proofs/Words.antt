@@ -100,8 +100,4 @@ pub renews_needs : (plan : Plan) (commands : List Task) (s : Model) (o : Action)
     → HoldsBefore plan s.progress (waiting_of s) o → MayResynchronize plan s × (deadlines s.client.waiting ≡ [])
 renews_needs plan commands s o fine is needs =
     let it = subst (λ (x : Action). HoldsBefore plan s.progress (waiting_of s) x) is needs in
-    (by_why it.3, nil_from_length (deadlines s.client.waiting) it.2) where
-      -- why it may, by the two reasons
-      by_why : ((WINDOW ≤ length s.client.waiting) ⊎ (IsOverdue plan s.progress (waiting_of s) × (0 < commands_in s.marks))) → MayResynchronize plan s
-      by_why (inl least) = let most = fine.window in inl (omega (arith, most, least))
-      by_why (inr over) = inr over
+    (it.3, nil_from_length (deadlines s.client.waiting) it.2)

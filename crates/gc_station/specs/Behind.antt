@@ -1,9 +1,9 @@
 -- Where commands are sent after calls of the table, this project's own. The table is that of the procedures that this project
 -- knows. An instrument may keep its reply to a request, and send it again for a later one with the same id; of eight requests in
 -- a row no two have one id. Procedures that aren't in the table may leave what it keeps. So no command is sent unless one of the
--- seven requests before it is a call of the table that a reply ended, or the last null procedure of the synchronization. A part
--- reaches from one synchronization to the next (`Parts`).
-use Rattle.std.specs.Prelude.{◌≡◌, ◌⊎◌, ℕ, ◌+◌, ◌<◌, ◌≤◌, true, false, List, ◌∷◌, ◌++◌, length, Some, slice_get}
+-- seven requests before it is a call of the table that a reply ended. As no reply has ended a request of a client that is new, the
+-- first one after a synchronization is a null procedure (`NullFirst`). A part reaches from one synchronization to the next (`Parts`).
+use Rattle.std.specs.Prelude.{◌≡◌, ◌⊎◌, ℕ, ◌+◌, ◌≤◌, true, false, List, ◌∷◌, ◌++◌, length, Some, slice_get}
 use Rattle.std.specs.List.{AllByRecursion}
 use Rattle.gc_catalogue.specs.Asked.{is_of_table}
 use Rattle.gc_catalogue.specs.declared.asked.Asked.{Asked}
@@ -16,6 +16,7 @@ use Rattle.gc_station.specs.declared.plan.Plan.{Plan}
 use Rattle.gc_station.specs.declared.progress.Action.TheVariants as action
 use Rattle.gc_station.specs.Deciding.{has_begun, action_to_send, action_room}
 use Rattle.gc_station.specs.Links.{parts}
+use Rattle.gc_station.specs.Marks.{commands_in}
 use Rattle.gc_station.specs.Model.{Model, waiting_of}
 use Rattle.gc_station.specs.Parts.{Part}
 use Rattle.gc_station.specs.Progressing.{is_over}
@@ -26,17 +27,14 @@ abbrev pub IsRepliedTableCall : Settlement Asked → Type 0
 IsRepliedTableCall x = (is_of_table x.call ≡ true) × (x.outcome ≡ Lost → ⊥)
 
 -- of the requests that a client sent since its synchronization (`x.sent`), one of the last seven is a call of the table that a
--- reply ended: request `k`, with its settlement `s`. Or fewer than seven were sent, so that the last null procedure of the
--- synchronization is one of the last seven
+-- reply ended: request `k`, with its settlement `s`
 abbrev pub IsNearTheTable : Course Asked → Type 0
 IsNearTheTable x =
-    (length x.sent < WINDOW)
-    ⊎ ((k : ℕ) × (s : Settlement Asked) × (slice_get x.settlements k ≡ Some s) × IsRepliedTableCall s
-    × (length x.sent ≤ k + WINDOW))
+    (k : ℕ) × (s : Settlement Asked) × (slice_get x.settlements k ≡ Some s) × IsRepliedTableCall s
+    × (length x.sent ≤ k + WINDOW)
 
--- wherever a command is sent in this part of a run, one of the seven requests before it is a call of the table that a reply
--- ended, or the last null procedure of the part's synchronization (`IsNearTheTable`). `front` are the client's steps before the
--- command
+-- wherever a command is sent in this part of a run, one of the seven requests before it in the part is a call of the table that a
+-- reply ended (`IsNearTheTable`). `front` are the client's steps before the command
 abbrev pub IsSentNearTheTable : Part → Type 0
 IsSentNearTheTable part =
     (front later : List (Step Asked)) (target : ℕ) (call : Asked) (deadline : ℕ) (mark : Mark) → part.steps ≡ front ++ Send target call deadline ∷ later
@@ -60,7 +58,15 @@ IsNotHeldUp plan s =
     × (action_to_send plan s.progress (waiting_of s) action.Send ≡ action_room plan s.progress (waiting_of s) action.Send)
     × (action_to_send plan s.progress (waiting_of s) action.Prepare ≡ action_room plan s.progress (waiting_of s) action.Prepare)
 
--- if all commands are calls of the table, none is held up (`IsNotHeldUp`) once a run has synchronized, as long as it isn't over
+-- a station with the model `s` awaits the first reply since its synchronization: no request that was sent since then was ended by
+-- a reply (`behind`); it sent nothing but null procedures, so no command is outstanding, no chain goes on, and nothing of the setup
+-- was sent
+abbrev pub AwaitsFirstReply : Model → Type 0
+AwaitsFirstReply s = (s.progress.behind ≡ WINDOW) × (commands_in s.marks ≡ 0) × (s.progress.chain_unbroken ≡ false) × (s.progress.prepared ≡ 0)
+
+-- if all commands are calls of the table, none is held up (`IsNotHeldUp`) once a run has synchronized and a reply has ended the null
+-- procedure that it sends then (until then: `AwaitsFirstReply`), as long as it isn't over
 abbrev pub TheTableIsNeverHeldUp : Type 0
 TheTableIsNeverHeldUp = OfEachRun (λ plan commands scope acts.
-    AreOfTable commands → let s = state_after plan commands scope acts in has_begun s.progress ≡ true → is_over s.progress ≡ false → IsNotHeldUp plan s)
+    AreOfTable commands
+    → let s = state_after plan commands scope acts in has_begun s.progress ≡ true → is_over s.progress ≡ false → AwaitsFirstReply s ⊎ IsNotHeldUp plan s)

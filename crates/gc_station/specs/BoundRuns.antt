@@ -156,9 +156,16 @@ exchanged (line ∷ others) (reply ∷ later) acts = Put (with_end line) ∷ Tol
 exchanged _ _ acts = acts
 
 -- the acts of a synchronization, and then `acts`: a connection is made and cleared, and the eight null procedures are answered, all at
--- the start of the clock; then the first cycle begins
+-- the start of the clock; then the first cycle begins, and the client's first null procedure is answered
 abbrev pub synchronized : List Act → List Act
-synchronized acts = Opened ∷ Put (10 ∷ []) ∷ Told (at 0) ∷ exchanged null_lines null_replies (Told (at 0) ∷ acts)
+synchronized acts =
+    Opened
+    ∷ Put (10 ∷ [])
+    ∷ Told (at 0)
+    ∷ exchanged null_lines null_replies (
+    Told (at 0)
+    ∷ exchanged (codes "%R1Q,0,0:" ∷ []) (codes "%R1P,0,0:0" ∷ []) acts
+    )
 
 -- a cycle every millisecond, and deadlines of a millisecond but for those of commands
 abbrev pub quick_plan : Plan
@@ -172,7 +179,7 @@ slow_commands = number_task 100 false ∷ []
 abbrev pub long_deadline : List Act
 long_deadline =
     synchronized (
-    Put (with_end (codes "%R1Q,5003,0:"))
+    Put (with_end (codes "%R1Q,5003,1:"))
     ∷ Told (at 0)
     ∷ Silent (at 10)
     ∷ Silent (at 20)
@@ -196,15 +203,15 @@ chain_commands = number_task 10 false ∷ number_task 10 true ∷ number_task 10
 abbrev pub asked_in_chain : List Act
 asked_in_chain =
     synchronized (
-    Put (with_end (codes "%R1Q,5003,0:"))
+    Put (with_end (codes "%R1Q,5003,1:"))
     ∷ Told (at_asking 0)
-    ∷ Gave (with_end (codes "%R1P,0,0:0,0")) (at 9)
-    ∷ Put (with_end (codes "%R1Q,5003,1:"))
-    ∷ Told (at 9)
-    ∷ Gave (with_end (codes "%R1P,0,1:0,0")) (at 18)
+    ∷ Gave (with_end (codes "%R1P,0,1:0,0")) (at 9)
     ∷ Put (with_end (codes "%R1Q,5003,2:"))
+    ∷ Told (at 9)
+    ∷ Gave (with_end (codes "%R1P,0,2:0,0")) (at 18)
+    ∷ Put (with_end (codes "%R1Q,5003,3:"))
     ∷ Told (at 18)
-    ∷ Gave (with_end (codes "%R1P,0,2:0,0")) (at 27)
+    ∷ Gave (with_end (codes "%R1P,0,3:0,0")) (at 27)
     ∷ []
     )
 

@@ -4,7 +4,7 @@
 -- (`Clearing`), until a connection is quiet (`Draining`), with a connection for requests (`Ready`), before a close (`Closing`),
 -- and at the end (`Over`). Of the progress, `left` counts the cycles that haven't begun, and `unsent` the commands of the cycle
 -- that are left: neither sent, nor recorded without being sent, nor left out.
-use Rattle.std.specs.Prelude.{ℕ, ◌-◌, ◌&&◌, ◌||◌, Bool, true, false, not, if◌then◌else◌, nat_lt, nat_le, nat_eq, min, max, List, [], ◌∷◌}
+use Rattle.std.specs.Prelude.{◌+◌, ℕ, ◌-◌, ◌&&◌, ◌||◌, Bool, true, false, not, if◌then◌else◌, nat_lt, nat_le, nat_eq, min, max, List, [], ◌∷◌}
 pub use Rattle.gc_catalogue.specs.Moments.{later}
 use Rattle.gc_client.specs.declared.window.TheConstants.{WINDOW}
 use Rattle.gc_station.specs.declared.plan.Plan.{Plan}
@@ -139,12 +139,12 @@ abbrev pub action_done : Plan → Progress → Action
 action_done plan p = if nat_eq p.left 0 then Close Done else if is_due plan p then Begin else Read Due
 
 -- whether there is room for another request: the test of `HasRoomToAsk`
-abbrev pub has_room_to_ask : Plan → Waiting → Bool
-has_room_to_ask plan w = nat_lt w.current (width_of plan) && nat_lt w.all WINDOW
+abbrev pub has_room_to_ask : Plan → Progress → Waiting → Bool
+has_room_to_ask plan p w = nat_lt w.current (width_of plan) && nat_lt (w.all + p.last_ended) WINDOW
 
 -- `action`, which sends a request, if there is room for one and the line isn't dead; otherwise the action of a station that waits
 abbrev pub action_room : Plan → Progress → Waiting → Action → Action
-action_room plan p w action = if has_room_to_ask plan w && not (is_dead plan p w) then action else action_waiting plan p w
+action_room plan p w action = if has_room_to_ask plan p w && not (is_dead plan p w) then action else action_waiting plan p w
 
 -- the next action if nothing but a null procedure may be sent: to send one, if all outstanding requests have timed out or none is
 -- outstanding, and there is room; its reply settles them. Otherwise it is the action of a station that waits
@@ -152,8 +152,8 @@ abbrev pub action_flush : Plan → Progress → Waiting → Action
 action_flush plan p w = if nat_eq w.current 0 then action_room plan p w Flush else action_waiting plan p w
 
 -- the next action when the next command may be sent, of a cycle (`action` is `Send`) or of the setup (`Prepare`): that of
--- `action_room`, if one of the seven requests before it is a call of the table that a reply ended (`behind`). Else that of
--- `action_flush`, since a null procedure has to be sent first
+-- `action_room`, if one of the seven requests before it is a call of the table that a reply ended (`behind`). Else, as after each
+-- synchronization, that of `action_flush`, since a null procedure has to be sent first
 abbrev pub action_to_send : Plan → Progress → Waiting → Action → Action
 action_to_send plan p w action = if nat_lt p.behind WINDOW then action_room plan p w action else action_flush plan p w
 

@@ -1,9 +1,9 @@
 -- How a request ends that has no answer, in an operator's words, this project's own. Late: its own request was sent, then a
 -- moment at or past its deadline was read, and only then a line came with its id. Lost: its own request was sent, and at the
 -- act that recorded it as lost a line came with the id of a request that was put after it, or the station resynchronizes,
--- because all that is outstanding has timed out, and seven requests are or the cycle is overdue, or the run stopped. An act is one
--- call on the link, with its result.
-use Rattle.std.specs.Prelude.{◌≡◌, ◌⊎◌, ℕ, ◌<◌, ◌≤◌, List, [], ◌∷◌, ◌++◌, length, Some, IsSomeAnd}
+-- because all that is outstanding has timed out, and there is no room for another request or the cycle is overdue, or the run stopped.
+-- An act is one call on the link, with its result.
+use Rattle.std.specs.Prelude.{◌+◌, ◌≡◌, ◌⊎◌, ℕ, ◌<◌, ◌≤◌, List, [], ◌∷◌, ◌++◌, length, Some, IsSomeAnd}
 use Rattle.gc_catalogue.specs.declared.asked.Asked.{Asked}
 use Rattle.gc_client.specs.Ids.{Waits}
 use Rattle.gc_client.specs.Rule.{deadlines, heard}
@@ -62,12 +62,13 @@ pub record IsOvertaken (plan : Plan) (commands : List Task) (scope : Scope) (bef
   pub came : Completes (state_after plan commands scope (before ++ request ∷ between)).rest piece line
   pub id : heard line ≡ Some (state_after plan commands scope (before ++ request ∷ first)).client.next
 
--- why a station that has the model `s` resynchronizes: seven requests are outstanding; or commands are, and the cycle is overdue
+-- why a station that has the model `s` resynchronizes: the outstanding requests, and those that the last line ended that ended any, are
+-- together seven or more; or commands are outstanding, and the cycle is overdue
 abbrev pub MayResynchronize : Plan → Model → Type 0
-MayResynchronize plan s = (length s.client.waiting ≡ WINDOW) ⊎ (IsOverdue plan s.progress (waiting_of s) × (0 < commands_in s.marks))
+MayResynchronize plan s = (WINDOW ≤ length s.client.waiting + s.progress.last_ended) ⊎ (IsOverdue plan s.progress (waiting_of s) × (0 < commands_in s.marks))
 
--- the act, before which a station has the model `s`, resynchronizes it: the act reads the clock; seven requests are outstanding, or
--- the cycle is overdue; and all that is outstanding has timed out
+-- the act, before which a station has the model `s`, resynchronizes it: the act reads the clock; there is no room for another
+-- request, or the cycle is overdue; and all that is outstanding has timed out
 pub record Resynchronizes (plan : Plan) (s : Model) (act : Act) : Type 0 where
   pub renews : action_at plan s ≡ Renew
   pub moment : Moment

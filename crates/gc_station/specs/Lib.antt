@@ -36,6 +36,8 @@ pub mod Begun
 pub mod Tasked
 pub mod Links
 pub mod Behind
+pub mod NullFirst
+pub mod HoldingBack
 pub mod Codes
 pub mod Counting
 pub mod Room

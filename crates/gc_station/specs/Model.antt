@@ -35,7 +35,7 @@ pub use Rattle.gc_station.specs.Lines.{is_reply}
 use Rattle.gc_station.specs.Attempts.{listed_after, listed_after_settlements}
 use Rattle.gc_station.specs.Marks.{commands_in, record_with, records_of, last_well}
 use Rattle.gc_station.specs.NextCommand.{place_next, commands_left, cycles_begun, mark_next, mark_setup, commands_before, upcoming_after}
-use Rattle.gc_station.specs.Progressing.{at_start, turned, moment_noted, cycle_begun, skipped, attempts_left_out, unsent_at, failing, opened, after_failure, cleared, request_noted, null_sent, resynchronized, sent, behind_noted, line_noted, lines_synchronizing, bytes_noted, silent, early_noted, closed, loses_all, setup_sent}
+use Rattle.gc_station.specs.Progressing.{at_start, turned, moment_noted, cycle_begun, skipped, attempts_left_out, unsent_at, failing, opened, after_failure, cleared, request_noted, null_sent, resynchronized, sent, behind_noted, ended_noted, line_noted, lines_synchronizing, bytes_noted, silent, early_noted, closed, loses_all, setup_sent}
 use Rattle.gc_station.specs.Records.{Record}
 use Rattle.gc_station.specs.Requests.{RunRequest, requests, of_task, command_at}
 use Rattle.gc_station.specs.Scopes.{Scope, Reads}
@@ -286,10 +286,11 @@ is_some_of_table (Some x) = is_of_table x.call
 abbrev pub ends_with_table : List (Settlement Asked) → Bool
 ends_with_table settlements = is_some_of_table (slice_get settlements (length settlements - 1))
 
--- the model `s` once a line settled requests, as `x` says: with the records of these settlements, and the number of requests
--- sent after the last call of the table that a reply ended
+-- the model `s` once a line settled requests, as `x` says: with the records of these settlements, the number of requests sent after
+-- the last call of the table that a reply ended, and how many the last line ended that ended any
 abbrev pub line_settles : Settled Asked (ById Asked) → Model → Model
-line_settles x s = with_progress (behind_noted (ends_with_table x.settlements) (length x.client.waiting)) (settles x s)
+line_settles x s =
+    with_progress (λ p. ended_noted (length x.settlements) (behind_noted (ends_with_table x.settlements) (length x.client.waiting) p)) (settles x s)
 
 -- the model `s` after the client heard `line`
 abbrev pub line_came : Model → List ℕ → Model

@@ -20,7 +20,8 @@ use Rattle.gc_station.specs.Deciding.{later, is_up, is_past, is_quiet, is_due, g
 pub use Rattle.gc_station.specs.Deciding.{is_idle, is_finished}
 use Rattle.gc_station.specs.Lines.{is_reply}
 
--- the progress of a station that has done nothing: no null procedure of the synchronization is answered
+-- the progress of a station that has done nothing: no null procedure of the synchronization is answered, and no call of the table
+-- is ended by a reply (`behind`)
 abbrev pub at_start : Plan → (turns : ℕ) → Progress
 at_start plan turns = record {
   phase = phase.Down;
@@ -43,7 +44,8 @@ at_start plan turns = record {
   tries = plan.retries;
   pause = 0;
   turns = turns;
-  behind = 0;
+  behind = WINDOW;
+  last_ended = 1;
   preparing = nat_lt 0 plan.setup;
   prepared = 0;
   attempt = 1;
@@ -208,9 +210,10 @@ cleared p = record p { phase = if has_begun p then phase.Draining else phase.Rea
 abbrev pub one_more_in_window : ℕ → ℕ
 one_more_in_window n = if nat_lt n WINDOW then n + 1 else n
 
--- the progress after a request was sent. `behind` counts the requests that were sent after the last answered call of the table,
--- at most `WINDOW`. If `asked` is false, this is the first request since a reply line, a new connection or a resynchronization
--- between two cycles, and the time after which the line is dead begins now (`alive`). The clock is to be read next
+-- the progress after a request was sent. `behind` counts the requests that were sent after the last call of the table that a reply
+-- ended, at most `WINDOW`; it is `WINDOW` if a reply ended none since the synchronization. If `asked` is false, this is the first
+-- request since a reply line, a new connection or a resynchronization between two cycles, and the time after which the line is dead
+-- begins now (`alive`). The clock is to be read next
 abbrev pub request_noted : Progress → Progress
 request_noted p = record p {
   alive = if p.asked then p.alive else p.moment.elapsed;
@@ -219,18 +222,17 @@ request_noted p = record p {
   behind = one_more_in_window p.behind;
 }
 
--- the progress after the null procedure of the first id that isn't answered was sent: it is sent again at its deadline. No
--- command is sent before it is answered, so `behind` is 0
+-- the progress after the null procedure of the first id that isn't answered was sent: it is sent again at its deadline
 abbrev pub null_sent : Plan → Progress → Progress
-null_sent plan p = let q = request_noted p in record q { again = later p.moment.elapsed plan.deadline; behind = 0 }
+null_sent plan p = let q = request_noted p in record q { again = later p.moment.elapsed plan.deadline }
 
 -- the progress of a station that resynchronizes at this moment: no null procedure is answered, no chain goes on, and the setup
--- is sent again. If nothing is sent before the next cycle is due, the time after which the line is dead begins with the first
--- null procedure
+-- is sent again. `behind` is `WINDOW`, since the client is new: no command is sent before a reply has ended a null procedure of it.
+-- If nothing is sent before the next cycle is due, the time after which the line is dead begins with the first null procedure
 abbrev pub resynchronized : Plan → Moment → Progress → Progress
 resynchronized plan m p =
     let q = moment_noted_meanwhile m p in
-    setup_restarted plan (record q { word = the_word; again = 0; asked = p.asked && goes_on plan q; chain_unbroken = false; behind = 0 })
+    setup_restarted plan (record q { word = the_word; again = 0; asked = p.asked && goes_on plan q; chain_unbroken = false; behind = WINDOW; last_ended = 1 })
 
 -- the progress after the cycle's next command was sent. `next` is noted of the one after it
 abbrev pub sent : (next : Upcoming) → Progress → Progress
@@ -249,6 +251,14 @@ line_noted is_reply p = record p { alive = if is_reply then p.moment.elapsed els
 -- last of them, to which it is the reply, is a call of the table. Then the outstanding requests are those sent after that call
 abbrev pub behind_noted : (of_table : Bool) (waiting : ℕ) → Progress → Progress
 behind_noted of_table waiting p = record p { behind = if of_table then waiting else p.behind }
+
+-- how many requests the last line ended that ended any, once a line came that ended `more`; `last` before it
+abbrev pub ended_last : (more last : ℕ) → ℕ
+ended_last more last = if nat_lt 0 more then more else last
+
+-- the progress once a line was heard that ended `more` requests
+abbrev pub ended_noted : (more : ℕ) → Progress → Progress
+ended_noted more p = record p { last_ended = ended_last more p.last_ended }
 
 -- the progress after `line` was heard while the station synchronizes: if the line's id is that of the first null procedure that
 -- is left, that one is answered, and the next one, if there is one, is sent at once

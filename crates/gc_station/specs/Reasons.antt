@@ -1,6 +1,6 @@
 -- Reasons, this project's own: what has to hold if an act is the next one. It is said apart from the tests of `Deciding`, some of
 -- which decide the same, so that the laws check these.
-use Rattle.std.specs.Prelude.{◌≡◌, ℕ, ◌-◌, ◌<◌, ◌≤◌, ◌⊎◌, true, false}
+use Rattle.std.specs.Prelude.{◌+◌, ◌≡◌, ℕ, ◌-◌, ◌<◌, ◌≤◌, ◌⊎◌, true, false}
 use Rattle.gc_client.specs.declared.window.TheConstants.{WINDOW}
 use Rattle.gc_station.specs.declared.plan.Plan.{Plan}
 use Rattle.gc_station.specs.declared.cause.Cause.{Cause}
@@ -15,10 +15,10 @@ use Rattle.gc_station.specs.declared.progress.Until.TheVariants.{Limit, Due}
 use Rattle.gc_station.specs.declared.progress.Waiting.{Waiting}
 use Rattle.gc_station.specs.Deciding.{width_of, has_begun, is_up, is_unquiet, is_due, is_idle, is_silent, is_dead, is_stale, may_go, is_preparing}
 
--- another request may be sent: fewer that haven't timed out are in flight than `width_of` allows, and fewer are outstanding in
--- all than the window has places
-abbrev pub HasRoomToAsk : Plan → Waiting → Type 0
-HasRoomToAsk plan w = (w.current < width_of plan) × (w.all < WINDOW)
+-- another request may be sent: fewer that haven't timed out are in flight than `width_of` allows; and all that are outstanding, and those
+-- that the last line ended that ended any, are together fewer than the window has places
+abbrev pub HasRoomToAsk : Plan → Progress → Waiting → Type 0
+HasRoomToAsk plan p w = (w.current < width_of plan) × (w.all + p.last_ended < WINDOW)
 
 -- no further command may be sent before those that were sent are settled: no command of the cycle is left, or the next one waits
 -- for the answer of the one before it in its chain, or begins a further attempt of its chain
@@ -85,7 +85,7 @@ WaitsForWhatIsInFlight plan p w =
 
 -- no command may be sent: there is no room for a request (`HasRoomToAsk`); or the station waits for what is in flight
 abbrev pub NothingMayGo : Plan → Progress → Waiting → Type 0
-NothingMayGo plan p w = (width_of plan ≤ w.current) ⊎ ((WINDOW ≤ w.all) ⊎ WaitsForWhatIsInFlight plan p w)
+NothingMayGo plan p w = (width_of plan ≤ w.current) ⊎ ((WINDOW ≤ w.all + p.last_ended) ⊎ WaitsForWhatIsInFlight plan p w)
 
 -- the next command may be sent, as far as its chain goes: it is the first of its chain, or of a further attempt, of which
 -- `MayRetry` says more; or all that were sent are settled, the one before it was answered well, and since that was sent no
@@ -157,10 +157,10 @@ AwaitsSomething plan p w Due = (p.phase ≡ phase.Ready) × AwaitsDueMoment plan
 -- the moment read last is out of date (`clock_due`). No request is sent over a dead line
 abbrev pub HoldsBefore : Plan → Progress → Waiting → Action → Type 0
 HoldsBefore plan p w action.ReadClock = p.clock_due ≡ true
--- the station resynchronizes where seven are outstanding, which have all timed out; or, with or without a connection, where
--- commands are outstanding and the cycle is overdue
+-- the station resynchronizes where all outstanding requests have timed out, and there is no room for another (`HasRoomToAsk`); or, with or
+-- without a connection, where commands are outstanding and the cycle is overdue
 HoldsBefore plan p w action.Renew =
-    IsReadyOrOverdue plan p w × (has_begun p ≡ true) × (w.current ≡ 0) × ((WINDOW ≤ w.all) ⊎ (IsOverdue plan p w × (0 < w.commands)))
+    IsReadyOrOverdue plan p w × (has_begun p ≡ true) × (w.current ≡ 0) × ((WINDOW ≤ w.all + p.last_ended) ⊎ (IsOverdue plan p w × (0 < w.commands)))
 HoldsBefore plan p w action.Begin =
     IsReadyOrOverdue plan p w × ((has_begun p ≡ true) ⊎ IsOverdue plan p w) × (p.unsent ≡ 0) × (w.commands ≡ 0) × (0 < p.left)
     × (p.stops ≡ false) × IsPreparedOrOverdue plan p w
@@ -171,11 +171,11 @@ HoldsBefore plan p w action.Ask = (p.phase ≡ phase.Ready) × (has_begun p ≡ 
     × (is_dead plan p w ≡ false)
 -- no command of the setup is sent if the end of the run was asked for
 HoldsBefore plan p w action.Prepare =
-    (p.phase ≡ phase.Ready) × (has_begun p ≡ true) × MayPrepare plan p w × HasRoomToAsk plan w × (p.behind < WINDOW) × (p.stops ≡ false)
+    (p.phase ≡ phase.Ready) × (has_begun p ≡ true) × MayPrepare plan p w × HasRoomToAsk plan p w × (p.behind < WINDOW) × (p.stops ≡ false)
     × (is_dead plan p w ≡ false)
 -- a command of a cycle has its turn only once the setup is done
 HoldsBefore plan p w action.Send =
-    (p.phase ≡ phase.Ready) × (has_begun p ≡ true) × (0 < p.unsent) × HasRoomToAsk plan w × MayGo p w × (p.behind < WINDOW) × MayRetry p w
+    (p.phase ≡ phase.Ready) × (has_begun p ≡ true) × (0 < p.unsent) × HasRoomToAsk plan p w × MayGo p w × (p.behind < WINDOW) × MayRetry p w
     × StaysInItsChain p × (is_preparing plan p w ≡ false) × (is_dead plan p w ≡ false)
 HoldsBefore plan p w action.Skip =
     IsReadyOrOverdue plan p w × ((has_begun p ≡ true) ⊎ IsOverdue plan p w) × (0 < p.unsent) × (w.commands ≡ 0)
@@ -185,7 +185,7 @@ HoldsBefore plan p w action.Skip =
 HoldsBefore plan p w action.Pass =
     IsReadyOrOverdue plan p w × ((has_begun p ≡ true) ⊎ IsOverdue plan p w) × (0 < p.unsent) × (w.commands ≡ 0) × (0 < p.next_others)
     × (((w.listed ≡ false) ⊎ (p.next_is_chained ≡ true)) ⊎ IsOverdue plan p w) × IsPreparedOrOverdue plan p w
-HoldsBefore plan p w action.Flush = (p.phase ≡ phase.Ready) × (has_begun p ≡ true) × WantsNull plan p w × (w.current ≡ 0) × HasRoomToAsk plan w
+HoldsBefore plan p w action.Flush = (p.phase ≡ phase.Ready) × (has_begun p ≡ true) × WantsNull plan p w × (w.current ≡ 0) × HasRoomToAsk plan p w
     × (is_dead plan p w ≡ false)
 HoldsBefore plan p w (action.Read until) = AwaitsSomething plan p w until
 HoldsBefore plan p w (action.Close cause) = HasConnectionFor cause p × ((p.phase ≡ phase.Closing cause) ⊎ IsAtItsEnd plan p w cause)

@@ -51,7 +51,7 @@
 //! | | no command is outstanding or unsent, and the next cycle is due | `Begin` | reads the clock, and begins the cycle | `Ready` |
 //! | | no command is outstanding or unsent, and the next cycle isn't due | `Read(Due)` | hears what comes | `Ready` |
 //! | the next command may be sent | one of the seven requests before it is a call of the table that a reply ended | with room, unless the line is dead, `Send`, else as if the station waits | sends the next command | `Ready` |
-//! | | else, if all outstanding requests have timed out, or nothing is outstanding | with room, unless the line is dead, `Flush`, else as if the station waits | sends a null procedure before it | `Ready` |
+//! | | else, as after each synchronization, if all outstanding requests have timed out, or nothing is outstanding | with room, unless the line is dead, `Flush`, else as if the station waits | sends a null procedure before it | `Ready` |
 //! | | else | as if the station waits | | |
 //! | the station waits | the line is dead | `Close(Dead)` | closes the connection | as below |
 //! | | all outstanding requests have timed out | `Renew` | reads the clock, and resynchronizes: all outstanding requests are lost | the same |
@@ -262,7 +262,7 @@ impl Progress {
     // The next action when the next command may be sent, of a cycle (`action` is `Send`) or of the setup (`Prepare`): that of
     // `action_room`, if one of the seven requests before it is a call of the table that a reply ended (`behind`). Else that of
     // `action_flush`, since a null procedure has to be sent first: an instrument that retains the reply to its last call of the
-    // table may still send that reply for the next id.
+    // table may still send that reply for the next id. So it is after each synchronization, of which a reply may still come, too.
     fn action_to_send(&self, plan: &Plan, waiting: Waiting, action: Action) -> Action
         ensures { result ≡ action_to_send plan.now self.now waiting action }
     {
@@ -428,12 +428,22 @@ impl Progress {
         }
     }
 
+    // Whether another request may be sent: fewer that haven't timed out are in flight than `width` allows; and all that are outstanding,
+    // and those that the last line ended that ended any, are together fewer than the window has places. So the station holds back: a
+    // damaged line that ended several requests has it send no request whose id a reply that is still in flight might have.
+    fn has_room_to_ask(&self, plan: &Plan, waiting: Waiting) -> bool
+        ensures { result ≡ has_room_to_ask plan.now self.now waiting }
+    {
+        waiting.current < usize::from(width(plan))
+            && waiting.all.saturating_add(self.last_ended) < WINDOW
+    }
+
     // `action`, which sends a request, if there is room for one and the line isn't dead; otherwise the action of a station that
     // waits.
     fn action_room(&self, plan: &Plan, waiting: Waiting, action: Action) -> Action
         ensures { result ≡ action_room plan.now self.now waiting action }
     {
-        if waiting.has_room_to_ask(plan) && !self.is_dead(plan, waiting) {
+        if self.has_room_to_ask(plan, waiting) && !self.is_dead(plan, waiting) {
             action
         } else {
             self.action_waiting(plan, waiting)
@@ -466,15 +476,5 @@ impl Progress {
         } else {
             Action::Read(Until::Limit)
         }
-    }
-}
-
-impl Waiting {
-    // Whether another request may be sent: fewer that haven't timed out are in flight than `width` allows, and fewer are outstanding
-    // in all than the window has places.
-    pub(crate) fn has_room_to_ask(self, plan: &Plan) -> bool
-        ensures { result ≡ has_room_to_ask plan.now self }
-    {
-        self.current < usize::from(width(plan)) && self.all < WINDOW
     }
 }

@@ -1,8 +1,10 @@
 //! Laws of a station's runs, whatever its link does. A run is the list of its acts: an act is one call of the link, with its
 //! result. A run is given a number of turns: each act takes one, and once none is left, a connection that is still open is closed
 //! by one act more. A run begins with its synchronization, eight null procedures that are sent one after the other; then it sends
-//! the commands of its text, cycle by cycle. It resynchronizes where seven requests are outstanding that have all timed out, or
-//! commands are and the cycle is overdue: two periods have passed since its due moment, and all that is outstanding has timed out. A
+//! one null procedure more, alone, as it does after each synchronization; and once a reply has ended it, the commands of its text,
+//! cycle by cycle. It resynchronizes where all outstanding requests have timed out and there is no room for another, or
+//! commands are outstanding and the cycle is overdue: two periods have passed since its due moment, and all that is outstanding has timed
+//! out. There is room if the outstanding requests, and those that the last line ended that ended any, are together fewer than seven. A
 //! request is sent where its bytes are written, all of them or some. It is outstanding until it is settled, also once it has timed
 //! out at its deadline. A chain is a row of commands for one target, each sent only once the one before it was answered well.
 
@@ -16,9 +18,11 @@ ghost use Rattle.gc_station.specs.declared.plan.Plan.{Plan};
 ghost use Rattle.gc_links.specs.Acts.{Act, Closed};
 ghost use Rattle.gc_station.specs.Answers.{AnswerIsJustified};
 ghost use Rattle.gc_station.specs.Behind.{CommandsAreSentNearTheTable, TheTableIsNeverHeldUp};
+ghost use Rattle.gc_station.specs.NullFirst.{SynchronizationsEndWithANull};
 ghost use Rattle.gc_station.specs.Beginnings.{NoneBeforeTheLastAnswer, SynchronizesInOrder, IsClearedAndQuiet};
 ghost use Rattle.gc_station.specs.Closing.{IsReasoned, ClosesForACause, EndsForTurnsOnlyAfterAsManyActs, StopsForACause};
 ghost use Rattle.gc_station.specs.Deciding.{dead_after};
+ghost use Rattle.gc_station.specs.HoldingBack.{RequestsAreHeldBack};
 ghost use Rattle.gc_station.specs.Codes.{WellIsAnAcceptedCode};
 ghost use Rattle.gc_station.specs.Counting.{TalliesCountRecords};
 ghost use Rattle.gc_station.specs.Cycles.{CyclesBeginWhenDue, SentOnlyInTime, UnsentForACause};
@@ -91,13 +95,13 @@ pub fn some_function_says_what_each_reply_says()
 /// Each act of a run performs the action that was next, and the conditions of that action held. The clock was read alone only where
 /// something was sent, or a connection was closed or couldn't be made, since a moment was read. When a request was sent, the line
 /// wasn't dead. When a command was sent, fewer requests were in
-/// flight and not timed out than the plan's width (taken as 1 to 7), fewer than seven were outstanding in all, and the bytes are
+/// flight and not timed out than the plan's width (taken as 1 to 7), there was room for it, and the bytes are
 /// the line of the next command, of the cycle or of the setup. A command of a cycle was sent only if the setup was done on that
 /// connection and since the station synchronized: each of its commands was sent, and the last one was answered well. When a null
 /// procedure of a synchronization was sent, nothing was outstanding, the client was new, and the bytes are the line of the null
 /// procedure with the first id that wasn't answered. When the station resynchronized, all outstanding requests had timed out, and
-/// they were seven, or commands were among them and the cycle was overdue. When the link was read, the station awaited something
-/// (`a_read_awaits_something`).
+/// there was no room for another, or commands were among them and the cycle was overdue. When the link was read, the station awaited
+/// something (`a_read_awaits_something`).
 pub fn each_act_is_due()
     ensures { OfEachAct (λ plan commands scope earlier act. IsReasoned plan commands (state_after plan commands scope earlier) act) }
 {}
@@ -155,8 +159,8 @@ pub fn late_ones_came_late()
 
 /// Each lost record has a cause: its own request, of the same cycle and place, was sent, and the act at which the record was
 /// written is one of three. It brought a line with the id of a later outstanding request; or it read the clock once all outstanding
-/// requests had timed out, which were seven, or whose cycle was overdue, and the station resynchronizes there; or it is the last act
-/// of the run, which stops there.
+/// requests had timed out, and there was no room for another or the cycle was overdue, and the station resynchronizes there; or it is
+/// the last act of the run, which stops there.
 pub fn lost_ones_are_lost_for_a_cause()
     ensures { OfEachRecord LostIsJustified }
 {}
@@ -207,7 +211,7 @@ pub fn no_command_goes_out_before_the_last_answer()
 /// A run begins with eight null procedures, with ids 6, 5, 4, 3, 2, 1, 0 and 7. While it synchronizes no request of the client
 /// is outstanding, and what is sent is the null procedure of the first of these ids that isn't answered. Only a reply with that
 /// id answers it, and the next one is sent then, also if the connection was closed in between. A run resynchronizes only when all
-/// that is outstanding has timed out, and seven requests are outstanding, or commands are and the cycle is overdue.
+/// that is outstanding has timed out, and there is no room for another request, or commands are outstanding and the cycle is overdue.
 pub fn each_synchronization_goes_on_by_its_answers()
     ensures { OfEachAct SynchronizesInOrder }
 {}
@@ -287,9 +291,17 @@ pub fn tallies_count_the_records()
 {}
 
 /// When a command is sent, or a null procedure that isn't of a synchronization, fewer requests are in flight than the plan's
-/// width, not counting those timed out, or none is; and fewer than seven are outstanding in all.
+/// width, not counting those timed out, or none is; and those that are outstanding, and those that the last line ended that ended any,
+/// are together fewer than seven.
 pub fn each_request_has_room()
     ensures { RequestsHaveRoom }
+{}
+
+/// The station holds back: whenever a request is sent, null procedures of its own too, the outstanding requests, and those that the last
+/// line ended that ended any since the synchronization, are together fewer than seven. That is what the laws on damaged lines ask of a client
+/// (`gc_damage`).
+pub fn requests_are_held_back()
+    ensures { RequestsAreHeldBack }
 {}
 
 /// If the plan's `every` is above 0 and the clock doesn't go back, each cycle begins at or after it is due: the first is due
@@ -398,16 +410,25 @@ pub fn tries_and_pauses_are_counted()
     ensures { TriesAndPausesAreCounted }
 {}
 
-/// Whenever a command is sent, one of the seven requests before it is a call of the table that a reply ended, answered or late;
-/// or fewer than seven were sent since the synchronization, whose last null procedure was answered. So an instrument that
-/// retains its reply to the last call of the table, and looks at the id first, retains none with the id of the command.
+/// Whenever a command is sent, one of the seven requests before it since the synchronization is a call of the table that a reply
+/// ended, answered or late. So an instrument that retains its reply to the last call of the table, and looks at the id first,
+/// retains none with the id of the command.
 pub fn each_command_is_sent_near_the_table()
     ensures { CommandsAreSentNearTheTable }
 {}
 
+/// A synchronization ends with a null procedure of the client, which is its first request, and no command is sent before a reply has
+/// ended a null procedure, answered or late. Until then each null procedure is sent only once all before it have timed out: so it is
+/// alone on the line.
+pub fn a_synchronization_ends_with_a_null_procedure()
+    ensures { SynchronizationsEndWithANull }
+{}
+
 /// The rule on raw commands never holds up a text without them: if all commands are calls of the table, no null procedure has to
-/// be sent before a command for that rule's sake, once a run has synchronized and until it is over. What comes next where a
-/// command may be sent then depends on the room for it and on whether the line is dead; that it is sent isn't said.
+/// be sent before a command for that rule's sake, once a run has synchronized and a reply has ended the null procedure that it sends
+/// then, and until it is over. What comes next where a command may be sent then depends on the room for it and on whether the line
+/// is dead; that it is sent isn't said. Until that reply nothing but null procedures was sent: no command is outstanding, no chain
+/// goes on, and nothing of the setup was sent.
 pub fn the_table_is_never_held_up()
     ensures { TheTableIsNeverHeldUp }
 {}

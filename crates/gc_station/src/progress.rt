@@ -9,7 +9,7 @@ ghost use Rattle.gc_station.specs.Model.{is_heard};
 use crate::cause::Cause;
 use crate::plan::Plan;
 use crate::progressing::later;
-use gc_client::Beginning;
+use gc_client::{Beginning, WINDOW};
 use gc_links::Moment;
 
 /// The phase of a station: whether it has a connection, and what it may do with that.
@@ -55,7 +55,7 @@ pub(crate) enum Action {
     /// To read the clock, and to leave out the further attempt that the next command begins, and those of its chain after it.
     Pass,
     /// To send a null procedure after requests that have all timed out: its reply settles them. Or to send one before a command,
-    /// if none of the seven requests before the command is a call of the table that a reply ended.
+    /// if none of the seven requests before the command is a call of the table that a reply ended: so after a synchronization.
     Flush,
     /// To read.
     Read(Until),
@@ -156,9 +156,11 @@ pub(crate) struct Progress {
     pub pause: u64,
     /// How many turns are left: each act takes one.
     pub turns: u64,
-    /// How many requests were sent after the last call of the table that a reply ended, answered or late, and after the
-    /// synchronization. Seven if they are more.
+    /// How many requests were sent after the last call of the table that a reply ended, answered or late. Seven if they are more,
+    /// or if a reply ended no call of the table since the synchronization: so the first request after it is a null procedure.
     pub behind: usize,
+    /// How many requests the last line ended that ended any, since the station synchronized; 1 if none did.
+    pub last_ended: usize,
     /// Whether there is a setup, and since the connection was made and the station synchronized no command of a cycle was sent, and, once
     /// something of the setup was sent, no cycle began, and no command of one was recorded without being sent, or left out.
     pub preparing: bool,
@@ -265,7 +267,8 @@ impl Phase {
 }
 
 impl Progress {
-    // The progress of a station that has done nothing: no null procedure of its synchronization is answered.
+    // The progress of a station that has done nothing: no null procedure of its synchronization is answered, and no call of the
+    // table is ended by a reply (`behind`).
     pub(crate) fn at_start(plan: &Plan, max_turns: u64) -> Progress
         ensures { result ≡ at_start plan.now max_turns }
     {
@@ -294,7 +297,8 @@ impl Progress {
             tries: plan.retries,
             pause: 0,
             turns: max_turns,
-            behind: 0,
+            behind: WINDOW,
+            last_ended: 1,
             preparing: plan.setup > 0,
             prepared: 0,
             attempt: 1,

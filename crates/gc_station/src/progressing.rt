@@ -7,7 +7,7 @@ ghost use Rattle.gc_client.specs.Hearing.{HearsInto};
 ghost use Rattle.gc_client.specs.Rule.{ById};
 ghost use Rattle.gc_client.specs.declared.settlement.Settlement.{Settlement};
 ghost use Rattle.gc_station.specs.Deciding.{later};
-ghost use Rattle.gc_station.specs.Progressing.{still_prepares, turned, moment_noted, moment_noted_meanwhile, cycle_start, lateness, is_missed_at, due_of, cycle_begun, advanced, unsent_at, failing, opened, is_finished, is_idle, is_spared, phase_again, pause_again, after_failure, cleared, request_noted, null_sent, resynchronized, line_synchronizing, sent, behind_noted, line_noted, early_after, bytes_noted, pause_ended, drained, quieted, time_passed, silent, early_noted, ended_for, closed, is_over, loses_all, next_attempt, setup_restarted, setup_sent, gives_back};
+ghost use Rattle.gc_station.specs.Progressing.{still_prepares, turned, moment_noted, moment_noted_meanwhile, cycle_start, lateness, is_missed_at, due_of, cycle_begun, advanced, unsent_at, failing, opened, is_finished, is_idle, is_spared, phase_again, pause_again, after_failure, cleared, request_noted, null_sent, resynchronized, line_synchronizing, sent, behind_noted, ended_noted, line_noted, early_after, bytes_noted, pause_ended, drained, quieted, time_passed, silent, early_noted, ended_for, closed, is_over, loses_all, next_attempt, setup_restarted, setup_sent, gives_back};
 ghost use Rattle.gc_station.specs.Lines.{is_reply};
 
 use crate::cause::Cause;
@@ -301,18 +301,16 @@ impl Progress {
         }
     }
 
-    // Notes that the null procedure of the first id that isn't answered was sent: it is sent again at its deadline. No command
-    // is sent before it is answered, so the count of requests after the last call of the table starts at 0.
+    // Notes that the null procedure of the first id that isn't answered was sent: it is sent again at its deadline.
     pub(crate) fn note_null(&mut self, plan: &Plan)
         ensures { self.new ≡ null_sent plan.now self.old }
     {
         self.note_request();
         self.again = later(self.moment.elapsed, plan.deadline);
-        self.behind = 0;
     }
 
     // Notes that the station resynchronizes at this moment: no null procedure is answered, no chain goes on, and the setup is sent
-    // again. If nothing is sent before the next cycle is due, the time after which the line is dead begins with the first null
+    // again. As the client is new, no command is sent before a reply has ended a null procedure of it (`behind`). If nothing is sent before the next cycle is due, the time after which the line is dead begins with the first null
     // procedure.
     pub(crate) fn resynchronize(&mut self, plan: &Plan, moment: Moment)
         ensures { self.new ≡ resynchronized plan.now moment self.old }
@@ -322,7 +320,8 @@ impl Progress {
         self.again = 0;
         self.asked = self.asked && self.goes_on(plan);
         self.chain_unbroken = false;
-        self.behind = 0;
+        self.behind = WINDOW;
+        self.last_ended = 1;
         self.restart_setup(plan);
     }
 
@@ -362,6 +361,15 @@ impl Progress {
     {
         if of_table {
             self.behind = waiting;
+        }
+    }
+
+    // Notes that a line was heard that ended so many requests, if it ended any.
+    pub(crate) fn note_ended(&mut self, requests: usize)
+        ensures { self.new ≡ ended_noted requests self.old }
+    {
+        if requests > 0 {
+            self.last_ended = requests;
         }
     }
 

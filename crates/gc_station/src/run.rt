@@ -81,17 +81,18 @@ pub(crate) fn run<L: Link, B: Book>(
 /// What a station does next is a function of what its link recorded: `action_at`. It connects, sends a lone line feed, and
 /// synchronizes: eight null procedures are sent one after the other, with ids 6, 5, 4, 3, 2, 1, 0 and 7. One that isn't
 /// answered by its deadline is sent again with the same id, also on the next connection. Any reply with that id answers it;
-/// all other bytes are discarded. After the eighth answer the client is new, with next id 0. Then the commands of a cycle
-/// are sent, each once, while fewer requests are in flight than the plan's width, and fewer than seven are outstanding in
-/// all. Each moment times out the requests whose deadline has come, before the bytes that came with it are heard. A request
+/// all other bytes are discarded. After the eighth answer the client is new, with next id 0. It sends one null procedure more; once a
+/// reply has ended that one, or another that was sent after it, the commands of a cycle are sent, each once, while fewer requests are in
+/// flight than the plan's width, and there is room: the outstanding ones, and those that the last line ended that ended any, are together
+/// fewer than seven. Each moment times out the requests whose deadline has come, before the bytes that came with it are heard. A request
 /// that has timed out keeps its id and no longer holds up the others: its own reply settles it as late, and the reply to a
 /// later request as lost. If no command may be sent before those that are outstanding are settled, and all outstanding
 /// requests have timed out, a null procedure is sent after them. Its reply settles them; it is in no record. A command is
 /// never sent again in its cycle.
 ///
-/// A command is sent only if one of the seven requests before it is a call of the table that a reply ended, or the last null
-/// procedure of the synchronization. Else a null procedure is sent first, once no request is in flight that hasn't timed
-/// out. Commands that are all calls of the table are never held up by that.
+/// A command is sent only if one of the seven requests before it, since the synchronization, is a call of the table that a reply ended.
+/// Else a null procedure is sent first, once no request is in flight that hasn't timed out. Commands that are all calls of the table are
+/// held up by that only at the first one after a synchronization.
 ///
 /// The first `setup` commands of the list are the setup. They are sent on each connection, and after each synchronization,
 /// before any command of a cycle: each once the one before it was answered well. If one wasn't, the connection is closed. It
@@ -109,9 +110,9 @@ pub(crate) fn run<L: Link, B: Book>(
 /// and the ids go on. Before each new attempt to connect the station pauses: for the quiet time, at each further failure
 /// twice as long, up to a minute, but never below the quiet time. Once a cycle is done it connects again only when the next is
 /// due. Each connection is cleared by a line feed. Unless a synchronization goes on with it, bytes on it are then discarded until
-/// none came for the quiet time. The station resynchronizes where seven requests are outstanding that have all timed out: all of
-/// them are lost, and the null procedures are sent on the same connection. A synchronization whose connection was lost goes on
-/// with the next one.
+/// none came for the quiet time. The station resynchronizes where all outstanding requests have timed out and there is no room for
+/// another: all of them are lost, and the null procedures are sent on the same connection. A synchronization whose connection was lost
+/// goes on with the next one.
 ///
 /// `Ok`: each command of each cycle is settled, was written as skipped or missed, or was left out, and the tally counts how
 /// they ended; or the end of the run was asked for, and each command that was sent is settled or lost. Between two chains, or two

@@ -41,8 +41,8 @@ pub enum Step<'a> {
 /// that of the program's link does.
 pub const TIME_AT_START: u64 = 1000;
 
-// The ids of a synchronization's null procedures, in the order in which they are sent.
-const NULL_IDS: [u8; 8] = *b"65432107";
+// The ids of a synchronization's null procedures, in the order in which they are sent, and then that of the client's first one.
+const NULL_IDS: [u8; 9] = *b"654321070";
 
 /// A link that plays steps: each read, unless it is the failing call, makes the next one, and once none is left nothing comes for
 /// as long as the read waits. The calls that open, close or write are stored as text.
@@ -70,7 +70,7 @@ pub struct Script<'a> {
     clock: u64,
     // Whether there is a connection.
     up: bool,
-    // How many null procedures of a synchronization were put in a row so far.
+    // How many null procedures of a synchronization, and after them of the client, were put in a row so far.
     nulls: usize,
     // Where the text of the first of them begins, and when it was put.
     first: usize,
@@ -122,8 +122,8 @@ impl<'a> Script<'a> {
         self.note_at(word, self.clock);
     }
 
-    // Appends what is put: `lf` for a lone line feed, else a request as `note_request` does. If that is the eighth null procedure
-    // of a synchronization in a row, `begin` takes the place of all eight (`note_begin`).
+    // Appends what is put: `lf` for a lone line feed, else a request as `note_request` does. If that is the client's first null
+    // procedure, in a row with the eight of a synchronization, `begin` takes the place of all nine (`note_begin`).
     fn note_put(&mut self, bytes: &[u8]) {
         if bytes == b"\n".as_slice() {
             self.note_now(b"lf");
@@ -156,14 +156,14 @@ impl<'a> Script<'a> {
         self.nulls = 0;
     }
 
-    // Whether a request is the null procedure with which a row of those of a synchronization goes on or begins.
+    // Whether a request is the null procedure with which a row of those of `NULL_IDS` goes on or begins.
     fn is_next_null(&self, request: &[u8]) -> bool {
         request.starts_with(b"%R1Q,0,") && id_of(request) == NULL_IDS.get(self.nulls).copied()
     }
 
-    // Counts the null procedures of a synchronization that are put one after the other, with the ids of `NULL_IDS` in order, and
-    // stores where the text of the first begins and when it was put. Any other request starts the count again: at 1 if it is a
-    // null procedure with the first of these ids, else at 0.
+    // Counts the null procedures that are put one after the other with the ids of `NULL_IDS` in order, and stores where the text of
+    // the first begins and when it was put. Any other request starts the count again: at 1 if it is a null procedure with the first
+    // of these ids, else at 0.
     fn count_null(&mut self, request: &[u8]) {
         if !self.is_next_null(request) {
             self.nulls = 0;

@@ -6,9 +6,9 @@
 //!     steps BEGUN #0 end QUIET    what the reads come to
 //!     then dead answers           the steps after these, or after the first of them alone, if `first` says how many
 //!     put open lf begin %R1Q,0,0: ..    what was put, opened and closed; `begin` are the eight null procedures of a
-//!                                 synchronization, in a row, each once; `cut:` stands before what was cut; where `with` says
-//!                                 `timed`, `@` and the milliseconds since the start come after each, and of a request there is
-//!                                 the id alone, as `#0@15`
+//!                                 synchronization and the client's first one, in a row, each once; `cut:` stands before what
+//!                                 was cut; where `with` says `timed`, `@` and the milliseconds since the start come after each,
+//!                                 and of a request there is the id alone, as `#1@15`
 //!     ends 10a 11w[0:1283]2.25    the last digits of cycle and place and a letter for each record: answered, a warning,
 //!                                 unreadable and elsewhere (each with what its reply says after it: the communication code and
 //!                                 the return code in brackets, unless both are 0, and the values), late, lost (x), skipped or

@@ -1,7 +1,7 @@
 //! The words of steps. Milliseconds come after `@`, and are 5 if none do. `dead` and the words after it in this list have none.
 //!
 //!     BEGUN              the synchronization is answered: the replies of its eight null procedures come, the last of them after
-//!                        15 milliseconds
+//!                        15 milliseconds, and then at once that of the client's first null procedure
 //!     QUIET              nothing comes for 10 milliseconds, the quiet time of `Setting::new`
 //!     TIMED_OUT          nothing comes for 100 milliseconds, the deadline of `Setting::new`
 //!     #3@30              the reply of a null procedure with this id comes
@@ -21,7 +21,7 @@ use gc_texts::number_of;
 // The words of the steps that a name in capitals stands for. Any other word stands for itself.
 fn meaning_of(word: &str) -> &str {
     match word {
-        "BEGUN" => "#6@0 #5@0 #4@0 #3@0 #2@0 #1@0 #0@0 #7@15",
+        "BEGUN" => "#6@0 #5@0 #4@0 #3@0 #2@0 #1@0 #0@0 #7@15 #0@0",
         "QUIET" => "silence@10",
         "TIMED_OUT" => "silence@100",
         _ => word,

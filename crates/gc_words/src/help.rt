@@ -167,8 +167,9 @@ Each command is sent once in each cycle, or in each attempt of its chain, and ge
                 its target is
 
 A request that timed out keeps its id and doesn't hold up others. The station reconnects where the connection ends or fails, and
-where something is outstanding and no reply came for twice the longest deadline; ids continue. At the start, and after seven
-timeouts, it resynchronizes: eight null procedures are answered, one after the other, before any command is sent.
+where something is outstanding and no reply came for twice the longest deadline; ids continue. At the start, and once all that is
+outstanding has timed out and there is no room for more (at six, or fewer after a reply that settled several), it resynchronizes:
+eight null procedures are answered, one after the other, and then one more, before any command is sent.
 
 With --append FILE each command gets a row in the file, as --csv writes it, after the file's complete rows. An incomplete last
 line, which a crash may leave, is cut off and reported. A file that begins with something other than the header is refused and not

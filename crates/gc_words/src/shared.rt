@@ -7,7 +7,7 @@ pub(crate) const WIDTH: Argument<'static> = Argument {
     takes: Takes::Signed(1, 7),
     value_name: &["W"],
     default: &["1"],
-    help: "Lets W requests be in flight, not counting those that timed out, 1 to 7; more than 1 only for plain readings",
+    help: "Lets W requests be in flight, not counting those that timed out, 1 to 7 (7 sends as 6 does); more than 1 only for plain readings",
     ..FLAG
 };
 

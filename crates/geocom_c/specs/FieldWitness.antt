@@ -120,8 +120,8 @@ counting_exchange raw = record {
   nulls = chain.null_replies;
   second = SendRaw 8 9 raw.rpc (passed_bytes (raw_params raw));
   asked = Raw raw;
-  one = chain.first_reply;
-  other = chain.second_reply;
+  one = codes "%R1P,0,0:0,36";
+  other = codes "%R1P,0,1:0,37";
 }
 
 -- the exchange with the simulator: the second command is one of the table

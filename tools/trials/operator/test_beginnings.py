@@ -40,12 +40,13 @@ BEGINNINGS = {
 @pytest.mark.title("{what}")
 @pytest.mark.parametrize("what", BEGINNINGS)
 def test_begins_at_once(program, what):
-    """A run begins by eight null procedures, each once the one before it is answered, and nothing is waited for."""
+    """A run begins by eight null procedures, each once the one before it is answered, and one more before its first command; and nothing
+    is waited for."""
     words, text = BEGINNINGS[what]
     began = time.monotonic()
     with standing() as far, measuring(program, far.port, words, text) as run:
         rows, messages = finished(run)
-        assert [(request.rpc, request.id) for request in far.requests[:9]] == [(0, n) for n in BEGINNING] + [(5003, 0)], "what was asked"
+        assert [(request.rpc, request.id) for request in far.requests[:10]] == [(0, n) for n in [*BEGINNING, 0]] + [(5003, 1)], "what was asked"
         took = 1000 * (far.commands()[0].moment - began)
         assert took <= 1000, f"the first command came {took:.0f} ms behind the start"
         assert far.came[0][:1] == b"\n", "the first byte"
@@ -74,9 +75,26 @@ def test_unanswered_null_procedures(program):
 
     with standing(answers) as far, measuring(program, far.port, "--deadline 300 --quiet 100", b"7 5003\n") as run:
         rows, _ = finished(run)
-        assert came == [6, 5, 4, 4, 3, 3, 2, 2, 1, 0, 7, 0], "the ids"
+        assert came == [6, 5, 4, 4, 3, 3, 2, 2, 1, 0, 7, 0, 1], "the ids"
         assert len(far.came) == 2, "the connections"
         assert [row["values"] for row in rows] == ["123456"], "the values"
+
+
+@pytest.mark.title("the first null procedure after the beginning isn't answered")
+def test_lost_null_procedure(program):
+    """The null procedure that follows the beginning is alone on the line, and no command is sent before it, or the one that is sent at its
+    deadline with the next id, has its reply."""
+
+    def answers(request):
+        return LOSES if len(far.requests) == len(BEGINNING) + 1 else good(request)
+
+    words = "--deadline 300 --unchained --width 3"
+    with standing(answers) as far, measuring(program, far.port, words, b"7 5003\n8 5003\n") as run:
+        rows, messages = finished(run)
+        asked = [(request.rpc, request.id) for request in far.requests[len(BEGINNING) :]]
+        assert asked == [(0, 0), (0, 1), (5003, 2), (5003, 3)], "what was asked"
+        assert [row["outcome"] for row in rows] == ["answered", "answered"], "the outcomes"
+        assert messages == [], "what was told"
 
 
 @pytest.mark.title("the quiet time, {what}")
@@ -107,30 +125,30 @@ def test_quiet_time(program, what, words, least):
 @pytest.mark.title("the beginning, anew{what}")
 @pytest.mark.parametrize("what, width", [("", 1), (", width 7", 7)])
 def test_begins_anew(program, what, width):
-    """Where seven requests have timed out they are lost at once, and null procedures are sent on the same connection, without a line feed.
+    """Where six requests have timed out they are lost at once, and null procedures are sent on the same connection, without a line feed.
     A reply that fits none keeps the line alive."""
 
     def answers(request):
-        return b"%R1P,0,7:0\r\n" if request.rpc and len(far.commands()) <= 7 else good(request)
+        return b"%R1P,0,7:0\r\n" if request.rpc and len(far.commands()) <= 6 else good(request)
 
     text = b"".join(b"%d 5003\n" % target for target in range(9))
     with standing(answers) as far:
         with measuring(program, far.port, f"--deadline 300 --quiet 200 --unchained --width {width}", text) as run:
             rows, messages = finished(run, patience=10)
-        assert [row["outcome"] for row in rows] == 7 * ["lost"] + 2 * ["answered"], "the outcomes"
+        assert [row["outcome"] for row in rows] == 6 * ["lost"] + 3 * ["answered"], "the outcomes"
         ids = [request.id for request in far.requests]
-        assert ids == BEGINNING + list(range(7)) + BEGINNING + [0, 1], "the ids"
+        assert ids == BEGINNING + list(range(7)) + BEGINNING + list(range(4)), "the ids"
         assert (len(far.came), far.came[0].count(b"\n")) == (1, 1 + len(ids)), "the connections, and the line feeds"
         assert messages == [], "what was told"
 
 
 def falls_mute():
-    """What answers the null procedures of the beginning, and nothing after them."""
+    """What answers the null procedures of the beginning and the one after them, and nothing more."""
     came = []
 
     def answers(request):
         came.append(request)
-        return good(request) if len(came) <= len(BEGINNING) else LOSES
+        return good(request) if len(came) <= len(BEGINNING) + 1 else LOSES
 
     return answers
 

@@ -102,12 +102,12 @@ def test_first_row(program, note):
 
 
 @pytest.mark.title("a start, half a second of round trip")
-def test_nine_round_trips(program, note):
-    """Over half a second of round trip the first row comes within five seconds, after nine of them."""
+def test_ten_round_trips(program, note):
+    """Over half a second of round trip the first row comes within five and a half seconds, after ten of them."""
     with simulator(program) as port, delayed(port, 0.25) as far, Start(program, far) as start:
         took = start.first_row()
         note(f"the first row came behind {took:.2f} s")
-        assert 4.5 <= took <= 5
+        assert 5 <= took <= 5.5
         assert start.run.status(10) == 0
         assert start.rows() == len(VALUES), "how many rows there are"
 

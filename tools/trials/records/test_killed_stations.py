@@ -18,7 +18,7 @@ def test_kills(program, folder, note, pytestconfig):
         for kill in range(kills):
             copy = copied_line(len(rows) if mark_of(path).exists() else 0)
             with appending(program, far, path, "--sync") as run:
-                # Eight null procedures are answered before the first row.
+                # Nine null procedures are answered before the first row.
                 time.sleep(random.choice([random.uniform(0, 0.1), random.uniform(0.05, 0.3)]))
                 run.kill()
                 messages = run.messages()

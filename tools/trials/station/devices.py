@@ -131,8 +131,8 @@ def is_held(path):
 def hold(program, folder):
     """Where a far end is mute from the second cycle on, for so many requests that the line is dead, the device is to be held from the
     first request on to the end, over each close. At how many looks it was, and over how many closes."""
-    # After eight null procedures and a cycle of three commands.
-    mute = range(13, 23)
+    # After nine null procedures and a cycle of three commands.
+    mute = range(14, 24)
     came, looks = [], []
     log = Path(folder, "log")
 

@@ -9,8 +9,8 @@ import socket
 from measuring import measuring
 from programs import connect, simulator
 
-# How many null procedures go ahead.
-BEGINNING = 8
+# How many null procedures go ahead: eight of the beginning, and one more.
+BEGINNING = 9
 COMMANDS = b"7 5003\n8 5004\n9 2026\n"
 VALUES = [("7", "123456"), ("8", '"GEOCOM SIM"'), ("9", "0")]
 
@@ -56,7 +56,7 @@ def hold(program):
     """Holds each request in turn."""
     with simulator(program, "--connections", "100") as instrument:
         for request in range(BEGINNING + len(VALUES)):
-            # A null procedure of the beginning is sent again, and a command isn't.
+            # A null procedure of the beginning is sent again, and the one after them is followed by another; a command is sent once.
             right = [(target, *(("lost", "") if place == request - BEGINNING else ("answered", value)))
                      for place, (target, value) in enumerate(VALUES)]
             assert rows_where_held(program, instrument, request) == right, f"where request {request} is held"

@@ -9,7 +9,8 @@ With `--tag` each answer carries, in place of its first value, the number of the
 a line for each thing that came or went, with the milliseconds of this machine's clock in front:
 
     clear                       the station's lone line feed
-    null ID                     a null procedure of the station's own, in a beginning or after commands that had timed out
+    null ID                     a null procedure of the station's own, in a beginning, before its first command, or after commands that had
+                                timed out
     sent NUMBER CYCLE PLACE     a command's request, as it came from the station; cycles of which none came aren't counted
     came NUMBER                 a reply to it that went on to the station, whole
 """

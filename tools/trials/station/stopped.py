@@ -14,7 +14,7 @@ QUIET = 1.5
 
 def begin(line):
     """Answers null procedures until the first command came."""
-    while b"%R1Q,5003,0:" not in (data := line.recv(100)):
+    while b"%R1Q,5003,1:" not in (data := line.recv(100)):
         if data.lstrip(b"\n").startswith(b"%R1Q,0,"):
             line.sendall(b"%R1P,0," + data.lstrip(b"\n")[7:8] + b":0\r\n")
 
@@ -46,7 +46,7 @@ def stop(program):
                 time.sleep(0.3)
                 with run.stopped():
                     time.sleep(0.3)
-                    line.sendall(f"%R1P,0,0:0,{STALE}\r\n".encode())
+                    line.sendall(f"%R1P,0,1:0,{STALE}\r\n".encode())
                     time.sleep(2)
                 continued = time.monotonic()
                 line.settimeout(10)

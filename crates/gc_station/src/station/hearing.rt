@@ -42,6 +42,7 @@ impl Station {
         }
         let of_table = ends_with_table(self.settled.as_slice());
         self.progress.note_behind(of_table, self.client.waiting());
+        self.progress.note_ended(self.settled.len());
         self.progress.note_line(heard_reply(hearing));
         Ok(())
     }

@@ -4,12 +4,12 @@ use Rattle.gc_client.specs.Rule.{hears, heard}
 use Rattle.gc_client.specs.Settlements.{settlement_seen}
 use Rattle.gc_lines.specs.Frames.{line_in}
 use Rattle.gc_lines.specs.Lent.{lent_seen}
-use Rattle.gc_station.specs.Model.{Model, is_reply, ends_with_table, settles, line_settles, lines_taken}
-use Rattle.gc_station.specs.Progressing.{line_synchronizing}
+use Rattle.gc_station.specs.Model.{Model, is_reply, ends_with_table, settles, line_settles, lines_taken, with_progress}
+use Rattle.gc_station.specs.Progressing.{behind_noted, line_synchronizing}
 use Rattle.gc_station.specs.Stations.{Refines, Took}
 use Rattle.gc_station.specs.declared.station.Station.{Station}
 use Rattle.std.specs.Option.{option_to_list}
-use Rattle.gc_station.proofs.Hearing.{hears_paired, settles_ok, settles_part, refines_settled, refines_noted, no_line, taken_none}
+use Rattle.gc_station.proofs.Hearing.{hears_paired, settles_ok, settles_part, refines_settled, refines_ended, refines_noted, no_line, taken_none}
 use Rattle.gc_station.proofs.Making.{refines_with}
 use Rattle.gc_station.proofs.station.Station.hear.Goals as goal
 
@@ -44,9 +44,12 @@ returns-clause-hears g c s start stands so =
     let waits = c.waiting.ensures.waiting ∙ ap (λ (st : Station). length st.client.ids.waiting) after ∙ ap (λ w. length w.ids.waiting) client ∙ ap (λ y. length y.client.waiting) seen in
     let caught = refines_settled c.write.new.self c.note_behind.new.self c.ends_with_table-of_table.result (ends_with_table x.settlements) c.waiting.result (length x.client.waiting) (settles x s) t.0
     table waits c.note_behind.ensures in
+    let many = c.len.ensures.value ∙ ap (λ (st : Station). length st.settled.items) after ∙ sym (length-map items settlement_seen) ∙ ap length same in
+    let noted = refines_ended (record c.write.new.self { progress = c.note_behind.new.self }) c.note_ended.new.self c.len.result (length x.settlements) (with_progress (behind_noted (ends_with_table x.settlements) (length x.client.waiting)) (settles x s))
+    caught many c.note_ended.ensures in
     rw c.if-not-begun.false (rw c.in-Line.is (
-      refines_noted (record c.write.new.self { progress = c.note_behind.new.self }) c.note_line.new.self c.heard_reply.result
-          (is_reply line) (line_settles x s) caught reply c.note_line.ensures,
+      refines_noted (record c.write.new.self { progress = c.note_ended.new.self }) c.note_line.new.self c.heard_reply.result
+          (is_reply line) (line_settles x s) noted reply c.note_line.ensures,
       t.1,
     ))
 
