@@ -1,5 +1,5 @@
 -- The runs of `specs/DamagedRun.antt` come out as it says, by computation.
-use Rattle.std.proofs.Common.{◌≡◌, ℕ, ◌+◌, ◌≤◌, inr, false, [], Some, refl, subst, arith, lit<}
+use Rattle.std.proofs.Common.{◌≡◌, ℕ, ◌+◌, ◌≤◌, inl, inr, false, [], Some, refl, subst, arith, lit<}
 use Rattle.std.specs.Prelude.{codes}
 use Rattle.std.specs.Fmt.{digits}
 use Rattle.std.proofs.lemmas.Option.{same_Some, none-some}
@@ -20,9 +20,9 @@ pub damaged_run : IsDamagedRun
 unfolding header_at reply_at handed exec digits
 damaged_run = record {
   clean = record { good = opening_fits; up = tt; down = tt; keeps = λ k e. absurd (none-some k e) };
-  rare = (record { table = refl; up = tt; down = tt; keeps = λ reply n e l. omega arith }, (record { table = refl; up = (omega arith, tt); down = tt; keeps = λ reply n e l. omega arith }, (record { table = refl; up = (omega arith, (omega arith, tt)); down = tt; keeps = λ reply n e l. omega arith }, (tt, (tt, (tt, (tt, (record { table = refl; up = (omega arith, (omega arith, tt)); down = (omega arith, tt); keeps = λ reply n e l. omega arith }, ((8, [], refl), (tt, ((9, [], refl), (tt, ((10, [], refl), (lit< tt, (tt, ((11, [], refl), tt))))))))))))))));
-  apart = ((refl, omega arith), ((refl, omega arith), ((refl, omega arith), (tt, (tt, (tt, (inr refl, ((refl, omega arith), ((8, [], refl), (tt, ((9, [], refl), (tt, ((10, [], refl), (lit< tt, (tt, ((11, [], refl), tt))))))))))))))));
-  fresh = (record { table = refl; up = tt; down = tt; keeps = λ reply n e l. allows 8 7 n l (omega arith) }, (record { table = refl; up = (omega arith, tt); down = tt; keeps = λ reply n e l. allows 9 7 n l (omega arith) }, (record { table = refl; up = (omega arith, (omega arith, tt)); down = tt; keeps = λ reply n e l. allows 10 7 n l (omega arith) }, (tt, (tt, (tt, (tt, (record { table = refl; up = (omega arith, (omega arith, tt)); down = (omega arith, tt); keeps = λ reply n e l. allows 11 8 n l (omega arith) }, ((8, [], refl), (tt, ((9, [], refl), (tt, ((10, [], refl), (lit< tt, (tt, ((11, [], refl), tt))))))))))))))));
+  rare = (record { own = inl refl; up = tt; down = tt; keeps = λ reply n e l. omega arith }, (record { own = inl refl; up = (omega arith, tt); down = tt; keeps = λ reply n e l. omega arith }, (record { own = inl refl; up = (omega arith, (omega arith, tt)); down = tt; keeps = λ reply n e l. omega arith }, (tt, (tt, (tt, (tt, (record { own = inl refl; up = (omega arith, (omega arith, tt)); down = (omega arith, tt); keeps = λ reply n e l. omega arith }, ((8, [], refl), (tt, ((9, [], refl), (tt, ((10, [], refl), (lit< tt, (tt, ((11, [], refl), tt))))))))))))))));
+  apart = ((inl refl, omega arith), ((inl refl, omega arith), ((inl refl, omega arith), (tt, (tt, (tt, (inr refl, ((inl refl, omega arith), ((8, [], refl), (tt, ((9, [], refl), (tt, ((10, [], refl), (lit< tt, (tt, ((11, [], refl), tt))))))))))))))));
+  fresh = (record { own = inl refl; up = tt; down = tt; keeps = λ reply n e l. allows 8 7 n l (omega arith) }, (record { own = inl refl; up = (omega arith, tt); down = tt; keeps = λ reply n e l. allows 9 7 n l (omega arith) }, (record { own = inl refl; up = (omega arith, (omega arith, tt)); down = tt; keeps = λ reply n e l. allows 10 7 n l (omega arith) }, (tt, (tt, (tt, (tt, (record { own = inl refl; up = (omega arith, (omega arith, tt)); down = (omega arith, tt); keeps = λ reply n e l. allows 11 8 n l (omega arith) }, ((8, [], refl), (tt, ((9, [], refl), (tt, ((10, [], refl), (lit< tt, (tt, ((11, [], refl), tt))))))))))))))));
   settled = refl;
 }
 
@@ -43,5 +43,5 @@ damaged_stretch = record {
     own = refl;
     id = refl;
   };
-  fresh = (record { table = refl; up = tt; down = tt; keeps = λ reply n e l. allows 8 7 n l (omega arith) }, (tt, ((8, [], refl), tt)));
+  fresh = (record { own = inl refl; up = tt; down = tt; keeps = λ reply n e l. allows 8 7 n l (omega arith) }, (tt, ((8, [], refl), tt)));
 }

@@ -19,7 +19,7 @@ use Rattle.gc_field.specs.Begin.{UnderWay}
 use Rattle.gc_field.specs.Begun.{IsClean}
 use Rattle.gc_field.specs.Instrument.{IsAnInstrument}
 use Rattle.gc_field.proofs.BegunFaithful.{each_of_eighth}
-use Rattle.gc_harm.specs.Harm.{Harm, Does, Damages, Strikes, Harmed, last_by_step, harms, harm_begun, AllowsSend, IsFreshIfSent, MayDo, MayHarm, AllMayHarm}
+use Rattle.gc_harm.specs.Harm.{Harm, Does, Damages, Strikes, Harmed, last_by_step, harms, harmed, harm_begun, AllowsSend, IsCleanBut, IsFreshIfSent, MayDo, MayHarm, AllMayHarm, no_line}
 use Rattle.gc_harm.specs.Rarely.{IsFreshAndOwn}
 use Rattle.gc_harm.specs.HoldingBack.{Holding, ended, last_if, undamaged_if, holding_moves, holding_harms, holding_begun, HasRoomIfSent, MayDoApart, MayHarmApart, AllMayHarmApart}
 use Rattle.gc_harm.proofs.Well.{IsUp, IsDown, Well, KnownOf, fresh_place, well_begun, well_harm}
@@ -70,20 +70,20 @@ pub record InOrder {State : Type 0} (h : Harmed State) (last : ℕ) (undamaged :
 
 module _ {State : Type 0} (width : ℕ) (narrow : width ≤ 7) (ends : Ends State) (Good : State → Type 0) (kept : State → Option KeptReply) (is : IsAnInstrument ends Good kept) where
   -- the invariant of `Own`, where nothing is said of what was made
-  abbrev AnyWell : Harmed State → Type 0
+  abbrev pub AnyWell : Harmed State → Type 0
   AnyWell h = Well any_made any_line any_row width narrow ends Good kept is h
 
   -- a send for which there is room is fresh
   fresh_if_room : (r : Holding State) (target : ℕ) (call : Asked) (deadline : ℕ) (full : Bool) → eqb (length r.harmed.world.client.waiting) width ≡ full
-      → HasRoomIfSent width ends r call (send_unless_full r.harmed.world.client target call deadline full) → AnyWell r.harmed → InOrder r.harmed r.last r.undamaged
-      → IsFreshIfSent width ends kept r.harmed call (send_unless_full r.harmed.world.client target call deadline full)
+      → HasRoomIfSent width ends Good kept r call (send_unless_full r.harmed.world.client target call deadline full) → AnyWell r.harmed → InOrder r.harmed r.last r.undamaged
+      → IsFreshIfSent width ends Good kept r.harmed call (send_unless_full r.harmed.world.client target call deadline full)
   fresh_if_room r target call deadline true e p w o = tt
   fresh_if_room r target call deadline false e p w o =
       let v = r.harmed.world.wire in
       let room = p.1 in
       let allows : (y : ℕ) → IsClose (length v.settled) r.last r.undamaged y → AllowsSend (length v.sent) y = λ y close. omega (arith, w.all, room, close.close) in
       record {
-        table = p.0;
+        own = p.0;
         up = all_on (λ x. IsClose (length v.settled) r.last r.undamaged x.number) (λ x. AllowsSend (length v.sent) x.number) v.up (λ x. allows x.number) o.close_up;
         down = all_on (λ x. IsClose (length v.settled) r.last r.undamaged x.number) (λ x. AllowsSend (length v.sent) x.number) v.down (λ x. allows x.number) o.close_down;
         keeps = λ reply n e l.
@@ -307,7 +307,7 @@ module _ {State : Type 0} (width : ℕ) (narrow : width ≤ 7) (ends : Ends Stat
   moved_same r (Joins line) = refl
 
   -- what a step does to the world
-  harmed_same : (r : Holding State) (m : Harm State) → (holding_harms width ends r m).harmed ≡ harms width ends r.harmed m
+  pub harmed_same : (r : Holding State) (m : Harm State) → (holding_harms width ends r m).harmed ≡ harms width ends r.harmed m
   harmed_same r (Does move) = moved_same r move
   harmed_same r (Damages line) = refl
   harmed_same r (Strikes id call) = refl
@@ -325,9 +325,23 @@ module _ {State : Type 0} (width : ℕ) (narrow : width ≤ 7) (ends : Ends Stat
       let next : AnyWell (holding_harms width ends r m).harmed = subst AnyWell (sym same) (well_harm any_made any_line any_row width narrow ends Good kept is r.harmed m may (nothing_told r.harmed m) w) in
       (may, subst (λ h. AllMayHarm width ends Good kept ms h) same (all_fresh ms (holding_harms width ends r m) p.1 next (order_harm r m p.0 w o)))
 
-  -- after a clean synchronization
-  order_begun : (u : UnderWay State) → IsClean Good kept u → InOrder (harm_begun width ends u) 0 true
-  order_begun u clean =
+  -- the invariant of `Own` holds, and numbers never fall
+  pub record HasOrder (h : Harmed State) : Type 0 where
+    pub well : AnyWell h
+    pub order : Rising 0 (numbers h.world.wire.down ++ numbers h.world.wire.up)
+
+  -- so it is after all these steps
+  order_all : (ms : List (Harm State)) (r : Holding State) → AllMayHarmApart width ends Good kept ms r → AnyWell r.harmed → InOrder r.harmed r.last r.undamaged → HasOrder (harmed width ends ms r.harmed)
+  order_all [] r p w o = record { well = w; order = o.order }
+  order_all (m ∷ ms) r p w o =
+      let may = may_harm r m p.0 w o in
+      let same = harmed_same r m in
+      let next : AnyWell (holding_harms width ends r m).harmed = subst AnyWell (sym same) (well_harm any_made any_line any_row width narrow ends Good kept is r.harmed m may (nothing_told r.harmed m) w) in
+      subst (λ h. HasOrder (harmed width ends ms h)) same (order_all ms (holding_harms width ends r m) p.1 next (order_harm r m p.0 w o))
+
+  -- after a synchronization
+  order_begun : (u : UnderWay State) → InOrder (harm_begun width ends u) 0 true
+  order_begun u =
       let seven : IsClose 8 0 true 7 = record { close = omega arith; closest = λ t. omega arith } in
       record {
         n = 7;
@@ -346,9 +360,22 @@ module _ {State : Type 0} (width : ℕ) (narrow : width ≤ 7) (ends : Ends Stat
       each_any [] = tt
       each_any (x ∷ xs) = (tt, each_any xs)
 
+  -- holding back keeps each send fresh, after a synchronization that is clean but for a kept reply that is damaged
+  pub fresh_if_held_back : (D : List ℕ → Type 0) (u : UnderWay State) → IsCleanBut D Good kept u → (ms : List (Harm State)) → AllMayHarmApart width ends Good kept ms (holding_begun width ends u)
+      → AllMayHarm width ends Good kept ms (harm_begun width ends u)
+  fresh_if_held_back D u clean ms p =
+      let w = well_begun any_made any_line any_row width narrow ends Good kept is u (record { good = clean.good; up = clean.up; down = clean.down; keeps = λ k e. inr tt }) in
+      all_fresh ms (holding_begun width ends u) p w (order_begun u)
+
+  -- holding back keeps order, after such a synchronization
+  pub order_if_held_back : (D : List ℕ → Type 0) (u : UnderWay State) → IsCleanBut D Good kept u → (ms : List (Harm State)) → AllMayHarmApart width ends Good kept ms (holding_begun width ends u)
+      → HasOrder (harmed width ends ms (harm_begun width ends u))
+  order_if_held_back D u clean ms p =
+      let w = well_begun any_made any_line any_row width narrow ends Good kept is u (record { good = clean.good; up = clean.up; down = clean.down; keeps = λ k e. inr tt }) in
+      order_all ms (holding_begun width ends u) p w (order_begun u)
+
   -- holding back keeps damage local
   pub held_back_is_local_in_field : (u : UnderWay State) → IsClean Good kept u → (ms : List (Harm State)) → AllMayHarmApart width ends Good kept ms (holding_begun width ends u) → IsFreshAndOwn width ends Good kept u ms
   held_back_is_local_in_field u clean ms p =
-      let w = well_begun any_made any_line any_row width narrow ends Good kept is u (record { good = clean.good; up = clean.up; down = clean.down; keeps = λ k e. inl (clean.keeps k e) }) in
-      let may = all_fresh ms (holding_begun width ends u) p w (order_begun u clean) in
+      let may = fresh_if_held_back no_line u (record { good = clean.good; up = clean.up; down = clean.down; keeps = λ k e. inl (clean.keeps k e) }) ms p in
       record { fresh = may; own = own_or_damaged width narrow ends Good kept is u clean ms may }

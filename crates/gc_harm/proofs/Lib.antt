@@ -7,3 +7,12 @@ pub mod Stretch
 pub mod Rarely
 pub mod HoldingBack
 pub mod DamagedRun
+pub mod WellFormed
+pub mod SeenHarms
+pub mod Room
+pub mod Recorded
+pub mod Lacking
+pub mod Undamaged
+pub mod Runs
+pub mod UndamagedRuns
+pub mod DamagedStation

@@ -100,8 +100,8 @@ module _ {State : Type 0} (width k : ℕ) (narrow : (k + 1) * width ≤ 7) (ends
 
   -- a send is fresh if damage was rare
   fresh_if_rare : (r : Tally State) (target : ℕ) (call : Asked) (deadline : ℕ) (full : Bool) → eqb (length r.harmed.world.client.waiting) width ≡ full
-      → IsRareIfSent width ends k kept r call (send_unless_full r.harmed.world.client target call deadline full) → AnyWell r.harmed → InOrder width r.harmed r.came r.seen
-      → IsFreshIfSent width ends kept r.harmed call (send_unless_full r.harmed.world.client target call deadline full)
+      → IsRareIfSent width ends k Good kept r call (send_unless_full r.harmed.world.client target call deadline full) → AnyWell r.harmed → InOrder width r.harmed r.came r.seen
+      → IsFreshIfSent width ends Good kept r.harmed call (send_unless_full r.harmed.world.client target call deadline full)
   fresh_if_rare r target call deadline true e p w o = tt
   fresh_if_rare r target call deadline false e p w o =
       let v = r.harmed.world.wire in
@@ -111,7 +111,7 @@ module _ {State : Type 0} (width k : ℕ) (narrow : (k + 1) * width ≤ 7) (ends
       let allows : (y : ℕ) → r.came ≤ r.seen y + k → IsClose width (length v.settled) r.came r.seen y → AllowsSend (length v.sent) y =
       λ y few close. close_bears width k (length v.settled) (length c.waiting) (length v.sent) r.came r.seen y narrow w.all room few close in
       record {
-        table = p.table;
+        own = p.own;
         up = each_both (λ x. r.came ≤ r.seen x.number + k) (λ x. IsClose width (length v.settled) r.came r.seen x.number) (λ x. AllowsSend (length v.sent) x.number) (λ x. allows x.number) v.up p.up o.close_up;
         down = each_both (λ x. r.came ≤ r.seen x.number + k) (λ x. IsClose width (length v.settled) r.came r.seen x.number) (λ x. AllowsSend (length v.sent) x.number) (λ x. allows x.number) v.down p.down o.close_down;
         keeps = λ reply n e l.

@@ -22,10 +22,10 @@ use Rattle.gc_world.proofs.Rows.{each_without, each_doubled}
 use Rattle.gc_field.specs.Field.{Move, Sends, Tells, Comes, Foreign, OnLine, Anew, Changes, Joins, IsLineStep}
 use Rattle.gc_field.specs.Begin.{UnderWay}
 use Rattle.gc_field.specs.Begun.{eighth_null, nulls}
-use Rattle.gc_field.specs.Instrument.{IsAnInstrument, MayBeKept, MayForget, own_reply}
+use Rattle.gc_field.specs.Instrument.{IsAnInstrument, IsOwnOrNone, MayBeKept, MayForget, own_reply}
 use Rattle.gc_field.proofs.Answered.{HoldsOfAll, holds_append, holds_more, holds_settled}
 use Rattle.gc_field.proofs.BegunFaithful.{each_of_eighth}
-use Rattle.gc_harm.specs.Harm.{Harm, Does, Damages, Strikes, Harmed, last_by_step, harms, harm_begun, AllowsSend, IsFreshIfSent, MayDo, MayHarm, IsCleanBut}
+use Rattle.gc_harm.specs.Harm.{Harm, KeepsItsOwnAfter, Does, Damages, Strikes, Harmed, last_by_step, harms, harm_begun, AllowsSend, IsFreshIfSent, MayDo, MayHarm, IsCleanBut}
 
 -- the place of a fresh line's request: if a request waits with the line's id, it is the one that the line was made for
 pub fresh_place : (next waiting count sent number k : ℕ) → next ≡ sent % 8 → count + waiting ≡ sent → waiting ≤ 7 → number < sent → sent ≤ number + 8
@@ -67,7 +67,7 @@ module _ (M : ℕ → Asked → List ℕ → Type 0) (D : List ℕ → Type 0) (
   made_for_more sent more n line (inr (inl d)) = inr (inl d)
   made_for_more sent more n line (inr (inr m)) = inr (inr (m.0, get_more sent more n m.0 m.1, m.2))
 
-  -- a request in flight: it was sent, is one of the last eight, and has its id; it is of the table
+  -- a request in flight: it was sent, is one of the last eight, and has its id
   pub record IsUp (sent : List Sent) (x : Numbered Request) : Type 0 where
     pub was_sent : x.number < length sent
     pub near : length sent ≤ x.number + 8
@@ -75,7 +75,6 @@ module _ (M : ℕ → Asked → List ℕ → Type 0) (D : List ℕ → Type 0) (
     pub request : Sent
     pub found : slice_get sent x.number ≡ Some request
     pub call : request.call ≡ x.line.call
-    pub table : is_of_table x.line.call ≡ true
 
   -- a reply in flight, where `heard` reads ids: its request was sent, and is one of the last eight; it is heard with its id; and it
   -- counts as made for it
@@ -102,7 +101,7 @@ module _ (M : ℕ → Asked → List ℕ → Type 0) (D : List ℕ → Type 0) (
   up_more : (sent : List Sent) (r : Sent) (x : Numbered Request) → IsUp sent x → AllowsSend (length sent) x.number → IsUp (sent ++ r ∷ []) x
   up_more sent r x h b =
       let n = length_push sent r in
-      record { was_sent = omega (arith, h.was_sent, n); near = omega (arith, b, n); id = h.id; request = h.request; found = get_more sent (r ∷ []) x.number h.request h.found; call = h.call; table = h.table }
+      record { was_sent = omega (arith, h.was_sent, n); near = omega (arith, b, n); id = h.id; request = h.request; found = get_more sent (r ∷ []) x.number h.request h.found; call = h.call }
 
   -- the same of a reply
   down_more : (reads : List ℕ → Option ℕ) (sent : List Sent) (r : Sent) (x : Numbered (List ℕ)) → IsDown reads sent x → AllowsSend (length sent) x.number → IsDown reads (sent ++ r ∷ []) x
@@ -124,6 +123,7 @@ module _ (M : ℕ → Asked → List ℕ → Type 0) (D : List ℕ → Type 0) (
       pub all : length h.world.wire.settled + length h.world.client.waiting ≡ length h.world.wire.sent
       pub few : length h.world.client.waiting ≤ width
       pub up : AllByRecursion (IsUp h.world.wire.sent) h.world.wire.up
+      pub own : AllByRecursion (λ x. KeepsItsOwnAfter ends Good kept x.line.call) h.world.wire.up
       pub down : AllByRecursion (IsDown ends.heard h.world.wire.sent) h.world.wire.down
       pub keeps : IsKeptWell h.world.wire.sent h.last (kept h.world.wire.state)
       pub answers : HoldsOfAll (Booked h.world.wire.sent) 0 h.world.wire.settled
@@ -139,9 +139,9 @@ module _ (M : ℕ → Asked → List ℕ → Type 0) (D : List ℕ → Type 0) (
 
     -- a send that isn't refused
     well_sent : (h : Harmed State) (target : ℕ) (call : Asked) (deadline : ℕ) (full : Bool) → eqb (length h.world.client.waiting) width ≡ full
-        → IsFreshIfSent width ends kept h call (send_unless_full h.world.client target call deadline full) → Well h
+        → IsFreshIfSent width ends Good kept h call (send_unless_full h.world.client target call deadline full) → Well h
         → Well (record { world = requested h.world target call (send_unless_full h.world.client target call deadline full); last = h.last })
-    well_sent h target call deadline true e p w = record { good = w.good; ids = w.ids; all = w.all; few = w.few; up = w.up; down = w.down; keeps = w.keeps; answers = w.answers }
+    well_sent h target call deadline true e p w = record { good = w.good; ids = w.ids; all = w.all; few = w.few; up = w.up; own = w.own; down = w.down; keeps = w.keeps; answers = w.answers }
     well_sent h target call deadline false e p w =
         let v = h.world.wire in
         let c = h.world.client in
@@ -157,7 +157,8 @@ module _ (M : ℕ → Asked → List ℕ → Type 0) (D : List ℕ → Type 0) (
           few = omega (arith, w.few, n2, ne);
           up =
               all_append (IsUp (v.sent ++ r ∷ [])) v.up _ (all_more (IsUp v.sent) (IsUp (v.sent ++ r ∷ [])) (length v.sent) (λ x. up_more v.sent r x) v.up w.up p.up)
-              (record { was_sent = omega (arith, n); near = omega (arith, n); id = w.ids; request = r; found = get_push v.sent r; call = refl; table = p.table }, tt);
+              (record { was_sent = omega (arith, n); near = omega (arith, n); id = w.ids; request = r; found = get_push v.sent r; call = refl }, tt);
+          own = all_append (λ x. KeepsItsOwnAfter ends Good kept x.line.call) v.up _ w.own (p.own, tt);
           down = all_more (IsDown ends.heard v.sent) (IsDown ends.heard (v.sent ++ r ∷ [])) (length v.sent) (λ x. down_more ends.heard v.sent r x) v.down w.down p.down;
           keeps = λ k e. elim (w.keeps k e) [
             | inl d ↦ inl d
@@ -191,6 +192,7 @@ module _ (M : ℕ → Asked → List ℕ → Type 0) (D : List ℕ → Type 0) (
           all = omega (arith, w.all, n);
           few = w.few;
           up = w.up;
+          own = w.own;
           down = d;
           keeps = w.keeps;
           answers = holds_append (Booked v.sent) 0 (0 + length v.settled) v.settled [] refl w.answers tt;
@@ -208,6 +210,7 @@ module _ (M : ℕ → Asked → List ℕ → Type 0) (D : List ℕ → Type 0) (
           all = omega (arith, w.all, n, n2, n3, below);
           few = omega (arith, w.few, n3);
           up = w.up;
+          own = w.own;
           down = d;
           keeps = w.keeps;
           answers =
@@ -230,6 +233,7 @@ module _ (M : ℕ → Asked → List ℕ → Type 0) (D : List ℕ → Type 0) (
           all = omega (arith, w.all, n);
           few = w.few;
           up = w.up;
+          own = w.own;
           down = d;
           keeps = w.keeps;
           answers = holds_append (Booked v.sent) 0 (0 + length v.settled) v.settled [] refl w.answers tt;
@@ -243,7 +247,7 @@ module _ (M : ℕ → Asked → List ℕ → Type 0) (D : List ℕ → Type 0) (
         → ((x : Numbered (List ℕ)) (rest : List (Numbered (List ℕ))) → q ≡ x ∷ rest → D x.line → length h.world.wire.settled ≤ x.number
         → length (down_delivered (by_ids width ends) h.world q).wire.settled ≡ x.number + 1 → B x.number x.line)
         → Well h → Well (record { world = down_delivered (by_ids width ends) h.world q; last = h.last })
-    well_came h [] e f w = record { good = w.good; ids = w.ids; all = w.all; few = w.few; up = w.up; down = w.down; keeps = w.keeps; answers = w.answers }
+    well_came h [] e f w = record { good = w.good; ids = w.ids; all = w.all; few = w.few; up = w.up; own = w.own; down = w.down; keeps = w.keeps; answers = w.answers }
     well_came h (x ∷ rest) e f w =
         let v = h.world.wire in
         let c = h.world.client in
@@ -278,16 +282,28 @@ module _ (M : ℕ → Asked → List ℕ → Type 0) (D : List ℕ → Type 0) (
               subst (λ n. MadeFor h.world.wire.sent n own.line) same o.made_for
         ]
 
+    -- after a request for such a call the instrument keeps its own reply, or nothing
+    keeps_own : (state : State) (id : ℕ) (call : Asked) → Good state → id < 8 → KeepsItsOwnAfter ends Good kept call
+        → IsOwnOrNone (own_reply id (ends.handed state id call)) (kept (ends.handed state id call).state)
+    keeps_own state id call good small (inl table) = own_of_table (is.keeps state id call good small) where
+      -- so it is of a call of the table
+      own_of_table : MayBeKept (is_of_table call) (own_reply id (ends.handed state id call)) (kept state) (kept (ends.handed state id call).state)
+          → IsOwnOrNone (own_reply id (ends.handed state id call)) (kept (ends.handed state id call).state)
+      own_of_table (inl own) = own
+      own_of_table (inr other) = absurd (true≢false (sym table ∙ other.0))
+    keeps_own state id call good small (inr alike) = alike state id call good small
+
     -- the front request reaches the instrument
     well_reached : (h : Harmed State) (q : List (Numbered Request)) → h.world.wire.up ≡ q
         → ((x : Numbered Request) (rest : List (Numbered Request)) → q ≡ x ∷ rest
         → (ends.handed h.world.wire.state x.line.id x.line.call).executed ≡ true → M x.number x.line.call (ends.handed h.world.wire.state x.line.id x.line.call).reply)
         → Well h → Well (record { world = on_wire h.world (up_delivered ends h.world.wire q); last = last_by_step h.last Up_deliver q })
-    well_reached h [] e m w = record { good = w.good; ids = w.ids; all = w.all; few = w.few; up = w.up; down = w.down; keeps = w.keeps; answers = w.answers }
+    well_reached h [] e m w = record { good = w.good; ids = w.ids; all = w.all; few = w.few; up = w.up; own = w.own; down = w.down; keeps = w.keeps; answers = w.answers }
     well_reached h (x ∷ rest) e m w =
         let v = h.world.wire in
         let hd = ends.handed v.state x.line.id x.line.call in
         let u = subst (λ q. AllByRecursion (IsUp v.sent) q) e w.up in
+        let a = subst (λ q. AllByRecursion (λ x. KeepsItsOwnAfter ends Good kept x.line.call) q) e w.own in
         let i = u.0.id in
         let small : x.line.id < 8 = omega (arith, i) in
         let made_for : MadeFor v.sent x.number hd.reply = made_for_reply h x hd.executed refl (λ yes. m x rest refl yes) u.0 small w in
@@ -297,6 +313,7 @@ module _ (M : ℕ → Asked → List ℕ → Type 0) (D : List ℕ → Type 0) (
           all = w.all;
           few = w.few;
           up = u.1;
+          own = a.1;
           down =
               all_append (IsDown ends.heard v.sent) v.down _ w.down (
                 record {
@@ -307,19 +324,18 @@ module _ (M : ℕ → Asked → List ℕ → Type 0) (D : List ℕ → Type 0) (
                 },
                 tt,
               );
-          keeps = kept_then x hd u.0 made_for (is.keeps v.state x.line.id x.line.call w.good small);
+          keeps = kept_then x hd u.0 made_for (keeps_own v.state x.line.id x.line.call w.good small a.0);
           answers = w.answers;
         }
       where
         -- what is kept then is the reply to x, or nothing
         kept_then : (x : Numbered Request) (hd : Handed State) → IsUp h.world.wire.sent x → MadeFor h.world.wire.sent x.number hd.reply
-            → MayBeKept (is_of_table x.line.call) (own_reply x.line.id hd) (kept h.world.wire.state) (kept hd.state) → IsKeptWell h.world.wire.sent (Some x.number) (kept hd.state)
-        kept_then x hd u made_for (inl (inl none)) k e = absurd (none-some k (sym none ∙ e))
-        kept_then x hd u made_for (inl (inr same)) k e =
+            → IsOwnOrNone (own_reply x.line.id hd) (kept hd.state) → IsKeptWell h.world.wire.sent (Some x.number) (kept hd.state)
+        kept_then x hd u made_for (inl none) k e = absurd (none-some k (sym none ∙ e))
+        kept_then x hd u made_for (inr same) k e =
             let one : own_reply x.line.id hd ≡ k = same_Some _ _ (sym same ∙ e) in
             inr (subst (λ k. IsOfLast h.world.wire.sent (Some x.number) k) one
             (record { n = x.number; is_last = refl; was_sent = u.was_sent; near = u.near; id = u.id; made_for = made_for }))
-        kept_then x hd u made_for (inr f) k e = absurd (true≢false (sym u.table ∙ f.0))
 
     -- a request that damage made reaches the instrument
     well_struck : (h : Harmed State) (id : ℕ) (call : Asked) → id < 8 → D (ends.handed h.world.wire.state id call).reply → Well h → Well (harms width ends h (Strikes id call))
@@ -330,6 +346,7 @@ module _ (M : ℕ → Asked → List ℕ → Type 0) (D : List ℕ → Type 0) (
           all = w.all;
           few = w.few;
           up = w.up;
+          own = w.own;
           down = w.down;
           keeps = kept_then (is.keeps h.world.wire.state id call w.good small);
           answers = w.answers;
@@ -348,7 +365,7 @@ module _ (M : ℕ → Asked → List ℕ → Type 0) (D : List ℕ → Type 0) (
     well_state : (h : Harmed State) (wire : Wire State) → wire.sent ≡ h.world.wire.sent → (state : State) → Good state → MayForget (kept h.world.wire.state) (kept state) → Well h
         → Well (record { world = on_wire h.world (record h.world.wire { state = state }); last = h.last })
     well_state h wire e state good may w =
-        record { good = good; ids = w.ids; all = w.all; few = w.few; up = w.up; down = w.down; keeps = kept_then may; answers = w.answers }
+        record { good = good; ids = w.ids; all = w.all; few = w.few; up = w.up; own = w.own; down = w.down; keeps = kept_then may; answers = w.answers }
       where
         -- what is kept then
         kept_then : MayForget (kept h.world.wire.state) (kept state) → IsKeptWell h.world.wire.sent h.last (kept state)
@@ -358,7 +375,7 @@ module _ (M : ℕ → Asked → List ℕ → Type 0) (D : List ℕ → Type 0) (
     -- the instrument starts again
     well_started : (h : Harmed State) → Well h → Well (record { world = on_wire h.world (started ends h.world.wire true); last = h.last })
     well_started h w =
-        record { good = is.starts_good h.world.wire.state w.good; ids = w.ids; all = w.all; few = w.few; up = w.up; down = w.down; keeps = kept_then (is.starts h.world.wire.state w.good); answers = w.answers }
+        record { good = is.starts_good h.world.wire.state w.good; ids = w.ids; all = w.all; few = w.few; up = w.up; own = w.own; down = w.down; keeps = kept_then (is.starts h.world.wire.state w.good); answers = w.answers }
       where
         -- what is kept then
         kept_then : MayForget (kept h.world.wire.state) (kept (ends.restarted h.world.wire.state)) → IsKeptWell h.world.wire.sent h.last (kept (ends.restarted h.world.wire.state))
@@ -366,36 +383,36 @@ module _ (M : ℕ → Asked → List ℕ → Type 0) (D : List ℕ → Type 0) (
         kept_then (inr same) k e = w.keeps k (sym same ∙ e)
 
     -- another upward queue, if that is possible (`b`)
-    well_up : (h : Harmed State) (up : List (Numbered Request)) (b : Bool) → AllByRecursion (IsUp h.world.wire.sent) up → Well h
+    well_up : (h : Harmed State) (up : List (Numbered Request)) (b : Bool) → AllByRecursion (IsUp h.world.wire.sent) up → AllByRecursion (λ x. KeepsItsOwnAfter ends Good kept x.line.call) up → Well h
         → Well (record { world = on_wire h.world (with_up h.world.wire up b); last = h.last })
-    well_up h up false u w = record { good = w.good; ids = w.ids; all = w.all; few = w.few; up = w.up; down = w.down; keeps = w.keeps; answers = w.answers }
-    well_up h up true u w = record { good = w.good; ids = w.ids; all = w.all; few = w.few; up = u; down = w.down; keeps = w.keeps; answers = w.answers }
+    well_up h up false u a w = record { good = w.good; ids = w.ids; all = w.all; few = w.few; up = w.up; own = w.own; down = w.down; keeps = w.keeps; answers = w.answers }
+    well_up h up true u a w = record { good = w.good; ids = w.ids; all = w.all; few = w.few; up = u; own = a; down = w.down; keeps = w.keeps; answers = w.answers }
 
     -- another downward queue, if that is possible (`b`)
     well_down : (h : Harmed State) (down : List (Numbered (List ℕ))) (b : Bool) → AllByRecursion (IsDown ends.heard h.world.wire.sent) down → Well h
         → Well (record { world = on_wire h.world (with_down h.world.wire down b); last = h.last })
-    well_down h down false d w = record { good = w.good; ids = w.ids; all = w.all; few = w.few; up = w.up; down = w.down; keeps = w.keeps; answers = w.answers }
-    well_down h down true d w = record { good = w.good; ids = w.ids; all = w.all; few = w.few; up = w.up; down = d; keeps = w.keeps; answers = w.answers }
+    well_down h down false d w = record { good = w.good; ids = w.ids; all = w.all; few = w.few; up = w.up; own = w.own; down = w.down; keeps = w.keeps; answers = w.answers }
+    well_down h down true d w = record { good = w.good; ids = w.ids; all = w.all; few = w.few; up = w.up; own = w.own; down = d; keeps = w.keeps; answers = w.answers }
 
     -- a step of the line
     well_step : (h : Harmed State) (step : Step) → IsLineStep step → KnownOf h (Does (OnLine step)) → Well h → Well (harms width ends h (Does (OnLine step)))
     well_step h (Send target call deadline) p t w = absurd p
     well_step h Up_deliver p t w = well_reached h h.world.wire.up refl (λ x rest e yes. t.made refl x rest e yes) w
-    well_step h (Up_lose k) p t w = well_up h (without k h.world.wire.up) (ltb k (length h.world.wire.up)) (each_without _ k h.world.wire.up w.up) w
-    well_step h (Up_repeat k) p t w = well_up h (doubled k h.world.wire.up) (ltb k (length h.world.wire.up)) (each_doubled _ k h.world.wire.up w.up) w
+    well_step h (Up_lose k) p t w = well_up h (without k h.world.wire.up) (ltb k (length h.world.wire.up)) (each_without _ k h.world.wire.up w.up) (each_without _ k h.world.wire.up w.own) w
+    well_step h (Up_repeat k) p t w = well_up h (doubled k h.world.wire.up) (ltb k (length h.world.wire.up)) (each_doubled _ k h.world.wire.up w.up) (each_doubled _ k h.world.wire.up w.own) w
     well_step h Down_deliver p t w = absurd p
     well_step h (Down_lose k) p t w = well_down h (without k h.world.wire.down) (ltb k (length h.world.wire.down)) (each_without _ k h.world.wire.down w.down) w
     well_step h (Down_repeat k) p t w = well_down h (doubled k h.world.wire.down) (ltb k (length h.world.wire.down)) (each_doubled _ k h.world.wire.down w.down) w
     well_step h (Expire now) p t w = absurd p
     well_step h Restart_client p t w = absurd p
     well_step h Restart_instrument p t w = absurd p
-    well_step h Nothing p t w = record { good = w.good; ids = w.ids; all = w.all; few = w.few; up = w.up; down = w.down; keeps = w.keeps; answers = w.answers }
+    well_step h Nothing p t w = record { good = w.good; ids = w.ids; all = w.all; few = w.few; up = w.up; own = w.own; down = w.down; keeps = w.keeps; answers = w.answers }
 
     -- a moment is read
     well_expired : (h : Harmed State) (now : ℕ) → Well h → Well (record { world = record { wire = h.world.wire; client = expires h.world.client now }; last = h.last })
     well_expired h now w =
         let n = length-map h.world.client.waiting (expired now) in
-        record { good = w.good; ids = w.ids; all = omega (arith, w.all, n); few = omega (arith, w.few, n); up = w.up; down = w.down; keeps = w.keeps; answers = w.answers }
+        record { good = w.good; ids = w.ids; all = omega (arith, w.all, n); few = omega (arith, w.few, n); up = w.up; own = w.own; down = w.down; keeps = w.keeps; answers = w.answers }
 
     -- a move of the field
     pub well_move : (h : Harmed State) (m : Move State) → MayDo width ends Good kept h m → KnownOf h (Does m) → Well h → Well (harms width ends h (Does m))
@@ -432,8 +449,8 @@ module _ (M : ℕ → Asked → List ℕ → Type 0) (D : List ℕ → Type 0) (
                 request = _;
                 found = refl;
                 call = sym (ap (λ (r : Request). r.call) e);
-                table = ap (λ (r : Request). is_of_table r.call) e;
               }) u.up clean.up;
+          own = each_of_eighth (λ x. KeepsItsOwnAfter ends Good kept x.line.call) (λ x. x ≡ eighth_null) (λ x e. inl (ap (λ (r : Request). is_of_table r.call) e)) u.up clean.up;
           down = each_of_eighth (IsDown ends.heard nulls) (λ line. heard line ≡ Some 7)
               (λ line e. record { was_sent = seven; near = near; id = is.hears line ∙ e; made_for = inl seven }) u.down clean.down;
           keeps = λ k e. elim (clean.keeps k e) [
@@ -466,7 +483,8 @@ module _ (M : ℕ → Asked → List ℕ → Type 0) (D E : List ℕ → Type 0)
         all = w.all;
         few = w.few;
         up = all_on (IsUp M D B h.world.wire.sent) (IsUp M E B h.world.wire.sent) h.world.wire.up
-            (λ x u. record { was_sent = u.was_sent; near = u.near; id = u.id; request = u.request; found = u.found; call = u.call; table = u.table }) w.up;
+            (λ x u. record { was_sent = u.was_sent; near = u.near; id = u.id; request = u.request; found = u.found; call = u.call }) w.up;
+        own = w.own;
         down = all_on (IsDown M D B ends.heard h.world.wire.sent) (IsDown M E B ends.heard h.world.wire.sent) h.world.wire.down
             (λ x d. record { was_sent = d.was_sent; near = d.near; id = d.id; made_for = made_for_wider h.world.wire.sent x.number x.line d.made_for }) w.down;
         keeps = λ k e. kept_wider h.world.wire.sent h.last k (w.keeps k e);

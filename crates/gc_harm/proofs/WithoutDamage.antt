@@ -70,13 +70,13 @@ module _ {State : Type 0} (width : ℕ) (narrow : width ≤ 7) (ends : Ends Stat
 
   -- a send is fresh, if it is for a call of the table
   fresh_if_sent : (h : Harmed State) (target : ℕ) (call : Asked) (deadline : ℕ) (full : Bool) → eqb (length h.world.client.waiting) width ≡ full → is_of_table call ≡ true → AnyWell h → InOrder h
-      → IsFreshIfSent width ends kept h call (send_unless_full h.world.client target call deadline full)
+      → IsFreshIfSent width ends Good kept h call (send_unless_full h.world.client target call deadline full)
   fresh_if_sent h target call deadline true e t w o = tt
   fresh_if_sent h target call deadline false e t w o =
       let v = h.world.wire in
       let ne : (length h.world.client.waiting ≡ width) → ⊥ = eqb-false _ _ e in
       record {
-        table = t;
+        own = inl t;
         up = all_on (λ x. o.n ≤ x.number) (λ x. AllowsSend (length v.sent) x.number) v.up (λ x le. allows_send h x.number w ne (omega (arith, le, o.counted))) o.above;
         down =
             all_on (λ x. length v.settled ≤ x.number + 1) (λ x. AllowsSend (length v.sent) x.number) v.down (λ x le. allows_send h x.number w ne le)

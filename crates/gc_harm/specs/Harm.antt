@@ -16,7 +16,7 @@ use Rattle.gc_field.specs.World.{Numbered, Request, Sent, Ends, World, Step, Up_
 use Rattle.gc_field.specs.Field.{Move, Sends, Comes, OnLine, IsPossible, moves}
 use Rattle.gc_field.specs.Begin.{UnderWay}
 use Rattle.gc_field.specs.Begun.{IsClean, eighth_null, ids_begun}
-use Rattle.gc_field.specs.Instrument.{OfAnyInstrument}
+use Rattle.gc_field.specs.Instrument.{OfAnyInstrument, TreatsRawsAlike}
 
 -- one step in the field, with damage
 pub data Harm (State : Type 0) : Type 0 where
@@ -62,6 +62,11 @@ abbrev pub AreRising : (low : ℕ) → List ℕ → Type 0
 AreRising low [] = Unit {0}
 AreRising low (m ∷ ms) = (low ≤ m) × AreRising (m + 1) ms
 
+-- after a request for this call the instrument keeps its own reply, or nothing: the call is of the table; or the instrument does so after
+-- each request, also a raw one (`TreatsRawsAlike`), as one does that never keeps a reply
+abbrev pub KeepsItsOwnAfter : {State : Type 0} → Ends State → (State → Type 0) → (State → Option KeptReply) → Asked → Type 0
+KeepsItsOwnAfter ends Good kept call = (is_of_table call ≡ true) ⊎ TreatsRawsAlike ends Good kept
+
 module _ {State : Type 0} (width : ℕ) (ends : Ends State) where
   -- what a step does
   abbrev pub harms : Harmed State → Harm State → Harmed State
@@ -78,23 +83,23 @@ module _ {State : Type 0} (width : ℕ) (ends : Ends State) where
   abbrev pub harm_begun : UnderWay State → Harmed State
   harm_begun u = record { world = ids_begun u; last = Some 7 }
 
-  -- a send of this call is fresh: the call is of the table; no line of the request eight before the one that is sent, nor of an older one, is in
-  -- flight; and if the instrument keeps a reply, of whichever request, the client's request that it was handed last is none of these either.
-  -- Without damage all but the first follows (`IsOwnWithoutDamage`)
-  pub record IsFreshSend (kept : State → Option KeptReply) (h : Harmed State) (call : Asked) : Type 0 where
-    pub table : is_of_table call ≡ true
+  -- a send of this call is fresh: the instrument keeps its own reply to it, or nothing (`KeepsItsOwnAfter`); no line of the request eight
+  -- before the one that is sent, nor of an older one, is in flight; and if the instrument keeps a reply, of whichever request, the client's
+  -- request that it was handed last is none of these either. Without damage all but the first follows (`IsOwnWithoutDamage`)
+  pub record IsFreshSend (Good : State → Type 0) (kept : State → Option KeptReply) (h : Harmed State) (call : Asked) : Type 0 where
+    pub own : KeepsItsOwnAfter ends Good kept call
     pub up : AllByRecursion (λ x. AllowsSend (length h.world.wire.sent) x.number) h.world.wire.up
     pub down : AllByRecursion (λ x. AllowsSend (length h.world.wire.sent) x.number) h.world.wire.down
     pub keeps : (k : KeptReply) (n : ℕ) → kept h.world.wire.state ≡ Some k → h.last ≡ Some n → AllowsSend (length h.world.wire.sent) n
 
   -- if the send isn't refused (`None`), it is fresh
-  abbrev pub IsFreshIfSent : (kept : State → Option KeptReply) → Harmed State → Asked → Option (Sending (ById Asked)) → Type 0
-  IsFreshIfSent kept h call None = Unit {0}
-  IsFreshIfSent kept h call (Some x) = IsFreshSend kept h call
+  abbrev pub IsFreshIfSent : (State → Type 0) → (kept : State → Option KeptReply) → Harmed State → Asked → Option (Sending (ById Asked)) → Type 0
+  IsFreshIfSent Good kept h call None = Unit {0}
+  IsFreshIfSent Good kept h call (Some x) = IsFreshSend Good kept h call
 
   -- a move is possible, and fresh if it is a send
   abbrev pub MayDo : (State → Type 0) → (State → Option KeptReply) → Harmed State → Move State → Type 0
-  MayDo Good kept h (Sends target call deadline) = IsFreshIfSent kept h call (sends width h.world.client target call deadline)
+  MayDo Good kept h (Sends target call deadline) = IsFreshIfSent Good kept h call (sends width h.world.client target call deadline)
   MayDo Good kept h move = IsPossible Good kept h.world move
 
   -- a step is possible, and fresh if it is a send: a damaged line may be any, and a request that damage made any with an id from 0 to 7

@@ -4,7 +4,6 @@
 -- again (`ComesAgain`), counts as undamaged here: it settles the very request for which it was sent again.
 use Rattle.std.specs.Prelude.{◌≡◌, ◌⊎◌, ℕ, ◌+◌, ◌-◌, ◌<◌, ◌≤◌, Bool, true, false, List, [], ◌∷◌, length, Option, Some, None, nat_lt}
 use Rattle.gc_catalogue.specs.declared.asked.Asked.{Asked}
-use Rattle.gc_catalogue.specs.Asked.{is_of_table}
 use Rattle.gc_client.specs.declared.window.TheConstants.{WINDOW}
 use Rattle.gc_client.specs.Rule.{ById, Sending, sends}
 use Rattle.gc_instrument.specs.State.{KeptReply}
@@ -13,7 +12,7 @@ use Rattle.gc_field.specs.Field.{Move, Sends, Comes, IsPossible}
 use Rattle.gc_field.specs.Begin.{UnderWay}
 use Rattle.gc_field.specs.Begun.{IsClean}
 use Rattle.gc_field.specs.Instrument.{OfAnyInstrument}
-use Rattle.gc_harm.specs.Harm.{Harm, Does, Damages, Strikes, Harmed, MayHarm, harm_begun, harms}
+use Rattle.gc_harm.specs.Harm.{Harm, Does, Damages, Strikes, Harmed, KeepsItsOwnAfter, MayHarm, harm_begun, harms}
 use Rattle.gc_harm.specs.Rarely.{IsFreshAndOwn}
 
 -- a world; how many requests the last line settled that settled any; and whether that line came undamaged, which the client doesn't
@@ -61,15 +60,15 @@ module _ {State : Type 0} (width : ℕ) (ends : Ends State) where
   abbrev pub holding_begun : UnderWay State → Holding State
   holding_begun u = record { harmed = harm_begun width ends u; last = 0; undamaged = true }
 
-  -- if the send isn't refused, its call is of the table, and there is room for it: outstanding requests, and those that the last line
-  -- settled, are together fewer than seven
-  abbrev pub HasRoomIfSent : Holding State → Asked → Option (Sending (ById Asked)) → Type 0
-  HasRoomIfSent g call None = Unit {0}
-  HasRoomIfSent g call (Some x) = (is_of_table call ≡ true) × (length g.harmed.world.client.waiting + g.last < WINDOW)
+  -- if the send isn't refused, the instrument keeps its own reply to it, or nothing (`KeepsItsOwnAfter`), and there is room for it:
+  -- outstanding requests, and those that the last line settled, are together fewer than seven
+  abbrev pub HasRoomIfSent : (State → Type 0) → (State → Option KeptReply) → Holding State → Asked → Option (Sending (ById Asked)) → Type 0
+  HasRoomIfSent Good kept g call None = Unit {0}
+  HasRoomIfSent Good kept g call (Some x) = KeepsItsOwnAfter ends Good kept call × (length g.harmed.world.client.waiting + g.last < WINDOW)
 
   -- a move is possible, and there is room if it is a send
   abbrev pub MayDoApart : (State → Type 0) → (State → Option KeptReply) → Holding State → Move State → Type 0
-  MayDoApart Good kept g (Sends target call deadline) = HasRoomIfSent g call (sends width g.harmed.world.client target call deadline)
+  MayDoApart Good kept g (Sends target call deadline) = HasRoomIfSent Good kept g call (sends width g.harmed.world.client target call deadline)
   MayDoApart Good kept g move = IsPossible Good kept g.harmed.world move
 
   -- a step is possible, and there is room if it is a send; a damaged line settles nothing, or the last one that settled something was

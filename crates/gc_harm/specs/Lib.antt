@@ -5,3 +5,7 @@ pub mod Stretch
 pub mod Rarely
 pub mod HoldingBack
 pub mod DamagedRun
+pub mod Stretches
+pub mod Runs
+pub mod UndamagedRuns
+pub mod DamagedStation

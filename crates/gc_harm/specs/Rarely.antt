@@ -1,9 +1,8 @@
 -- Rare damage in the field, this project's own: a bound on damaged lines by which each send is fresh. Those that come (`Damages`) are
 -- counted since the request of each line in flight, or kept, was sent.
-use Rattle.std.specs.Prelude.{◌≡◌, ℕ, ◌+◌, ◌*◌, ◌≤◌, true, List, [], ◌∷◌, length, Option, Some, None, if◌then◌else◌, nat_eq}
+use Rattle.std.specs.Prelude.{◌≡◌, ℕ, ◌+◌, ◌*◌, ◌≤◌, List, [], ◌∷◌, length, Option, Some, None, if◌then◌else◌, nat_eq}
 use Rattle.std.specs.List.{AllByRecursion}
 use Rattle.gc_catalogue.specs.declared.asked.Asked.{Asked}
-use Rattle.gc_catalogue.specs.Asked.{is_of_table}
 use Rattle.gc_client.specs.declared.window.TheConstants.{WINDOW}
 use Rattle.gc_client.specs.Rule.{ById, Sending, sends}
 use Rattle.gc_instrument.specs.State.{KeptReply}
@@ -12,7 +11,7 @@ use Rattle.gc_field.specs.Field.{Move, Sends, IsPossible}
 use Rattle.gc_field.specs.Begin.{UnderWay}
 use Rattle.gc_field.specs.Begun.{IsClean}
 use Rattle.gc_field.specs.Instrument.{OfAnyInstrument}
-use Rattle.gc_harm.specs.Harm.{Harm, Does, Damages, Strikes, Harmed, AllMayHarm, AreOwnOr, MayHarm, harm_begun, harms, no_line}
+use Rattle.gc_harm.specs.Harm.{Harm, Does, Damages, Strikes, Harmed, AllMayHarm, AreOwnOr, KeepsItsOwnAfter, MayHarm, harm_begun, harms, no_line}
 
 -- a world; how many damaged lines have come; and how many had come when request n was sent (`seen`)
 pub record Tally (State : Type 0) : Type 0 where
@@ -45,22 +44,22 @@ module _ {State : Type 0} (width : ℕ) (ends : Ends State) where
   abbrev pub tally_begun : UnderWay State → Tally State
   tally_begun u = record { harmed = harm_begun width ends u; came = 0; seen = λ n. 0 }
 
-  -- if the client sends a request, it is for a call of the table, and at most k damaged lines have come since the request of any line
-  -- in flight was sent, or of the one that the instrument was handed last, if it keeps a reply
-  pub record IsRareSend (k : ℕ) (kept : State → Option KeptReply) (r : Tally State) (call : Asked) : Type 0 where
-    pub table : is_of_table call ≡ true
+  -- if the client sends a request, the instrument keeps its own reply to it, or nothing (`KeepsItsOwnAfter`), and at most k damaged lines
+  -- have come since the request of any line in flight was sent, or of the one that the instrument was handed last, if it keeps a reply
+  pub record IsRareSend (k : ℕ) (Good : State → Type 0) (kept : State → Option KeptReply) (r : Tally State) (call : Asked) : Type 0 where
+    pub own : KeepsItsOwnAfter ends Good kept call
     pub up : AllByRecursion (λ x. r.came ≤ r.seen x.number + k) r.harmed.world.wire.up
     pub down : AllByRecursion (λ x. r.came ≤ r.seen x.number + k) r.harmed.world.wire.down
     pub keeps : (reply : KeptReply) (n : ℕ) → kept r.harmed.world.wire.state ≡ Some reply → r.harmed.last ≡ Some n → r.came ≤ r.seen n + k
 
   -- if the client sends, damage was rare
-  abbrev pub IsRareIfSent : ℕ → (State → Option KeptReply) → Tally State → Asked → Option (Sending (ById Asked)) → Type 0
-  IsRareIfSent k kept r call None = Unit {0}
-  IsRareIfSent k kept r call (Some x) = IsRareSend k kept r call
+  abbrev pub IsRareIfSent : ℕ → (State → Type 0) → (State → Option KeptReply) → Tally State → Asked → Option (Sending (ById Asked)) → Type 0
+  IsRareIfSent k Good kept r call None = Unit {0}
+  IsRareIfSent k Good kept r call (Some x) = IsRareSend k Good kept r call
 
   -- a move is possible, and damage was rare at a send
   abbrev pub MayDoRarely : ℕ → (State → Type 0) → (State → Option KeptReply) → Tally State → Move State → Type 0
-  MayDoRarely k Good kept r (Sends target call deadline) = IsRareIfSent k kept r call (sends width r.harmed.world.client target call deadline)
+  MayDoRarely k Good kept r (Sends target call deadline) = IsRareIfSent k Good kept r call (sends width r.harmed.world.client target call deadline)
   MayDoRarely k Good kept r move = IsPossible Good kept r.harmed.world move
 
   -- a step is possible, and damage was rare at a send

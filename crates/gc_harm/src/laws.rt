@@ -1,16 +1,20 @@
 //! What is proved of the field with damage, for any instrument. To what happens in the field two things are added: a damaged line comes to
 //! the client, any line at any time; and a request that damage made reaches the instrument, any request with an id from 0 to 7, at any
 //! time. An answer is own if its line was made on executing that very request. Each request that the client sends after a synchronization
-//! is a call of the table: in each law on steps this is a premise of its sends. The window counts all outstanding requests, also those that
+//! is a call of the table, or the instrument keeps after each request, also a raw one, its own reply or none: in each law on steps this is
+//! a premise of its sends. The window counts all outstanding requests, also those that
 //! have timed out: a station's is always seven wide, whatever its `--width`, which limits those that haven't. Each function does nothing:
 //! its contract is the law.
 
 ghost use Rattle.gc_harm.specs.DamagedRun.{IsDamagedRun, IsDamagedStretch};
+ghost use Rattle.gc_harm.specs.DamagedStation.{IsDamagedStation};
 ghost use Rattle.gc_harm.specs.Harm.{AnswersAreOwnOrDamaged};
 ghost use Rattle.gc_harm.specs.HoldingBack.{HeldBackDamageIsLocalInField};
 ghost use Rattle.gc_harm.specs.Rarely.{RareDamageIsLocalInField};
+ghost use Rattle.gc_harm.specs.Runs.{DamageOnceSynchronizedIsApart, RunsWithDamageAreLocal, SimulatorsRunsWithDamageAreLocal};
 ghost use Rattle.gc_harm.specs.Stretch.{StretchesAreLocal};
 ghost use Rattle.gc_harm.specs.Synchronizing.{OwnEighthIsClean};
+ghost use Rattle.gc_harm.specs.UndamagedRuns.{UndamagedRunsAreInstances};
 ghost use Rattle.gc_harm.specs.WithoutDamage.{WithoutDamageAllIsOwn};
 
 /// For any instrument, after a clean synchronization: if each send is fresh, each answer was made on executing its very request, or its
@@ -58,4 +62,38 @@ pub fn some_run_is_damaged()
 /// procedures are answered by damaged lines.
 pub fn some_stretch_is_damaged()
     ensures { IsDamagedStretch }
+{}
+
+/// Over a line that damages, the line of each answer that a station records, and of each late reply, was made on executing the request of
+/// that very cycle and place, or is a damaged one. This is of any instrument, whatever is lost, repeated or damaged in both directions, and
+/// whatever is in flight at the start, be it the word, if the station asks only for calls of the table, unless the instrument keeps after
+/// each request its own reply or none. It is so in each stretch in which damage is apart: its eighth null procedure is answered by its own
+/// reply, or nothing is damaged while it synchronizes and the word isn't in flight at its start; and of the lines that settle something
+/// after that, no two in a row are damaged. And in no run more requests are settled by lines that came damaged than such lines came. The
+/// station does its part by `requests_are_held_back` of gc_station.
+pub fn runs_with_damage_are_local<State>()
+    ensures { RunsWithDamageAreLocal State }
+{}
+
+/// In such a run damage is apart in each stretch if the word isn't in flight at the start, nothing is damaged while the station
+/// synchronizes, and no two lines in a row that settle something after that are damaged.
+pub fn damage_once_synchronized_is_apart<State>()
+    ensures { DamageOnceSynchronizedIsApart State }
+{}
+
+/// Each run of `runs_are_faithful` is such a run, and damage is apart in each of its stretches. This is so if the station asks only for
+/// calls of the table, or the instrument keeps after each request its own reply or none.
+pub fn undamaged_runs_are_instances<State>()
+    ensures { UndamagedRunsAreInstances State }
+{}
+
+/// `runs_with_damage_are_local` of the simulator, in any state whose values lie in their types (`IsFittingState`).
+pub fn simulators_runs_with_damage_are_local()
+    ensures { SimulatorsRunsWithDamageAreLocal }
+{}
+
+/// Some run meets every premise of `simulators_runs_with_damage_are_local`. Its first command's answer is a damaged line, and its second
+/// command's was made on executing the command's own request.
+pub fn some_station_is_damaged()
+    ensures { IsDamagedStation }
 {}
