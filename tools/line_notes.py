@@ -8,6 +8,7 @@ from datetime import datetime, timezone
 from pathlib import Path
 from typing import BinaryIO
 
+from line_alter import Change, altered
 from line_text import BEYOND, Fate, lines_of
 
 LONGEST = 512
@@ -148,10 +149,11 @@ class Notes:
         if self.far_log and way == "up":
             self.far_log.entry(">", data)
 
-    def came(self, way: str, number: int, line: bytes, fate: Fate, index: int) -> None:
+    def came(self, way: str, number: int, line: bytes, fate: Fate, changes: list[Change], index: int) -> None:
         """A counted line came, and what happens to it was decided."""
         if self.decided:
-            self.decided.write(lines_of(way, number, fate).encode("ascii"))
+            behind = f"  # {shown(line).decode('ascii')} -> {shown(altered(line, changes)).decode('ascii')}"
+            self.decided.write(lines_of(way, number, fate, changes, behind).encode("ascii"))
         if self.drill:
             self.drill.came(way, line, fate, index)
 

@@ -11,6 +11,7 @@ import sys
 import time
 from typing import Any
 
+from line_alter import altered
 from line_ends import Far, Link, Near
 from line_notes import Notes
 from line_text import WORDS, Fate, Text
@@ -75,16 +76,17 @@ class Relay:
         """Decides what happens to a line, and does it."""
         line, of = self.known(way, line)
         way.count += 1
-        fate = self.text.fate(self.seed, way.name, way.count, len(line))
+        fate = self.text.fate(self.seed, way.name, way.count, line)
+        changes = self.text.changes(self.seed, way.name, way.count, line)
         self.counts.update([way.name, *(word for word in fate if word != "keep")])
-        self.notes.came(way.name, way.count, line, fate, len(way.queue))
+        self.notes.came(way.name, way.count, line, fate, changes, len(way.queue))
         self.is_anew |= "restart" in fate
         if "echo" in fate:
             self.down.queue.append(Item(0, collections.deque([line])))
         if hold := fate.get("hold"):
             self.still = max(self.still, time.monotonic() + hold / 1000)
         if "lose" not in fate:
-            self.put(way, line, of, fate)
+            self.put(way, altered(line, changes), of, fate)
 
     def put(self, way: Way, line: bytes, of: Any, fate: Fate) -> None:
         """Puts a line on its way, or what is left of it."""

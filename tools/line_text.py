@@ -3,6 +3,7 @@
 import re
 from typing import NamedTuple
 
+from line_alter import Change, changes_drawn, changes_of
 from line_draws import WAYS, draw
 
 MOST_BYTES = 65_536
@@ -22,7 +23,7 @@ class Faulty(Exception):
 
 class Word(NamedTuple):
     """A word: what follows it, and after it at a place, and the place of its draw, where it has one. P is a share of a hundred, MS
-    milliseconds, FROM and TO such, and BYTES and N numbers."""
+    milliseconds, FROM and TO such, BYTES and N numbers, and CHANGES what becomes of a line's bytes."""
 
     behind: str
     placed: str | None
@@ -43,6 +44,8 @@ WORDS = {
     "behead": Word("P", "BYTES", 11),
     "echo": Word("P", "", 12),
     "pieces": Word("P BYTES", "BYTES", 13),
+    # A share of the bytes; its draw begins the generator of theirs.
+    "alter": Word("P", "CHANGES", 15),
     # Only at a place: a close by a reset. By chance every other close is one.
     "reset": Word("", "", None),
     "idle": Word("MS", None, None),
@@ -52,7 +55,7 @@ WORDS = {
 # Words that are of no direction, and at no place.
 WHOLE = ("idle", "kill")
 # What is not a line's own matter alone: the client's and the instrument's ends see that it isn't in order and whole.
-BEYOND = ("cut", "behead", "echo", "restart")
+BEYOND = ("cut", "behead", "echo", "restart", "alter")
 RANGES = {
     "P": "a share of a hundred, 0 to 100 with at most three places",
     "MS": f"milliseconds, 0 to {MOST_MS}",
@@ -93,12 +96,23 @@ def numbers_of(word: str, form: str, said: list[str]) -> list[int]:
     return numbers
 
 
+def said_changes(said: list[str]) -> list[Change]:
+    """The changes after `alter` at a place."""
+    if len(said) != 1:
+        raise Faulty("behind alter stands CHANGES here")
+    try:
+        return changes_of(said[0])
+    except ValueError as why:
+        raise Faulty(str(why)) from None
+
+
 class Text:
-    """What a text says: of each direction the words with their numbers, at places what happens there, and `idle`."""
+    """What a text says: of each direction the words with their numbers, at places what happens there and what is altered, and `idle`."""
 
     def __init__(self) -> None:
         self.words: dict[str, dict[str, list[int]]] = {way: {} for way in WAYS}
         self.places: dict[tuple[str, int], Fate] = {}
+        self.altered: dict[tuple[str, int], list[Change]] = {}
         self.whole: dict[str, int] = {}
 
     def read(self, line: str) -> None:
@@ -151,17 +165,27 @@ class Text:
         fate = self.places.setdefault((way, int(place)), {})
         if word in fate:
             raise Faulty(f"{word} stands there already")
-        fate[word] = sum(numbers_of(word, known.placed, numbers))
+        if word == "alter":
+            self.altered[way, int(place)] = said_changes(numbers)
+            numbers = []
+        fate[word] = sum(numbers_of(word, known.placed.replace("CHANGES", ""), numbers))
 
-    def fate(self, seed: int, way: str, line: int, length: int) -> Fate:
-        """What happens to a line of this direction and length, in bytes. Where the text has it at its place, that alone does."""
+    def changes(self, seed: int, way: str, line: int, data: bytes) -> list[Change]:
+        """What is altered of a line of this direction, with these bytes."""
+        if (way, line) in self.places:
+            return self.altered.get((way, line), [])
+        share = self.words[way].get("alter")
+        return changes_drawn(draw(seed, way, line, WORDS["alter"].draw or 0), share[0], data) if share else []
+
+    def fate(self, seed: int, way: str, line: int, data: bytes) -> Fate:
+        """What happens to a line of this direction, with these bytes. Where the text has it at its place, that alone does."""
         if (way, line) in self.places:
             return dict(self.places[way, line])
-        fate: Fate = {}
+        fate: Fate = {"alter": 0} if self.changes(seed, way, line, data) else {}
         # What comes after a close is decided after it.
         for word, numbers in sorted(self.words[way].items(), key=lambda one: one[0] == "refuse"):
             drawn = draw(seed, way, line, WORDS[word].draw or 0)
-            if word != "delay" and not drawn.happens(numbers[0]):
+            if word == "alter" or word != "delay" and not drawn.happens(numbers[0]):
                 continue
             if word == "refuse" and not fate.keys() & {"close", "reset", "cut"}:
                 continue
@@ -170,7 +194,7 @@ class Text:
             elif word in ("delay", "late"):
                 fate["delay"] = min(fate.get("delay", 0) + drawn.among(*numbers[-2:]), MOST_MS)
             elif word in ("cut", "behead"):
-                fate[word] = drawn.among(1, max(1, min(length - 1, MOST_PIECE)))
+                fate[word] = drawn.among(1, max(1, min(len(data) - 1, MOST_PIECE)))
             elif word == "keep":
                 fate[word] = drawn.among(*numbers[1:])
             elif word == "pieces":
@@ -199,6 +223,10 @@ def text_of(data: bytes) -> Text:
     return text
 
 
-def lines_of(way: str, place: int, fate: Fate) -> str:
-    """What happened to a line, as lines of a text that has it happen again."""
-    return "".join(f"{way} {place} {word}{f' {number}' if WORDS[word].placed else ''}\n" for word, number in sorted(fate.items()))
+def lines_of(way: str, place: int, fate: Fate, changes: list[Change], behind: str = "") -> str:
+    """What happened to a line, as lines of a text that has it happen again. `behind` is a comment on the one that alters it."""
+    lines = []
+    for word, number in sorted(fate.items()):
+        said = f" {','.join(map(str, changes))}{behind}" if word == "alter" else f" {number}" if WORDS[word].placed else ""
+        lines.append(f"{way} {place} {word}{said}\n")
+    return "".join(lines)

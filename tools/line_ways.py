@@ -44,5 +44,5 @@ class Way:
 
 
 def pieces_of(line: bytes, size: int) -> collections.deque[bytes]:
-    """A line in pieces of a size; whole, where that is 0."""
-    return collections.deque(line[n : n + size] for n in range(0, len(line), size)) if size else collections.deque([line])
+    """A line in pieces of a size, at least one; whole, where that is 0."""
+    return collections.deque(line[n : n + size] for n in range(0, max(1, len(line)), size)) if size else collections.deque([line])

@@ -50,6 +50,21 @@ def test_same_decisions(program, folder, note):
     note("80 commands; of the first 80 lines each way " + ", ".join(f"{word} {count}" for word, count in sorted(words.items())))
 
 
+@pytest.mark.title("--decided: an altered line, before and after; it is counted")
+def test_altered(folder):
+    text, decided = "alter 100\nup 1 alter 9=34\ndown 1 alter 8=32,24-\ndown 1 repeat\n", folder / "decided"
+    with standing() as far, lining(folder, text, far.port, "--decided", decided) as (port, line), Caller(port) as caller:
+        caller.say(5003, 1)
+        assert caller.lines() == [b'%R1P,0,2:0,"GEOCOM SIM"\n'] * 2
+        line.terminate()
+        assert line.messages() == "connections 1 up 1 down 1 repeat 1 alter 2\n"
+    assert decided.read_text().splitlines() == [
+        r"up 1 alter 9=34  # %R1Q,5003,1:\x0d\x0a -> %R1Q,5004,1:\x0d\x0a",
+        r'down 1 alter 8=32,24-  # %R1P,0,1:0,"GEOCOM SIM"\x0d\x0a -> %R1P,0,2:0,"GEOCOM SIM"\x0a',
+        "down 1 repeat",
+    ]
+
+
 @pytest.mark.title("--log and --far-log: check --log reads them")
 def test_logs(program, folder, note):
     near, far_log = folder / "near.log", folder / "far.log"
@@ -117,6 +132,7 @@ def test_drill_of_losses(program, folder, width, note):
 @pytest.mark.title("--drill: why a run isn't played further, {text}")
 @pytest.mark.parametrize("text, why", [
     ("up 2 cut 3", b"up cut"), ("down 2 behead 3", b"down behead"), ("up 3 echo", b"up echo"), ("up 1 restart", b"up restart"),
+    ("down 2 alter 8-", b"down alter"),
 ])
 def test_drill_stops(program, folder, text, why):
     schedule = folder / "schedule"

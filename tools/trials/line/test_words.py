@@ -40,6 +40,15 @@ def asked(folder, text, *words):
     ("up 1 echo", [b"%R1Q,5003,1:\r\n", FIRST, SECOND], [5003, 2011]),
     ("up 1 pieces 1\ndown 2 pieces 7", [FIRST, SECOND], [5003, 2011]),
     ("pieces 100 3", [FIRST, SECOND], [5003, 2011]),
+    ("down 1 alter 8=32", [b"%R1P,0,2:0,123456\r\n", SECOND], [5003, 2011]),
+    ("down 1 alter 8=32\ndown 1 repeat", [b"%R1P,0,2:0,123456\r\n"] * 2 + [SECOND], [5003, 2011]),
+    ("down 1 alter 18-,19-", [FIRST[:-2] + SECOND], [5003, 2011]),
+    ("down 1 alter 9+0a\ndown 1 pieces 1", [b"%R1P,0,1\n", b":0,123456\r\n", SECOND], [5003, 2011]),
+    ("up 1 alter 11=32", [b"%R1P,0,2:0,123456\r\n", SECOND], [5003, 2011]),
+    ("up 1 alter 14-", [], []),
+    ("up 1 alter 1-\nup 1 echo", [b"%R1Q,5003,1:\r\n", SECOND], [2011]),
+    ("down 1 alter " + ",".join(f"{at}-" for at in range(1, 20)), [SECOND], [5003, 2011]),
+    ("down 1 alter 1-\ndown 1 lose", [SECOND], [5003, 2011]),
     ("up 1 repeat\nup 1 lose", [SECOND], [2011]),
 ], 1)])
 def test_lines(folder, number, words, text, lines, requests):
