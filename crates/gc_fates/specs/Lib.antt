@@ -1,3 +1,4 @@
+pub mod Altering
 pub mod Draws
 pub mod Fates
 pub mod Laws

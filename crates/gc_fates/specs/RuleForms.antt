@@ -10,7 +10,7 @@ use Rattle.gc_fates.specs.declared.rule.Rule.{Rule}
 use Rattle.gc_fates.specs.declared.rule.Shape.{Shape}
 use Rattle.gc_fates.specs.declared.rule.Shape.TheVariants.{Share, Lasting, Span, Times}
 use Rattle.gc_fates.specs.declared.rule.Word.{Word}
-use Rattle.gc_fates.specs.declared.rule.Word.TheVariants.{Delay, Lose, Repeat, Hold, Close, Refuse, Restart, Kill}
+use Rattle.gc_fates.specs.declared.rule.Word.TheVariants.{Delay, Lose, Repeat, Hold, Close, Refuse, Restart, Alter, Kill}
 
 -- the longest time that a rule may say, in milliseconds: a day. This project's own
 abbrev pub millis_max : ℕ
@@ -29,6 +29,7 @@ name_of Hold = codes "hold"
 name_of Close = codes "close"
 name_of Refuse = codes "refuse"
 name_of Restart = codes "restart"
+name_of Alter = codes "alter"
 name_of Kill = codes "kill"
 
 -- the form of what follows a word
@@ -40,6 +41,7 @@ shape_of Hold = Lasting
 shape_of Close = Share
 shape_of Refuse = Lasting
 shape_of Restart = Share
+shape_of Alter = Share
 shape_of Kill = Times
 
 -- the place of a word among all words, counted from 0
@@ -51,7 +53,8 @@ place_of Hold = 3
 place_of Close = 4
 place_of Refuse = 5
 place_of Restart = 6
-place_of Kill = 7
+place_of Alter = 7
+place_of Kill = 8
 
 -- `P`: a percentage; no number is drawn
 pub record IsPercentage (text : List ℕ) (chance : Chance) : Type 0 where

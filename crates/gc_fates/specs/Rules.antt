@@ -13,7 +13,7 @@ use Rattle.gc_fates.specs.declared.rule.Word.{Word}
 
 -- the rules of a text without a word
 abbrev pub no_rules : Rules
-no_rules = record { chances = None ∷ None ∷ None ∷ None ∷ None ∷ None ∷ None ∷ None ∷ [] }
+no_rules = record { chances = None ∷ None ∷ None ∷ None ∷ None ∷ None ∷ None ∷ None ∷ None ∷ [] }
 
 -- the chance of a word; `None` if the text doesn't have the word
 abbrev pub chance_of : Rules → Word → Option Chance

@@ -9,7 +9,7 @@ use crate::rule::Word;
 use crate::rules::Rules;
 
 // The number of the draw of `lose` among a line's draws, counted from 1; those of the other words follow. `docs/BAD-LINES.md` lists
-// them all. The word `kill` is about no line, and has none.
+// them all. The word `kill` is about no line, and has none; `alter` is in `altering.rt`.
 const LOSE_DRAW: u64 = 1;
 
 const REPEAT_DRAW: u64 = 2;

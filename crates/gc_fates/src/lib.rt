@@ -1,6 +1,7 @@
 //! Fates: what happens to each line between a simulated station and an instrument, by the rules of a text and the draws of a seed.
 #![tactic(auto)]
 
+mod altering;
 mod chance;
 mod draw;
 mod fate;
@@ -12,6 +13,7 @@ mod rules;
 mod share;
 mod spaced;
 
+pub use altering::{Altered, alter};
 pub use chance::Chance;
 pub use draw::{Draws, among};
 pub use fate::{LineFate, fate_of, restarts_at};

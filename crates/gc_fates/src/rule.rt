@@ -16,7 +16,7 @@ const MILLIS_MAX: u32 = 86_400_000;
 const TIMES_MAX: u32 = 1000;
 
 // How many words there are.
-pub(crate) const WORDS: usize = 8;
+pub(crate) const WORDS: usize = 9;
 
 /// A word of the text: what a rule is about.
 #[derive(Clone, Copy)]
@@ -35,6 +35,8 @@ pub enum Word {
     Refuse,
     /// At a line the instrument restarts.
     Restart,
+    /// A byte of a line is altered: a percentage of bytes, where that of the other words is one of lines.
+    Alter,
     /// The station is killed a number of times a night.
     Kill,
 }
@@ -65,6 +67,7 @@ impl Word {
             Word::Close => b"close",
             Word::Refuse => b"refuse",
             Word::Restart => b"restart",
+            Word::Alter => b"alter",
             Word::Kill => b"kill",
         }
     }
@@ -75,7 +78,8 @@ impl Word {
     {
         match self {
             Word::Delay => Shape::Span,
-            Word::Lose | Word::Repeat | Word::Close | Word::Restart => Shape::Share,
+            Word::Lose | Word::Repeat | Word::Close => Shape::Share,
+            Word::Restart | Word::Alter => Shape::Share,
             Word::Hold | Word::Refuse => Shape::Lasting,
             Word::Kill => Shape::Times,
         }
@@ -84,7 +88,7 @@ impl Word {
     // The place of the word among all words, counted from 0.
     pub(crate) fn place(self) -> usize
         ensures is { result ≡ place_of self }
-        ensures below { result < 8 }
+        ensures below { result < 9 }
     {
         match self {
             Word::Delay => 0,
@@ -94,7 +98,8 @@ impl Word {
             Word::Close => 4,
             Word::Refuse => 5,
             Word::Restart => 6,
-            Word::Kill => 7,
+            Word::Alter => 7,
+            Word::Kill => 8,
         }
     }
 
@@ -130,6 +135,9 @@ impl Word {
         }
         if Word::Restart.is_named(text) {
             return Some(Word::Restart);
+        }
+        if Word::Alter.is_named(text) {
+            return Some(Word::Alter);
         }
         if Word::Kill.is_named(text) {
             return Some(Word::Kill);

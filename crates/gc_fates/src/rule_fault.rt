@@ -10,7 +10,7 @@ impl RuleFault {
         match self {
             RuleFault::NoWord => writeln!(
                 messages,
-                "a word is delay, lose, repeat, hold, close, refuse, restart or kill"
+                "a word is delay, lose, repeat, hold, close, refuse, restart, alter or kill"
             ),
             RuleFault::Again(_) => writeln!(messages, "an earlier line has this word"),
             RuleFault::Form(word) => tell_form(word, messages),
@@ -25,7 +25,7 @@ fn tell_form<E: Write>(word: Word, messages: &mut E) -> io::Result<()> {
             messages,
             "delay FROM TO, in milliseconds, 0 to 86400000, FROM at most TO"
         ),
-        Word::Lose | Word::Repeat | Word::Close | Word::Restart => writeln!(
+        Word::Lose | Word::Repeat | Word::Close | Word::Restart | Word::Alter => writeln!(
             messages,
             "after this word P, 0 to 100, with at most three decimals"
         ),

@@ -1,2 +1,3 @@
+mod Explaining
 mod Matching
 mod Running

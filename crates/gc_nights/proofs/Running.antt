@@ -1,9 +1,11 @@
 -- Runs of a station, one after the other.
-use Rattle.std.proofs.Common.{◌≡◌, ℕ, List, [], ◌∷◌, ◌++◌, Option, Some, Result, Ok, Err, inl, inr, refl, sym, ap, subst, ◌∙◌, append_assoc, append-nil}
+use Rattle.std.proofs.Common.{◌≡◌, ℕ, Bool, true, false, List, [], ◌∷◌, ◌++◌, Option, None, Some, Result, Ok, Err, inl, inr, refl, sym, ap, subst, ◌∙◌, append_assoc, append-nil}
 use Rattle.std.specs.List.{AllByRecursion}
+use Rattle.std.specs.Prelude.{IfSome}
 use Rattle.gc_station.proofs.Lists.{all_append, all_on}
 use Rattle.gc_links.specs.Acts.{Act, Closed}
 use Rattle.gc_rehearsal.specs.Carrying.{IsOfLine, CarriesNothing}
+use Rattle.gc_rehearsal.specs.Inside.{told}
 use Rattle.gc_rehearsed.specs.Rehearsals.{RehearsedStation, RunsAndStops, AreAskable, RehearsalsInARowAreFaithful, acts_of_all}
 use Rattle.gc_station.specs.Model.{Runs, opening}
 use Rattle.gc_station.specs.Records.{Record}
@@ -14,11 +16,12 @@ use Rattle.gc_station.specs.declared.tally.Tally.{Tally}
 use Rattle.gc_texts.specs.declared.fault.RunFault.{RunFault}
 use Rattle.gc_texts.specs.declared.fault.RunFault.TheVariants.{Output}
 use Rattle.gc_texts.specs.declared.tasks.Task.{Task}
-use Rattle.gc_nights.specs.Runs.{IsRunOf, AreRuns, AreFaithfulRuns}
+use Rattle.gc_nights.specs.Runs.{IsRunOf, AreRuns, AddRuns, AreFaithfulRuns, AreFaithfulUnlessAltered}
 
--- where the acts before and after are the same, they are those of no run at all (`AreRuns`)
-pub no_runs : (commands : List Task) (acts : List Act) → AreRuns commands acts acts
-no_runs commands acts = record { stations = []; each = tt; told = sym (append-nil acts) }
+-- where the acts before and after are the same, they are those of no run at all (`AddRuns`)
+pub no_runs : (commands : List Task) (acts : Option (List Act)) → AddRuns commands acts acts
+no_runs commands None = tt
+no_runs commands (Some acts) = record { stations = []; each = tt; told = sym (append-nil acts) }
 
 -- the acts of some runs and then of others are the acts of all of them in order
 acts_of_all_append : (xs ys : List RehearsedStation) → acts_of_all (xs ++ ys) ≡ acts_of_all xs ++ acts_of_all ys
@@ -29,30 +32,46 @@ acts_of_all_append (x ∷ xs) ys =
     ∙ sym (append_assoc x.acts (x.after_run ++ acts_of_all xs) (acts_of_all ys))
 
 -- runs that made the acts from `old` to `mid`, and then others from `mid` to `new`, made those from `old` to `new`
-pub runs_then : (commands : List Task) (old mid new : List Act) → AreRuns commands old mid → AreRuns commands mid new → AreRuns commands old new
-runs_then commands old mid new first second = record {
+pub runs_then : (commands : List Task) (old mid new : Option (List Act)) → AddRuns commands old mid → AddRuns commands mid new → AddRuns commands old new
+runs_then commands None mid new first second = tt
+runs_then commands (Some old) None new first second = absurd first
+runs_then commands (Some old) (Some mid) None first second = absurd second
+runs_then commands (Some old) (Some mid) (Some new) first second = record {
   stations = first.stations ++ second.stations;
   each = all_append (IsRunOf commands) first.stations second.stations first.each second.each;
   told = second.told ∙ ap (λ acts. acts ++ acts_of_all second.stations) first.told ∙ append_assoc old (acts_of_all first.stations) (acts_of_all second.stations)
       ∙ ap (λ acts. old ++ acts) (sym (acts_of_all_append first.stations second.stations));
 }
 
-module _ (plan : Plan) (commands : List Task) (scope : Scope) (text : Record → List ℕ) (askable : AreAskable commands) (old new : List Act) (taken taken' : Option (List ℕ)) where
+module _ (plan : Plan) (commands : List Task) (scope : Scope) (text : Record → List ℕ) (askable : AreAskable commands) (taken taken' : Option (List ℕ)) where
   -- where `new` has, after the acts `old`, the acts of a run and then quiet ones, these are those of one run (`AreRuns`)
-  run_then_quiet : (acts behind : List Act) → Runs plan commands (opening plan scope) acts → AllByRecursion CarriesNothing behind
+  run_then_quiet : (old new acts behind : List Act) → Runs plan commands (opening plan scope) acts → AllByRecursion CarriesNothing behind
       → new ≡ old ++ (acts ++ behind) → AreRuns commands old new
-  run_then_quiet acts behind runs quiet told = record {
+  run_then_quiet old new acts behind runs quiet told = record {
     stations = record { plan = plan; commands = commands; scope = scope; acts = acts; after_run = behind } ∷ [];
     each = ((refl, record { askable = askable; runs = runs; quiet = quiet }), tt);
     told = told ∙ ap (λ xs. old ++ (acts ++ xs)) (sym (append-nil behind));
   }
 
   -- what a run over these commands (`Ran`) added to the acts is that of one run (`AreRuns`), however it ended
-  pub run_is_one : (end : Result Tally RunFault) → Ran plan commands scope text (Some old) (Some new) taken taken' end → AreRuns commands old new
-  run_is_one (Ok tally) r = run_then_quiet r.1.acts [] r.1.runs tt (r.1.tells ∙ ap (λ xs. old ++ xs) (sym (append-nil r.1.acts)))
-  run_is_one (Err Output) (inl r) = run_then_quiet (r.acts ++ r.last ∷ []) (Closed ∷ []) r.runs (tt, tt) (r.tells ∙ ap (λ xs. old ++ xs) (sym (append_assoc r.acts (r.last ∷ []) (Closed ∷ []))))
-  run_is_one (Err Output) (inr r) = run_then_quiet r.acts (Closed ∷ []) r.runs (tt, tt) r.tells
-  run_is_one (Err fault) r = run_then_quiet r.2.acts [] r.2.runs tt (r.2.tells ∙ ap (λ xs. old ++ xs) (sym (append-nil r.2.acts)))
+  one_run_seen : (old new : List Act) (end : Result Tally RunFault) → Ran plan commands scope text (Some old) (Some new) taken taken' end → AreRuns commands old new
+  one_run_seen old new (Ok tally) r = run_then_quiet old new r.1.acts [] r.1.runs tt (r.1.tells ∙ ap (λ xs. old ++ xs) (sym (append-nil r.1.acts)))
+  one_run_seen old new (Err Output) (inl r) = run_then_quiet old new (r.acts ++ r.last ∷ []) (Closed ∷ []) r.runs (tt, tt) (r.tells ∙ ap (λ xs. old ++ xs) (sym (append_assoc r.acts (r.last ∷ []) (Closed ∷ []))))
+  one_run_seen old new (Err Output) (inr r) = run_then_quiet old new r.acts (Closed ∷ []) r.runs (tt, tt) r.tells
+  one_run_seen old new (Err fault) r = run_then_quiet old new r.2.acts [] r.2.runs tt (r.2.tells ∙ ap (λ xs. old ++ xs) (sym (append-nil r.2.acts)))
+
+  -- a run over these commands leaves the acts seen that were seen before it
+  stays_seen : (old : List Act) (end : Result Tally RunFault) → Ran plan commands scope text (Some old) None taken taken' end → ⊥
+  stays_seen old (Ok tally) r = r.1.tells
+  stays_seen old (Err Output) (inl r) = r.tells
+  stays_seen old (Err Output) (inr r) = r.tells
+  stays_seen old (Err fault) r = r.2.tells
+
+  -- what a run over these commands (`Ran`) added to the acts, if they are seen, is that of one run (`AddRuns`), however it ended
+  pub run_is_one : (old new : Option (List Act)) (end : Result Tally RunFault) → Ran plan commands scope text old new taken taken' end → AddRuns commands old new
+  run_is_one None new end r = tt
+  run_is_one (Some old) None end r = absurd (stays_seen old end r)
+  run_is_one (Some old) (Some new) end r = one_run_seen old new end r
 
 -- runs that made all acts of a rehearsal's line, from the first on, are as `AreFaithfulRuns` says, by the law on rehearsals in a row
 pub faithful_runs : (commands : List Task) (acts : List Act) → RehearsalsInARowAreFaithful → IsOfLine acts → AreRuns commands [] acts → AreFaithfulRuns commands acts
@@ -60,3 +79,11 @@ faithful_runs commands acts law line runs = record {
   runs = runs;
   faithful = λ few. law runs.stations (subst IsOfLine runs.told line) (all_on (IsRunOf commands) RunsAndStops runs.stations (λ x run. run.1) runs.each) few;
 }
+
+-- runs over the link of a rehearsal, new before them, are as `AreFaithfulUnlessAltered` says, by that law
+pub faithful_unless_altered : (alters : Bool) (commands : List Task) (old new : Option (List Act)) → RehearsalsInARowAreFaithful
+    → IfSome new IsOfLine → old ≡ told alters [] → AddRuns commands old new → AreFaithfulUnlessAltered alters commands new
+faithful_unless_altered true commands old new law line is runs sure = let wrong : ◌≡◌ {A = Bool} true false = sure in cc
+faithful_unless_altered false commands old None law line is runs sure = absurd (subst (λ x. AddRuns commands x None) is runs)
+faithful_unless_altered false commands old (Some acts) law line is runs sure =
+    (acts, refl, faithful_runs commands acts law line (subst (λ x. AddRuns commands x (Some acts)) is runs))

@@ -1,2 +1,3 @@
 pub mod Claims
+pub mod Explained
 pub mod Runs

@@ -1,6 +1,6 @@
 -- The acts of runs of a station, one run after the other, over the line of a rehearsal: this project's own. An act is one call on the
 -- line, with its result.
-use Rattle.std.specs.Prelude.{◌≡◌, List, [], ◌++◌}
+use Rattle.std.specs.Prelude.{◌≡◌, Bool, false, List, [], ◌++◌, Option, None, Some}
 use Rattle.std.specs.List.{AllByRecursion}
 use Rattle.gc_links.specs.Acts.{Act}
 use Rattle.gc_rehearsed.specs.Rehearsals.{RehearsedStation, RunsAndStops, AreRehearsed, FewEndUnbegun, acts_of_all}
@@ -17,9 +17,20 @@ pub record AreRuns (commands : List Task) (old new : List Act) : Type 0 where
   pub each : AllByRecursion (IsRunOf commands) stations
   pub told : new ≡ old ++ acts_of_all stations
 
+-- where the acts of a link are seen before (`old`), they are seen after (`new`), and runs of a station with these commands made those
+-- in between (`AreRuns`). Of a link that alters bytes no acts are seen (`None`), and nothing is claimed
+abbrev pub AddRuns : (commands : List Task) (old new : Option (List Act)) → Type 0
+AddRuns commands None new = Unit {0}
+AddRuns commands (Some xs) None = ⊥
+AddRuns commands (Some xs) (Some ys) = AreRuns commands xs ys
+
 -- runs of a station with these commands, one after the other, made these acts; and as long as fewer than six runs in a row end
 -- while they synchronize (`FewEndUnbegun`), there are runs in the field that show all of them what they saw, and in which they are
 -- faithful (`AreRehearsed`): each recorded answer was made on executing the very request of its cycle and place
 pub record AreFaithfulRuns (commands : List Task) (acts : List Act) : Type 0 where
   pub runs : AreRuns commands [] acts
   pub faithful : FewEndUnbegun 0 runs.stations → AreRehearsed runs.stations
+
+-- unless the link alters bytes, its acts are seen at the end, and are those of faithful runs (`AreFaithfulRuns`)
+abbrev pub AreFaithfulUnlessAltered : (alters : Bool) → List Task → Option (List Act) → Type 0
+AreFaithfulUnlessAltered alters commands new = alters ≡ false → (acts : List Act) × (new ≡ Some acts) × AreFaithfulRuns commands acts

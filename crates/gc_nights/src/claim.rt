@@ -53,7 +53,7 @@ fn is_request_for(call: &Asked, asked: &[u8]) -> bool
 }
 
 // Whether a row has no line, or has the line of this reply.
-fn has_no_other_line(claim: &Claim, reply: &Line) -> bool
+pub(crate) fn has_no_other_line(claim: &Claim, reply: &Line) -> bool
     ensures { IsTrue result ↔ IfSome claim.now.line (λ l. l.items ≡ reply.now.items) }
 {
     match &claim.line {
@@ -72,7 +72,7 @@ fn is_in_time(claim: &Claim) -> bool
 
 // Whether a reply (`truth`) is the one that a claim speaks of: it came at the claim's moment, in time exactly if the claim has a line,
 // which then is the reply's; and its request asked for the claim's call, and was sent when the claim says.
-fn speaks_of(claim: &Claim, truth: &Truth) -> bool
+pub(crate) fn speaks_of(claim: &Claim, truth: &Truth) -> bool
     ensures { IsTrue result ↔ SpeaksOf claim.now truth.now }
 {
     claim.at == truth.given

@@ -5,6 +5,7 @@
 mod book;
 mod claim;
 mod deadlines;
+mod explained;
 mod halt;
 mod nights;
 mod quotient;

@@ -1,11 +1,14 @@
 //! Nights: the runs of a station over the line of a rehearsal. A station that was killed, or gave up, begins again.
 
-ghost use Rattle.std.specs.Prelude.{[], ◌≡◌};
+ghost use Rattle.std.specs.Prelude.{[], ◌≡◌, false};
 ghost use Rattle.gc_nights.specs.Claims.{Compares, IsIncomplete};
-ghost use Rattle.gc_nights.specs.Runs.{AreRuns, AreFaithfulRuns};
+ghost use Rattle.gc_nights.specs.Explained.{Explains};
+ghost use Rattle.gc_nights.specs.Runs.{AddRuns, AreFaithfulUnlessAltered};
+ghost use Rattle.gc_rehearsal.specs.Inside.{told};
 
 use crate::book::{Interruption, RunBook, RunLimits};
 use crate::claim::first_false;
+use crate::explained::{FalseRows, explain};
 use crate::halt::{FalseRow, Halt};
 use crate::quotient::quotient;
 use crate::seeded::Seeded;
@@ -47,6 +50,8 @@ pub(crate) struct Programme<'a> {
     pub(crate) cycles: u64,
     /// How often the station is killed a night, unless the night is done before.
     pub(crate) kills: u64,
+    /// Whether the line alters bytes.
+    pub(crate) alters: bool,
     /// The seed of all draws.
     pub(crate) seed: u64,
     /// When the first night begins, in milliseconds since 1970.
@@ -77,15 +82,16 @@ impl<K: Sink> Rehearsing<K> {
     /// run. As long as fewer than six runs in a row ended while they synchronized, there are runs in the field that show each of them
     /// what it saw, whatever the line lost, repeated, held or closed: in these each answer that it recorded was made on executing the
     /// very request of its cycle and place. That they are what happened on the rehearsed line isn't said. A run isn't
-    /// one of those six if no null procedure of its last synchronization was answered. Runs that end before they are done are counted
+    /// one of those six if no null procedure of its last synchronization was answered. Nothing of this is said of a line that alters
+    /// bytes. Runs that end before they are done are counted
     /// in the book's summary, but not a run at which the rehearsal fails.
     ///
     /// It fails with `Untrue` after the first run with a false row, with the fault `Memory` if memory was refused for a claim, a
     /// count or a truth, and with the fault `Output` if a row couldn't be written. The nights that are left aren't rehearsed then. A
     /// line for which memory is refused is lost, and that is no failure.
     pub(crate) fn run_nights(&mut self, programme: Programme<'_>) -> Result<(), Halt>
-        requires { self.old.link.carried ≡ [] }
-        ensures { AreFaithfulRuns programme.entry.tasks.now self.new.link.carried }
+        requires { self.old.link.carried ≡ told programme.alters [] }
+        ensures { AreFaithfulUnlessAltered programme.entry.alters programme.entry.tasks.now self.new.link.carried }
     {
         let end = self.run_each_night(programme);
         self.link.acts_are_of_line();
@@ -96,7 +102,7 @@ impl<K: Sink> Rehearsing<K> {
     // Rehearses the nights in turn: each begins a day after the one before was due, or once that one is over, if that is later. It fails as
     // `run_nights` does.
     fn run_each_night(&mut self, programme: Programme<'_>) -> Result<(), Halt>
-        ensures { AreRuns programme.entry.tasks.now self.old.link.carried self.new.link.carried }
+        ensures { AddRuns programme.entry.tasks.now self.old.link.carried self.new.link.carried }
     {
         for night in 0..programme.nights {
             wait_until(&mut self.link, night.saturating_mul(DAY));
@@ -108,7 +114,7 @@ impl<K: Sink> Rehearsing<K> {
     // Rehearses the night with this number, counted from 0, run after run, until its cycles are done or its time is over. A station
     // that was killed begins again at once, and one that gave up after `RESTART_DELAY`. It fails as `run_nights` does.
     fn run_night(&mut self, programme: Programme<'_>, night: u64) -> Result<(), Halt>
-        ensures { AreRuns programme.entry.tasks.now self.old.link.carried self.new.link.carried }
+        ensures { AddRuns programme.entry.tasks.now self.old.link.carried self.new.link.carried }
     {
         let begins = night.saturating_mul(DAY);
         let mut kills = programme.kills;
@@ -140,7 +146,7 @@ impl<K: Sink> Rehearsing<K> {
         plan: &Plan,
         watches: Watches,
     ) -> Option<RunFault>
-        ensures { AreRuns programme.entry.tasks.now self.old.link.carried self.new.link.carried }
+        ensures { AddRuns programme.entry.tasks.now self.old.link.carried self.new.link.carried }
     {
         commands_are_askable(programme.tasks);
         // What is seen at each act, for proofs alone.
@@ -157,10 +163,10 @@ impl<K: Sink> Rehearsing<K> {
         .err()
     }
 
-    // Runs the station over the line within these limits. It fails if memory is refused. Then the rows of the run are compared with the truth (`check_rows`), and if that
-    // succeeds, the end of the run is judged (`judge_end`). It fails as these two do.
+    // Runs the station over the line within these limits. It fails if memory is refused. Then the rows of the run are compared with the
+    // truth (`check_run`), and if that succeeds, the end of the run is judged (`judge_end`). It fails as these two do.
     fn run_once(&mut self, programme: Programme<'_>, limits: RunLimits) -> Result<RunEnd, Halt>
-        ensures { AreRuns programme.entry.tasks.now self.old.link.carried self.new.link.carried }
+        ensures { AddRuns programme.entry.tasks.now self.old.link.carried self.new.link.carried }
     {
         let choice = Choice {
             cycles: limits.cycles,
@@ -174,7 +180,7 @@ impl<K: Sink> Rehearsing<K> {
         let begins = programme.start.saturating_add(self.link.elapsed());
         self.book.begin(begins, limits);
         let fault = self.run_by_plan(programme, &plan, watches);
-        check_rows(&self.link, &self.book, programme.seed)?;
+        check_run(&self.link, &mut self.book, programme)?;
         judge_end(&mut self.book, fault)
     }
 }
@@ -261,6 +267,45 @@ fn judge_end<K>(book: &mut RunBook<K>, fault: Option<RunFault>) -> Result<RunEnd
             book.seen.summary.runs.count_given_up(fault);
             Ok(RunEnd::GaveUp)
         }
+    }
+}
+
+// Compares the rows of a run with the truth: by `check_rows`, or on a line that alters bytes by `explain_rows`, and counts then which
+// aren't true. It fails as these two do.
+fn check_run<K>(
+    link: &Rehearsed<Seeded>,
+    book: &mut RunBook<K>,
+    programme: Programme<'_>,
+) -> Result<(), Halt>
+    ensures { programme.entry.alters ≡ false →
+        Compares (IsIncomplete book.old.seen link.now.state.missing_truths) book.old.seen.claims.items link.now.state.truths.items programme.entry.seed result }
+{
+    if !programme.alters {
+        return check_rows(link, book, programme.seed);
+    }
+    let falses = explain_rows(link, book, programme.seed)?;
+    book.seen.summary.count_falses(falses);
+    Ok(())
+}
+
+// Explains each row of a run that says that a reply came, and fails with `Untrue` at the first that nothing explains (`explain`). If
+// memory was refused in this run or an earlier one, so that claims, counts or truths are missing, it explains none, and fails with
+// the fault `Memory`.
+fn explain_rows<K>(
+    link: &Rehearsed<Seeded>,
+    book: &RunBook<K>,
+    seed: u64,
+) -> Result<FalseRows, Halt>
+    ensures { Explains (IsIncomplete book.now.seen link.now.state.missing_truths) book.now.seen.claims.items link.now.state.truths.items seed result }
+{
+    if book.seen.lacks_memory || link.missing_truths() > 0 {
+        return Err(Halt::Fault(RunFault::Memory));
+    }
+    let claims = book.seen.claims.as_slice();
+    let explained = explain(claims, link.truths());
+    match claims.get(explained.rows) {
+        Some(claim) => Err(Halt::Untrue(seed, FalseRow::of(claim))),
+        None => Ok(explained.falses),
     }
 }
 

@@ -1,6 +1,9 @@
 //! A rehearsal: its texts are read, its nights are rehearsed, and how that ended is reported.
 
-ghost use Rattle.std.specs.Prelude.{[], ◌≡◌};
+ghost use Rattle.std.specs.Prelude.{[], ◌≡◌, is_some};
+ghost use Rattle.gc_fates.specs.Rules.{chance_of};
+ghost use Rattle.gc_fates.specs.declared.rule.Word.TheVariants.{Alter};
+ghost use Rattle.gc_rehearsal.specs.Inside.{told};
 ghost use Rattle.gc_messages.specs.Statuses.{IsStatusUpTo};
 
 use crate::book::{RunBook, Seen};
@@ -170,7 +173,9 @@ fn programme_of<'a>(
     tasks: &'a [Task],
     setup: usize,
     commands: usize,
-) -> Programme<'a> {
+) -> Programme<'a>
+    ensures { result.alters ≡ is_some (chance_of rules.now Alter) }
+{
     Programme {
         alloc,
         tasks,
@@ -180,6 +185,7 @@ fn programme_of<'a>(
         nights: rehearsal.nights,
         cycles: rehearsal.cycles,
         kills: kills_of(rules),
+        alters: rules.chance(Word::Alter).is_some(),
         seed: rehearsal.seed,
         start: BEGINNING,
     }
@@ -225,7 +231,7 @@ fn rehearse_texts<K: Sink + Drop, E: Write>(
     }
     let book = RunBook::new(output, layout, names, seen);
     let chance = Seeded::new(rules, rehearsal.seed);
-    let link = Rehearsed::new(alloc, chance, instrument, BEGINNING);
+    let link = Rehearsed::new(alloc, chance, instrument, BEGINNING, programme.alters);
     rehearse_over(programme, Rehearsing { link, book }, messages)
 }
 
@@ -236,7 +242,7 @@ fn rehearse_over<K: Sink + Drop, E: Write>(
     mut rehearsing: Rehearsing<K>,
     messages: &mut E,
 ) -> (K, Result<(), Halt>)
-    requires { rehearsing.link.carried ≡ [] }
+    requires { rehearsing.link.carried ≡ told programme.alters [] }
 {
     let end = rehearsing.run_nights(programme);
     let Rehearsing { link, book } = rehearsing;

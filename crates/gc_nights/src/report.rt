@@ -1,5 +1,6 @@
 //! The report of a rehearsal: the summary of its nights on the messages.
 
+use crate::explained::FalseRows;
 use crate::nights::Programme;
 use crate::quotient::quotient;
 use crate::summary::{Summary, TargetTally};
@@ -9,8 +10,8 @@ use gc_station::Tally;
 use gc_texts::{Name, name_text};
 use std::io::{self, Write};
 
-/// Writes the summary: of all nights, of all commands, of all cycles, of each target, of the line, and what a lost line cost, if
-/// any line was lost. It sorts the spans of `summary` first; if memory for that is refused, the figures that are taken from them
+/// Writes the summary: of all nights, of all commands, of all cycles, of each target, of the line, of altered lines, if the line alters
+/// any, and what a lost line cost, if any line was lost. It sorts the spans of `summary` first; if memory for that is refused, the figures that are taken from them
 /// may be wrong. `Err`: the messages couldn't be written.
 pub(crate) fn tell_summary<E: Write>(
     programme: Programme<'_>,
@@ -28,11 +29,13 @@ pub(crate) fn tell_summary<E: Write>(
         tell_target(*target, name_text(target.target, names), messages)?;
     }
     tell_line(counts, messages)?;
+    tell_altered(programme, summary, counts, messages)?;
     tell_cost(summary, counts, messages)
 }
 
 // Writes how many nights there were and with which seed, how many runs were killed, gave up (with the fault of the last that did)
-// or were cut off, and how many rows there were. None of the rows is false, because a false one ends the rehearsal.
+// or were cut off, how many rows there were, and how many aren't true: only on a line that alters bytes there may be such rows, as any
+// other ends the rehearsal.
 fn tell_nights<E: Write>(
     programme: Programme<'_>,
     summary: &Summary,
@@ -50,9 +53,35 @@ fn tell_nights<E: Write>(
     }
     writeln!(
         messages,
-        " cut off {} rows {} false 0",
-        runs.cut_off, summary.rows
+        " cut off {} rows {} false {}",
+        runs.cut_off,
+        summary.rows,
+        falses_of(summary.falses)
     )
+}
+
+// How many rows aren't true.
+fn falses_of(falses: FalseRows) -> u64 {
+    falses.by_damaged.saturating_add(falses.behind_two)
+}
+
+// Writes how many lines were altered, and why rows aren't true. Writes nothing for a line that alters no bytes.
+fn tell_altered<E: Write>(
+    programme: Programme<'_>,
+    summary: &Summary,
+    counts: Counts,
+    messages: &mut E,
+) -> io::Result<()> {
+    if !programme.alters {
+        return Ok(());
+    }
+    let FalseRows {
+        by_damaged,
+        behind_two,
+    } = summary.falses;
+    write!(messages, "altered lines {}: ", counts.altered)?;
+    write!(messages, "false rows by damaged replies {by_damaged} ")?;
+    writeln!(messages, "behind two of them {behind_two} others 0")
 }
 
 // Writes how commands ended, and the end of the line.
@@ -115,6 +144,7 @@ fn tell_line<E: Write>(counts: Counts, messages: &mut E) -> io::Result<()> {
         replies,
         lost,
         repeated,
+        altered: _,
         holds,
         closes,
         refusals,

@@ -1,7 +1,7 @@
 //! What decides on the line of a rehearsal: the rules of its text, and a seed.
 
-use gc_fates::{Draws, LineFate, Rules, fate_of, restarts_at};
-use gc_rehearsal::{Chance, Fate};
+use gc_fates::{Draws, LineFate, Rules, alter, fate_of, restarts_at};
+use gc_rehearsal::{Altered, Chance, Fate};
 
 // Of a request that a close cuts, fewer bytes than this are sent.
 const CUT_MAX: u64 = 512;
@@ -25,6 +25,8 @@ pub(crate) struct Seeded {
     downs: u64,
     // Whether a request reached the instrument, so that the next line to set out is its reply.
     is_reply_next: bool,
+    // Whether the line that set out last is a reply.
+    is_reply_last: bool,
     // For how many milliseconds no connection is made once the next is wanted; 0 if it is made at once.
     refused: u64,
 }
@@ -39,6 +41,7 @@ impl Seeded {
             ups: 0,
             downs: 0,
             is_reply_next: false,
+            is_reply_last: false,
             refused: 0,
         }
     }
@@ -46,6 +49,7 @@ impl Seeded {
     // Counts the line that sets out next, the reply to the request that reached the instrument or else a request, and returns what happens
     // to it.
     fn next_fate(&mut self) -> LineFate {
+        self.is_reply_last = self.is_reply_next;
         if self.is_reply_next {
             self.is_reply_next = false;
             self.downs = self.downs.saturating_add(1);
@@ -70,6 +74,15 @@ impl Chance for Seeded {
             delay: fate.wait,
             hold: fate.hold,
             closes: fate.closes,
+        }
+    }
+
+    // What becomes of the bytes of the line that set out last, by the rules and its draws.
+    fn alter(&mut self, bytes: &[u8]) -> Altered {
+        if self.is_reply_last {
+            alter(&self.rules, self.down, self.downs, bytes)
+        } else {
+            alter(&self.rules, self.up, self.ups, bytes)
         }
     }
 

@@ -1,5 +1,6 @@
 //! The summary of a rehearsal: how commands ended, for each target too, and how long cycles took.
 
+use crate::explained::FalseRows;
 use gc_station::{Tally, is_well};
 use gc_texts::{Ending, RunFault, Stamp, Wish};
 use std::alloc::{AllocError, Global};
@@ -92,6 +93,8 @@ pub(crate) struct Summary {
     pub(crate) runs: RunCounts,
     // How many rows there are.
     pub(crate) rows: u64,
+    // Which rows aren't true, on a line that alters bytes.
+    pub(crate) falses: FalseRows,
     // How the commands of all rows ended, those of the setup and of each attempt of a chain, too; and those of each target.
     pub(crate) tally: Tally,
     pub(crate) targets: Vec<TargetTally>,
@@ -124,6 +127,10 @@ impl Summary {
         Ok(Summary {
             runs: RunCounts::none(),
             rows: 0,
+            falses: FalseRows {
+                by_damaged: 0,
+                behind_two: 0,
+            },
             tally: Tally::new(),
             targets: Vec::new(alloc),
             spans: Vec::new(alloc),
@@ -132,6 +139,12 @@ impl Summary {
             good: vec![in alloc; 0u64; commands]?,
             count: 0,
         })
+    }
+
+    /// Counts rows of a run that aren't true.
+    pub(crate) fn count_falses(&mut self, falses: FalseRows) {
+        self.falses.by_damaged = self.falses.by_damaged.saturating_add(falses.by_damaged);
+        self.falses.behind_two = self.falses.behind_two.saturating_add(falses.behind_two);
     }
 
     /// Counts a row. At the first row of a cycle the one before it in the run is counted, too (`finish`). A row of the setup,

@@ -1,12 +1,14 @@
 -- The events on a line, and one more. That acts have come to lines (`HasComeTo`) says that they are the acts of events which lead
 -- to these lines.
-use Rattle.std.proofs.Common.{◌≡◌, inl, inr, ℕ, List, [], ◌∷◌, ◌++◌, None, refl, sym, ◌∙◌, ap, subst}
+use Rattle.std.proofs.Common.{◌≡◌, inl, inr, ℕ, Bool, true, false, List, [], ◌∷◌, ◌++◌, None, refl, sym, ◌∙◌, ap, subst}
+use Rattle.std.specs.Prelude.{IfSome}
 use Rattle.std.proofs.lemmas.List.{map_push, append-nil}
 use Rattle.gc_lines.specs.Lines.{with_end}
 use Rattle.gc_links.specs.Acts.{Act, Put, Gave}
 use Rattle.gc_links.specs.declared.link.Moment.{Moment}
 use Rattle.gc_scenes.specs.SceneState.{SceneState, scene_restarted, at_moment}
 use Rattle.gc_rehearsal.specs.Carrying.{Lines, Happening, Acts, Reaches, Restarts, Passes, Repeats_up, Repeats_down, Loses_up, Loses_down, Loses_front, ActLeads, CarriesNothing, Leads, LeadAll, acts_of, HasComeTo}
+use Rattle.gc_rehearsal.specs.Inside.{told}
 use Rattle.gc_rehearsal.specs.Queues.{texts, lines_of, MayAddLine, MayRepeat, MayHandOver}
 use Rattle.gc_rehearsal.specs.declared.carried.Traffic.{Traffic}
 use Rattle.gc_rehearsal.specs.declared.flight.Flight.{Flight}
@@ -143,3 +145,10 @@ pub gives_front : (acts : List Act) (bytes : List ℕ) (moment : Moment)
 gives_front acts bytes moment up down down' flight state front is c =
     one_more_happened acts (Acts (Gave bytes moment)) (lines up (texts down) state) (lines up (texts down') state) c
     (flight.line.items, is, record { front = ap texts front; others = refl })
+
+-- What contracts see.
+
+-- what holds of acts if the link alters no bytes holds of them if they are seen
+pub told_if_sure : (alters : Bool) (acts : List Act) (P : List Act → Type 0) → (alters ≡ false → P acts) → IfSome (told alters acts) P
+told_if_sure true acts P if_sure = tt
+told_if_sure false acts P if_sure = if_sure refl

@@ -1,11 +1,13 @@
 //! What the line of a rehearsal carries: the lines in flight, and the instrument at its end. Each method is one event on the line.
 
-ghost use Rattle.std.specs.Prelude.{◌≡◌, ◌≤◌, ◌+◌, [], ◌∷◌, ◌++◌, List, length, take, IfSome, MatchOption};
-ghost use Rattle.gc_links.specs.Acts.{Act, Put, Gave};
+ghost use Rattle.std.specs.Prelude.{◌≡◌, ◌≤◌, ◌+◌, [], ◌∷◌, length, take, IfSome, MatchOption};
+ghost use Rattle.gc_links.specs.Acts.{AddsActs, Put, Gave};
 ghost use Rattle.gc_links.specs.Noted.{act_of};
 ghost use Rattle.gc_rehearsal.specs.Carrying.{IsOfLine, CarriesNothing};
+ghost use Rattle.gc_rehearsal.specs.Inside.{told};
 ghost use Rattle.gc_rehearsal.specs.Queues.{MaySend};
 
+use crate::altering::{Receivers, Sent, receive};
 use crate::flight::{
     Flight, Origin, Written, add, add_request, due, len_with_end, repeat_last, write_into,
 };
@@ -22,23 +24,33 @@ pub(crate) struct Stored {
     // The reply's line. Empty if the instrument has stored none since its restart: then `origin` says nothing.
     pub line: Line,
     pub origin: Origin,
+    // Whether bytes of that request were altered.
+    pub is_damaged: bool,
 }
 
 impl Stored {
     // Stores a reply that the instrument made on this request.
-    fn store(&mut self, reply: &Line, request: &Origin) {
+    fn store(&mut self, reply: &Line, request: &Origin, is_damaged: bool) {
         self.line = line_from(reply.as_slice());
         self.origin = request.copy();
+        self.is_damaged = is_damaged;
     }
 
     // The request that `reply` answers, which the instrument has just sent on `request`. If the instrument had stored a reply with the
     // id of `request` before (`was_stored`), and `reply` is that one, it was sent again, and answers the request that it was made on.
-    // Otherwise `reply` answers `request`.
-    fn answered_by(&self, reply: &Line, request: Origin, was_stored: bool) -> Origin {
+    // Otherwise `reply` answers `request`. Also returns whether bytes of `request` were altered (`is_damaged`), or of the one that the
+    // reply answers.
+    fn answered_by(
+        &self,
+        reply: &Line,
+        request: Origin,
+        is_damaged: bool,
+        was_stored: bool,
+    ) -> (Origin, bool) {
         if was_stored && self.line.as_slice() == reply.as_slice() {
-            self.origin.copy()
+            (self.origin.copy(), is_damaged || self.is_damaged)
         } else {
-            request
+            (request, is_damaged)
         }
     }
 }
@@ -74,29 +86,37 @@ impl Traffic {
             return false;
         }
         if !was_stored && has_stored(&self.instrument, id) {
-            self.stored.store(&reply, &request.origin);
+            self.stored
+                .store(&reply, &request.origin, request.is_damaged);
         }
-        let answered = self.stored.answered_by(&reply, request.origin, was_stored);
-        send(&mut self.down, reply, arrives, answered);
+        let (answered, is_damaged) = self
+            .stored
+            .answered_by(&reply, request.origin, request.is_damaged, was_stored);
+        send(&mut self.down, reply, arrives, answered, is_damaged);
         true
     }
 }
 
-/// What is in flight, and the instrument. Contracts see this value as the acts of the link so far: the results of its calls, in order.
+/// What is in flight, and the instrument. Contracts see this value as the acts of the link so far: the results of its calls, in order;
+/// or as `None` if the link alters bytes, since nothing is claimed of such a link.
 #[derive(Drop)]
 pub(crate) struct Carried {
     traffic: Traffic,
     history: History,
+    // Whether the link alters bytes, and what its receivers read if it does.
+    alters: bool,
+    receivers: Receivers,
 }
 
 impl Model for Carried {
-    ghost use Rattle.std.specs.Prelude.{List};
+    ghost use Rattle.std.specs.Prelude.{List, Option};
+    ghost use Rattle.std.specs.Coded.{coded_option};
     ghost use Rattle.gc_links.specs.Acts.{Act};
     ghost use Rattle.gc_links.specs.Coding.{acts_code};
 
-    ghost Value = { List Act };
+    ghost Value = { Option (List Act) };
 
-    ghost coded = { acts_code };
+    ghost coded = { coded_option acts_code };
 
     ghost use Rattle.gc_rehearsal.specs.Inside.{acts_in, KeepsToLine};
 
@@ -106,9 +126,10 @@ impl Model for Carried {
 }
 
 impl Carried {
-    /// A line with nothing in flight and no acts, at whose end this instrument is, restarted.
-    pub fn new(alloc: Global, mut instrument: SceneInstrument) -> Carried
-        ensures { result ≡ [] }
+    /// A line with nothing in flight and no acts, at whose end this instrument is, restarted. It may alter bytes only if `alters` is
+    /// true.
+    pub fn new(alloc: Global, mut instrument: SceneInstrument, alters: bool) -> Carried
+        ensures { result ≡ told alters [] }
     {
         instrument.restart();
         Carried {
@@ -123,15 +144,19 @@ impl Carried {
                         sent: 0,
                         asked: Line::new(),
                     },
+                    is_damaged: false,
                 },
             },
             history: History::new(),
+            alters,
+            receivers: Receivers::new(),
         }
     }
 
-    /// The acts so far are those of a line that keeps order and loses lines whole (`IsOfLine`). A theorem, without effect.
+    /// The acts so far are those of a line that keeps order and loses lines whole (`IsOfLine`), unless the link alters bytes. A
+    /// theorem, without effect.
     pub fn acts_are_of_line(&self)
-        ensures { IsOfLine self.now }
+        ensures { IfSome self.now IsOfLine }
     {
         // The invariant of `Carried` is known once one of its fields is read.
         let _ = &self.history;
@@ -150,14 +175,14 @@ impl Carried {
     /// Adds an act that changes nothing on the line: the result of a call that neither wrote a whole request nor read a reply.
     pub fn note(&mut self, note: &Note<'_>)
         requires { CarriesNothing (act_of note.now) }
-        ensures { self.new ≡ self.old ++ act_of note.now ∷ [] }
+        ensures { AddsActs self.old self.new (act_of note.now ∷ []) }
     {
         self.history = self.history.then(note);
     }
 
     /// Adds the act of a write of these bytes, of which nothing arrives: they are lost, or aren't a line.
     pub fn put_nothing(&mut self, bytes: &[u8])
-        ensures { self.new ≡ self.old ++ Put bytes.now ∷ [] }
+        ensures { AddsActs self.old self.new (Put bytes.now ∷ []) }
     {
         self.history = self.history.then(&Note::Put(bytes));
     }
@@ -165,7 +190,7 @@ impl Carried {
     /// Adds the act of a write of these bytes. If they are a line with its CR LF, and it has at most 512 bytes without that, it is the
     /// request that `written` describes, and is in flight then, unless memory is refused for it.
     pub fn put(&mut self, bytes: &[u8], written: Written)
-        ensures { self.new ≡ self.old ++ Put bytes.now ∷ [] }
+        ensures { AddsActs self.old self.new (Put bytes.now ∷ []) }
     {
         add_request(&mut self.traffic.up, bytes, written);
         self.history = self.history.then(&Note::Put(bytes));
@@ -225,11 +250,53 @@ impl Carried {
         self.traffic.hand_over(arrives)
     }
 
+    /// Whether the link alters bytes.
+    pub fn alters(&self) -> bool {
+        self.alters
+    }
+
+    /// Lets a request arrive with other bytes than were written. Nothing happens if the link alters no bytes.
+    pub fn arrive_up(&mut self, sent: &Sent<'_>)
+        ensures { self.new ≡ self.old }
+    {
+        if self.alters {
+            receive(&mut self.traffic.up, &mut self.receivers.up, sent);
+        }
+    }
+
+    /// Lets a reply arrive with other bytes than the instrument sent. Nothing happens if the link alters no bytes.
+    pub fn arrive_down(&mut self, sent: &Sent<'_>)
+        ensures { self.new ≡ self.old }
+    {
+        if self.alters {
+            receive(&mut self.traffic.down, &mut self.receivers.down, sent);
+        }
+    }
+
+    /// Takes back the reply in flight that was sent last, so that it may arrive with other bytes. `None`: none is in flight, or the link
+    /// alters no bytes.
+    pub fn take_back(&mut self) -> Option<Flight>
+        ensures { self.new ≡ self.old }
+    {
+        if self.alters {
+            self.traffic.down.pop_back()
+        } else {
+            None
+        }
+    }
+
+    /// Drops what of lines that were altered hasn't ended yet, as a close does.
+    pub fn drop_parts(&mut self)
+        ensures { self.new ≡ self.old }
+    {
+        self.receivers = Receivers::new();
+    }
+
     /// Reads the next reply, whole and with its CR LF, into the front of `buf`, at this moment, and returns it. `None`: no reply
     /// is in flight; or `buf` has no room for the next one, which is lost then.
     pub fn give(&mut self, buf: &mut [u8], moment: Moment) -> Option<Flight>
         ensures gave { MatchOption result (self.new ≡ self.old)
-            (λ flight. self.new ≡ self.old ++ Gave (take (length flight.line.items + 2) buf.new) moment ∷ []) }
+            (λ flight. AddsActs self.old self.new (Gave (take (length flight.line.items + 2) buf.new) moment ∷ [])) }
         ensures within { IfSome result (λ flight. length flight.line.items + 2 ≤ length buf.new) }
     {
         let flight = self.traffic.down.pop_front()?;
@@ -257,8 +324,15 @@ fn has_stored(instrument: &SceneInstrument, id: Option<u8>) -> bool {
 }
 
 // Puts a reply to the request `origin`, which arrives at the moment `arrives`, at the back of the queue `down`. The reply is lost
-// for `None`, if it is no line because there is a CR or an LF in it, or if memory is refused for it.
-fn send(down: &mut VecDeque<Flight>, reply: Line, arrives: Option<u64>, origin: Origin)
+// for `None`, if it is no line because there is a CR or an LF in it, or if memory is refused for it. `is_damaged`: whether bytes of its
+// request were altered.
+fn send(
+    down: &mut VecDeque<Flight>,
+    reply: Line,
+    arrives: Option<u64>,
+    origin: Origin,
+    is_damaged: bool,
+)
     ensures { MaySend down.old.items reply.items down.new.items }
 {
     let Some(arrives) = arrives else {
@@ -273,6 +347,7 @@ fn send(down: &mut VecDeque<Flight>, reply: Line, arrives: Option<u64>, origin: 
             line: reply,
             arrives,
             origin,
+            is_damaged,
         },
     );
 }

@@ -1,5 +1,12 @@
 //! What happens by chance on a rehearsed line: the trait `Chance` decides.
 
+ghost use Rattle.std.specs.Prelude.{◌≤◌, length};
+
+use arrayvec::ArrayVec;
+
+/// The bytes of a line as they arrive: of a line of 512 bytes and its CR LF at most two for each.
+pub type Altered = ArrayVec<u8, 1028>;
+
 /// What happens to a line that is sent: to a request when it is written, or to a reply when the instrument has made it.
 #[derive(Clone, Copy)]
 pub struct Fate {
@@ -25,6 +32,11 @@ pub trait Chance {
     /// What happens to the next line that is sent. Called once for each request that is written over a connection, and once for each
     /// request that reaches the instrument, about its reply, even if it makes none.
     fn fate(&mut self) -> Fate;
+
+    /// The bytes of a line, with its CR LF, as they arrive: some may be altered. Called once for each line of a link that alters bytes,
+    /// after the line's fate was taken, unless the line is lost or cut.
+    fn alter(&mut self, bytes: &[u8]) -> Altered
+        requires { length bytes.now ≤ 514 };
 
     /// Where a request is cut: how many of its bytes are sent before the connection closes. As many as the request has, or more, count
     /// as all but one.

@@ -14,6 +14,8 @@ pub struct Counts {
     /// Fates that let a line arrive twice and don't lose it, in either direction, also of a reply that the instrument didn't
     /// make, and also if memory is refused for the second copy; but not of a request that is cut.
     pub repeated: u64,
+    /// Lines of which bytes were altered, in either direction.
+    pub altered: u64,
     /// Fates with a hold, in either direction, also of a reply that the instrument didn't make; but not of a request that is cut.
     pub holds: u64,
     /// Fates by which the other end closes the connection, at once or at a later moment, also if it is closed before that. One that comes
@@ -33,6 +35,7 @@ impl Counts {
             replies: 0,
             lost: 0,
             repeated: 0,
+            altered: 0,
             holds: 0,
             closes: 0,
             refusals: 0,

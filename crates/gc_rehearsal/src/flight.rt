@@ -14,7 +14,7 @@ pub(crate) struct Origin {
     pub request: u64,
     // When it was written, in milliseconds since the link was made.
     pub sent: u64,
-    // Its line without CR LF.
+    // Its line without CR LF, as it was written.
     pub asked: Line,
 }
 
@@ -47,6 +47,9 @@ pub(crate) struct Flight {
     pub arrives: u64,
     // The request that it is, or answers.
     pub origin: Origin,
+    // Whether its bytes were altered; of a reply also whether those of the request were on which it was sent, or of the one that it
+    // answers.
+    pub is_damaged: bool,
 }
 
 /// The line in these bytes, without its CR LF. `None`: the bytes don't end in CR LF, or the line has more than 512 bytes.
@@ -80,6 +83,7 @@ pub(crate) fn add_request(queue: &mut VecDeque<Flight>, bytes: &[u8], written: W
             sent: written.sent,
             asked: line_from(line),
         },
+        is_damaged: false,
     };
     add(queue, flight);
 }
@@ -95,6 +99,7 @@ pub(crate) fn repeat_last(queue: &mut VecDeque<Flight>)
         line: line_from(last.line.as_slice()),
         arrives: last.arrives,
         origin: last.origin.copy(),
+        is_damaged: last.is_damaged,
     };
     add(queue, again);
 }

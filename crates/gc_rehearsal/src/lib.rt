@@ -2,9 +2,10 @@
 //!
 //! [`Rehearsed`] is a [`Link`](gc_links::Link) as a socket is, so that a station runs over it unchanged. A [`Chance`] decides what
 //! happens to each line. Whatever it decides, lines keep their order, and each is lost whole or arrives whole, once or more times
-//! directly one after the other.
+//! directly one after the other; unless the link was made as one that alters bytes, of which nothing is claimed.
 #![tactic(auto)]
 
+mod altering;
 mod carried;
 mod chance;
 mod counts;
@@ -13,7 +14,7 @@ mod line_state;
 mod rehearsed;
 mod truth;
 
-pub use chance::{Chance, Fate};
+pub use chance::{Altered, Chance, Fate};
 pub use counts::Counts;
 pub use rehearsed::Rehearsed;
 pub use truth::Truth;

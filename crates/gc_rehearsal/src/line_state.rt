@@ -214,6 +214,11 @@ impl LineState {
         self.counts.restarts = self.counts.restarts.saturating_add(1);
     }
 
+    /// Counts a line of which bytes were altered.
+    pub fn count_altered(&mut self) {
+        self.counts.altered = self.counts.altered.saturating_add(1);
+    }
+
     /// Counts a reply that is lost because the reader has no room for it.
     pub fn count_lost(&mut self) {
         self.counts.lost = self.counts.lost.saturating_add(1);
@@ -226,6 +231,7 @@ impl LineState {
             line,
             arrives: _,
             origin,
+            is_damaged,
         } = flight;
         let truth = Truth {
             request: origin.request,
@@ -233,6 +239,7 @@ impl LineState {
             given: self.now,
             asked: origin.asked,
             reply: line,
+            is_damaged,
         };
         if self.truths.push(truth).is_err() {
             self.missing_truths = self.missing_truths.saturating_add(1);

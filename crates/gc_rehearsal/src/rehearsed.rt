@@ -1,17 +1,19 @@
 //! The line of a rehearsal as a link: which decisions each call takes from the chance, and what it returns.
 
-ghost use Rattle.std.specs.Prelude.{◌≡◌, ℕ, ◌<◌, ◌++◌, ◌∷◌, [], List, length};
-ghost use Rattle.gc_links.specs.Acts.{Cut, IsPartIfErr, Put, put_act};
+ghost use Rattle.std.specs.Prelude.{◌≡◌, ℕ, ◌<◌, ◌∷◌, [], List, length, IfSome};
+ghost use Rattle.gc_links.specs.Acts.{AddsActs, Cut, IsPartIfErr, Put, put_act};
 ghost use Rattle.gc_rehearsal.specs.Carrying.{IsOfLine};
+ghost use Rattle.gc_rehearsal.specs.Inside.{told};
 ghost use Rattle.gc_rehearsal.specs.Reading.{AddsRead, MayRead};
 
+use crate::altering::Sent;
 use crate::carried::Carried;
 use crate::chance::{Chance, Fate};
 use crate::counts::Counts;
-use crate::flight::{Written, len_with_end};
+use crate::flight::{Flight, Origin, Written, len_with_end, line_of};
 use crate::line_state::{LineState, Next};
 use crate::truth::Truth;
-use gc_lines::PortFailed;
+use gc_lines::{PortFailed, line_from, with_end};
 use gc_links::{Came, Link, Moment, Note};
 use gc_scenes::SceneInstrument;
 use std::alloc::Global;
@@ -21,6 +23,10 @@ use std::alloc::Global;
 ///
 /// A read gives one line with its CR LF. A line that the reader's buffer has no room for is lost whole, and so is one of more
 /// than 512 bytes without its CR LF, one for which memory is refused, and a reply that has a CR or an LF in it.
+///
+/// A link that alters bytes also asks its chance for the bytes of each line as they arrive. The instrument reads of them what its
+/// receiver does, and so does the station: a line whose CR LF is altered comes with the next one, or with a line feed in it only in
+/// part. What hasn't ended is lost at a close. Contracts see no acts of such a link (`carried` is `None`).
 #[derive(Drop)]
 pub struct Rehearsed<C> {
     /// Decides what happens to each line.
@@ -31,21 +37,27 @@ pub struct Rehearsed<C> {
 
 impl<C> Rehearsed<C> {
     /// A link without a connection, with nothing in flight, and with the instrument restarted. Its start, the moment 0, is `utc`
-    /// milliseconds after 1970.
-    pub fn new(alloc: Global, chance: C, instrument: SceneInstrument, utc: u64) -> Rehearsed<C>
-        ensures { result.carried ≡ [] }
+    /// milliseconds after 1970. It alters bytes only if `alters` is true.
+    pub fn new(
+        alloc: Global,
+        chance: C,
+        instrument: SceneInstrument,
+        utc: u64,
+        alters: bool,
+    ) -> Rehearsed<C>
+        ensures { result.carried ≡ told alters [] }
     {
         Rehearsed {
             chance,
-            carried: Carried::new(alloc, instrument),
+            carried: Carried::new(alloc, instrument, alters),
             state: LineState::new(alloc, utc),
         }
     }
 
-    /// The results of its calls are those of a line that keeps order and loses lines whole (`IsOfLine`), whatever its chance decided. A
-    /// theorem, without effect.
+    /// The results of its calls are those of a line that keeps order and loses lines whole (`IsOfLine`), whatever its chance decided,
+    /// unless the link alters bytes. A theorem, without effect.
     pub fn acts_are_of_line(&self)
-        ensures { IsOfLine self.now.carried }
+        ensures { IfSome self.now.carried IsOfLine }
     {
         self.carried.acts_are_of_line();
     }
@@ -165,8 +177,41 @@ impl<C: Chance> Rehearsed<C> {
         let fate = self.chance.fate();
         let arrives = self.state.schedule_reply(fate);
         let answered = self.carried.hand_over(arrives);
-        if answered && fate.repeated && !fate.lost {
+        if answered && !fate.lost {
+            self.send_reply(fate);
+        }
+    }
+
+    // What the line does with a reply that was sent, and isn't lost: it may arrive twice, and with other bytes.
+    fn send_reply(&mut self, fate: Fate)
+        ensures { self.new.carried ≡ self.old.carried }
+    {
+        if let Some(reply) = self.carried.take_back() {
+            self.alter_reply(&reply, fate);
+        } else if fate.repeated {
             self.carried.repeat_reply();
+        }
+    }
+
+    // Lets a reply arrive with its bytes as the chance alters them, twice if the fate repeats it.
+    fn alter_reply(&mut self, reply: &Flight, fate: Fate)
+        ensures { self.new.carried ≡ self.old.carried }
+    {
+        let bytes = with_end(&reply.line);
+        let altered = self.chance.alter(bytes.as_slice());
+        let is_altered = altered.as_slice() != bytes.as_slice();
+        let sent = Sent {
+            bytes: altered.as_slice(),
+            arrives: reply.arrives,
+            origin: &reply.origin,
+            is_damaged: is_altered || reply.is_damaged,
+        };
+        if is_altered {
+            self.state.count_altered();
+        }
+        self.carried.arrive_down(&sent);
+        if fate.repeated {
+            self.carried.arrive_down(&sent);
         }
     }
 
@@ -188,9 +233,9 @@ impl<C: Chance> Rehearsed<C> {
     // Sends a whole request with this fate, and counts it. If the fate loses it, nothing arrives. Otherwise it arrives once, and if
     // the fate repeats it, a second time directly after that, unless memory is refused for the second one. Bytes that aren't a
     // line with its CR LF don't arrive, nor does a line of more than 512 bytes without that, or one for which memory is refused;
-    // the fate then repeats the last request that is in flight, if there is one.
+    // the fate then repeats the last request that is in flight, if there is one. A link that alters bytes sends it by `alter_request`.
     fn send(&mut self, bytes: &[u8], fate: Fate)
-        ensures { self.new.carried ≡ self.old.carried ++ Put bytes.now ∷ [] }
+        ensures { AddsActs self.old.carried self.new.carried (Put bytes.now ∷ []) }
     {
         let Some(arrives) = self.state.schedule_request(fate) else {
             self.carried.put_nothing(bytes);
@@ -201,16 +246,53 @@ impl<C: Chance> Rehearsed<C> {
             sent: self.state.now,
             arrives,
         };
+        if self.carried.alters() {
+            self.alter_request(bytes, written, fate);
+            self.carried.put_nothing(bytes);
+            return;
+        }
         self.carried.put(bytes, written);
         if fate.repeated {
             self.carried.repeat_request();
         }
     }
 
+    // Lets a request arrive with its bytes as the chance alters them, twice if the fate repeats it. Bytes that aren't a line with its
+    // CR LF don't arrive, nor does a line of more than 512 bytes without that.
+    fn alter_request(&mut self, bytes: &[u8], written: Written, fate: Fate)
+        ensures { self.new.carried ≡ self.old.carried }
+    {
+        let Some(line) = line_of(bytes) else {
+            return;
+        };
+        let line = line_from(line);
+        let bytes = with_end(&line);
+        let altered = self.chance.alter(bytes.as_slice());
+        let is_damaged = altered.as_slice() != bytes.as_slice();
+        let origin = Origin {
+            request: written.request,
+            sent: written.sent,
+            asked: line,
+        };
+        let sent = Sent {
+            bytes: altered.as_slice(),
+            arrives: written.arrives,
+            origin: &origin,
+            is_damaged,
+        };
+        if is_damaged {
+            self.state.count_altered();
+        }
+        self.carried.arrive_up(&sent);
+        if fate.repeated {
+            self.carried.arrive_up(&sent);
+        }
+    }
+
     // Cuts a request, because the other end closes the connection now. Returns how many of its bytes were sent, which aren't all.
     fn cut(&mut self, bytes: &[u8]) -> usize
         requires { 0 < length bytes.now }
-        ensures tells { self.new.carried ≡ self.old.carried ++ Cut bytes.now result ∷ [] }
+        ensures tells { AddsActs self.old.carried self.new.carried (Cut bytes.now result ∷ []) }
         ensures part { result < length bytes.now }
     {
         let n = self.chance.cut_place().min(bytes.len() - 1);
@@ -223,7 +305,7 @@ impl<C: Chance> Rehearsed<C> {
     // were sent, which aren't all.
     fn put_request(&mut self, bytes: &[u8]) -> Result<(), usize>
         requires { 0 < length bytes.now }
-        ensures tells { self.new.carried ≡ self.old.carried ++ put_act result bytes.now ∷ [] }
+        ensures tells { AddsActs self.old.carried self.new.carried (put_act result bytes.now ∷ []) }
         ensures part { IsPartIfErr result bytes.now }
     {
         let fate = self.chance.fate();
@@ -264,9 +346,7 @@ impl<C: Chance> Rehearsed<C> {
 }
 
 impl<C: Chance> Link for Rehearsed<C> {
-    ghost use Rattle.std.specs.Prelude.{Some};
-
-    ghost acts = { λ r. Some r.carried };
+    ghost acts = { λ r. r.carried };
 
     // The present moment of the line.
     fn now(&mut self) -> Result<Moment, PortFailed> {
@@ -305,6 +385,7 @@ impl<C: Chance> Link for Rehearsed<C> {
     // Closes the connection. The lines in flight are lost, or arrive later, as the chance decides for each direction.
     fn close(&mut self) {
         self.state.close();
+        self.carried.drop_parts();
         self.lose_by_chance();
         self.carried.note(&Note::Closed);
     }

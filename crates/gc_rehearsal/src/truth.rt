@@ -12,8 +12,10 @@ pub struct Truth {
     pub sent: u64,
     /// When a read gave the reply.
     pub given: u64,
-    /// The line of that request, with its id and without CR LF.
+    /// The line of that request, with its id and without CR LF, as it was written.
     pub asked: Line,
-    /// The line of the reply, without CR LF.
+    /// The line of the reply, without CR LF, as it came.
     pub reply: Line,
+    /// Whether bytes of the reply were altered on the way, or of the request on which it was sent, or of the one that it answers.
+    pub is_damaged: bool,
 }

@@ -1,14 +1,14 @@
 use Rattle.std.proofs.Common.{subst}
-use Rattle.gc_nights.specs.Runs.{AreRuns}
+use Rattle.gc_nights.specs.Runs.{AddRuns}
 use Rattle.gc_nights.proofs.Running.{runs_then}
 use Rattle.gc_nights.proofs.nights.Rehearsing.run_each_night.Goals as goal
 
 pub returns-in_err-run_night : goal.returns-in_err-run_night
 returns-in_err-run_night g c =
     runs_then c.args.programme.tasks.now c.args.self.now.link.carried c.loop-night.self.link.carried c.run_night.new.self.link.carried c.loop-night.invariant
-    (subst (λ old. AreRuns c.args.programme.tasks.now old c.run_night.new.self.link.carried) c.wait_until.ensures c.run_night.ensures)
+    (subst (λ old. AddRuns c.args.programme.tasks.now old c.run_night.new.self.link.carried) c.wait_until.ensures c.run_night.ensures)
 
 pub loop-night-preserved : goal.loop-night-preserved
 loop-night-preserved g c =
     runs_then c.args.programme.tasks.now c.args.self.now.link.carried c.loop-night.self.link.carried c.run_night.new.self.link.carried c.loop-night.invariant
-    (subst (λ old. AreRuns c.args.programme.tasks.now old c.run_night.new.self.link.carried) c.wait_until.ensures c.run_night.ensures)
+    (subst (λ old. AddRuns c.args.programme.tasks.now old c.run_night.new.self.link.carried) c.wait_until.ensures c.run_night.ensures)

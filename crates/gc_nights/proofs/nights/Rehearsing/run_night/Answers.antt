@@ -1,5 +1,5 @@
 use Rattle.std.proofs.Common.{◌≡◌, subst, sym}
-use Rattle.gc_nights.specs.Runs.{AreRuns}
+use Rattle.gc_nights.specs.Runs.{AddRuns}
 use Rattle.gc_nights.proofs.Running.{runs_then}
 use Rattle.gc_nights.proofs.nights.Rehearsing.run_night.Goals as goal
 use Rattle.gc_nights.proofs.nights.Rehearsing.run_night.Goals.{in-Killed, in-GaveUp}
@@ -16,5 +16,5 @@ loop-preserved g c =
       | in-Killed w ↦ let is = w.self-is in cc
       | in-GaveUp w ↦ rw w.self-is (sym w.wait.ensures)
     ] in
-    subst (λ acts. AreRuns c.args.programme.tasks.now c.args.self.now.link.carried acts) same
+    subst (λ acts. AddRuns c.args.programme.tasks.now c.args.self.now.link.carried acts) same
     (runs_then c.args.programme.tasks.now c.args.self.now.link.carried c.loop.self.link.carried c.run_once.new.self.link.carried c.loop.invariant c.run_once.ensures)

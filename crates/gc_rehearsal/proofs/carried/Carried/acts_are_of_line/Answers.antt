@@ -1,7 +1,11 @@
 use Rattle.std.proofs.Common.{subst}
-use Rattle.gc_rehearsal.specs.Carrying.{HasComeTo}
+use Rattle.std.specs.Prelude.{IfSome}
+use Rattle.gc_rehearsal.specs.Carrying.{IsOfLine}
 use Rattle.gc_rehearsal.specs.Inside.{lines_in}
+use Rattle.gc_rehearsal.proofs.Happened.{told_if_sure}
 use Rattle.gc_rehearsal.proofs.carried.Carried.acts_are_of_line.Goals as goal
 
 pub returns : goal.returns
-returns c = (lines_in c.self.inside, subst (λ acts. HasComeTo acts (lines_in c.self.inside)) c.self.view_is c.self.invariant)
+returns c =
+    let i = c.self.inside in
+    subst (λ acts. IfSome acts IsOfLine) c.self.view_is (told_if_sure i.alters i.history.acts IsOfLine (λ sure. (lines_in i, c.self.invariant sure)))

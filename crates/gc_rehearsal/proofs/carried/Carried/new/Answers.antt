@@ -6,7 +6,7 @@ use Rattle.gc_rehearsal.proofs.Happened.{lines, nothing_happened}
 use Rattle.gc_rehearsal.proofs.carried.Carried.new.Goals as goal
 
 pub invariant_of-result : goal.invariant_of-result
-invariant_of-result c =
+invariant_of-result c sure =
     let state = c.restart.new.self in
     subst (λ acts. HasComeTo acts (lines (texts c.new.result.items) (texts c.new-2.result.items) state)) (sym c.new-5.ensures)
     (subst (λ q. HasComeTo [] (lines (texts q) (texts c.new-2.result.items) state)) (sym c.new.ensures.items)
