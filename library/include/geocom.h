@@ -20,6 +20,13 @@
  *   7. If as many requests are outstanding as the width allows, and all have timed out: geocom_client_restart, and 2 without the
  *      line feed. No pause is needed.
  *
+ * On a line that may damage a reply, so that it has another id, two rules keep the harm to the request that it answers, unless two lines
+ * in a row that settle something are damaged. First, let the first request after each synchronization be a null procedure
+ * (geocom_client_send with procedure 0), alone, again once it has timed out, and send no other before a reply has settled one as answered
+ * or late. Second, hold back: send only while the outstanding requests, and those that the last line settled that settled any (`count` of
+ * geocom_client_feed; 1 at first, and after each synchronization), are together fewer than seven; if all have timed out and there is no
+ * room so, continue at 7. A client of width 3 or less keeps the second rule by itself.
+ *
  * A moment or a deadline is a number of the caller's clock, which may count in any unit and never runs backwards.
  *
  * What the caller vouches for: every pointer is valid for the length after it and not null, even if the length is 0;
@@ -352,7 +359,8 @@ static inline int geocom_reconnect(geocom_client *state, const geocom_port *port
  * one that isn't settled by then is reported as lost, as no answer will be taken for it. `text` has room for GEOCOM_TEXT_ROOM bytes. If as
  * many requests are outstanding as the width allows, they are lost, and it restarts; a client that hasn't synchronized does so first, until
  * the deadline at the latest. It is for one request at a time. Returns 0 with the settlement; GEOCOM_FAILED, and then nothing is known of
- * this request; or GEOCOM_SILENT or a fault, and then it wasn't sent. Call it again after GEOCOM_SILENT: it continues where it was. */
+ * this request; or GEOCOM_SILENT or a fault, and then it wasn't sent. Call it again after GEOCOM_SILENT: it continues where it was. It sends
+ * no null procedure by itself, as a line that may damage replies asks for (see above): library/examples/station.c does. */
 static inline int geocom_ask(geocom_client *state, const geocom_port *port, uint32_t target, uint16_t procedure, const char *params,
                              uint64_t patience, geocom_settlement *settlement, uint8_t *text) {
     const geocom_settlement lost = {target, procedure, 0, 0, 0, {{0, 0}}, GEOCOM_LOST, GEOCOM_NONE};

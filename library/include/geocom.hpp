@@ -68,7 +68,8 @@ public:
 
     bool has_begun() const { return has_begun_; }
 
-    // Sends a request, and returns its line, with CR LF, to write to the connection.
+    // Sends a request, and returns its line, with CR LF, to write to the connection. For a line that may damage replies geocom.h has two
+    // rules: `last_ended` is for the second.
     std::string send(std::uint32_t target, std::uint64_t deadline, std::uint16_t procedure, std::string_view params = "") {
         std::array<std::uint8_t, GEOCOM_LINE_ROOM> line;
         const char *text = params.empty() ? "" : params.data();
@@ -99,6 +100,7 @@ public:
             check(heard.fault);
             bytes.remove_prefix(heard.used);
             ++kinds_[heard.kind];
+            if (heard.count != 0) last_ended_ = heard.count;
             append(all, heard.count, text.data());
         }
         return all;
@@ -124,6 +126,7 @@ public:
         const geocom_count lost = geocom_client_restart(&state_, records_.data(), records_.size());
         check(lost.fault);
         has_begun_ = false;
+        last_ended_ = 1;
         std::vector<settlement> all;
         append(all, lost.count, nullptr);
         return all;
@@ -138,6 +141,9 @@ public:
 
     // How many outstanding requests haven't timed out.
     std::uint32_t current() const { return geocom_client_current(&state_); }
+
+    // How many requests the last line settled that settled any; 1 at first, and after each restart.
+    std::uint32_t last_ended() const { return last_ended_; }
 
     // How many calls of geocom_client_feed returned this kind.
     std::uint64_t count(geocom_kind kind) const { return kinds_[kind]; }
@@ -160,6 +166,7 @@ private:
 
     geocom_client state_;
     bool has_begun_ = false;
+    std::uint32_t last_ended_ = 1;
     std::array<geocom_settlement, GEOCOM_WINDOW> records_;
     std::array<std::uint64_t, GEOCOM_OVERLONG + 1> kinds_{};
 };
@@ -228,9 +235,11 @@ public:
 };
 
 // A station over two callables and a clock, by the rules of docs/OPERATING.md: it synchronizes, sends requests, and waits for each until
-// its deadline. If seven requests are outstanding, it restarts and synchronizes again; it sends a null procedure where the rule of
-// `send_raw` asks for one. What the callables throw passes through: open a new connection then, and call `reconnected`. One thread at a
-// time.
+// its deadline. It sends a null procedure where the rule of `send_raw` asks for one, and as its first request after each synchronization,
+// until a reply has settled one. It holds back: if the outstanding requests, and those that the last line settled that settled any, are
+// together seven, it restarts and synchronizes again. So a damaged line does no harm beyond the request that it answers, unless two in a row
+// that settle something are damaged. What the callables throw passes through: open a new connection then, and call `reconnected`. One thread
+// at a time.
 class station {
 public:
     // Returns what came within `milliseconds`, an empty string if nothing did. It throws if the connection ended or failed.
@@ -371,12 +380,13 @@ private:
         }
     }
 
-    // Makes ready for a request: a client whose window is full restarts, as one request at a time is waited for.
+    // Makes ready for a request: a client with no room for one restarts, as one request at a time is waited for. It holds back: after a line
+    // that settled several requests, which may be a damaged one, none is sent whose id a reply that is still in flight might have.
     void begin_anew(std::uint64_t end) {
-        if (client_.waiting() == GEOCOM_WINDOW) {
+        if (client_.waiting() + client_.last_ended() >= GEOCOM_WINDOW) {
             client_.restart();
             raws_.clear();
-            behind_ = 0;
+            behind_ = GEOCOM_WINDOW;
             again_ = unanswered_ = 0;
         }
         if (!is_clear_) clear(end);
@@ -386,7 +396,8 @@ private:
     settlement ask(bool is_raw, std::uint32_t target, std::uint16_t procedure, std::string_view params, std::uint64_t timeout) {
         const std::uint64_t end = now_() + (timeout != 0 ? timeout : timeout_);
         begin_anew(end);
-        // One of the seven requests before each is a call of the table that was answered: else a null procedure goes out first.
+        // One of the seven requests before each is a call of the table that a reply settled: else a null procedure goes out first. So it is
+        // after each synchronization, of which a reply may still come.
         while (behind_ >= GEOCOM_WINDOW) {
             exchange(false, 0, 0, "", std::min(end, now_() + timeout_));
             begin_anew(end);
@@ -431,9 +442,10 @@ private:
     std::uint64_t timeout_, quiet_ = 2000;
     // From when the quiet time counts; when the null procedure is sent again, and how often it wasn't answered.
     std::uint64_t since_ = 0, again_ = 0, unanswered_ = 0;
-    // Which of the outstanding requests are raw, and how many requests were sent after the last call of the table that a reply ended.
+    // Which of the outstanding requests are raw, and how many requests were sent after the last call of the table that a reply settled, at
+    // most seven; seven if a reply has settled none since the client synchronized.
     std::deque<bool> raws_;
-    std::uint32_t behind_ = 0;
+    std::uint32_t behind_ = GEOCOM_WINDOW;
     bool is_clear_ = false, is_discarding_ = false;
 };
 

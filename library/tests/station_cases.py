@@ -64,28 +64,63 @@ def what_is_refused():
 
 def what_is_late_or_lost():
     port, station = scripted({2107: [None]}, timeout=5)
-    begun = station.begin() or port.clock.now
+    station.begin()
+    begun = port.clock.now
     lost = station.ask(2107, 1, timeout=3)
     assert lost.outcome is Outcome.LOST and port.clock.now == begun + 3 and lost.rc is None
     raised(geocom.Lost, lost.value)
-    port.came, port.clock.now = b"%R1P,0,0:0,9.5,9.5\r\n", port.clock.now + 60
+    port.came, port.clock.now = b"%R1P,0,1:0,9.5,9.5\r\n", port.clock.now + 60
     port.answers[2107] = b"0,1.5,0.5"
     assert station.tmc.get_angle(1).hz_rad == Decimal("1.5")
 
 
-def seven_that_are_given_up():
-    port, station = scripted({2107: [None] * 7 + [b"0,1.5,0.5"]}, timeout=100)
+def a_null_procedure_comes_first():
+    """Behind each beginning, with id 0; and again with the next id, until a reply has ended one."""
+    port, station = scripted({5003: b"0,1"}, timeout=5)
     station.begin()
-    for _ in range(7):
+    assert port.written == [0] * 8
+    assert station.csv.get_instrument_no().serial == station.csv.get_instrument_no().serial == 1
+    assert (port.written[8:], port.ids[8:]) == ([0, 5003, 5003], [0, 1, 2])
+
+    port, station = scripted({0: [b"0"] * 8 + [None] + [b"0"] * 10, 5003: [b"0,1", b"0,7"]}, timeout=5)
+    assert station.ask(5003, timeout=60).items == ("1",)
+    assert (port.written[8:], port.ids[8:]) == ([0, 0, 5003], [0, 1, 2])
+    station._rules.broken_off(True, station._now())  # as behind an exception
+    assert station.ask(5003, timeout=5).items == ("7",)
+    assert (port.written[11:], port.ids[11:]) == ([0] * 9 + [5003], [6, 5, 4, 3, 2, 1, 0, 7, 0, 1])
+
+    port, station = scripted({0: [b"0"] * 8 + [None], 5003: b"0,1"}, timeout=5)
+    raised(geocom.NotReady, station.ask, 5003)
+    port.came = b"%R1P,0,0:0\r\n"  # late: it ends the null procedure, too
+    assert station.csv.get_instrument_no().serial == 1 and (port.written[8:], port.ids[8:]) == ([0, 5003], [0, 1])
+
+
+def six_that_are_given_up():
+    """No seventh goes out: the station begins anew, with a null procedure behind it."""
+    port, station = scripted({2107: [None] * 6 + [b"0,1.5,0.5"]}, timeout=100)
+    station.begin()
+    for _ in range(6):
         assert station.ask(2107, 1, timeout=1).outcome is Outcome.LOST
-    assert station.ask(2107, 1, timeout=1).items == ("1.5", "0.5") and port.written[-9:] == [0] * 8 + [2107]
+    assert port.written[8:] == [0] + [2107] * 6
+    assert station.ask(2107, 1, timeout=1).items == ("1.5", "0.5") and port.written[15:] == [0] * 9 + [2107]
+
+
+def what_a_line_ended():
+    """Those that wait, and those that the last line ended, are together fewer than seven when a request goes out."""
+    port, station = scripted({2107: [None] * 4 + [b"0,1.5,0.5"] + [None] * 2 + [b"0,2.5,0.5"]}, timeout=100)
+    station.begin()
+    assert [station.ask(2107, 1, timeout=1).outcome for _ in range(4)] == [Outcome.LOST] * 4
+    assert station.ask(2107, 1, timeout=1).items == ("1.5", "0.5")  # it ends five
+    assert [station.ask(2107, 1, timeout=1).outcome for _ in range(2)] == [Outcome.LOST] * 2
+    assert port.written[8:] == [0] + [2107] * 7
+    assert station.ask(2107, 1, timeout=1).items == ("2.5", "0.5") and port.written[16:] == [0] * 9 + [2107]
 
 
 def raw_requests_with_null_procedures_between():
     port, station = scripted({2167: b'0, 1 ,"a,b"'})
     for _ in range(16):
         assert station.raw(2167, 2, 1).value() == ("1", '"a,b"')
-    assert port.written[8:] == [2167] * 7 + [0] + [2167] * 7 + [0] + [2167] * 2
+    assert port.written[8:] == [0] + [2167] * 7 + [0] + [2167] * 7 + [0] + [2167] * 2
 
 
 def a_chain():
@@ -117,7 +152,7 @@ def a_connection_that_ended():
     assert station.csv.get_instrument_no().serial == 1
     port.is_ended, before = True, port.clock.now
     assert station.csv.get_instrument_no().serial == 1 and port.clock.now - before >= 4
-    assert 0 not in port.written[8:]
+    assert port.written[8:] == [0, 5003, 5003]
 
 
 def nobody_answers():
@@ -182,7 +217,7 @@ def a_station_that_is_closed_meanwhile():
         async def silent(reader, writer):
             writers.append(writer)  # else it is closed with its last name
             await reader.readline()
-            for id in (6, 5, 4, 3, 2, 1, 0, 7):
+            for id in (6, 5, 4, 3, 2, 1, 0, 7, 0):
                 await reader.readline()
                 writer.write(b"%%R1P,0,%d:0\r\n" % id)
 

@@ -4,10 +4,12 @@ import geocom
 
 
 class Scripted:
-    """A port whose instrument answers as it is told: to a procedure's number what stands behind the colon, or nothing."""
+    """A port whose instrument answers as it is told: to a procedure's number what stands behind the colon, or nothing. It keeps which
+    procedures were written, with which ids."""
 
     def __init__(self, answers, clock):
-        self.answers, self.clock, self.timeout, self.came, self.written, self.is_ended = answers, clock, 0.0, b"", [], False
+        self.answers, self.clock, self.timeout, self.came, self.is_ended = answers, clock, 0.0, b"", False
+        self.written, self.ids = [], []
 
     def write(self, data):
         for line in data.split(b"\r\n"):
@@ -15,6 +17,7 @@ class Scripted:
                 head, _, _ = line.partition(b":")
                 procedure, id = head[5:].split(b",")
                 self.written.append(int(procedure))
+                self.ids.append(int(id))
                 answer = self.answers.get(int(procedure), b"0")
                 if isinstance(answer, list):
                     answer = answer.pop(0) if answer else None

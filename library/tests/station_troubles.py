@@ -445,7 +445,7 @@ def two_lost_replies():
     port.close = lambda: (closes.append(len(port.written)), close())
     assert [station.ask(2107, 1).outcome for _ in range(2)] == [Outcome.LOST] * 2
     assert station.ask(2107, 1).items == ("1.5", "0.5")
-    assert closes and set(closes) == {10}, (closes, port.written)  # the third is the eleventh: eight null procedures came first
+    assert closes and set(closes) == {11}, (closes, port.written)  # the third is the twelfth: nine null procedures came first
 
     async def trial():
         """Nothing is closed while a request may be answered in time."""

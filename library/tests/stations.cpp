@@ -1,7 +1,7 @@
 // Cases of geocom::station and of geocom_ask on a bad line, and random schedules through both, over a line in memory with a clock of the
 // trial's own: stations COUNT. Each request has a number of its own, which its answer has; the line delays, loses, repeats and cuts, breaks
 // in the middle of requests, and outlives the runs; the instrument keeps its reply over raw requests. An answer has to be its own
-// request's, and each call has to end by its deadline.
+// request's, and each call has to end by its deadline. Where the line gives one reply another id, one answer may be another request's.
 #include <cstdio>
 #include <cstdlib>
 #include <deque>
@@ -29,6 +29,7 @@ struct line {
     std::string cut, half, kept;
     int kept_id = -1;
     bool is_broken = false;
+    int damaged = -1, shift = 0; // the reply of this number, from 0 on, gets another id; none if it is negative
 
     line(std::uint32_t seed) : chance(seed), odd(pick({0, 1, 5, 20})), is_first(pick({0, 1}) == 1) {}
 
@@ -57,6 +58,7 @@ struct line {
                 std::string reply = "%R1P,0," + std::to_string(id) + ":0";
                 if (procedure != 0) reply += "," + text.substr(colon + 1) + (is_raw ? "" : ".0,0.5");
                 if (!is_raw) kept = reply, kept_id = id;
+                if (damaged-- == 0) reply[7] = static_cast<char>('0' + (id + shift) % 8);
                 if (!happens(odd)) pass_on(down, reply + "\r\n");
             } else if (!happens(odd)) {
                 pass_on(down, kept + "\r\n");
@@ -114,13 +116,16 @@ struct scripted {
     int warned = 0; // the procedure that is answered with 1284
     std::string cut, came;
     std::vector<int> executed;
+    std::vector<std::pair<int, int>> sent; // procedures and ids
 
     void write(std::string_view bytes) {
         cut += bytes;
         for (std::size_t end; (end = cut.find('\n')) != std::string::npos; cut.erase(0, end + 1)) {
-            if (end == 0 || is_silent) continue;
+            if (end == 0) continue;
             const std::size_t comma = cut.find(',', 5), colon = cut.find(':');
             const int procedure = std::atoi(cut.c_str() + 5);
+            sent.emplace_back(procedure, std::atoi(cut.c_str() + comma + 1));
+            if (is_silent) continue;
             if (procedure != 0) executed.push_back(procedure);
             if (!breaks || procedure == 0)
                 came += "%R1P,0," + cut.substr(comma + 1, colon - comma - 1) + ":" + (procedure == warned && warned != 0 ? "1284" : "0") +
@@ -252,17 +257,81 @@ void chains() {
     SEE(all.size() == 1 && all[0].reading == geocom::reading::refused);
 }
 
+// The first request after each synchronization is a null procedure, again until a reply settles one, and at most six requests wait: those
+// that the last line settled count, too.
+void damage_is_held_back() {
+    using sent = std::vector<std::pair<int, int>>;
+    fixture f;
+    f.line.sent.clear();
+    f.line.is_silent = true;
+    SEE(f.ask(1000) == GEOCOM_SILENT);
+    f.line.is_silent = false;
+    SEE(f.ask(1000) == 0 && f.ask(1000) == 0);
+    SEE((f.line.sent == sent{{0, 0}, {0, 1}, {2107, 2}, {2107, 3}}));
+    f.line.sent.clear();
+    f.line.is_silent = true;
+    for (int k = 0; k < 6; ++k) SEE(f.ask(1000) == 0);
+    SEE((f.line.sent == sent{{2107, 4}, {2107, 5}, {2107, 6}, {2107, 7}, {2107, 0}, {2107, 1}}));
+    SEE(f.ask(1000) == GEOCOM_SILENT);
+    f.line.is_silent = false;
+    f.line.now += 20000;
+    f.line.sent.clear();
+    SEE(f.ask(1000) == 0);
+    SEE((f.line.sent == sent{{0, 6}, {0, 5}, {0, 4}, {0, 3}, {0, 2}, {0, 1}, {0, 0}, {0, 7}, {0, 0}, {2107, 1}}));
+
+    f.line.is_silent = true;
+    for (int k = 0; k < 3; ++k) SEE(f.ask(1000) == 0);
+    f.line.is_silent = false;
+    SEE(f.ask(1000) == 0); // its reply settles four
+    f.line.is_silent = true;
+    for (int k = 0; k < 3; ++k) SEE(f.ask(1000) == 0);
+    f.line.is_silent = false;
+    f.line.sent.clear();
+    SEE(f.ask(1000) == 0 && f.line.sent.size() == 10 && f.line.sent[9] == std::make_pair(2107, 1));
+}
+
+// Over lines one of whose replies gets another id: how many answers are another request's, over all lines, or -1 if one line has several.
+long damaged(unsigned long count) {
+    long harmed = 0;
+    for (unsigned long place = 0; place < count; ++place) {
+        line l(static_cast<std::uint32_t>(place));
+        l.odd = 0;
+        l.damaged = static_cast<int>(l.chance() % 40);
+        l.shift = static_cast<int>(l.chance() % 7) + 1;
+        geocom::station station([&](std::uint64_t ms) { return l.read(ms); }, [&](std::string_view bytes) { l.write(bytes); }, 10000,
+                                [&] { return l.now; });
+        int wrong = 0;
+        for (unsigned number = 1; number < 40; ++number) {
+            try {
+                const auto s = station.ask(number, 2107, std::to_string(number), l.pick({500, 500, 10000}));
+                wrong += s.reading == geocom::reading::value && std::strtoul(s.items[0].c_str(), nullptr, 10) != number;
+            } catch (const geocom::silent &) {
+            }
+        }
+        if (wrong > 1) return -1;
+        harmed += wrong;
+    }
+    return harmed;
+}
+
 } // namespace
 
 int main(int, char **words) {
     broken_connections();
     deadlines();
     chains();
+    damage_is_held_back();
     if (not_so != nullptr) {
         std::printf("stations: not so: %s\n", not_so);
         return 1;
     }
-    unsigned long count = std::strtoul(words[1], nullptr, 10), answered = 0, lost = 0, wrong = 0, silent = 0;
+    const unsigned long count = std::strtoul(words[1], nullptr, 10);
+    const long harmed = damaged(count);
+    if (harmed <= 0) {
+        std::printf("stations: damaged replies: %ld\n", harmed);
+        return 1;
+    }
+    unsigned long answered = 0, lost = 0, wrong = 0, silent = 0;
     const auto judge = [&](unsigned number, unsigned target, bool is_answered, bool has_value, const std::string &item) {
         (is_answered ? answered : lost) += 1;
         if (target != number || (has_value && std::strtoul(item.c_str(), nullptr, 10) != number)) ++wrong;
@@ -319,6 +388,6 @@ int main(int, char **words) {
             }
         }
     }
-    std::printf("stations in C++ and C: their cases hold; %lu schedules: %lu answered, %lu late or lost, %lu times silent; %lu wrong\n", count, answered, lost, silent, wrong);
+    std::printf("stations in C++ and C: their cases hold; %lu schedules: %lu answered, %lu late or lost, %lu times silent; %lu wrong; %lu with a damaged reply, which harmed %ld\n", count, answered, lost, silent, wrong, count, harmed);
     return wrong != 0 || answered == 0;
 }

@@ -61,6 +61,8 @@ class Client:
         self.line_faults: collections.Counter[int] = collections.Counter()
         #: how many replies came, those that no request waited for among them
         self.replies = 0
+        #: how many requests the last line ended that ended any; 1 at first, and after each restart
+        self.last_ended = 1
         check(self._calls.geocom_client_init(self._state, width if 0 <= width < 256 else 0))
 
     def begin(self, data: bytes = b"") -> bytes:
@@ -90,6 +92,13 @@ class Client:
         The target is a number of your own below 2 ** 32, and comes back with the settlement.
         Parameters have commas between them, as "5000,1". Raises NotBegun, UnknownProcedure,
         BadParameters or WindowFull, and then nothing has changed.
+
+        A line may damage a reply, so that it has another id. Two rules keep the harm to the request
+        that it answers, unless two lines in a row that settle something are damaged. Behind each
+        beginning send a null procedure first (procedure 0), alone, again at its deadline, and no
+        other before a reply has settled one. And send only while `waiting` and `last_ended` are
+        together fewer than seven; where all that wait are given up and there is no room so, call
+        `restart`. A `geocom.Station` keeps both by itself.
         """
         return self._sent(self._calls.geocom_client_send, target, deadline, procedure, params)
 
@@ -152,6 +161,7 @@ class Client:
                     self.line_faults[heard.line_fault] += 1
                 elif kind is Kind.SETTLED:
                     settled += self._settled(heard.count)
+                    self.last_ended = heard.count
         return settled
 
     def expire(self, now: int) -> list[int]:
@@ -182,6 +192,7 @@ class Client:
         with self._lock:
             lost = self._calls.geocom_client_restart(self._state, self._records, WINDOW)
             check(lost.fault)
+            self.last_ended = 1
             return self._settled(lost.count)
 
     @property

@@ -5,6 +5,13 @@ without a clock.
 `closed`. All moments are milliseconds of one count. Which reply is whose is the library's to say:
 each request has a number of its own there, and what the library settles under that number is the
 end of that request.
+
+Two rules keep the harm of a damaged line to the request that it answers. The first request of a
+client that has begun is a null procedure, alone on the line, and no other one goes out before a
+reply has ended one: a reply to the eight before it may still come, with an id that the first
+requests get. And the station holds back: a request goes out only while those that wait, and those
+that the last line ended that ended any, are together fewer than seven. A damaged line that ended
+several so has it send none whose id a reply that is still under way might have.
 """
 
 from __future__ import annotations
@@ -13,9 +20,9 @@ import collections
 import datetime
 import enum
 import logging
-from typing import NamedTuple
 
 from ._library import WINDOW
+from .acts import Act, Step
 from .client import Client
 from .errors import Fault
 from .settlement import Outcome, Request, Settlement
@@ -23,26 +30,6 @@ from .settlement import Outcome, Request, Settlement
 log = logging.getLogger("geocom")
 LONGEST_PAUSE = 60_000
 NULL = 0
-
-
-class Act(enum.Enum):
-    """What is to be done: connect, close, write bytes, read until a moment, or wait until it
-    without a connection.
-    """
-
-    OPEN = 1
-    CLOSE = 2
-    WRITE = 3
-    READ = 4
-    WAIT = 5
-
-
-class Step(NamedTuple):
-    """An act, with the bytes that are to be written, or the moment at which it ends."""
-
-    act: Act
-    data: bytes = b""
-    until: int = 0
 
 
 class Phase(enum.Enum):
@@ -77,8 +64,9 @@ class Rules:
         self._since = self._alive = 0
         self._is_asked = False
         self._pause = 0
-        # How many requests are behind the last one of the table that a reply ended, at most seven.
-        self._behind = 0
+        # How many requests are behind the last one of the table that a reply ended, at most seven;
+        # seven where the client has begun, and no reply has ended one yet.
+        self._behind = WINDOW
         self._replies = 0
         # When the last turn ended behind which nothing was wanted.
         self._idle: int | None = None
@@ -121,7 +109,7 @@ class Rules:
         for request in self.waiting.values():
             request.give_up()
         self.waiting.clear()
-        self._again = self._behind = 0
+        self._again, self._behind = 0, WINDOW
         self._is_asked, self._idle = False, None
         self.stretch += 1
         self.phase = Phase.CLEARING if is_connected else Phase.PAUSING
@@ -228,12 +216,13 @@ class Rules:
         if self._is_dead(now):
             return Step(Act.CLOSE)
         self._ask(now)
-        self._again, self._behind = now + self.timeout, 0
+        self._again = now + self.timeout
         return self._write(self.client.begin())
 
     def _command(self, now: int) -> Step:
-        """The next command, if it may go out: behind a call of the table that was answered, of the
-        seven before it.
+        """The next command, if it may go out: behind a call of the table that a reply ended, of the
+        seven before it. Else a null procedure, once none that goes before it may be answered in
+        time.
         """
         while self.wanted and self._has_room() and not self._is_dead(now):
             if self._behind < WINDOW:
@@ -246,7 +235,9 @@ class Rules:
         return self._wait(now) if self.wanted else self._read(now)
 
     def _has_room(self) -> bool:
-        return len(self.waiting) < WINDOW and self.client.current < self.width
+        """Whether one more may be under way, with the station holding back."""
+        is_free = len(self.waiting) + self.client.last_ended < WINDOW
+        return is_free and self.client.current < self.width
 
     def _wait(self, now: int) -> Step:
         """Nothing may go out: a reply may still come, or all that wait are given up, and the
@@ -257,7 +248,7 @@ class Rules:
         log.info("all that wait are given up: begins anew")
         for settlement in self.client.restart():
             self._settle(settlement)
-        self._again = self._behind = 0
+        self._again, self._behind = 0, WINDOW
         self.stretch += 1
         return self._begin(now)
 

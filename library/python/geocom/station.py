@@ -1,5 +1,4 @@
-"""A station: it asks procedures over a port by the rules of `docs/OPERATING.md`, and blocks until
-each is settled.
+"""A station over a port, by the rules of `docs/OPERATING.md`: it blocks until a request is settled.
 """
 
 from __future__ import annotations
@@ -10,11 +9,12 @@ import time
 from collections.abc import Callable, Iterable, Iterator
 from typing import Any, Optional
 
+from .acts import Act, Step
 from .chains import Chain, Cycle, Pace, Row, ended, is_good, make_request, requests, skipped
 from .errors import NotReady, not_ready
 from .named import Aut, Bap, Com, Csv, Tmc
 from .ports import Link, Where, opener
-from .rules import Act, Rules, Step, log
+from .rules import Rules, log
 from .settlement import Request, Settlement
 from .values import Parameter, milliseconds
 
@@ -31,7 +31,7 @@ class Station:
 
     As a context manager it connects and begins at once: eight null procedures are answered, by
     whose ids each reply to an earlier run is known and discarded. Without `with` it does so at the
-    first request. Each further connection is made as the rules say, while a request is asked.
+    first request, before which a ninth goes out. Each further connection is made as the rules say.
     """
 
     def __init__(

@@ -20,7 +20,8 @@ class Station:
     """As `geocom.Station`, over a path with a `/`, "HOST:PORT", a port of this machine, or a call
     that opens streams.
 
-    Up to `width` requests are in flight at a time, 1 to 7; further ones wait their turn, in order.
+    Up to `width` requests are in flight at a time, 1 to 7, and no more than six, since the station
+    holds back; further ones wait their turn, in order.
     A call that is cancelled leaves its request on the line: what becomes of it is dropped, and it
     is given up at its deadline.
     """

@@ -9,8 +9,9 @@ import os
 from collections.abc import Awaitable, Callable
 from typing import Optional
 
+from ..acts import Act
 from ..errors import NotReady, not_ready
-from ..rules import Act, Rules, log
+from ..rules import Rules, log
 from ..settlement import Request
 from .ports import Connection, Writer
 
