@@ -1,24 +1,27 @@
 -- What holds of a command in a station's text, by the lines before it. The mode at a line is what these lines make hold there:
 -- the deadline, the accepted return codes, the retry, whether commands are chained, and the target of the group that a command
--- may continue. A group is a run of commands for one target, which a line `chained`, `unchained`, `retry`, `at start` or `each
--- cycle` ends. `Says` says that a mode is what these lines say.
-use Rattle.std.proofs.Common.{◌≡◌, inl, inr, ◌+◌, ◌≤◌, nat_lt, if◌then◌else◌, arith, ℕ, ◌&&◌, Bool, true, false, not, List, [], ◌∷◌, ◌++◌, length, map, Option, Some, refl, sym, ap, ◌∙◌, subst, append_assoc, append-nil}
+-- may continue. A group is a run of commands for one target, which a line `chained`, `unchained`, `retry`, `agree`, `at start`
+-- or `each cycle` ends. `Says` says that a mode is what these lines say.
+use Rattle.std.proofs.Common.{◌≡◌, inl, inr, ◌+◌, ◌≤◌, nat_lt, if◌then◌else◌, arith, ℕ, ◌&&◌, Bool, true, false, not, List, [], ◌∷◌, ◌++◌, length, map, Option, Some, None, refl, sym, ap, ◌∙◌, subst, append_assoc, append-nil}
 use Rattle.std.specs.List.{AllByRecursion}
 use Rattle.std.proofs.lemmas.Bool.{eq-eqb, and_parts, and_from}
 use Rattle.std.proofs.lemmas.List.{length-map, length-append, map-append}
 use Rattle.std.proofs.SliceLists.{all_by_recursion_push}
 use Rattle.std.proofs.lemmas.Option.{none-some, same_Some}
-use Rattle.gc_texts.specs.Chained.{section_after, setup_commands, cycle_commands, IsSetAfter, SaysNoDeadline, IsDeadlineAfter, SaysNoChaining, chaining_line, IsChainingAfter, SaysNoCodes, AreAcceptedAfter, SaysNoRetry, IsRetryAfter, KeepsGroup, EndsInGroupOf, IsTaskOf, TasksFollowTheirLines}
-use Rattle.gc_texts.specs.Attempts.{in_attempt, laid_out}
+use Rattle.gc_texts.specs.Chained.{section_after, setup_commands, cycle_commands, IsSetAfter, SaysNoDeadline, IsDeadlineAfter, SaysNoChaining, chaining_line, IsChainingAfter, SaysNoCodes, AreAcceptedAfter, SaysNoRetry, IsRetryAfter, SaysNoAgree, IsAgreeAfter, IsSentAfter, KeepsGroup, EndsInGroupOf, IsTaskOf, TasksFollowTheirLines}
+use Rattle.gc_texts.specs.Attempts.{attempt_number, in_attempt, laid_out}
 use Rattle.gc_texts.specs.Repeats.{RetriesHold}
 use Rattle.gc_texts.specs.Codes.{no_codes}
 use Rattle.gc_texts.specs.Retries.{no_retry}
 use Rattle.gc_texts.specs.declared.again.Again.{Again}
+use Rattle.gc_texts.specs.declared.agree.Agree.{Agree}
+use Rattle.gc_texts.specs.declared.agree.Twice.{Twice}
+use Rattle.gc_texts.specs.declared.agree.Twice.TheVariants.{Once, First}
 use Rattle.gc_texts.specs.declared.attempts.Planned.{Planned}
 use Rattle.gc_texts.specs.Again.{no_again}
 use Rattle.gc_texts.specs.Nears.{near_of}
 use Rattle.gc_texts.specs.Watching.{is_unwatched}
-use Rattle.gc_texts.specs.Tasks.{TasksSeen, IsTasks, first_mode, mode_after, continues_group, chained_at, turn_at, task_at, setup_at, setup_of, planned_at, planned_of, tasks_of, placed}
+use Rattle.gc_texts.specs.Tasks.{TasksSeen, IsTasks, first_mode, mode_after, continues_group, chained_at, place_in_chain, task_at, setup_at, setup_of, planned_at, planned_of, tasks_of, placed}
 use Rattle.gc_texts.specs.declared.wish.Wish.{Wish}
 use Rattle.gc_texts.specs.declared.near.Near.{Near}
 use Rattle.gc_texts.specs.declared.task_line.TaskLine.{TaskLine}
@@ -27,6 +30,8 @@ use Rattle.gc_texts.specs.declared.mode.Mode.{Mode}
 use Rattle.gc_texts.specs.declared.tasks.Task.{Task}
 use Rattle.gc_texts.proofs.TaskReading.{mode_after_lines, mode_after_both, given_both}
 use Rattle.gc_texts.proofs.FirstAttempts.{chains_have_first}
+use Rattle.gc_texts.proofs.SameRules.{SameRules, same_rules}
+use Rattle.gc_texts.proofs.SentAs.{IsFirstSent}
 use Rattle.gc_texts.proofs.TaskLaws.{continued_group_is}
 
 -- after lines, the mode is that of the setup exactly where `section_after` says so of these lines; `mode` holds before them
@@ -72,14 +77,15 @@ cycle_counted mode (says.Command c now ∷ later) = counted_in_other_section mod
     (cycle_counted (mode_after mode (says.Command c now)) later)
 cycle_counted mode (line ∷ later) = cycle_counted (mode_after mode line) later
 
--- `mode` is what these lines say. Its deadline, its accepted codes, its retry and whether commands are chained are each as the
--- last line that sets it says; where none does, they are `deadline`, none, none, and `chained`. Where the mode has a group, the
+-- `mode` is what these lines say. Its deadline, its accepted codes, its retry, its `agree` and whether commands are chained are each as the
+-- last line that sets it says; where none does, they are `deadline`, none, none, none, and `chained`. Where the mode has a group, the
 -- group's target is that of the last command, and no line after that command ends the group (`EndsInGroupOf`)
 record Says (deadline : ℕ) (chained : Bool) (lines : List TaskLine) (mode : Mode) : Type 0 where
   deadline_is : IsDeadlineAfter deadline lines mode.deadline
   chained_is : IsChainingAfter chained lines mode.chained
   accepted_are : AreAcceptedAfter lines mode.accepted
   retry_is : IsRetryAfter lines mode.retry
+  agree_is : IsAgreeAfter lines mode.agree
   group : (target : ℕ) → mode.group ≡ Some target → EndsInGroupOf lines target
 
 -- a setting that has this value after some lines (`IsSetAfter`) still has it after one more line that doesn't set it
@@ -118,6 +124,13 @@ retry_after_one_more : (lines : List TaskLine) (mode : Mode) (line : TaskLine)
 retry_after_one_more lines mode (says.Retrying r) is = inr (lines, [], refl, tt)
 retry_after_one_more lines mode line is = still_set SaysNoRetry says.Retrying no_retry mode.retry lines line tt is
 
+-- where the mode has what holds of sendings after some lines (`IsAgreeAfter`), the mode after one more line has what holds of them after
+-- all of these lines
+agree_after_one_more : (lines : List TaskLine) (mode : Mode) (line : TaskLine)
+    → IsAgreeAfter lines mode.agree → IsAgreeAfter (lines ++ line ∷ []) (mode_after mode line).agree
+agree_after_one_more lines mode (says.Agreeing a) is = inr (lines, [], refl, tt)
+agree_after_one_more lines mode line is = still_set SaysNoAgree says.Agreeing None mode.agree lines line tt is
+
 -- lines that end in the group of a target (`EndsInGroupOf`) still do so with one more line that keeps the group (`KeepsGroup`)
 still_in_group : (lines : List TaskLine) (line : TaskLine) (target : ℕ)
     → KeepsGroup line → EndsInGroupOf lines target → EndsInGroupOf (lines ++ line ∷ []) target
@@ -153,6 +166,7 @@ says_after_one_more deadline chained lines mode line h = record {
   chained_is = chaining_after_one_more chained lines mode line h.chained_is;
   accepted_are = codes_after_one_more lines mode line h.accepted_are;
   retry_is = retry_after_one_more lines mode line h.retry_is;
+  agree_is = agree_after_one_more lines mode line h.agree_is;
   group = λ target e. group_after_one_more lines mode line h.group target e;
 }
 
@@ -171,6 +185,7 @@ says_none deadline chained = record {
   chained_is = inl (tt, refl);
   accepted_are = inl (tt, refl);
   retry_is = inl (tt, refl);
+  agree_is = inl (tt, refl);
   group = λ target e. absurd (none-some target e);
 }
 
@@ -219,8 +234,9 @@ continues_its_group group target e = ap (λ r. continues_group r target) e ∙ e
 chained_in_cycle : (mode : Mode) (target : ℕ) → mode.setup ≡ false → chained_at mode target ≡ (mode.chained && continues_group mode.group target)
 chained_in_cycle mode target e = ap (λ b. if b then nat_lt 0 mode.begun else mode.chained && continues_group mode.group target) e
 
--- the task of the command after the lines `front`, with any rule, place and count of others
-module _ (deadline : ℕ) (chained : Bool) (front : List TaskLine) (command : Wish) (now : Bool) (near : Option Near) (watched : Bool) (again : Again) (others : ℕ) where
+-- the task of the command after the lines `front`, with any rule, place, count of others and place in its chain, in the sending that the
+-- lines say
+module _ (deadline : ℕ) (chained : Bool) (front : List TaskLine) (command : Wish) (now : Bool) (near : Option Near) (watched : Bool) (again : Again) (others link : ℕ) (twice : Twice) where
   -- the mode before the command
   abbrev mode : Mode
   mode = mode_after_lines (first_mode deadline chained) front
@@ -236,9 +252,10 @@ module _ (deadline : ℕ) (chained : Bool) (front : List TaskLine) (command : Wi
         watched = watched;
         accepted = mode.accepted;
         again = again;
-        turn = turn_at mode (chained_at mode command.target);
+        turn = record { place = if mode.setup then mode.begun else mode.place; attempt = attempt_number 1 twice; link = link };
         others = others;
         now = now;
+        twice = twice;
       }
 
   -- the mode before the command is what the lines before the command say (`Says`)
@@ -246,12 +263,13 @@ module _ (deadline : ℕ) (chained : Bool) (front : List TaskLine) (command : Wi
   mode_is_said = says_all deadline chained [] (first_mode deadline chained) front (says_none deadline chained)
 
   -- `its_task` is as the lines before the command say, as `IsTaskOf` has it
-  task_follows_lines : IsTaskOf deadline chained front command now its_task
-  task_follows_lines =
+  task_follows_lines : attempt_number 1 twice ≡ 1 → (mode.setup ≡ true → twice ≡ Once) → (mode.setup ≡ false → IsSentAfter front twice)
+      → IsTaskOf deadline chained front command now its_task
+  task_follows_lines first once sent =
       record {
         asks = refl;
         moment = refl;
-        first = refl;
+        first = first;
         deadline_is = mode_is_said.deadline_is;
         accepted_are = mode_is_said.accepted_are;
         at_start = λ e.
@@ -260,6 +278,7 @@ module _ (deadline : ℕ) (chained : Bool) (front : List TaskLine) (command : Wi
             record {
               place = ap (λ b. if b then mode.begun else mode.place) setup ∙ begun;
               chained = ap (λ b. if b then nat_lt 0 mode.begun else mode.chained && continues_group mode.group command.target) setup ∙ ap (nat_lt 0) begun;
+              once = once setup;
             };
         in_cycle = λ e.
             let cycle : mode.setup ≡ false = section_after_lines (first_mode deadline chained) front ∙ e in
@@ -272,6 +291,7 @@ module _ (deadline : ℕ) (chained : Bool) (front : List TaskLine) (command : Wi
                   (subst (λ b. IsChainingAfter chained front b) both.0 mode_is_said.chained_is, mode_is_said.group command.target (continued_group_is mode.group command.target both.1));
               found = λ a b. so ∙ and_from mode.chained (continues_group mode.group command.target) (chaining_of_lines (first_mode deadline chained) front true a)
                   (continues_its_group mode.group command.target (group_of (first_mode deadline chained) front command.target b));
+              sent = sent cycle;
             };
       }
 
@@ -303,7 +323,7 @@ module _
   abbrev all_tasks : (b : Bool) → List Task
   all_tasks b =
       (setup_before ++ ((if b then own_task ∷ [] else []) ++ setup_of mode_behind later))
-      ++ laid_out (planned ++ ((if b then [] else record { task = own_task; retry = mode_before.retry } ∷ []) ++ planned_of mode_behind later))
+      ++ laid_out (planned ++ ((if b then [] else record { task = own_task; retry = mode_before.retry; agree = mode_before.agree } ∷ []) ++ planned_of mode_behind later))
 
   -- where b says whether the command is of the setup, the text's tasks are `all_tasks b`, each with the place of its target, if a
   -- line of the text says that place
@@ -315,6 +335,31 @@ module _
       ∙ ap (λ ps. map (placed given.nears given.unwatched) ((setup_before ++ setup_of mode_before (says.Command command now ∷ later)) ++ laid_out ps))
       (given_both planned_at (first_mode deadline chained) front (says.Command command now ∷ later))
       ∙ ap (λ t. map (placed given.nears given.unwatched) (all_tasks t)) e
+
+  -- the command as its first or only sending has it: its place in the chain, and which sending this is
+  record FirstTask (first : Task) : Type 0 where
+    link : ℕ
+    twice : Twice
+    same : first ≡ record own_task { turn = record { place = own_task.turn.place; attempt = own_task.turn.attempt; link = link }; twice = twice }
+    one : attempt_number 1 twice ≡ 1
+    sent : IsSentAfter front twice
+
+  -- the first or only sending of the command is as the lines before it say
+  first_is_sent : (agree : Option Agree) (first : Task) → mode_before.agree ≡ agree → IsFirstSent agree own_task first → FirstTask first
+  first_is_sent None first e is = record {
+    link = own_task.turn.link;
+    twice = Once;
+    same = is;
+    one = refl;
+    sent = inl (subst (IsAgreeAfter front) e (mode_is_said deadline chained front command now None true no_again 0 0 Once).agree_is, refl);
+  }
+  first_is_sent (Some agree) first e is = record {
+    link = is.1;
+    twice = First;
+    same = is.2;
+    one = omega arith;
+    sent = inr (agree, subst (IsAgreeAfter front) e (mode_is_said deadline chained front command now None true no_again 0 0 First).agree_is, refl);
+  }
 
   -- the law for this command, by whether it is of the setup (`b`)
   by_section : (b : Bool) → mode_before.setup ≡ b
@@ -331,13 +376,20 @@ module _
             ∙ map-append (placed given.nears given.unwatched) setup_before (own_task ∷ rest),
         (λ s. length-map setup_before (placed given.nears given.unwatched) ∙ setup_count (first_mode deadline chained) front),
         (λ s. let bad : true ≡ false = sym e ∙ section_after_lines (first_mode deadline chained) front ∙ s in cc),
-        task_follows_lines deadline chained front command now (near_of command.target given.nears) (not (is_unwatched command.target given.unwatched)) no_again 0,
+        task_follows_lines deadline chained front command now (near_of command.target given.nears) (not (is_unwatched command.target given.unwatched)) no_again 0
+            (place_in_chain mode_before (chained_at mode_before command.target)) Once refl (λ s. refl)
+            (λ s. let bad : true ≡ false = sym e ∙ s in cc),
         refl,
         refl,
       )
   by_section false e =
-      let p : Planned = record { task = own_task; retry = mode_before.retry } in
-      let among = chains_have_first no_retry [] planned (planned_of mode_behind later) p in
+      let p : Planned = record { task = own_task; retry = mode_before.retry; agree = mode_before.agree } in
+      let follow = same_rules (first_mode deadline chained) no_retry None is.said (inr (inl refl)) in
+      let those : planned_of (first_mode deadline chained) is.said ≡ planned ++ p ∷ planned_of mode_behind later =
+      ap (planned_of (first_mode deadline chained)) at ∙ given_both planned_at (first_mode deadline chained) front (says.Command command now ∷ later)
+      ∙ ap (λ b. planned ++ ((if b then [] else p ∷ []) ++ planned_of mode_behind later)) e in
+      let among = chains_have_first no_retry None [] planned (planned_of mode_behind later) p (subst (SameRules no_retry None) those follow) in
+      let first = first_is_sent mode_before.agree among.first refl among.is in
       let in_front = setup_before ++ setup_of mode_behind later in
       let many : given.setup ≡ length in_front =
       is.setup_is ∙ ap (λ said. length (setup_of (first_mode deadline chained) said)) at ∙ ap length (given_both setup_at (first_mode deadline chained) front (says.Command command now ∷ later))
@@ -345,16 +397,18 @@ module _
       let long : length (map (placed given.nears given.unwatched) (in_front ++ among.earlier)) ≡ length in_front + length among.earlier = length-map (in_front ++ among.earlier) (placed given.nears given.unwatched)
       ∙ length-append in_front among.earlier in (
         map (placed given.nears given.unwatched) (in_front ++ among.earlier),
-        placed given.nears given.unwatched (in_attempt 1 among.again among.commands p),
+        placed given.nears given.unwatched (in_attempt 1 among.again among.commands among.first),
         map (placed given.nears given.unwatched) among.others,
         all_tasks_are false e ∙ ap (λ ts. map (placed given.nears given.unwatched) (in_front ++ ts)) among.are
-            ∙ ap (map (placed given.nears given.unwatched)) (sym (append_assoc in_front among.earlier (in_attempt 1 among.again among.commands p ∷ among.others)))
-            ∙ map-append (placed given.nears given.unwatched) (in_front ++ among.earlier) (in_attempt 1 among.again among.commands p ∷ among.others),
+            ∙ ap (map (placed given.nears given.unwatched)) (sym (append_assoc in_front among.earlier (in_attempt 1 among.again among.commands among.first ∷ among.others)))
+            ∙ map-append (placed given.nears given.unwatched) (in_front ++ among.earlier) (in_attempt 1 among.again among.commands among.first ∷ among.others),
         (λ s. let bad : false ≡ true = sym e ∙ section_after_lines (first_mode deadline chained) front ∙ s in cc),
         (λ s. omega (arith, many, long)),
-        task_follows_lines deadline chained front command now (near_of command.target given.nears) (not (is_unwatched command.target given.unwatched)) among.again 0,
-        refl,
-        refl,
+        subst (λ t. IsTaskOf deadline chained front command now (placed given.nears given.unwatched (in_attempt 1 among.again among.commands t))) (sym first.same)
+            (task_follows_lines deadline chained front command now (near_of command.target given.nears) (not (is_unwatched command.target given.unwatched)) among.again 0 first.link first.twice
+            first.one (λ s. let bad : true ≡ false = sym s ∙ e in cc) (λ s. first.sent)),
+        ap (λ (t : Task). near_of t.command.target given.nears) first.same,
+        ap (λ (t : Task). not (is_unwatched t.command.target given.unwatched)) first.same,
       )
 
 -- the law: each command of a text has a task that is as the lines before it say (`IsTaskOf`), with the place of its target, if
@@ -364,17 +418,19 @@ pub tasks_follow_their_lines : TasksFollowTheirLines
 tasks_follow_their_lines text deadline chained given is front later command now at =
     by_section text deadline chained given is front later command now at (mode_after_lines (first_mode deadline chained) front).setup refl
 
--- the law: a command of the cycle has the retry that the last line `retry` before it says, and without such a line isn't repeated
+-- the law: a command of the cycle has the retry that the last line `retry` before it says, and what the last line `agree` says; without
+-- such lines it isn't repeated, and is sent once in an attempt
 pub retries_hold : RetriesHold
 retries_hold deadline chained front later command now cycle =
     let first = first_mode deadline chained in
     let mode = mode_after_lines first front in
     let said : Says deadline chained front mode = says_all deadline chained [] first front (says_none deadline chained) in
-    let p : Planned = record { task = task_at mode command now; retry = mode.retry } in (
+    let p : Planned = record { task = task_at mode command now; retry = mode.retry; agree = mode.agree } in (
       p,
       planned_of (mode_after mode (says.Command command now)) later,
       given_both planned_at first front (says.Command command now ∷ later)
           ∙ ap (λ b. planned_of first front ++ ((if b then [] else p ∷ []) ++ planned_of (mode_after mode (says.Command command now)) later)) (section_after_lines first front ∙ cycle),
       refl,
       said.retry_is,
+      said.agree_is,
     )

@@ -1,4 +1,4 @@
--- Which answers have a direction.
+-- Which answers have a direction, and which a distance.
 use Rattle.std.proofs.Common.{◌≡◌, ◌==◌, [], ◌∷◌, Bool, true, false, refl, sym, ap, ◌∙◌}
 use Rattle.std.specs.Prelude.{is_some}
 use Rattle.std.specs.List.{list_any}
@@ -10,7 +10,7 @@ use Rattle.gc_catalogue.specs.declared.answer.Shape.{Shape}
 use Rattle.gc_catalogue.specs.declared.answer.Shape.TheVariants as shape
 use Rattle.gc_catalogue.specs.declared.call.Call.{Call}
 use Rattle.gc_catalogue.specs.declared.call.Call.TheVariants.{NullProc}
-use Rattle.gc_texts.specs.Nears.{direction_of, call_gives_direction, DirectionsAreAskedFor}
+use Rattle.gc_texts.specs.Nears.{direction_of, distance_of, call_gives_direction, call_gives_distance, DirectionsAreAskedFor, DistancesAreAskedFor}
 
 -- whether the answers of this shape have a direction
 abbrev has_direction : Shape → Bool
@@ -40,4 +40,33 @@ directions_by_procedure =
     record {
       answers = λ call answer of. answer_has_direction answer ∙ ap has_direction of ∙ sym (call_has_direction call);
       procedures = direction_procedures;
+    }
+
+-- whether the answers of this shape have a distance
+abbrev has_distance : Shape → Bool
+has_distance shape.Measured = true
+has_distance shape.MeasuredMode = true
+has_distance _ = false
+
+-- an answer has a distance exactly where its shape has one
+answer_has_distance : (answer : Answer) → is_some (distance_of answer) ≡ has_distance (answer_fields answer).shape
+answer_has_distance Nothing = refl
+answer_has_distance answer = refl
+
+-- the answers of a call have a distance exactly where the shape of its answer has one
+call_has_distance : (call : Call) → call_gives_distance call ≡ has_distance (call_fields call).answer
+call_has_distance NullProc = refl
+call_has_distance call = refl
+
+-- the answers of a call have a distance exactly where its procedure is 2108, 2117 or 17017
+distance_procedures : (call : Call) → call_gives_distance call ≡ list_any (λ n. n == (call_fields call).number) (2108 ∷ 2117 ∷ 17017 ∷ [])
+distance_procedures NullProc = refl
+distance_procedures call = refl
+
+-- the law: the answers that have a distance are those of procedures 2108, 2117 and 17017
+pub distances_by_procedure : DistancesAreAskedFor
+distances_by_procedure =
+    record {
+      answers = λ call answer of. answer_has_distance answer ∙ ap has_distance of ∙ sym (call_has_distance call);
+      procedures = distance_procedures;
     }

@@ -9,9 +9,11 @@ mod CommandForms
 mod RawForms
 mod RawTroubles
 mod NearTroubles
+mod AgreeTroubles
 mod WishForms
 mod WordForms
 mod CodeForms
+mod AgreeForms
 mod TaskForms
 mod TaskReading
 mod TaskLaws
@@ -32,5 +34,8 @@ mod Directed
 mod Doubles
 mod ClockForms
 mod ReasonForms
+mod SentAs
+mod SameRules
 mod Laying
 mod Repeating
+mod FirstSendings

@@ -1,19 +1,23 @@
 -- Where targets are, as lines of a text say it, and what follows for the tasks of a target and for an answer.
-use Rattle.std.proofs.Common.{◌≡◌, ℕ, zero, suc, ◌+◌, take, drop, ◌<◌, get_or, slice_set, arith, ◌==◌, ◌||◌, ◌⊎◌, inl, inr, not, nat_lt, List, [], ◌∷◌, ◌++◌, length, map, Option, Some, None, true, false, cond, refl, sym, ap, ◌∙◌, subst, append_assoc, append-nil}
-use Rattle.std.proofs.lemmas.Bool.{eq-eqb, eqb-true, and_parts, or_parts, or_cases, not-true, not-false}
+use Rattle.std.proofs.Common.{◌≡◌, ℕ, zero, suc, ◌+◌, take, drop, ◌<◌, get_or, slice_set, arith, ◌==◌, ◌||◌, ◌⊎◌, inl, inr, not, nat_lt, List, [], ◌∷◌, ◌++◌, length, map, Option, Some, None, Bool, true, false, cond, refl, sym, ap, ◌∙◌, subst, append_assoc, append-nil}
+use Rattle.std.proofs.lemmas.Bool.{eq-eqb, eqb-true, and_parts, or_parts, or_cases, not-true, not-false, both_ways}
 use Rattle.std.proofs.Math.Bool.{or-true}
 use Rattle.std.proofs.lemmas.List.Concat.{flat_map-append}
 use Rattle.gc_catalogue.specs.declared.answer.Answer.{Answer}
-use Rattle.gc_values.specs.Directions.{is_near, IsNear}
+use Rattle.gc_values.specs.Decimals.{is_within}
+use Rattle.gc_values.specs.Directions.{is_near}
+use Rattle.gc_values.specs.declared.decimal.Decimal.{Decimal}
 use Rattle.gc_values.specs.declared.direction.Direction.{Direction}
 use Rattle.gc_values.proofs.NearLemmas.{near_is_within}
+use Rattle.gc_values.proofs.WithinLemmas.{is_within_exactly}
 use Rattle.gc_lines.proofs.Lists.{cons_head, cons_tail}
 use Rattle.gc_texts.specs.Chained.{PlacesHoldForAll, UnwatchedHoldForAll}
-use Rattle.gc_texts.specs.Nears.{has_near, near_of, direction_of, is_away, is_elsewhere}
+use Rattle.gc_texts.specs.Nears.{has_near, near_of, direction_of, distance_of, is_away, is_out_of_range, is_elsewhere, IsThere, IsInAnotherDirection, IsAtAnotherDistance, IsAway}
 use Rattle.gc_texts.specs.Tasks.{first_mode, tasks_of, name_at, near_at, nears_of, unwatched_at, unwatched_of, placed, MayFollow}
 use Rattle.gc_texts.specs.Watching.{is_unwatched}
 use Rattle.gc_texts.specs.declared.name.Name.{Name}
 use Rattle.gc_texts.specs.declared.near.Near.{Near}
+use Rattle.gc_texts.specs.declared.near.Range.{Range}
 use Rattle.gc_texts.specs.declared.task_line.TaskLine.{TaskLine}
 use Rattle.gc_texts.specs.declared.task_line.TaskLine.TheVariants as says
 use Rattle.gc_texts.specs.declared.tasks.Task.{Task}
@@ -97,12 +101,24 @@ unwatched_hold text deadline chained all is earlier others task among =
           (ap (is_unwatched task.command.target) (sym is.unwatched_are) ∙ not-false (is_unwatched task.command.target all.unwatched) (sym watched ∙ isnt)),
     )
 
--- an answer that isn't elsewhere, and has a direction, has one that is near its target's place
-pub near_unless_elsewhere : (near : Near) (answer : Answer) (d : Direction)
-    → is_elsewhere (Some near) answer ≡ false → direction_of answer ≡ Some d → IsNear d near.place near.tolerance
+-- an answer that isn't elsewhere is neither in another direction nor at another distance, as the tests of both say
+not_elsewhere : (near : Near) (answer : Answer) → is_elsewhere (Some near) answer ≡ false
+    → (is_away near (direction_of answer) ≡ false) × (is_out_of_range near.range (distance_of answer) ≡ false)
 unfolding is_elsewhere
-near_unless_elsewhere near answer d isnt has =
-    (near_is_within d near.place near.tolerance).0 (not-false (is_near d near.place near.tolerance) (ap (is_away near) (sym has) ∙ isnt))
+not_elsewhere near answer isnt = or_parts (is_away near (direction_of answer)) (is_out_of_range near.range (distance_of answer)) isnt
+
+-- an answer that isn't elsewhere was measured at its target, as far as it says where
+pub there_unless_elsewhere : (near : Near) (answer : Answer) → is_elsewhere (Some near) answer ≡ false → IsThere near answer
+there_unless_elsewhere near answer isnt =
+    let both = not_elsewhere near answer isnt in
+    record {
+      direction = λ d has.
+          (near_is_within d near.place near.tolerance).0 (not-false (is_near d near.place near.tolerance) (ap (is_away near) (sym has) ∙ both.0));
+      distance = λ range d known has.
+          (is_within_exactly d range.distance range.tolerance).0
+          (not-false (is_within d range.distance range.tolerance)
+          (ap (is_out_of_range (Some range)) (sym has) ∙ ap (λ r. is_out_of_range r (distance_of answer)) (sym known) ∙ both.1));
+    }
 
 -- the tasks, when the loop has given the first i of them their places, and the others none yet
 abbrev pub first_placed : List Near → (unwatched : List ℕ) → (i : ℕ) → List Task → List Task
@@ -125,16 +141,37 @@ next_is_placed nears unwatched tasks now i d new is below e =
     let one : suc i ≡ i + 1 = omega arith in
     ap (slice_set now i) e ∙ ap (λ ts. slice_set ts i (placed nears unwatched (get_or ts i d))) is ∙ first_placed_grows nears unwatched tasks i d below ∙ ap (λ n. first_placed nears unwatched n tasks) one
 
--- where an answer is elsewhere, a place is known of its target, and the answer has a direction that isn't near that place
+-- a direction that isn't near the place of the target
+away_by_direction : (near : Near) (answer : Answer) (o : Option Direction) → direction_of answer ≡ o → is_away near o ≡ true → IsInAnotherDirection near answer
+away_by_direction near answer None has away = cc
+away_by_direction near answer (Some d) has away =
+    let isnt : is_near d near.place near.tolerance ≡ false = not-true (is_near d near.place near.tolerance) away in
+    record { direction = d; toward = has; away = λ is. both_ways (is_near d near.place near.tolerance) isnt ((near_is_within d near.place near.tolerance).1 is) }
+
+-- a distance that isn't within the tolerance of the target's
+away_by_distance : (near : Near) (answer : Answer) (range : Option Range) (o : Option Decimal) → near.range ≡ range → distance_of answer ≡ o
+    → is_out_of_range range o ≡ true → IsAtAnotherDistance near answer
+away_by_distance near answer None o known has away = cc
+away_by_distance near answer (Some range) None known has away = cc
+away_by_distance near answer (Some range) (Some d) known has away =
+    let isnt : is_within d range.distance range.tolerance ≡ false = not-true (is_within d range.distance range.tolerance) away in
+    record {
+      range = range;
+      distance = d;
+      known = known;
+      measured = has;
+      away = λ is. both_ways (is_within d range.distance range.tolerance) isnt ((is_within_exactly d range.distance range.tolerance).1 is);
+    }
+
+-- where an answer is elsewhere, a place is known of its target, and the answer was measured away from it
 pub elsewhere_has_place : (place : Option Near) (answer : Answer) → is_elsewhere place answer ≡ true
-    → (near : Near) × (d : Direction) × (place ≡ Some near) × (direction_of answer ≡ Some d) × (IsNear d near.place near.tolerance → ⊥)
+    → (near : Near) × (place ≡ Some near) × IsAway near answer
 unfolding is_elsewhere
 elsewhere_has_place None answer away = cc
-elsewhere_has_place (Some near) answer away = by_direction (direction_of answer) refl where
-  -- the lemma above, by the answer's direction: without one it isn't elsewhere, so there is one, and it isn't near
-  by_direction : (o : Option Direction) → direction_of answer ≡ o
-      → (n : Near) × (d : Direction) × (Some near ≡ Some n) × (direction_of answer ≡ Some d) × (IsNear d n.place n.tolerance → ⊥)
-  by_direction None has = let bad : false ≡ true = ap (is_away near) (sym has) ∙ away in cc
-  by_direction (Some d) has =
-      let isnt : is_near d near.place near.tolerance ≡ false = not-true (is_near d near.place near.tolerance) (ap (is_away near) (sym has) ∙ away) in
-      (near, d, refl, has, λ is. let bad : true ≡ false = sym ((near_is_within d near.place near.tolerance).1 is) ∙ isnt in cc)
+elsewhere_has_place (Some near) answer away = (near, refl, by_test (is_away near (direction_of answer)) refl) where
+  -- the answer was measured away from the target, by its direction or by its distance
+  by_test : (b : Bool) → is_away near (direction_of answer) ≡ b → IsAway near answer
+  by_test true is = inl (away_by_direction near answer (direction_of answer) refl is)
+  by_test false is =
+      inr (away_by_distance near answer near.range (distance_of answer) refl refl
+      (ap (λ b. b || is_out_of_range near.range (distance_of answer)) (sym is) ∙ away))

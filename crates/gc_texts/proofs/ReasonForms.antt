@@ -24,7 +24,7 @@ second_digit_low [] are = omega arith
 second_digit_low (a ∷ []) are = omega arith
 second_digit_low (a ∷ b ∷ bs) are = are.1.0.1
 
--- the kinds of words, distinguished by the second byte: 0 a code, and 1 to 5 the outcomes
+-- the kinds of words, distinguished by the second byte: 0 a code, and 1 to 6 the outcomes
 abbrev reason_kind : Reason → ℕ
 reason_kind (reason.Code code) = 0
 reason_kind reason.Unreadable = 1
@@ -32,16 +32,17 @@ reason_kind reason.Elsewhere = 2
 reason_kind reason.Late = 3
 reason_kind reason.Lost = 4
 reason_kind reason.Skipped = 5
+reason_kind reason.Disagree = 6
 
--- the kind of a word with this second byte: 110 is n, 108 l, 97 a, 111 o and 107 k; any other is a code's
+-- the kind of a word with this second byte: 110 is n, 108 l, 97 a, 111 o, 107 k and 105 i; any other is a code's
 abbrev kind_by_second_byte : ℕ → ℕ
-kind_by_second_byte b = if b == 110 then 1 else if b == 108 then 2 else if b == 97 then 3 else if b == 111 then 4 else if b == 107 then 5 else 0
+kind_by_second_byte b = if b == 110 then 1 else if b == 108 then 2 else if b == 97 then 3 else if b == 111 then 4 else if b == 107 then 5 else if b == 105 then 6 else 0
 
 -- a byte up to that of 9 is of the kind of a code
 low_byte_is_of_code : (b : ℕ) → b ≤ 57 → kind_by_second_byte b ≡ 0
 low_byte_is_of_code b low =
     let other : (n : ℕ) → 57 < n → (b == n) ≡ false = λ n high. ne_eqb b n (λ e. omega (arith, e, low, high)) in
-    rw (other 110 (omega arith), other 108 (omega arith), other 97 (omega arith), other 111 (omega arith), other 107 (omega arith)) refl
+    rw (other 110 (omega arith), other 108 (omega arith), other 97 (omega arith), other 111 (omega arith), other 107 (omega arith), other 105 (omega arith)) refl
 
 -- the second byte of a word, or 0 where it has none, shows its kind
 second_byte_shows_kind : (word : List ℕ) (r : Reason) → IsReason word r → kind_by_second_byte (get_or word 1 0) ≡ reason_kind r
@@ -51,6 +52,7 @@ second_byte_shows_kind word reason.Elsewhere is = ap (λ bs. kind_by_second_byte
 second_byte_shows_kind word reason.Late is = ap (λ bs. kind_by_second_byte (get_or bs 1 0)) is
 second_byte_shows_kind word reason.Lost is = ap (λ bs. kind_by_second_byte (get_or bs 1 0)) is
 second_byte_shows_kind word reason.Skipped is = ap (λ bs. kind_by_second_byte (get_or bs 1 0)) is
+second_byte_shows_kind word reason.Disagree is = ap (λ bs. kind_by_second_byte (get_or bs 1 0)) is
 
 -- where a word is `a` and is `b`, and both are of one kind, they are the same
 same_reason : (word : List ℕ) (a b : Reason) → IsReason word a → IsReason word b → reason_kind a ≡ reason_kind b → a ≡ b
@@ -60,6 +62,7 @@ same_reason word reason.Elsewhere reason.Elsewhere x y h = refl
 same_reason word reason.Late reason.Late x y h = refl
 same_reason word reason.Lost reason.Lost x y h = refl
 same_reason word reason.Skipped reason.Skipped x y h = refl
+same_reason word reason.Disagree reason.Disagree x y h = refl
 same_reason word a b x y h = absurd (omega (arith, h))
 
 -- a word is one code or outcome at most
@@ -74,6 +77,7 @@ reason_lacks_space word reason.Elsewhere is = subst (Lacks 32) (sym is) (lacks_b
 reason_lacks_space word reason.Late is = subst (Lacks 32) (sym is) (lacks_by_test 32 (codes "late") refl)
 reason_lacks_space word reason.Lost is = subst (Lacks 32) (sym is) (lacks_by_test 32 (codes "lost") refl)
 reason_lacks_space word reason.Skipped is = subst (Lacks 32) (sym is) (lacks_by_test 32 (codes "skipped") refl)
+reason_lacks_space word reason.Disagree is = subst (Lacks 32) (sym is) (lacks_by_test 32 (codes "disagree") refl)
 
 -- a word of a line `retry` has no space, and is one code or outcome at most
 reason_form : IsWordForm IsReason
@@ -139,6 +143,7 @@ count_grows_by_word count reason.Elsewhere = omega arith
 count_grows_by_word count reason.Late = omega arith
 count_grows_by_word count reason.Lost = omega arith
 count_grows_by_word count reason.Skipped = omega arith
+count_grows_by_word count reason.Disagree = omega arith
 
 -- with more words there are no fewer codes
 codes_grow : (count : ℕ) (later : List Reason) → count ≤ count_with_words count later
@@ -161,6 +166,7 @@ no_room_exceeds_16 count reason.Elsewhere e = cc
 no_room_exceeds_16 count reason.Late e = cc
 no_room_exceeds_16 count reason.Lost e = cc
 no_room_exceeds_16 count reason.Skipped e = cc
+no_room_exceeds_16 count reason.Disagree e = cc
 
 -- where there is room for a word, there are at most 16 codes with it
 room_keeps_to_16 : (count : ℕ) (r : Reason) → count ≤ 16 → allows_word count r ≡ true → count_with count r ≤ 16
@@ -170,6 +176,7 @@ room_keeps_to_16 count reason.Elsewhere few e = few
 room_keeps_to_16 count reason.Late few e = few
 room_keeps_to_16 count reason.Lost few e = few
 room_keeps_to_16 count reason.Skipped few e = few
+room_keeps_to_16 count reason.Disagree few e = few
 
 -- the text `now` is left, and `word` is its next word
 module _

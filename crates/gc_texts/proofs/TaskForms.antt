@@ -5,11 +5,11 @@ use Rattle.gc_catalogue.specs.declared.asked.Asked.{Asked}
 use Rattle.gc_catalogue.specs.declared.asked.Asked.TheVariants.{Table, Raw}
 use Rattle.gc_values.specs.Digits.{AreDigits}
 use Rattle.gc_values.proofs.DecimalLaws.{spells_unique}
-use Rattle.gc_texts.specs.Cuts.{Cuts}
+use Rattle.gc_texts.specs.Cuts.{Cuts, behind}
 use Rattle.gc_texts.specs.Names.{is_name}
 use Rattle.gc_texts.specs.Procedures.{IsNumber, IsTarget}
 use Rattle.gc_texts.specs.Troubles.{NoTarget}
-use Rattle.gc_texts.specs.Nears.{AreNearWords, IsNearText}
+use Rattle.gc_texts.specs.Nears.{AreRangeWords, IsRangeOf, AreNearWords, IsNearText}
 use Rattle.gc_texts.specs.TaskLines.{IsDeadlineLine, IsNameLine, IsNearLine, IsUnwatchedLine, SetsAccepted, IsCommandLine, IsTaskLine}
 use Rattle.gc_texts.specs.Wishes.{AsksFor}
 use Rattle.gc_texts.specs.Words.{first_word, second_word, third_word, after_three_words}
@@ -17,10 +17,12 @@ use Rattle.gc_texts.specs.declared.codes.Codes.{Codes}
 use Rattle.gc_texts.specs.declared.wish.Wish.{Wish}
 use Rattle.gc_texts.specs.declared.name.Name.{Name}
 use Rattle.gc_texts.specs.declared.near.Near.{Near}
+use Rattle.gc_texts.specs.declared.near.Range.{Range}
 use Rattle.gc_texts.specs.declared.task_line.TaskLine.{TaskLine}
 use Rattle.gc_texts.specs.declared.task_line.TaskLine.TheVariants as says
 use Rattle.gc_texts.specs.LineForms.{IsReadAs}
-use Rattle.gc_texts.proofs.Cutting.{read_alike, holds_of_rest, cut_found, one_front, digits_lack_spaces}
+use Rattle.gc_texts.proofs.Cutting.{read_alike, holds_of_rest, cut_once, cut_found, one_front, digits_lack_spaces}
+use Rattle.gc_texts.proofs.AgreeForms.{one_agreeing, accept_is_no_agree, agree_is_no_start}
 use Rattle.gc_texts.proofs.ClockForms.{one_clock, wish_is_no_clock}
 use Rattle.gc_texts.proofs.CodeForms.{one_accepting}
 use Rattle.gc_texts.proofs.ReasonForms.{one_retrying}
@@ -59,7 +61,7 @@ module _ (line rest : List ℕ) (name : Name) (e : line ≡ codes "name " ++ res
       cc
 
 -- the kinds of lines, distinguished by the first byte: 0 a command, 1 `deadline`, 2 `chained`, 3 `unchained` or `unwatched`, which
--- begin alike, 4 `name` or `near`, which begin alike, too, 5 `accept` or `at start`, which begin alike, too, 6 `retry`, 7 `each cycle`
+-- begin alike, 4 `name` or `near`, which begin alike, too, 5 `accept`, `agree` or `at start`, which begin alike, too, 6 `retry`, 7 `each cycle`
 abbrev said_kind : TaskLine → ℕ
 said_kind (says.Command command now) = 0
 said_kind (says.Deadline deadline) = 1
@@ -70,6 +72,7 @@ said_kind (says.Locating near) = 4
 said_kind (says.Unwatching target) = 3
 said_kind (says.Accepting accepted) = 5
 said_kind (says.Retrying retry) = 6
+said_kind (says.Agreeing agree) = 5
 said_kind says.AtStart = 5
 said_kind says.EachCycle = 7
 
@@ -128,6 +131,8 @@ first_byte_shows_kind line (says.Accepting accepted) (inl alone) = ap line_kind 
 first_byte_shows_kind line (says.Accepting accepted) (inr is) = ap line_kind is.line_is
 first_byte_shows_kind line (says.Retrying retry) (inl alone) = ap line_kind alone.0
 first_byte_shows_kind line (says.Retrying retry) (inr is) = ap line_kind is.line_is
+first_byte_shows_kind line (says.Agreeing None) is = ap line_kind is
+first_byte_shows_kind line (says.Agreeing (Some agree)) is = ap line_kind is.line_is
 first_byte_shows_kind line says.AtStart is = ap line_kind is
 first_byte_shows_kind line says.EachCycle is = ap line_kind is
 
@@ -148,26 +153,64 @@ one_naming line m n x y =
     (digits_lack_spaces x.target_text x.target_is.names.digits) (digits_lack_spaces y.target_text y.target_is.names.digits) in
     same_name m n (one_number y.target_text m.target n.target 4294967295 (subst (λ (t : List ℕ). IsTarget t m.target) parts.0 x.target_is) y.target_is) parts.1
 
--- two places with equal targets, directions and tolerances are equal
-same_near : (m n : Near) → m.target ≡ n.target → m.place.hz ≡ n.place.hz → m.place.v ≡ n.place.v → m.tolerance ≡ n.tolerance → m ≡ n
-same_near m n e f g h =
-    ap (λ t. record { target = t; place = m.place; tolerance = m.tolerance }) e
-    ∙ ap (λ z. record { target = n.target; place = record { hz = z; v = m.place.v }; tolerance = m.tolerance }) f
-    ∙ ap (λ z. record { target = n.target; place = record { hz = n.place.hz; v = z }; tolerance = m.tolerance }) g
-    ∙ ap (λ z. record { target = n.target; place = n.place; tolerance = z }) h
+-- two places with equal targets, directions, tolerances and ranges are equal
+same_near : (m n : Near) → m.target ≡ n.target → m.place.hz ≡ n.place.hz → m.place.v ≡ n.place.v → m.tolerance ≡ n.tolerance → m.range ≡ n.range → m ≡ n
+same_near m n e f g h k =
+    ap (λ t. record { target = t; place = m.place; tolerance = m.tolerance; range = m.range }) e
+    ∙ ap (λ z. record { target = n.target; place = record { hz = z; v = m.place.v }; tolerance = m.tolerance; range = m.range }) f
+    ∙ ap (λ z. record { target = n.target; place = record { hz = n.place.hz; v = z }; tolerance = m.tolerance; range = m.range }) g
+    ∙ ap (λ z. record { target = n.target; place = n.place; tolerance = z; range = m.range }) h
+    ∙ ap (λ r. record { target = n.target; place = n.place; tolerance = n.tolerance; range = r }) k
 
--- four words say one place at most
-one_near : (target hz v tolerance : List ℕ) (m n : Near)
-    → AreNearWords target hz v tolerance m → AreNearWords target hz v tolerance n → m ≡ n
-one_near target hz v tolerance m n x y =
+-- two words say one range at most
+one_range : (distance tolerance : List ℕ) (m n : Range) → AreRangeWords distance tolerance m → AreRangeWords distance tolerance n → m ≡ n
+one_range distance tolerance m n x y =
+    ap (λ d. record { distance = d; tolerance = m.tolerance }) (spells_unique distance m.distance n.distance x.distance_is y.distance_is)
+    ∙ ap (λ t. record { distance = n.distance; tolerance = t }) (spells_unique tolerance m.tolerance n.tolerance x.tolerance_is y.tolerance_is)
+
+-- what follows the tolerance of a target's angles says one thing of its distance at most
+one_range_of : (words : Option (List ℕ)) (m n : Option Range) → IsRangeOf words m → IsRangeOf words n → m ≡ n
+one_range_of None m n x y = x ∙ sym y
+one_range_of (Some words) (Some m) (Some n) x y = ap Some (one_range (first_word words) (behind 32 words) m n x y)
+one_range_of (Some words) None n x y = absurd x
+one_range_of (Some words) (Some m) None x y = absurd y
+
+-- four words, and what follows them, say one place at most
+one_near : (target hz v tolerance : List ℕ) (words : Option (List ℕ)) (m n : Near)
+    → AreNearWords target hz v tolerance words m → AreNearWords target hz v tolerance words n → m ≡ n
+one_near target hz v tolerance words m n x y =
     same_near m n (one_number target m.target n.target 4294967295 x.target_is y.target_is)
     (spells_unique hz m.place.hz n.place.hz x.hz_is y.hz_is) (spells_unique v m.place.v n.place.v x.v_is y.v_is) (spells_unique tolerance m.tolerance n.tolerance x.tolerance_is y.tolerance_is)
+    (one_range_of words m.range n.range x.range_is y.range_is)
+
+-- the words of a text that says a place, cut at its spaces, say it
+near_words : (text tolerance : List ℕ) (words : Option (List ℕ)) (near : Near)
+    → Cuts 32 (after_three_words text) tolerance words → IsNearText text near
+    → AreNearWords (first_word text) (second_word text) (third_word text) tolerance words near
+near_words text tolerance words near cut is =
+    let same = cut_once 32 (after_three_words text) is.tolerance tolerance is.words words is.cut cut in
+    subst (λ ws. AreNearWords (first_word text) (second_word text) (third_word text) tolerance ws near) same.1
+    (subst (λ t. AreNearWords (first_word text) (second_word text) (third_word text) t is.words near) same.0 is.are)
+
+-- a text says one place at most
+one_place : (text : List ℕ) (m n : Near) → IsNearText text m → IsNearText text n → m ≡ n
+one_place text m n x y =
+    one_near (first_word text) (second_word text) (third_word text) y.tolerance y.words m n (near_words text y.tolerance y.words m y.cut x) y.are
+
+-- the place that is read of the words of a text, cut at its spaces, or `None`, is also read of the text (`IsReadAs`)
+pub place_of_words : (text target hz v tolerance : List ℕ) (words : Option (List ℕ)) (r : Option Near)
+    → target ≡ first_word text → hz ≡ second_word text → v ≡ third_word text → Cuts 32 (after_three_words text) tolerance words
+    → IsReadAs (AreNearWords target hz v tolerance words) r → IsReadAs (IsNearText text) r
+place_of_words text target hz v tolerance words r e f g cut read =
+    read_alike (AreNearWords (first_word text) (second_word text) (third_word text) tolerance words) (IsNearText text) r
+    (λ near are. record { tolerance = tolerance; words = words; cut = cut; are = are }) (λ near is. near_words text tolerance words near cut is)
+    (subst (λ w. IsReadAs (AreNearWords (first_word text) (second_word text) w tolerance words) r) g
+    (subst (λ w. IsReadAs (AreNearWords (first_word text) w v tolerance words) r) f
+    (subst (λ w. IsReadAs (AreNearWords w hz v tolerance words) r) e read)))
 
 -- a line gives one place at most
 one_locating : (line : List ℕ) (m n : Near) → IsNearLine line m → IsNearLine line n → m ≡ n
-one_locating line m n x y =
-    one_near (first_word y.rest) (second_word y.rest) (third_word y.rest) (after_three_words y.rest) m n
-    (holds_of_rest (codes "near ") (λ r. IsNearText r m) line y.rest y.line_is x) y.is
+one_locating line m n x y = one_place y.rest m n (holds_of_rest (codes "near ") (λ r. IsNearText r m) line y.rest y.line_is x) y.is
 
 -- if a line is `near ` and `rest`, the place that is read of `rest`, or `None`, is also read of the line (`IsReadAs`)
 pub place_of_rest : (line rest : List ℕ) (r : Option Near) → line ≡ codes "near " ++ rest
@@ -222,10 +265,15 @@ same_said line (says.Locating m) (says.Locating n) x y h = ap says.Locating (one
 same_said line (says.Unwatching m) (says.Unwatching n) x y h = ap says.Unwatching (one_unwatching line m n x y)
 same_said line (says.Accepting a) (says.Accepting b) x y h = ap says.Accepting (one_accepting line a b x y)
 same_said line (says.Retrying a) (says.Retrying b) x y h = ap says.Retrying (one_retrying line a b x y)
+same_said line (says.Agreeing a) (says.Agreeing b) x y h = ap says.Agreeing (one_agreeing line a b x y)
 same_said line says.AtStart says.AtStart x y h = refl
 same_said line says.EachCycle says.EachCycle x y h = refl
 same_said line (says.Accepting a) says.AtStart x y h = absurd (accept_is_no_start line a x y)
 same_said line says.AtStart (says.Accepting a) x y h = absurd (accept_is_no_start line a y x)
+same_said line (says.Accepting a) (says.Agreeing b) x y h = absurd (accept_is_no_agree line a b x y)
+same_said line (says.Agreeing b) (says.Accepting a) x y h = absurd (accept_is_no_agree line a b y x)
+same_said line (says.Agreeing a) says.AtStart x y h = absurd (agree_is_no_start line a x y)
+same_said line says.AtStart (says.Agreeing a) x y h = absurd (agree_is_no_start line a y x)
 same_said line (says.Naming m) (says.Locating n) x y h = absurd (name_is_no_near line m n x y)
 same_said line (says.Locating m) (says.Naming n) x y h = absurd (name_is_no_near line n m y x)
 same_said line says.Unchained (says.Unwatching n) x y h = absurd (unchained_is_no_unwatched line n x y)

@@ -7,13 +7,17 @@ use Rattle.std.proofs.lemmas.List.{length-map, map-append}
 use Rattle.std.proofs.SliceLists.{all_by_recursion_push}
 use Rattle.std.proofs.lemmas.Bool.{eqb-true, and_parts, both_ways}
 use Rattle.std.proofs.lemmas.Bool.Decides.{nat_tests}
+use Rattle.std.proofs.lemmas.Option.{same_Some}
 use Rattle.gc_texts.specs.Again.{no_again}
 use Rattle.gc_texts.specs.Codes.{no_codes}
 use Rattle.gc_texts.specs.Commands.{IsCommand}
 use Rattle.gc_texts.specs.Laws.{OneTaskList, CommandsAreTasks, plain_tasks, CommandsArePlain, KeepTargets, IsOneChain, ChainsKeepTargets}
-use Rattle.gc_texts.specs.Attempts.{in_attempt, attempts_from, attempts, laid_from, laid_out}
+use Rattle.gc_texts.specs.Attempts.{attempt_number, in_attempt, attempts_from, tasks_planned, attempts, laid_from, laid_out}
+use Rattle.gc_texts.specs.Sendings.{sendings}
 use Rattle.gc_texts.specs.Retries.{no_retry}
 use Rattle.gc_texts.specs.declared.again.Again.{Again}
+use Rattle.gc_texts.specs.declared.agree.Agree.{Agree}
+use Rattle.gc_texts.specs.declared.agree.Twice.TheVariants.{Once}
 use Rattle.gc_texts.specs.declared.retry.Retry.{Retry}
 use Rattle.gc_texts.specs.declared.attempts.Planned.{Planned}
 use Rattle.gc_texts.specs.LineForms.{is_kept, text_lines, AreLinesOf}
@@ -28,6 +32,7 @@ use Rattle.gc_texts.specs.declared.task_line.TaskLine.TheVariants as says
 use Rattle.gc_texts.specs.declared.mode.Mode.{Mode}
 use Rattle.gc_texts.specs.declared.tasks.Task.{Task}
 use Rattle.gc_texts.proofs.OneReading.{one_list}
+use Rattle.gc_texts.proofs.SentAs.{all_sendings}
 use Rattle.gc_texts.proofs.TaskForms.{one_said}
 
 -- what two texts give is the same if the numbers of setup tasks are, the tasks, the names, the places and the unwatched targets
@@ -86,40 +91,51 @@ pub record IsAsPlanned (task : Task) : Type 0 where
 abbrev pub AreAsPlanned : List Planned → Type 0
 AreAsPlanned planned = AllByRecursion (λ p. IsAsPlanned p.task) planned
 
--- a command that isn't repeated, with its task as planned (`IsAsPlanned`)
+-- a command that isn't repeated, and is sent once in an attempt, with its task as planned (`IsAsPlanned`)
 record IsSentOnce (planned : Planned) : Type 0 where
   retry : planned.retry ≡ no_retry
+  agree : planned.agree ≡ None
+  twice : planned.task.twice ≡ Once
   task : IsAsPlanned planned.task
 
 -- the first attempt of a command whose chain is sent once is its task
-first_attempt_is_task : (n : ℕ) (p : Planned) → IsSentOnce p → in_attempt 1 no_again n p ≡ p.task
+first_attempt_is_task : (n : ℕ) (p : Planned) → IsSentOnce p → in_attempt 1 no_again n p.task ≡ p.task
 first_attempt_is_task n p h =
-    ap (λ a. record p.task { again = a; turn = record { place = p.task.turn.place; attempt = 1; link = p.task.turn.link }; others = 0 }) (sym h.task.again)
+    ap (λ w. record p.task { again = no_again; turn = record { place = p.task.turn.place; attempt = attempt_number 1 w; link = p.task.turn.link }; others = 0 }) h.twice
+    ∙ ap (λ a. record p.task { again = a; turn = record { place = p.task.turn.place; attempt = 1; link = p.task.turn.link }; others = 0 }) (sym h.task.again)
     ∙ ap (λ k. record p.task { turn = record { place = p.task.turn.place; attempt = k; link = p.task.turn.link }; others = 0 }) (sym h.task.attempt)
     ∙ ap (λ k. record p.task { others = k }) (sym h.task.others)
 
 -- the first attempts of commands whose chains are sent once are their tasks
-first_attempts_are_tasks : (n : ℕ) (ps : List Planned) → AllByRecursion IsSentOnce ps → map (in_attempt 1 no_again n) ps ≡ map (λ p. p.task) ps
+first_attempts_are_tasks : (n : ℕ) (ps : List Planned) → AllByRecursion IsSentOnce ps → map (in_attempt 1 no_again n) (tasks_planned ps) ≡ tasks_planned ps
 first_attempts_are_tasks n [] all = refl
-first_attempts_are_tasks n (p ∷ ps) all = ap (λ t. t ∷ map (in_attempt 1 no_again n) ps) (first_attempt_is_task n p all.0) ∙ ap (λ ts. p.task ∷ ts) (first_attempts_are_tasks n ps all.1)
+first_attempts_are_tasks n (p ∷ ps) all =
+    ap (λ t. t ∷ map (in_attempt 1 no_again n) (tasks_planned ps)) (first_attempt_is_task n p all.0) ∙ ap (λ ts. p.task ∷ ts) (first_attempts_are_tasks n ps all.1)
+
+-- where a chain is sent once, its attempts are its commands' tasks
+attempts_are_tasks : (retry : Retry) (agree : Option Agree) (chain : List Planned) → retry ≡ no_retry → agree ≡ None → AllByRecursion IsSentOnce chain
+    → attempts retry agree chain ≡ tasks_planned chain
+attempts_are_tasks retry agree chain none once all =
+    ap (λ r. attempts r agree chain) none ∙ ap (λ a. attempts no_retry a chain) once ∙ first_attempts_are_tasks (length (tasks_planned chain)) chain all
 
 -- where all chains are sent once, their attempts are the commands' tasks
-laid_once : (retry : Retry) (chain later : List Planned) → retry ≡ no_retry → AllByRecursion IsSentOnce chain → AllByRecursion IsSentOnce later
-    → laid_from retry chain later ≡ map (λ p. p.task) chain ++ map (λ p. p.task) later
-laid_once retry chain [] none all rest = ap (λ r. attempts r chain) none ∙ first_attempts_are_tasks (length chain) chain all ∙ sym (append-nil (map (λ p. p.task) chain))
-laid_once retry chain (p ∷ later) none all rest =
-    by_chained (laid_once retry (chain ++ p ∷ []) later none (all_by_recursion_push IsSentOnce chain p all rest.0) rest.1)
-    (laid_once p.retry (p ∷ []) later rest.0.retry (rest.0, tt) rest.1) p.task.chained where
+laid_once : (retry : Retry) (agree : Option Agree) (chain later : List Planned)
+    → retry ≡ no_retry → agree ≡ None → AllByRecursion IsSentOnce chain → AllByRecursion IsSentOnce later
+    → laid_from retry agree chain later ≡ tasks_planned chain ++ tasks_planned later
+laid_once retry agree chain [] none once all rest = attempts_are_tasks retry agree chain none once all ∙ sym (append-nil (tasks_planned chain))
+laid_once retry agree chain (p ∷ later) none once all rest =
+    by_chained (laid_once retry agree (chain ++ p ∷ []) later none once (all_by_recursion_push IsSentOnce chain p all rest.0) rest.1)
+    (laid_once p.retry p.agree (p ∷ []) later rest.0.retry rest.0.agree (rest.0, tt) rest.1) p.task.chained where
       -- the lemma above for `p ∷ later`, by whether `p` goes on with the chain (`b`)
-      by_chained : laid_from retry (chain ++ p ∷ []) later ≡ map (λ q. q.task) (chain ++ p ∷ []) ++ map (λ q. q.task) later
-          → laid_from p.retry (p ∷ []) later ≡ p.task ∷ map (λ q. q.task) later → (b : Bool)
-          → (if b then laid_from retry (chain ++ p ∷ []) later else attempts retry chain ++ laid_from p.retry (p ∷ []) later)
-          ≡ map (λ q. q.task) chain ++ p.task ∷ map (λ q. q.task) later
+      by_chained : laid_from retry agree (chain ++ p ∷ []) later ≡ tasks_planned (chain ++ p ∷ []) ++ tasks_planned later
+          → laid_from p.retry p.agree (p ∷ []) later ≡ p.task ∷ tasks_planned later → (b : Bool)
+          → (if b then laid_from retry agree (chain ++ p ∷ []) later else attempts retry agree chain ++ laid_from p.retry p.agree (p ∷ []) later)
+          ≡ tasks_planned chain ++ p.task ∷ tasks_planned later
       by_chained on anew true =
-          on ∙ ap (λ ts. ts ++ map (λ q. q.task) later) (map-append (λ q. q.task) chain (p ∷ [])) ∙ append_assoc (map (λ q. q.task) chain) (p.task ∷ []) (map (λ q. q.task) later)
+          on ∙ ap (λ ts. ts ++ tasks_planned later) (map-append (λ (q : Planned). q.task) chain (p ∷ [])) ∙ append_assoc (tasks_planned chain) (p.task ∷ []) (tasks_planned later)
       by_chained on anew false =
-          ap (λ r. attempts r chain ++ laid_from p.retry (p ∷ []) later) none ∙ ap (λ ts. ts ++ laid_from p.retry (p ∷ []) later) (first_attempts_are_tasks (length chain) chain all)
-          ∙ ap (λ ts. map (λ q. q.task) chain ++ ts) anew
+          ap (λ ts. ts ++ laid_from p.retry p.agree (p ∷ []) later) (attempts_are_tasks retry agree chain none once all)
+          ∙ ap (λ ts. tasks_planned chain ++ ts) anew
 
 -- this task has no place of its target, and is watched
 record IsUnplaced (task : Task) : Type 0 where
@@ -145,6 +161,7 @@ module _ (deadline : ℕ) (chained : Bool) where
         group = group;
         accepted = no_codes;
         retry = no_retry;
+        agree = None;
         setup = false;
         begun = 0;
         place = place;
@@ -165,7 +182,7 @@ module _ (deadline : ℕ) (chained : Bool) where
       → AllByRecursion IsSentOnce (planned_of (mode_in_cycle group place link) (lines_of commands))
   each_is_sent_once group place link [] = tt
   each_is_sent_once group place link (c ∷ cs) =
-      (record { retry = refl; task = record { near = refl; again = refl; attempt = refl; others = refl } }, each_is_sent_once (Some c.target) (place + 1) (next_link group link c.target) cs)
+      (record { retry = refl; agree = refl; twice = refl; task = record { near = refl; again = refl; attempt = refl; others = refl } }, each_is_sent_once (Some c.target) (place + 1) (next_link group link c.target) cs)
 
   -- no task of commands that are read in such a mode (`mode_in_cycle`) has a place of its target, and all are watched
   none_placed : (group : Option ℕ) (place link : ℕ) (commands : List Command)
@@ -184,7 +201,7 @@ module _ (deadline : ℕ) (chained : Bool) where
       → map (λ p. p.task) (planned_of (first_mode deadline chained) (lines_of commands)) ≡ map (placed [] []) (tasks_of (first_mode deadline chained) (lines_of commands))
   tasks_are_asked commands =
       let planned = planned_of (first_mode deadline chained) (lines_of commands) in
-      let laid : laid_out planned ≡ map (λ p. p.task) planned = laid_once no_retry [] planned refl tt (each_is_sent_once None 0 0 commands) in
+      let laid : laid_out planned ≡ map (λ p. p.task) planned = laid_once no_retry None [] planned refl refl tt (each_is_sent_once None 0 0 commands) in
       sym (unplaced_stay (map (λ p. p.task) planned) (none_placed None 0 0 commands)) ∙ ap (map (placed [] [])) (sym laid)
       ∙ ap (λ ts. map (placed [] []) (ts ++ laid_out planned)) (sym (no_setup None 0 0 commands))
 
@@ -221,6 +238,7 @@ unchained_are_plain deadline group place link (c ∷ cs) =
       turn = record { place = place; attempt = 1; link = 0 };
       others = 0;
       now = false;
+      twice = Once;
     } ∷ l)
     (unchained_are_plain deadline (Some c.target) (place + 1) 1 cs)
 
@@ -251,7 +269,7 @@ group_before group before target (inr same) e = sym same ∙ e
 
 -- commands of the cycle keep targets as their tasks do (`KeepTargets`): each chained one follows one for the same target
 abbrev pub CommandsKeepTargets : Option ℕ → List Planned → Type 0
-CommandsKeepTargets before planned = KeepTargets before (map (λ p. p.task) planned)
+CommandsKeepTargets before planned = KeepTargets before (tasks_planned planned)
 
 -- `before` is the target of the cycle's command before these lines, if there is one. Where the mode is the setup's, or its group
 -- is none or that target, each chained command of the cycle follows one for the same target
@@ -266,7 +284,7 @@ commands_keep_targets mode before (says.Command c now ∷ later) h =
           → (mode.setup ≡ true → CommandsKeepTargets before (planned_of (mode_after mode (says.Command c now)) later))
           → CommandsKeepTargets (Some c.target) (planned_of (mode_after mode (says.Command c now)) later)
           → CommandsKeepTargets before
-          ((if b then [] else record { task = task_at mode c now; retry = mode.retry } ∷ []) ++ planned_of (mode_after mode (says.Command c now)) later)
+          ((if b then [] else record { task = task_at mode c now; retry = mode.retry; agree = mode.agree } ∷ []) ++ planned_of (mode_after mode (says.Command c now)) later)
       by_setup true e h at_start in_cycle = at_start e
       by_setup false e (inl is) at_start in_cycle = let bad : true ≡ false = sym is ∙ e in cc
       by_setup false e (inr is) at_start in_cycle = (
@@ -279,6 +297,7 @@ commands_keep_targets mode before (says.Deadline d ∷ later) h = commands_keep_
 commands_keep_targets mode before (says.Chained ∷ later) h = commands_keep_targets (mode_after mode says.Chained) before later (inr (inl refl))
 commands_keep_targets mode before (says.Unchained ∷ later) h = commands_keep_targets (mode_after mode says.Unchained) before later (inr (inl refl))
 commands_keep_targets mode before (says.Retrying r ∷ later) h = commands_keep_targets (mode_after mode (says.Retrying r)) before later (inr (inl refl))
+commands_keep_targets mode before (says.Agreeing a ∷ later) h = commands_keep_targets (mode_after mode (says.Agreeing a)) before later (inr (inl refl))
 commands_keep_targets mode before (says.AtStart ∷ later) h = commands_keep_targets (mode_after mode says.AtStart) before later (inr (inl refl))
 commands_keep_targets mode before (says.EachCycle ∷ later) h = commands_keep_targets (mode_after mode says.EachCycle) before later (inr (inl refl))
 commands_keep_targets mode before (line ∷ later) h = commands_keep_targets (mode_after mode line) before later h
@@ -294,51 +313,90 @@ keep_targets_together before [] ys first second = keep_targets_after_any before 
 keep_targets_together before (x ∷ xs) ys first second = (first.0, keep_targets_together (Some x.command.target) xs ys first.1 second)
 
 -- where commands keep targets after a command for the target `before`, if there is one, so do the tasks of one attempt of them
-attempt_keeps_targets : (attempt : ℕ) (again : Again) (n : ℕ) (before : Option ℕ) (ps : List Planned)
-    → CommandsKeepTargets before ps → KeepTargets before (map (in_attempt attempt again n) ps)
+attempt_keeps_targets : (attempt : ℕ) (again : Again) (n : ℕ) (before : Option ℕ) (commands : List Task)
+    → KeepTargets before commands → KeepTargets before (map (in_attempt attempt again n) commands)
 attempt_keeps_targets attempt again n before [] are = tt
-attempt_keeps_targets attempt again n before (p ∷ ps) are = (are.0, attempt_keeps_targets attempt again n (Some p.task.command.target) ps are.1)
+attempt_keeps_targets attempt again n before (t ∷ ts) are = (are.0, attempt_keeps_targets attempt again n (Some t.command.target) ts are.1)
 
--- where the commands of a chain keep targets with none before them, so do the tasks of its attempts from `attempt` on
-attempts_keep_targets : (attempt left : ℕ) (again : Again) (chain : List Planned)
-    → CommandsKeepTargets None chain → KeepTargets None (attempts_from attempt left again chain)
-attempts_keep_targets attempt zero again chain are = attempt_keeps_targets attempt no_again (length chain) None chain are
-attempts_keep_targets attempt (suc left) again chain are =
-    keep_targets_together None (map (in_attempt attempt again (length chain * suc (suc left))) chain) (attempts_from (attempt + 1) left again chain)
-    (attempt_keeps_targets attempt again (length chain * suc (suc left)) None chain are) (attempts_keep_targets (attempt + 1) left again chain are)
+-- where the commands of an attempt keep targets with none before them, so do the tasks of the attempts from `attempt` on
+attempts_keep_targets : (attempt left : ℕ) (again : Again) (commands : List Task)
+    → KeepTargets None commands → KeepTargets None (attempts_from attempt left again commands)
+attempts_keep_targets attempt zero again commands are = attempt_keeps_targets attempt no_again (length commands) None commands are
+attempts_keep_targets attempt (suc left) again commands are =
+    keep_targets_together None (map (in_attempt attempt again (length commands * suc (suc left))) commands) (attempts_from (attempt + 1) left again commands)
+    (attempt_keeps_targets attempt again (length commands * suc (suc left)) None commands are) (attempts_keep_targets (attempt + 1) left again commands are)
 
--- the target of the last of these commands, or `before` where there is none
-abbrev last_target : Option ℕ → List Planned → Option ℕ
-last_target before [] = before
-last_target before (p ∷ ps) = last_target (Some p.task.command.target) ps
+-- all these tasks are for this target
+abbrev AreFor : ℕ → List Task → Type 0
+AreFor target tasks = AllByRecursion (λ task. task.command.target ≡ target) tasks
 
--- if commands keep targets after `before` (`CommandsKeepTargets`), and one more is chained only if its target is that of the last of
--- them (`last_target`), the commands and the one more keep targets after `before`, too
-keep_targets_and_one_more : (before : Option ℕ) (ps : List Planned) (p : Planned) → CommandsKeepTargets before ps
-    → (p.task.chained ≡ true → last_target before ps ≡ Some p.task.command.target) → CommandsKeepTargets before (ps ++ p ∷ [])
-keep_targets_and_one_more before [] p are is = (is, tt)
-keep_targets_and_one_more before (q ∷ ps) p are is = (are.0, keep_targets_and_one_more (Some q.task.command.target) ps p are.1 is)
+-- the first of these tasks, if there is one, isn't chained
+abbrev BeginsUnchained : List Task → Type 0
+BeginsUnchained [] = Unit {0}
+BeginsUnchained (task ∷ later) = task.chained ≡ false
 
--- the last target (`last_target`) of commands and one more is the target of the one more
-last_target_of_more : (before : Option ℕ) (ps : List Planned) (p : Planned) → last_target before (ps ++ p ∷ []) ≡ Some p.task.command.target
-last_target_of_more before [] p = refl
-last_target_of_more before (q ∷ ps) p = last_target_of_more (Some q.task.command.target) ps p
+-- tasks for one target keep targets after one for that target
+one_target_keeps : (target : ℕ) (tasks : List Task) → AreFor target tasks → KeepTargets (Some target) tasks
+one_target_keeps target [] all = tt
+one_target_keeps target (t ∷ ts) all =
+    ((λ e. ap Some (sym all.0)), subst (λ n. KeepTargets (Some n) ts) (sym all.0) (one_target_keeps target ts all.1))
 
--- where the commands of a chain that was begun keep targets with none before them, and the commands after it do so after its
--- last, the tasks of all attempts of it and of the chains after it keep targets with none before them
-laid_keep_targets : (retry : Retry) (chain later : List Planned)
-    → CommandsKeepTargets None chain → CommandsKeepTargets (last_target None chain) later → KeepTargets None (laid_from retry chain later)
-laid_keep_targets retry chain [] are more = attempts_keep_targets 1 retry.times retry.again chain are
-laid_keep_targets retry chain (p ∷ later) are more =
+-- tasks for one target, of which the first isn't chained, keep targets with none before them
+one_target_begins : (target : ℕ) (tasks : List Task) → BeginsUnchained tasks → AreFor target tasks → KeepTargets None tasks
+one_target_begins target [] is all = tt
+one_target_begins target (t ∷ ts) is all =
+    ((λ e. absurd (both_ways t.chained is e)), subst (λ n. KeepTargets (Some n) ts) (sym all.0) (one_target_keeps target ts all.1))
+
+-- an attempt of a chain begins as the chain does
+sendings_begin : (agree : Option Agree) (chain : List Task) → BeginsUnchained chain → BeginsUnchained (sendings agree chain)
+sendings_begin None chain is = is
+sendings_begin (Some agree) [] is = tt
+sendings_begin (Some agree) (task ∷ later) is = is
+
+-- the tasks of all attempts of a chain for one target keep targets with none before them
+chain_keeps_targets : (retry : Retry) (agree : Option Agree) (target : ℕ) (chain : List Planned)
+    → BeginsUnchained (tasks_planned chain) → AreFor target (tasks_planned chain) → KeepTargets None (attempts retry agree chain)
+chain_keeps_targets retry agree target chain is all =
+    attempts_keep_targets 1 retry.times retry.again (sendings agree (tasks_planned chain))
+    (one_target_begins target (sendings agree (tasks_planned chain)) (sendings_begin agree (tasks_planned chain) is)
+    (all_sendings (λ task. task.command.target ≡ target) (λ count nth task e. e) (λ a count nth task e. e) agree (tasks_planned chain) all))
+
+-- a chain for one target and one more command for it are for that target
+for_one_more : (target : ℕ) (chain : List Planned) (p : Planned) → AreFor target (tasks_planned chain) → p.task.command.target ≡ target
+    → AreFor target (tasks_planned (chain ++ p ∷ []))
+for_one_more target [] p all is = (is, tt)
+for_one_more target (q ∷ chain) p all is = (all.0, for_one_more target chain p all.1 is)
+
+-- where a chain that was begun is for one target, and the commands after it keep targets after one for that target, the tasks of all
+-- attempts of it and of the chains after it keep targets with none before them
+laid_keep_targets : (retry : Retry) (agree : Option Agree) (target : ℕ) (first : Planned) (chain later : List Planned)
+    → BeginsUnchained (tasks_planned (first ∷ chain)) → AreFor target (tasks_planned (first ∷ chain)) → CommandsKeepTargets (Some target) later
+    → KeepTargets None (laid_from retry agree (first ∷ chain) later)
+laid_keep_targets retry agree target first chain [] is all more = chain_keeps_targets retry agree target (first ∷ chain) is all
+laid_keep_targets retry agree target first chain (p ∷ later) is all more =
     by_chained p.task.chained refl
-    (laid_keep_targets retry (chain ++ p ∷ []) later (keep_targets_and_one_more None chain p are more.0) (subst (λ t. CommandsKeepTargets t later) (sym (last_target_of_more None chain p)) more.1))
-    (λ e. laid_keep_targets p.retry (p ∷ []) later ((λ f. absurd (both_ways p.task.chained e f)), tt) more.1) where
+    (λ e. let same : p.task.command.target ≡ target = sym (same_Some target p.task.command.target (more.0 e)) in
+    laid_keep_targets retry agree target first (chain ++ p ∷ []) later is (for_one_more target (first ∷ chain) p all same) (subst (λ n. CommandsKeepTargets (Some n) later) same more.1))
+    (λ e. laid_keep_targets p.retry p.agree p.task.command.target p [] later e (refl, tt) more.1) where
       -- the lemma above for `p ∷ later`, by whether `p` goes on with the chain (`b`)
-      by_chained : (b : Bool) → p.task.chained ≡ b → KeepTargets None (laid_from retry (chain ++ p ∷ []) later)
-          → (p.task.chained ≡ false → KeepTargets None (laid_from p.retry (p ∷ []) later))
-          → KeepTargets None (if b then laid_from retry (chain ++ p ∷ []) later else attempts retry chain ++ laid_from p.retry (p ∷ []) later)
-      by_chained true e on anew = on
-      by_chained false e on anew = keep_targets_together None (attempts retry chain) (laid_from p.retry (p ∷ []) later) (attempts_keep_targets 1 retry.times retry.again chain are) (anew e)
+      by_chained : (b : Bool) → p.task.chained ≡ b
+          → (p.task.chained ≡ true → KeepTargets None (laid_from retry agree (first ∷ (chain ++ p ∷ [])) later))
+          → (p.task.chained ≡ false → KeepTargets None (laid_from p.retry p.agree (p ∷ []) later))
+          → KeepTargets None (if b then laid_from retry agree ((first ∷ chain) ++ p ∷ []) later else attempts retry agree (first ∷ chain) ++ laid_from p.retry p.agree (p ∷ []) later)
+      by_chained true e on anew = on e
+      by_chained false e on anew =
+          keep_targets_together None (attempts retry agree (first ∷ chain)) (laid_from p.retry p.agree (p ∷ []) later)
+          (chain_keeps_targets retry agree target (first ∷ chain) is all) (anew e)
+
+-- where commands keep targets with none before them, so do the tasks of all attempts of their chains
+laid_out_keeps_targets : (planned : List Planned) → CommandsKeepTargets None planned → KeepTargets None (laid_out planned)
+laid_out_keeps_targets [] are = tt
+laid_out_keeps_targets (p ∷ later) are = by_chained p.task.chained refl (λ e. laid_keep_targets p.retry p.agree p.task.command.target p [] later e (refl, tt) are.1) where
+  -- the lemma above for `p ∷ later`: `p` isn't chained, because no command is before it
+  by_chained : (b : Bool) → p.task.chained ≡ b → (p.task.chained ≡ false → KeepTargets None (laid_from p.retry p.agree (p ∷ []) later))
+      → KeepTargets None (if b then laid_from no_retry None ([] ++ p ∷ []) later else attempts no_retry None [] ++ laid_from p.retry p.agree (p ∷ []) later)
+  by_chained true e anew = let bad : None ≡ Some p.task.command.target = are.0 e in cc
+  by_chained false e anew = anew e
 
 -- tasks that keep targets do so, too, once they have their places, which change neither which are chained nor for which target
 -- they are
@@ -398,5 +456,5 @@ chains_keep_targets text deadline chained all is =
       is.setup_is ∙ sym (length-map (setup_of first is.said) (placed all.nears all.unwatched)),
       setup_chain all.nears all.unwatched first is.said,
       placed_keep_targets all.nears all.unwatched None (laid_out (planned_of first is.said))
-          (laid_keep_targets no_retry [] (planned_of first is.said) tt (commands_keep_targets first None is.said (inr (inl refl)))),
+          (laid_out_keeps_targets (planned_of first is.said) (commands_keep_targets first None is.said (inr (inl refl)))),
     )

@@ -67,7 +67,7 @@ counts_after_lines mode (line ∷ lines) n h =
 -- a line gives one command of the cycle at most
 one_planned_at_most : (mode : Mode) (line : TaskLine) → length (planned_at mode line) ≤ 1
 one_planned_at_most mode (says.Command c now) =
-    cond_both mode.setup [] (record { task = task_at mode c now; retry = mode.retry } ∷ []) (λ ps. length ps ≤ 1) (λ _. omega arith) (λ _. omega arith)
+    cond_both mode.setup [] (record { task = task_at mode c now; retry = mode.retry; agree = mode.agree } ∷ []) (λ ps. length ps ≤ 1) (λ _. omega arith) (λ _. omega arith)
 one_planned_at_most mode line = omega arith
 
 -- there are at most as many commands of the cycle as lines

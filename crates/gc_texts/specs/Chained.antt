@@ -1,11 +1,14 @@
 -- What holds of a command in a station's text, by the lines before it: this project's own.
-use Rattle.std.specs.Prelude.{◌≡◌, ◌⊎◌, ℕ, ◌+◌, ◌≤◌, nat_lt, if◌then◌else◌, Bool, not, true, false, List, [], ◌∷◌, ◌++◌, length, Some}
+use Rattle.std.specs.Prelude.{◌≡◌, ◌⊎◌, ℕ, ◌+◌, ◌≤◌, nat_lt, if◌then◌else◌, Bool, not, true, false, List, [], ◌∷◌, ◌++◌, length, Option, None, Some}
 use Rattle.std.specs.List.{AllByRecursion}
 use Rattle.gc_texts.specs.Codes.{no_codes}
 use Rattle.gc_texts.specs.Nears.{near_of}
 use Rattle.gc_texts.specs.Tasks.{TasksSeen, IsTasks}
 use Rattle.gc_texts.specs.Retries.{no_retry}
 use Rattle.gc_texts.specs.Watching.{is_unwatched}
+use Rattle.gc_texts.specs.declared.agree.Agree.{Agree}
+use Rattle.gc_texts.specs.declared.agree.Twice.{Twice}
+use Rattle.gc_texts.specs.declared.agree.Twice.TheVariants.{Once, First}
 use Rattle.gc_texts.specs.declared.codes.Codes.{Codes}
 use Rattle.gc_texts.specs.declared.retry.Retry.{Retry}
 use Rattle.gc_texts.specs.declared.wish.Wish.{Wish}
@@ -93,6 +96,16 @@ SaysNoRetry _ = Unit {0}
 abbrev pub IsRetryAfter : List TaskLine → Retry → Type 0
 IsRetryAfter lines retry = IsSetAfter SaysNoRetry says.Retrying no_retry lines retry
 
+-- a line doesn't set whether chains are sent twice
+abbrev pub SaysNoAgree : TaskLine → Type 0
+SaysNoAgree (says.Agreeing agree) = ⊥
+SaysNoAgree _ = Unit {0}
+
+-- whether chains are sent twice after these lines, and how far apart their answers may be: as the last line `agree` says, and once where
+-- there is none
+abbrev pub IsAgreeAfter : List TaskLine → Option Agree → Type 0
+IsAgreeAfter lines agree = IsSetAfter SaysNoAgree says.Agreeing None lines agree
+
 -- a line that may come between two commands of a group, which is a run of commands for one target, without ending it: a deadline, a
 -- name, where a target is, that a target isn't watched, or accepted codes
 abbrev pub KeepsGroup : TaskLine → Type 0
@@ -109,19 +122,27 @@ EndsInGroupOf lines target =
     (before : List TaskLine) × (command : Wish) × (now : Bool) × (between : List TaskLine)
     × (lines ≡ before ++ says.Command command now ∷ between) × AllByRecursion KeepsGroup between × (command.target ≡ target)
 
+-- the sending of a command of the cycle that follows the lines `front`, in its first task: the first of two where the last line `agree`
+-- says that chains are sent twice, and else the only one
+abbrev pub IsSentAfter : (front : List TaskLine) → Twice → Type 0
+IsSentAfter front twice = (IsAgreeAfter front None × (twice ≡ Once)) ⊎ ((agree : Agree) × IsAgreeAfter front (Some agree) × (twice ≡ First))
+
 -- the task of a command of the cycle that follows the lines `front`: its place counts the cycle's commands among them, and
 -- it is chained exactly where commands are chained there and the command before is for the same target, with no line between
--- the two that ends their group (`KeepsGroup`). `chained` says whether commands are chained where no line says so
+-- the two that ends their group (`KeepsGroup`). It is the only sending, or the first of two, as the lines say. `chained` says whether
+-- commands are chained where no line says so
 pub record IsTaskInCycle (chained : Bool) (front : List TaskLine) (command : Wish) (task : Task) : Type 0 where
   pub place : task.turn.place ≡ cycle_commands false front
   pub only : task.chained ≡ true → IsChainingAfter chained front true × EndsInGroupOf front command.target
   pub found : IsChainingAfter chained front true → EndsInGroupOf front command.target → task.chained ≡ true
+  pub sent : IsSentAfter front task.twice
 
 -- the task of a command of the setup that follows the lines `front`: its place counts the setup's commands among them, and
--- it is chained exactly where there is one
+-- it is chained exactly where there is one. The setup is sent once
 pub record IsTaskOfSetUp (front : List TaskLine) (task : Task) : Type 0 where
   pub place : task.turn.place ≡ setup_commands false front
   pub chained : task.chained ≡ nat_lt 0 (setup_commands false front)
+  pub once : task.twice ≡ Once
 
 -- the task of a command that follows the lines `front`, in the first attempt of its chain, by what holds there. `deadline` and
 -- `chained` hold where no line says otherwise; `now` says whether the command sets the clock to the moment at which it is sent

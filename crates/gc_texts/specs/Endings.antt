@@ -14,9 +14,12 @@ pub data End : Type 0 where
   Answered : (quality : Quality) (answer : Option Answer) (line : List ℕ) → End
   -- its reply came in time, with this line, whose codes are 0, and whose values have this fault
   Unreadable : (line : List ℕ) (fault : ValueFault) → End
-  -- its reply came in time, with this line, whose values read, with return code 0 or with an accepted one taken for 0, and have a
-  -- direction that isn't near where its target is
+  -- its reply came in time, with this line, whose values read, with return code 0 or with an accepted one taken for 0, and were
+  -- measured away from where its target is
   Elsewhere : (line : List ℕ) → End
+  -- its reply came in time, with this line, in the second sending of its chain, and is an answer that isn't refused; but it doesn't agree with
+  -- that of the same command in the first sending
+  Disagree : (line : List ℕ) → End
   -- a reply to it came after it had timed out
   Late : End
   -- no reply came, and one that still comes will be ignored
@@ -32,6 +35,7 @@ abbrev pub ending_seen : Ending → End
 ending_seen (ending.Answered quality answer line) = Answered quality (option_map (λ a. a.now) answer) line.now.items
 ending_seen (ending.Unreadable line fault) = Unreadable line.now.items fault
 ending_seen (ending.Elsewhere line) = Elsewhere line.now.items
+ending_seen (ending.Disagree line) = Disagree line.now.items
 ending_seen ending.Late = Late
 ending_seen ending.Lost = Lost
 ending_seen ending.Skipped = Skipped
@@ -42,6 +46,7 @@ abbrev pub word_of : End → List ℕ
 word_of (Answered quality answer line) = codes "answered"
 word_of (Unreadable line fault) = codes "unreadable"
 word_of (Elsewhere line) = codes "elsewhere"
+word_of (Disagree line) = codes "disagree"
 word_of Late = codes "late"
 word_of Lost = codes "lost"
 word_of Skipped = codes "skipped"
@@ -57,6 +62,7 @@ abbrev pub line_of : End → Option (List ℕ)
 line_of (Answered quality answer line) = Some line
 line_of (Unreadable line fault) = Some line
 line_of (Elsewhere line) = Some line
+line_of (Disagree line) = Some line
 line_of _ = None
 
 -- the quality of the command's answer, if the ending is `Answered`

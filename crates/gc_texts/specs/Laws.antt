@@ -12,6 +12,7 @@ use Rattle.gc_catalogue.specs.Names.{call_name}
 use Rattle.gc_catalogue.specs.declared.call.Call.{Call}
 use Rattle.gc_texts.specs.Logs.{log_text, AreBytes, IsPrintable, IsLogLine}
 use Rattle.gc_texts.specs.Stamps.{stamp_text}
+use Rattle.gc_texts.specs.declared.agree.Twice.TheVariants.{Once}
 use Rattle.gc_texts.specs.declared.commands.Command.{Command}
 use Rattle.gc_texts.specs.declared.tasks.Task.{Task}
 use Rattle.gc_texts.specs.declared.log_line.LogMark.{LogMark}
@@ -38,7 +39,7 @@ CommandsAreTasks =
     (text : List ℕ) (commands : List Command) (deadline : ℕ) (chained : Bool) → IsCommands text commands →
     (tasks : List Task) × IsTasks text deadline chained (tasks_alone tasks) × (map (λ task. task.command) tasks ≡ map wish_of commands)
 
--- the tasks of these commands, numbered from `place` on: each is in its first attempt, has this deadline, isn't chained,
+-- the tasks of these commands, numbered from `place` on: each is in its first attempt, is sent once in it, has this deadline, isn't chained,
 -- doesn't set the clock to the moment at which it is sent, is watched, and has no place of its target, no accepted code and no rule
 -- of repetition
 abbrev pub plain_tasks : (deadline place : ℕ) → List Command → List Task
@@ -55,6 +56,7 @@ plain_tasks deadline place (command ∷ others) =
       turn = record { place = place; attempt = 1; link = 0 };
       others = 0;
       now = false;
+      twice = Once;
     } ∷ plain_tasks deadline (place + 1) others
 
 -- a command text, read as a station's text without chains, gives one task for each command, in order: with the caller's

@@ -8,10 +8,12 @@ pub mod Wishes
 pub mod Names
 pub mod Nears
 pub mod Codes
+pub mod Agrees
 pub mod Qualities
 pub mod Zeroed
 pub mod TaskLines
 pub mod Tasks
+pub mod Sendings
 pub mod Attempts
 pub mod Texts
 pub mod WholeTexts
@@ -19,6 +21,7 @@ pub mod Settlements
 pub mod Faults
 pub mod FaultNumbers
 pub mod Stamps
+pub mod Strays
 pub mod Endings
 pub mod Again
 pub mod Retries
@@ -30,3 +33,4 @@ pub mod Laws
 pub mod Moments
 pub mod Chained
 pub mod Repeats
+pub mod SentTwice

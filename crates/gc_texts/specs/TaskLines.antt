@@ -1,7 +1,8 @@
 -- The lines of a station's text, and what each says: this project's own.
-use Rattle.std.specs.Prelude.{◌≡◌, ◌⊎◌, ℕ, ◌≤◌, Bool, true, false, List, ◌∷◌, ◌++◌, codes}
+use Rattle.std.specs.Prelude.{◌≡◌, ◌⊎◌, ℕ, ◌≤◌, Bool, true, false, List, ◌∷◌, ◌++◌, Option, None, Some, codes}
 use Rattle.gc_catalogue.specs.declared.asked.Asked.TheVariants.{Table}
 use Rattle.gc_catalogue.specs.declared.call.Call.TheVariants.{SetDate}
+use Rattle.gc_texts.specs.Agrees.{IsAgreeText}
 use Rattle.gc_texts.specs.Codes.{IsCodeList, no_codes}
 use Rattle.gc_texts.specs.Wishes.{IsWish}
 use Rattle.gc_texts.specs.Names.{is_name}
@@ -10,6 +11,7 @@ use Rattle.gc_texts.specs.Procedures.{IsNumber, IsTarget}
 use Rattle.gc_texts.specs.Cuts.{behind}
 use Rattle.gc_texts.specs.Retries.{IsRetryRule, no_retry}
 use Rattle.gc_texts.specs.Words.{first_word}
+use Rattle.gc_texts.specs.declared.agree.Agree.{Agree}
 use Rattle.gc_texts.specs.declared.stamp.TheConstants.{FIRST_MOMENT}
 use Rattle.gc_texts.specs.declared.retry.Retry.{Retry}
 use Rattle.gc_texts.specs.declared.wish.Wish.{Wish}
@@ -56,6 +58,12 @@ SetsAccepted line accepted = ((line ≡ codes "accept") × (accepted ≡ no_code
 abbrev pub SetsRetry : List ℕ → Retry → Type 0
 SetsRetry line retry = ((line ≡ codes "retry 0") × (retry ≡ no_retry)) ⊎ IsWordAnd (codes "retry ") (λ rest. IsRetryRule rest retry) line
 
+-- `agree HZ V D`: each chain after it is sent twice, and how far apart the answers may be; or `agree` alone, which says that chains are
+-- sent once
+abbrev pub SetsAgree : List ℕ → Option Agree → Type 0
+SetsAgree line None = line ≡ codes "agree"
+SetsAgree line (Some agree) = IsWordAnd (codes "agree ") (λ rest. IsAgreeText rest agree) line
+
 -- `T 5007 now`: a command that sets the clock of target T to the moment at which it is sent. In place of that moment the call of
 -- the wish has the first moment of 1970
 pub record SetsClock (line : List ℕ) (wish : Wish) : Type 0 where
@@ -69,8 +77,8 @@ IsCommandLine line wish true = SetsClock line wish
 IsCommandLine line wish false = IsWish line wish
 
 -- what a line says: a command, a deadline, that commands are chained or that they aren't, a name, where a target is, that a
--- target isn't watched, which return codes are accepted, how often chains are repeated, or that the commands after it are setup
--- or those of each cycle
+-- target isn't watched, which return codes are accepted, how often chains are repeated, whether they are sent twice, or that
+-- the commands after it are setup or those of each cycle
 abbrev pub IsTaskLine : List ℕ → TaskLine → Type 0
 IsTaskLine line (says.Command wish now) = IsCommandLine line wish now
 IsTaskLine line (says.Deadline deadline) = IsDeadlineLine line deadline
@@ -81,5 +89,6 @@ IsTaskLine line (says.Locating near) = IsNearLine line near
 IsTaskLine line (says.Unwatching target) = IsUnwatchedLine line target
 IsTaskLine line (says.Accepting accepted) = SetsAccepted line accepted
 IsTaskLine line (says.Retrying retry) = SetsRetry line retry
+IsTaskLine line (says.Agreeing agree) = SetsAgree line agree
 IsTaskLine line says.AtStart = line ≡ codes "at start"
 IsTaskLine line says.EachCycle = line ≡ codes "each cycle"

@@ -1,9 +1,9 @@
 -- A station's text, and the tasks, the names and the places of targets that it gives, and which targets it leaves unwatched: this
 -- project's own. The mode at a
 -- line is what holds for a command there: its deadline, whether commands are chained, the target of the group that it may
--- continue, the codes that are accepted, how often its chain is repeated, whether it is setup, how many commands of each
--- section are in front, and how many of those in front are in the last chain. A group is a run of commands for one target,
--- with no line `chained`, `unchained`, `retry`, `at start` or `each cycle` between them.
+-- continue, the codes that are accepted, how often its chain is repeated and whether it is sent twice, whether it is setup, how many
+-- commands of each section are in front, and how many of those in front are in the last chain. A group is a run of commands for one
+-- target, with no line `chained`, `unchained`, `retry`, `agree`, `at start` or `each cycle` between them.
 use Rattle.std.specs.Prelude.{◌≡◌, ℕ, ◌+◌, ◌≤◌, ◌⊎◌, ◌==◌, ◌&&◌, Bool, true, false, not, nat_lt, List, [], ◌∷◌, ◌++◌, length, map, filter, Option, None, Some, Vec, vec_capacity, vec_len, if◌then◌else◌}
 use Rattle.std.specs.List.{flat_map}
 use Rattle.gc_catalogue.specs.declared.asked.Asked.{Asked}
@@ -19,6 +19,7 @@ use Rattle.gc_texts.specs.Retries.{no_retry}
 use Rattle.gc_texts.specs.Stamps.{date_time}
 use Rattle.gc_texts.specs.TaskLines.{IsTaskLine}
 use Rattle.gc_texts.specs.Watching.{is_unwatched}
+use Rattle.gc_texts.specs.declared.agree.Twice.TheVariants.{Once}
 use Rattle.gc_texts.specs.declared.fault.RunFault.{RunFault}
 use Rattle.gc_texts.specs.declared.name.Name.{Name}
 use Rattle.gc_texts.specs.declared.near.Near.{Near}
@@ -32,8 +33,8 @@ use Rattle.gc_texts.specs.declared.tasks.Tasks.{Tasks}
 use Rattle.gc_texts.specs.declared.turn.Turn.{Turn}
 use Rattle.gc_texts.specs.declared.wish.Wish.{Wish}
 
--- the mode before any line: the caller's deadline and chaining, no group, no code that is accepted beside 0, and no retry; the commands
--- after it are those of each cycle, and none came before it
+-- the mode before any line: the caller's deadline and chaining, no group, no code that is accepted beside 0, no retry, and no second sending;
+-- the commands after it are those of each cycle, and none came before it
 abbrev pub first_mode : (deadline : ℕ) (chained : Bool) → Mode
 first_mode deadline chained =
     record {
@@ -42,6 +43,7 @@ first_mode deadline chained =
       group = None;
       accepted = no_codes;
       retry = no_retry;
+      agree = None;
       setup = false;
       begun = 0;
       place = 0;
@@ -85,7 +87,8 @@ mode_after_command mode target =
 
 -- the mode after a line. After a command the group is of its target, and the command is counted. A line `deadline` sets the deadline, and
 -- `accept` the return codes that are accepted. `chained` and `unchained` set whether commands are chained, `retry` how often chains are
--- repeated, and `at start` and `each cycle` the section; these lines also end the group. A name, a place or a target that isn't watched changes nothing
+-- repeated, `agree` whether they are sent twice, and `at start` and `each cycle` the section; these lines also end the group. A name, a
+-- place or a target that isn't watched changes nothing
 abbrev pub mode_after : Mode → TaskLine → Mode
 mode_after mode (says.Command command now) = mode_after_command mode command.target
 mode_after mode (says.Deadline deadline) = record mode { deadline = deadline }
@@ -96,12 +99,13 @@ mode_after mode (says.Locating near) = mode
 mode_after mode (says.Unwatching target) = mode
 mode_after mode (says.Accepting accepted) = record mode { accepted = accepted }
 mode_after mode (says.Retrying retry) = record mode { retry = retry; group = None }
+mode_after mode (says.Agreeing agree) = record mode { agree = agree; group = None }
 mode_after mode says.AtStart = record mode { setup = true; group = None }
 mode_after mode says.EachCycle = record mode { setup = false; group = None }
 
 -- the task of a command in its first attempt; `now` says whether the command sets the clock to the moment at which it is sent. The place
--- of its target is set later (`placed`), and whether it is watched; so is the rule of its chain, if the command is one of the cycle
--- (`laid_out`)
+-- of its target is set later (`placed`), and whether it is watched; so are the rule of its chain and its sending, if the command is one
+-- of the cycle (`laid_out`)
 abbrev pub task_at : Mode → Wish → (now : Bool) → Task
 task_at mode command now =
     record {
@@ -115,6 +119,7 @@ task_at mode command now =
       turn = turn_at mode (chained_at mode command.target);
       others = 0;
       now = now;
+      twice = Once;
     }
 
 -- what these lines give, in order, where `mode` holds before them; `given_at` says what a line gives by the mode before it
@@ -131,10 +136,10 @@ setup_at mode _ = []
 abbrev pub setup_of : Mode → List TaskLine → List Task
 setup_of mode lines = given_by setup_at mode lines
 
--- the command that a line gives each cycle, with the rule of its chain, as a list of one, where `mode` holds before it; none if it is no
+-- the command that a line gives each cycle, with the rules of its chain, as a list of one, where `mode` holds before it; none if it is no
 -- command of each cycle
 abbrev pub planned_at : Mode → TaskLine → List Planned
-planned_at mode (says.Command command now) = if mode.setup then [] else record { task = task_at mode command now; retry = mode.retry } ∷ []
+planned_at mode (says.Command command now) = if mode.setup then [] else record { task = task_at mode command now; retry = mode.retry; agree = mode.agree } ∷ []
 planned_at mode _ = []
 
 -- the commands of each cycle that these lines give, where `mode` holds before them

@@ -1,5 +1,5 @@
 -- Which field of a faulty line of a station's text, or of a text of commands, is at fault: this project's own.
-use Rattle.std.specs.Prelude.{◌≡◌, ◌≢◌, ℕ, ◌⊎◌, Bool, true, false, List, ◌∷◌, ◌++◌, length, codes}
+use Rattle.std.specs.Prelude.{◌≡◌, ◌≢◌, ℕ, ◌<◌, ◌⊎◌, Bool, true, false, List, ◌∷◌, ◌++◌, length, Some, codes}
 use Rattle.std.specs.Fmt.{decimal}
 use Rattle.gc_catalogue.specs.Calls.{IsCall, IsParameterCount, IsRefusal}
 use Rattle.gc_catalogue.specs.Raws.{IsRawCall, IsRawRefusal}
@@ -13,7 +13,8 @@ use Rattle.gc_values.specs.Decimals.{SpellsDecimal, zero}
 use Rattle.gc_values.specs.Directions.{is_place, is_tolerance}
 use Rattle.gc_values.specs.declared.decimal.Decimal.{Decimal}
 use Rattle.gc_texts.specs.Procedures.{IsRpc, IsTarget}
-use Rattle.gc_texts.specs.Cuts.{behind}
+use Rattle.gc_texts.specs.Cuts.{Cuts, Lacks, behind}
+use Rattle.gc_texts.specs.Nears.{is_length}
 use Rattle.gc_texts.specs.ProcedureNames.{name_in_table}
 use Rattle.gc_texts.specs.TaskLines.{IsTaskLine}
 use Rattle.gc_texts.specs.Words.{first_word, second_word, third_word, after_two_words, after_three_words}
@@ -93,8 +94,8 @@ pub record IsRawCommandTrouble (line : List ℕ) (t : Trouble) : Type 0 where
   pub number : IsRpc (third_word line) rpc
   pub is : IsRawTrouble rpc (after_three_words line) t
 
--- the first word of a line is none of `deadline`, `name`, `near`, `unwatched`, `accept`, `retry`, `at` and `each`: the line is taken
--- for a command
+-- the first word of a line is none of `deadline`, `name`, `near`, `unwatched`, `accept`, `retry`, `agree`, `at` and `each`: the line is
+-- taken for a command
 pub record BeginsAsCommand (line : List ℕ) : Type 0 where
   pub no_deadline : first_word line ≢ codes "deadline"
   pub no_name : first_word line ≢ codes "name"
@@ -102,6 +103,7 @@ pub record BeginsAsCommand (line : List ℕ) : Type 0 where
   pub no_unwatched : first_word line ≢ codes "unwatched"
   pub no_accept : first_word line ≢ codes "accept"
   pub no_retry : first_word line ≢ codes "retry"
+  pub no_agree : first_word line ≢ codes "agree"
   pub no_at : first_word line ≢ codes "at"
   pub no_each : first_word line ≢ codes "each"
 
@@ -123,30 +125,75 @@ pub record IsFit (fits : Decimal → Bool) (text : List ℕ) : Type 0 where
   pub spelled : SpellsDecimal text number
   pub is : fits number ≡ true
 
--- this one of the three numbers that follow `near T` in a line is at fault; `Near`: none is
+-- this one of the two numbers of these words, a distance and its tolerance, is at fault; `Near`: none is
+abbrev pub IsRangeTrouble : List ℕ → Trouble → Type 0
+IsRangeTrouble words trouble.NearDistance = IsUnfit is_length (first_word words)
+IsRangeTrouble words trouble.NearDistanceTolerance = IsUnfit is_length (behind 32 words)
+IsRangeTrouble words trouble.Near = IsFit is_length (first_word words) × IsFit is_length (behind 32 words)
+IsRangeTrouble words _ = ⊥
+
+-- a text has a space, and of what follows the first one `Is` is true
+pub record IsFollowedBy (Is : List ℕ → Type 0) (text : List ℕ) : Type 0 where
+  pub first : List ℕ
+  pub words : List ℕ
+  pub cut : Cuts 32 text first (Some words)
+  pub is : Is words
+
+-- in a text that begins with the tolerance of a line's angles, what follows it has this trouble; `Near`: none, or nothing follows
+abbrev pub IsRestTrouble : List ℕ → Trouble → Type 0
+IsRestTrouble text t = ((t ≡ trouble.Near) × Lacks 32 text) ⊎ IsFollowedBy (λ words. IsRangeTrouble words t) text
+
+-- this one of the three or five numbers that follow `near T` in a line is at fault; `Near`: none is
 abbrev pub IsNearTrouble : List ℕ → Trouble → Type 0
 IsNearTrouble numbers trouble.NearHz = IsUnfit fits_hz (first_word numbers)
 IsNearTrouble numbers trouble.NearV = IsUnfit fits_v (second_word numbers)
-IsNearTrouble numbers trouble.NearTolerance = IsUnfit is_tolerance (after_two_words numbers)
-IsNearTrouble numbers trouble.Near = IsFit fits_hz (first_word numbers) × IsFit fits_v (second_word numbers) × IsFit is_tolerance (after_two_words numbers)
+IsNearTrouble numbers trouble.NearTolerance = IsUnfit is_tolerance (third_word numbers)
+IsNearTrouble numbers trouble.NearDistance = IsRestTrouble (after_two_words numbers) trouble.NearDistance
+IsNearTrouble numbers trouble.NearDistanceTolerance = IsRestTrouble (after_two_words numbers) trouble.NearDistanceTolerance
+IsNearTrouble numbers trouble.Near =
+    IsFit fits_hz (first_word numbers) × IsFit fits_v (second_word numbers) × IsFit is_tolerance (third_word numbers)
+    × IsRestTrouble (after_two_words numbers) trouble.Near
 IsNearTrouble numbers _ = ⊥
 
--- a line `near` whose target is one, with this trouble in the three numbers after it
+-- a line `near` whose target is one, with this trouble in the numbers after it
 abbrev pub IsNearLineTrouble : List ℕ → Trouble → Type 0
 IsNearLineTrouble line t = (first_word line ≡ codes "near") × HasTarget (second_word line) × IsNearTrouble (after_two_words line) t
 
--- a line whose first word is `deadline`, `name`, `near`, `unwatched`, `accept`, `retry`, `at` or `each` is at fault in its target, or in
--- what it sets
+-- a text is no three words: less than three, or more
+abbrev pub IsNoThreeWords : List ℕ → Type 0
+IsNoThreeWords text = (length (after_two_words text) ≡ 0) ⊎ (0 < length (behind 32 (after_two_words text)))
+
+-- this is at fault in the numbers that follow `agree` in a line: one of the three; or, as `Agree`, that they aren't three words, or nothing
+abbrev pub IsAgreeTrouble : List ℕ → Trouble → Type 0
+IsAgreeTrouble numbers trouble.AgreeHz = IsUnfit is_tolerance (first_word numbers)
+IsAgreeTrouble numbers trouble.AgreeV = IsUnfit is_tolerance (second_word numbers)
+IsAgreeTrouble numbers trouble.AgreeDistance = IsUnfit is_length (after_two_words numbers)
+IsAgreeTrouble numbers trouble.Agree =
+    IsNoThreeWords numbers ⊎ (IsFit is_tolerance (first_word numbers) × IsFit is_tolerance (second_word numbers) × IsFit is_length (after_two_words numbers))
+IsAgreeTrouble numbers _ = ⊥
+
+-- a line `agree` with this trouble in what follows the word
+abbrev pub IsAgreeLineTrouble : List ℕ → Trouble → Type 0
+IsAgreeLineTrouble line t = (first_word line ≡ codes "agree") × IsAgreeTrouble (behind 32 line) t
+
+-- a line whose first word is `deadline`, `name`, `near`, `unwatched`, `accept`, `retry`, `agree`, `at` or `each` is at fault in its target,
+-- or in what it sets
 abbrev pub IsSettingTrouble : List ℕ → Trouble → Type 0
 IsSettingTrouble line trouble.Deadline = first_word line ≡ codes "deadline"
 IsSettingTrouble line trouble.Name = (first_word line ≡ codes "name") × HasTarget (second_word line)
 IsSettingTrouble line trouble.NearHz = IsNearLineTrouble line trouble.NearHz
 IsSettingTrouble line trouble.NearV = IsNearLineTrouble line trouble.NearV
 IsSettingTrouble line trouble.NearTolerance = IsNearLineTrouble line trouble.NearTolerance
+IsSettingTrouble line trouble.NearDistance = IsNearLineTrouble line trouble.NearDistance
+IsSettingTrouble line trouble.NearDistanceTolerance = IsNearLineTrouble line trouble.NearDistanceTolerance
 IsSettingTrouble line trouble.Near = IsNearLineTrouble line trouble.Near
 IsSettingTrouble line trouble.Unwatched = (first_word line ≡ codes "unwatched") × HasTarget (behind 32 line)
 IsSettingTrouble line trouble.Accept = first_word line ≡ codes "accept"
 IsSettingTrouble line trouble.Retry = first_word line ≡ codes "retry"
+IsSettingTrouble line trouble.AgreeHz = IsAgreeLineTrouble line trouble.AgreeHz
+IsSettingTrouble line trouble.AgreeV = IsAgreeLineTrouble line trouble.AgreeV
+IsSettingTrouble line trouble.AgreeDistance = IsAgreeLineTrouble line trouble.AgreeDistance
+IsSettingTrouble line trouble.Agree = IsAgreeLineTrouble line trouble.Agree
 IsSettingTrouble line trouble.AtStart = first_word line ≡ codes "at"
 IsSettingTrouble line trouble.EachCycle = first_word line ≡ codes "each"
 IsSettingTrouble line trouble.Target =
@@ -230,10 +277,16 @@ trouble_text trouble.Name = codes "name"
 trouble_text trouble.NearHz = codes "near: HZ is no decimal from 0 to a turn, in radians"
 trouble_text trouble.NearV = codes "near: V is no decimal from 0 to half a turn, in radians"
 trouble_text trouble.NearTolerance = codes "near: TOLERANCE is no decimal from 0 to half a turn, in radians"
+trouble_text trouble.NearDistance = codes "near: DISTANCE is no decimal from 0 to 100000, in metres"
+trouble_text trouble.NearDistanceTolerance = codes "near: the TOLERANCE after DISTANCE is no decimal from 0 to 100000, in metres"
 trouble_text trouble.Near = codes "near: a second place of the target, or a 65th"
 trouble_text trouble.Unwatched = codes "unwatched: the target is unwatched already, or is a 65th"
 trouble_text trouble.Accept = codes "accept"
 trouble_text trouble.Retry = codes "retry"
+trouble_text trouble.AgreeHz = codes "agree: HZ is no decimal from 0 to half a turn, in radians"
+trouble_text trouble.AgreeV = codes "agree: V is no decimal from 0 to half a turn, in radians"
+trouble_text trouble.AgreeDistance = codes "agree: D is no decimal from 0 to 100000, in metres"
+trouble_text trouble.Agree = codes "agree: the form is agree HZ V D, or agree alone"
 trouble_text trouble.AtStart = codes "at start"
 trouble_text trouble.EachCycle = codes "each cycle"
 trouble_text trouble.Now = codes "5007 now"

@@ -16,6 +16,8 @@ pub struct Again {
     pub unreadable: bool,
     /// Whether the chain is repeated after a measurement that was made away from its target.
     pub elsewhere: bool,
+    /// Whether the chain is repeated after an answer that doesn't agree with that of the first sending.
+    pub disagree: bool,
     /// Whether the chain is repeated after a late reply.
     pub late: bool,
     /// Whether the chain is repeated after a command that was sent and got no reply.
@@ -33,6 +35,7 @@ impl Again {
             codes: Codes::none(),
             unreadable: false,
             elsewhere: false,
+            disagree: false,
             late: false,
             lost: false,
             skipped: false,
@@ -60,6 +63,7 @@ impl Again {
             Ending::Answered(..) => self.has_code(code),
             Ending::Unreadable(..) => self.unreadable,
             Ending::Elsewhere(_) => self.elsewhere,
+            Ending::Disagree(_) => self.disagree,
             Ending::Late => self.late,
             Ending::Lost => self.lost,
             Ending::Skipped => self.skipped,

@@ -18,8 +18,11 @@ pub enum Ending<'a> {
     /// Its reply came in time, with this line, whose codes are 0, and whose values don't read.
     Unreadable(&'a Line, ValueFault),
     /// Its reply came in time, with this line, whose codes are 0, or whose return code is an accepted one; its values read,
-    /// and have a direction that isn't near where its target is.
+    /// and were measured away from where its target is.
     Elsewhere(&'a Line),
+    /// Its reply came in time, with this line, in the second sending of its chain, and has no code or value at fault; but it doesn't agree
+    /// with the answer of the same command in the first.
+    Disagree(&'a Line),
     /// A reply to it came after it had timed out.
     Late,
     /// No reply came, and one that still comes will be ignored.
@@ -41,6 +44,7 @@ impl<'a> Ending<'a> {
             Ending::Answered(..) => b"answered",
             Ending::Unreadable(..) => b"unreadable",
             Ending::Elsewhere(_) => b"elsewhere",
+            Ending::Disagree(_) => b"disagree",
             Ending::Late => b"late",
             Ending::Lost => b"lost",
             Ending::Skipped => b"skipped",
@@ -85,8 +89,8 @@ impl<'a> Ending<'a> {
     {
         match self {
             Ending::Answered(_, _, line) | Ending::Unreadable(line, _) => Some(line),
-            // The codes and values of a reply that was measured elsewhere are in the row, too.
-            Ending::Elsewhere(line) => Some(line),
+            // The codes and values of a reply that was measured elsewhere, or that disagrees, are in the row, too.
+            Ending::Elsewhere(line) | Ending::Disagree(line) => Some(line),
             Ending::Late | Ending::Lost | Ending::Skipped | Ending::Missed => None,
         }
     }

@@ -4,8 +4,9 @@ ghost use Rattle.std.specs.Prelude.{◌≡◌};
 ghost use Rattle.gc_texts.specs.FaultNumbers.{FaultsHaveTheirNumbers};
 ghost use Rattle.gc_texts.specs.Chained.{TasksFollowTheirLines, PlacesHoldForAll, UnwatchedHoldForAll};
 ghost use Rattle.gc_texts.specs.Repeats.{ChainsGoOutAgain, RetriesHold};
+ghost use Rattle.gc_texts.specs.SentTwice.{SecondsFollowTheirFirsts};
 ghost use Rattle.gc_texts.specs.Moments.{StampsAreMoments};
-ghost use Rattle.gc_texts.specs.Nears.{DirectionsAreAskedFor};
+ghost use Rattle.gc_texts.specs.Nears.{DirectionsAreAskedFor, DistancesAreAskedFor};
 ghost use Rattle.gc_texts.specs.Laws.{OneCommandList, OneTaskList, CommandsAreTasks, CommandsArePlain, ChainsKeepTargets, NamesAreTheCatalogues, LogLinesReadBack, LogLinesArePrintable};
 ghost use Rattle.gc_texts.specs.declared.text.TheConstants.{TEXT_LIMIT};
 
@@ -40,16 +41,24 @@ pub fn chains_keep_targets()
 
 /// The tasks after the setup are the attempts of the chains of the cycle, in order. A chain has one attempt, and as many further
 /// ones as the last line `retry` before it says, or none without such a line. Each attempt begins with the chain's first command,
-/// and has the chain's commands, in order, with the same deadlines, places and accepted codes. Each attempt but the last has the
+/// and has the chain's commands, in order, with the same deadlines, places and accepted codes; if a line `agree` holds for the chain, it
+/// has all of them twice, the second time chained to the first, and the two are numbered as two attempts. Each attempt but the last has the
 /// rule of the line, and the last has none. The commands of these chains are the text's commands of the cycle, in order, each
 /// once.
 pub fn chains_go_out_again()
     ensures { ChainsGoOutAgain }
 {}
 
-/// A command of the cycle has the retry that the last line `retry` before it says; without one it isn't repeated.
+/// A command of the cycle has the retry that the last line `retry` before it says; without one it isn't repeated. It is sent twice in an
+/// attempt if the last line `agree` before it says so, with the tolerances of this line, and otherwise once.
 pub fn retries_hold_behind_their_lines()
     ensures { RetriesHold }
+{}
+
+/// Each second sending of a command follows its first in the same attempt of its chain: the same command, with nothing between the two but
+/// tasks of this chain, which are all chained and come after that command in it.
+pub fn seconds_follow_their_firsts()
+    ensures { SecondsFollowTheirFirsts }
 {}
 
 /// The name that is printed for a procedure's number, if a line has that number after the word `raw`, is the catalogue's.
@@ -77,7 +86,8 @@ pub fn faults_have_their_numbers()
 /// last line `accept` before it, or else none. One of the cycle is chained exactly if two things hold: the last line `chained` or
 /// `unchained` before it says `chained`, or there is none and the caller says so; and the command before it is for the same target, with no
 /// line `chained`, `unchained`, `retry`, `at start` or `each cycle` between the two. One of the setup is chained exactly if another is
-/// before it, and all of the setup is sent before the cycle.
+/// before it, and all of the setup is sent before the cycle, once. The task of one of the cycle is the only sending of the command in the
+/// first attempt of its chain, or the first of two, as the last line `agree` before it says.
 pub fn commands_go_out_as_their_lines_say()
     ensures { TasksFollowTheirLines }
 {}
@@ -96,6 +106,11 @@ pub fn unwatched_targets_are_so_in_all_their_commands()
 /// The answers that have a direction, which can be near or elsewhere, are those of procedures 2107, 2108, 2117 and 17017.
 pub fn directions_are_asked_for()
     ensures { DirectionsAreAskedFor }
+{}
+
+/// The answers that have a distance are those of procedures 2108, 2117 and 17017.
+pub fn distances_are_asked_for()
+    ensures { DistancesAreAskedFor }
 {}
 
 /// The text of a time reads as that time: its date and its hour, minute, second and millisecond make up the milliseconds since

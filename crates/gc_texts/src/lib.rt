@@ -2,6 +2,8 @@
 #![tactic(auto)]
 
 mod again;
+mod agree;
+mod agree_numbers;
 mod attempts;
 mod codes;
 mod command_text;
@@ -16,11 +18,14 @@ mod log_reading;
 mod mode;
 mod name;
 mod near;
+mod near_numbers;
 mod procedure;
 mod quality;
 mod retry;
+mod sending;
 mod settled;
 mod stamp;
+mod stray;
 mod task_line;
 mod tasks;
 mod text;
@@ -31,6 +36,7 @@ mod wish;
 mod zeroed;
 
 pub use again::Again;
+pub use agree::{Agree, Twice, agrees};
 pub use codes::Codes;
 pub use command_text::{CommandStop, read_command_text, read_commands_of};
 pub use commands::{Command, read_commands};
@@ -41,11 +47,12 @@ pub use line_forms::{LineForm, cut_line, line_at, read_items};
 pub use log_line::{ESCAPED_ROOM, LogBytes, LogMark, append_escaped, escaped, write_log_line};
 pub use log_reading::{LogLine, read_log_line};
 pub use name::{Name, name_text};
-pub use near::{Expected, Near, is_elsewhere, read_double};
+pub use near::{Expected, Near, Range, is_elsewhere, read_double};
 pub use procedure::{number_of, read_procedure, read_procedure_into, target_of, u16_of, u32_of};
 pub use quality::Quality;
 pub use settled::{append_settlements, write_settlements};
 pub use stamp::{STAMP_ROOM, Stamp, stamp_text};
+pub use stray::{is_impossible, place};
 pub use tasks::{Task, Tasks, read_tasks};
 pub use text::{TEXT_LIMIT, read_text};
 pub use trouble::{Trouble, command_trouble_of, trouble_of};

@@ -1,13 +1,14 @@
 //! The mode at a line of a station's text: the settings for the next command, and the counts of the commands so far.
 //!
-//! A group is a run of commands for one target, with no line `chained`, `unchained`, `retry`, `at start` or `each cycle`
-//! between them. Where commands are chained, each command of a group but the first is chained to the one before it. All
+//! A group is a run of commands for one target, with no line `chained`, `unchained`, `retry`, `agree`, `at start` or
+//! `each cycle` between them. Where commands are chained, each command of a group but the first is chained to the one before it. All
 //! commands of the setup are one chain.
 
 ghost use Rattle.std.specs.Prelude.{◌≡◌};
 ghost use Rattle.gc_texts.specs.Tasks.{CountsAtMost, first_mode, mode_after, mode_after_command, continues_group, chained_at, place_in_chain, task_at};
 
 use crate::again::Again;
+use crate::agree::{Agree, Twice};
 use crate::codes::Codes;
 use crate::retry::Retry;
 use crate::task_line::TaskLine;
@@ -28,6 +29,8 @@ pub(crate) struct Mode {
     pub(crate) accepted: Codes,
     // How often a chain is repeated, and after what.
     pub(crate) retry: Retry,
+    // How far apart the answers of a chain may be, which is sent twice then. `None`: a chain is sent once.
+    pub(crate) agree: Option<Agree>,
     // Whether the next command is one of the setup; if not, it is one of each cycle.
     pub(crate) setup: bool,
     // How many commands of the setup are before the line.
@@ -48,6 +51,7 @@ pub(crate) fn first_mode(deadline: u64, chained: bool) -> Mode
         group: None,
         accepted: Codes::none(),
         retry: Retry::none(),
+        agree: None,
         setup: false,
         begun: 0,
         place: 0,
@@ -106,7 +110,8 @@ fn mode_after_command(mode: Mode, target: u32) -> Mode
 
 // The mode after a line, if `mode` holds before it. After a command the group is of its target, and the command is counted. A line
 // `deadline` sets the deadline, and `accept` the return codes that are accepted. `chained` and `unchained` set whether commands
-// are chained, `retry` how often chains are repeated, and `at start` and `each cycle` the section; these lines also end the group.
+// are chained, `retry` how often chains are repeated, `agree` whether they are sent twice, and `at start` and `each cycle` the section;
+// these lines also end the group.
 // A name, a place or a target that isn't watched changes nothing.
 pub(crate) fn mode_after(mode: Mode, said: &TaskLine) -> Mode
     requires { CountsAtMost mode 4294967295 }
@@ -138,6 +143,11 @@ pub(crate) fn mode_after(mode: Mode, said: &TaskLine) -> Mode
             group: None,
             ..mode
         },
+        TaskLine::Agreeing(agree) => Mode {
+            agree: *agree,
+            group: None,
+            ..mode
+        },
         TaskLine::AtStart => Mode {
             setup: true,
             group: None,
@@ -164,7 +174,7 @@ fn continues_group(group: Option<u32>, target: u32) -> bool
 
 // The task of a command in the first attempt of its chain; `now` says whether the command sets the clock to the moment at which
 // it is sent. It has no place of its target yet, and is watched (`place_tasks` sets both), and it has no rule of its chain
-// (`lay_out` sets it in the cycle).
+// nor is sent twice (`lay_out` sets both in the cycle).
 pub(crate) fn task_at(mode: Mode, command: Wish, now: bool) -> Task
     ensures { result ≡ task_at mode command now }
 {
@@ -184,5 +194,6 @@ pub(crate) fn task_at(mode: Mode, command: Wish, now: bool) -> Task
         },
         others: 0,
         now,
+        twice: Twice::Once,
     }
 }

@@ -39,6 +39,7 @@ enum Reason {
     Code(u16),
     Unreadable,
     Elsewhere,
+    Disagree,
     Late,
     Lost,
     Skipped,
@@ -53,6 +54,9 @@ fn reason_of(word: &[u8]) -> Option<Reason>
     }
     if is_word(b"elsewhere", word) {
         return Some(Reason::Elsewhere);
+    }
+    if is_word(b"disagree", word) {
+        return Some(Reason::Disagree);
     }
     if is_word(b"late", word) {
         return Some(Reason::Late);
@@ -106,6 +110,10 @@ fn again_with(again: Again, count: usize, reason: Reason) -> Again
         },
         Reason::Elsewhere => Again {
             elsewhere: true,
+            ..again
+        },
+        Reason::Disagree => Again {
+            disagree: true,
             ..again
         },
         Reason::Late => Again {

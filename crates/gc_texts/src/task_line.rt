@@ -1,8 +1,9 @@
 //! Reads one line of a station's text.
 
 ghost use Rattle.gc_texts.specs.LineForms.{IsReadAs};
-ghost use Rattle.gc_texts.specs.TaskLines.{IsDeadlineLine, IsNameLine, IsNearLine, IsUnwatchedLine, SetsAccepted, SetsRetry, SetsClock, IsTaskLine};
+ghost use Rattle.gc_texts.specs.TaskLines.{IsDeadlineLine, IsNameLine, IsNearLine, IsUnwatchedLine, SetsAccepted, SetsRetry, SetsAgree, SetsClock, IsTaskLine};
 
+use crate::agree::{Agree, read_agree};
 use crate::codes::{Codes, read_code_list};
 use crate::cuts::{after_prefix, before, behind, cut_at, is_word};
 use crate::name::{Name, is_name};
@@ -37,6 +38,8 @@ pub(crate) enum TaskLine {
     Accepting(Codes),
     // How often the chains after it are repeated, and after what.
     Retrying(Retry),
+    // How far apart the answers of the chains after it may be, each of which is sent twice. `None`: each is sent once.
+    Agreeing(Option<Agree>),
     // The commands after it are setup.
     AtStart,
     // The commands after it are those of each cycle.
@@ -110,6 +113,19 @@ fn read_retrying(line: &[u8]) -> Option<Retry>
     read_retry_rule(rest)
 }
 
+// Reads `agree HZ V D`, which says that chains are sent twice, and how far apart their answers may be (`read_agree`); or `agree` alone,
+// which says that they are sent once. `None`: the line has neither form, or a number lies outside its range.
+fn read_agreeing(line: &[u8]) -> Option<Option<Agree>>
+    ensures { IsReadAs (SetsAgree line.now) result }
+{
+    if is_word(b"agree", line) {
+        return Some(None);
+    }
+    let rest = after_prefix(b"agree ", line)?;
+    let agree = read_agree(rest)?;
+    Some(Some(agree))
+}
+
 // Reads `T 5007 now`: a command that sets the clock of target T to the moment at which it is sent. In place of that moment the
 // call of the wish has the first moment of 1970. `None`: the line has no such form, or the target's number is above 4294967295.
 fn read_clock_setting(line: &[u8]) -> Option<Wish>
@@ -152,6 +168,9 @@ pub(crate) fn read_task_line(line: &[u8]) -> Option<TaskLine>
     }
     if let Some(retry) = read_retrying(line) {
         return Some(TaskLine::Retrying(retry));
+    }
+    if let Some(agree) = read_agreeing(line) {
+        return Some(TaskLine::Agreeing(agree));
     }
     if is_word(b"at start", line) {
         return Some(TaskLine::AtStart);

@@ -5,19 +5,20 @@ ghost use Rattle.std.specs.Prelude.{◌≡◌, ◌≤◌, ◌==◌, ◌&&◌, []
 ghost use Rattle.std.specs.List.{list_any};
 ghost use Rattle.gc_texts.specs.LineForms.{MemoryOnlyIf, NamesFaulty, RefusesLong};
 ghost use Rattle.gc_texts.specs.Names.{name_text};
-ghost use Rattle.gc_texts.specs.Nears.{asked_gives_direction};
+ghost use Rattle.gc_texts.specs.Nears.{asked_gives_direction, asked_gives_distance};
 ghost use Rattle.gc_texts.specs.Tasks.{LinesGave, Grows, HasFullList, call_at, placed, may_follow, tasks_seen, IsTasks, FirstFaultyTaskLine, ReachesASoundTaskLine, TaskFault};
 ghost use Rattle.gc_texts.specs.declared.mode.Mode.{Mode};
 ghost use Rattle.gc_texts.specs.declared.text.TheConstants.{TEXT_LIMIT};
 
 use crate::again::Again;
+use crate::agree::Twice;
 use crate::attempts::{Planned, lay_out};
 use crate::codes::Codes;
 use crate::fault::RunFault;
 use crate::line_forms::{cut_line, is_skipped};
 use crate::mode::{Mode, first_mode, mode_after, task_at};
 use crate::name::{Name, is_named, name_text};
-use crate::near::{Near, asked_gives_direction, has_near, near_of};
+use crate::near::{Near, asked_gives_direction, asked_gives_distance, has_near, near_of};
 use crate::stamp::date_time;
 use crate::task_line::{TaskLine, read_task_line};
 use crate::text::TEXT_LIMIT;
@@ -51,6 +52,8 @@ pub struct Task {
     pub others: usize,
     /// Whether it sets the instrument's clock to the moment at which it is sent.
     pub now: bool,
+    /// Which sending of its chain it belongs to.
+    pub twice: Twice,
 }
 
 /// What a station's text gives: its tasks, the names of targets, where targets are, and which targets it leaves unwatched.
@@ -97,6 +100,14 @@ impl Tasks {
     {
         self.tasks.iter().any(|task| task.command.target == target
             && asked_gives_direction(&task.command.call))
+    }
+
+    /// Whether some task of this target has answers with a distance (`asked_gives_distance`).
+    pub fn asks_distance_of(&self, target: u32) -> bool
+        ensures { result ≡ list_any (λ task. (task.command.target == target) && asked_gives_distance task.command.call) self.now.tasks.items }
+    {
+        self.tasks.iter().any(|task| task.command.target == target
+            && asked_gives_distance(&task.command.call))
     }
 }
 
@@ -169,6 +180,7 @@ impl Given {
                     self.cycle.push(Planned {
                         task,
                         retry: mode.retry,
+                        agree: mode.agree,
                     })?;
                 }
             }

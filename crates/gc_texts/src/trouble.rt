@@ -2,18 +2,18 @@
 
 ghost use Rattle.std.specs.Prelude.{◌≡◌, ◌++◌, IsTrue, IsFalse, MatchOption, codes};
 ghost use Rattle.gc_lines.specs.Ports.{WritesIfOk};
-ghost use Rattle.gc_texts.specs.Troubles.{parameters_trouble, raw_trouble, IsCallTrouble, IsRawTrouble, IsRawWordsTrouble, HasTarget, NoTarget, BeginsAsCommand, IsNearTrouble, IsFit, IsUnfit, IsSettingTrouble, IsAskingTrouble, IsMarkTrouble, HasNoMark, IsUnmarkedTrouble, IsTrouble, IsForStation, IsNotForStation, IsUnmarkedCommandTrouble, IsFaultOfCommand, for_command, fits_hz, fits_v, in_table_text, trouble_text, trouble_line};
-ghost use Rattle.gc_values.specs.Directions.{is_tolerance};
+ghost use Rattle.gc_texts.specs.Troubles.{parameters_trouble, raw_trouble, IsCallTrouble, IsRawTrouble, IsRawWordsTrouble, HasTarget, NoTarget, BeginsAsCommand, IsSettingTrouble, IsAskingTrouble, IsMarkTrouble, HasNoMark, IsUnmarkedTrouble, IsTrouble, IsForStation, IsNotForStation, IsUnmarkedCommandTrouble, IsFaultOfCommand, for_command, in_table_text, trouble_text, trouble_line};
 ghost use Rattle.gc_texts.specs.Words.{second_word, third_word};
 ghost use Rattle.gc_texts.specs.ProcedureNames.{name_in_table};
 
+use crate::agree_numbers::agree_trouble;
 use crate::cuts::{after_prefix, before, behind, is_word};
-use crate::near::read_double;
+use crate::near_numbers::near_trouble;
 use crate::procedure::{target_of, u16_of};
 use crate::task_line::read_task_line;
 use gc_catalogue::{CallFault, RawFault, decode_call, parameter_count, procedure_name, raw_call};
 use gc_lines::Request;
-use gc_values::{Decimal, Direction, ValueFault, is_tolerance};
+use gc_values::ValueFault;
 use std::io::{self, Write};
 
 /// Which field of a faulty line is at fault. The texts are this project's own.
@@ -37,8 +37,13 @@ pub enum Trouble {
     NearHz,
     /// The vertical angle of a line `near` is no decimal from 0 to half a turn.
     NearV,
-    /// The tolerance of a line `near` is no decimal from 0 to half a turn, or more follows it.
+    /// The tolerance of the angles of a line `near` is no decimal from 0 to half a turn.
     NearTolerance,
+    /// More follows that tolerance, and its first word is no decimal from 0 to 100,000.
+    NearDistance,
+    /// A distance follows that tolerance, and what follows the distance is no decimal from 0 to 100,000: it may be missing, or more than
+    /// one word.
+    NearDistanceTolerance,
     /// A line `near` reads, but its target has a place already, or 64 targets have places.
     Near,
     /// A line `unwatched` reads, but its target is unwatched already, or 64 targets are.
@@ -54,6 +59,14 @@ pub enum Trouble {
     /// After the word `retry` there is neither 0 alone nor a number from 1 to 9 with words after it; or one of these words is
     /// neither a code nor an outcome; or more than 16 of them are codes.
     Retry,
+    /// The first number of a line `agree` is no decimal from 0 to half a turn.
+    AgreeHz,
+    /// The second number of a line `agree` is no decimal from 0 to half a turn.
+    AgreeV,
+    /// The third number of a line `agree` is no decimal from 0 to 100,000.
+    AgreeDistance,
+    /// After the word `agree` there are neither three words nor none.
+    Agree,
     /// The line's first word is `at`, and the line isn't `at start`.
     AtStart,
     /// The line's first word is `each`, and the line isn't `each cycle`.
@@ -109,6 +122,14 @@ impl Trouble {
                 messages,
                 "near: TOLERANCE is no decimal from 0 to half a turn, in radians"
             ),
+            Trouble::NearDistance => writeln!(
+                messages,
+                "near: DISTANCE is no decimal from 0 to 100000, in metres"
+            ),
+            Trouble::NearDistanceTolerance => writeln!(
+                messages,
+                "near: the TOLERANCE after DISTANCE is no decimal from 0 to 100000, in metres"
+            ),
             Trouble::Near => writeln!(messages, "near: a second place of the target, or a 65th"),
             Trouble::Unwatched => writeln!(
                 messages,
@@ -116,6 +137,23 @@ impl Trouble {
             ),
             Trouble::Accept => writeln!(messages, "accept"),
             Trouble::Retry => writeln!(messages, "retry"),
+            Trouble::AgreeHz => writeln!(
+                messages,
+                "agree: HZ is no decimal from 0 to half a turn, in radians"
+            ),
+            Trouble::AgreeV => {
+                writeln!(
+                    messages,
+                    "agree: V is no decimal from 0 to half a turn, in radians"
+                )
+            }
+            Trouble::AgreeDistance => {
+                writeln!(
+                    messages,
+                    "agree: D is no decimal from 0 to 100000, in metres"
+                )
+            }
+            Trouble::Agree => writeln!(messages, "agree: the form is agree HZ V D, or agree alone"),
             Trouble::AtStart => writeln!(messages, "at start"),
             Trouble::EachCycle => writeln!(messages, "each cycle"),
             Trouble::Now => writeln!(messages, "5007 now"),
@@ -262,65 +300,7 @@ fn has_target(line: &[u8]) -> bool
     target_of(before(b' ', behind(b' ', line))).is_some()
 }
 
-// Whether a text is a decimal from 0 to a turn, in radians.
-fn is_hz(text: &[u8]) -> bool
-    ensures fit { IsTrue result → IsFit fits_hz text.now }
-    ensures unfit { IsFalse result → IsUnfit fits_hz text.now }
-{
-    match read_double(text) {
-        Some(hz) => Direction {
-            hz,
-            v: Decimal::zero(),
-        }
-        .is_place(),
-        None => false,
-    }
-}
-
-// Whether a text is a decimal from 0 to half a turn, in radians, as a vertical angle.
-fn is_v(text: &[u8]) -> bool
-    ensures fit { IsTrue result → IsFit fits_v text.now }
-    ensures unfit { IsFalse result → IsUnfit fits_v text.now }
-{
-    match read_double(text) {
-        Some(v) => Direction {
-            hz: Decimal::zero(),
-            v,
-        }
-        .is_place(),
-        None => false,
-    }
-}
-
-// Whether a text is a tolerance, from 0 to half a turn, in radians.
-fn is_tolerance_text(text: &[u8]) -> bool
-    ensures fit { IsTrue result → IsFit is_tolerance text.now }
-    ensures unfit { IsFalse result → IsUnfit is_tolerance text.now }
-{
-    match read_double(text) {
-        Some(tolerance) => is_tolerance(&tolerance),
-        None => false,
-    }
-}
-
-// Which number is at fault of the three that follow a line's words `near T`. `Near`: none of them.
-fn near_trouble(numbers: &[u8]) -> Trouble
-    ensures { IsNearTrouble numbers.now result }
-{
-    let others = behind(b' ', numbers);
-    if !is_hz(before(b' ', numbers)) {
-        return Trouble::NearHz;
-    }
-    if !is_v(before(b' ', others)) {
-        return Trouble::NearV;
-    }
-    if !is_tolerance_text(behind(b' ', others)) {
-        return Trouble::NearTolerance;
-    }
-    Trouble::Near
-}
-
-// Which field is at fault of a line whose first word is `deadline`, `name`, `near`, `unwatched`, `accept`, `retry`, `at` or `each`.
+// Which field is at fault of a line whose first word is `deadline`, `name`, `near`, `unwatched`, `accept`, `retry`, `agree`, `at` or `each`.
 // `None`: the first word is none of these.
 fn setting_trouble(line: &[u8]) -> Option<Trouble>
     ensures { MatchOption result (BeginsAsCommand line.now) (λ t. IsSettingTrouble line.now t) }
@@ -355,6 +335,9 @@ fn setting_trouble(line: &[u8]) -> Option<Trouble>
     }
     if is_word(b"retry", first) {
         return Some(Trouble::Retry);
+    }
+    if is_word(b"agree", first) {
+        return Some(agree_trouble(behind(b' ', line)));
     }
     if is_word(b"at", first) {
         return Some(Trouble::AtStart);
@@ -392,8 +375,8 @@ fn unmarked_trouble(line: &[u8]) -> Trouble
 }
 
 /// Which field of a line is at fault, if the line is a faulty one of a station's text. A line that begins with a byte order mark has
-/// that as its trouble. A line whose first word is `deadline`, `name`, `near`, `unwatched`, `accept`, `retry`, `at` or `each` is at
-/// fault in its target or in what it sets. Any other line is taken for a command, or, if its second word is `raw`, for a request of a procedure
+/// that as its trouble. A line whose first word is `deadline`, `name`, `near`, `unwatched`, `accept`, `retry`, `agree`, `at` or `each` is
+/// at fault in its target or in what it sets. Any other line is taken for a command, or, if its second word is `raw`, for a request of a procedure
 /// that isn't in the table. Of these a line whose first three words are `T 5007 now`, with a target's number T, gives `Now`; one that
 /// is one word, with or without a space after it, or each of whose fields reads, gives `NoForm`; and any other is at fault in its first
 /// field that doesn't read. Of a line that isn't faulty the result says nothing: a command gives `NoForm`, for example, and a line

@@ -1,9 +1,11 @@
+use Rattle.gc_texts.specs.Attempts.{tasks_planned}
+use Rattle.gc_texts.specs.Sendings.{sendings}
 use Rattle.gc_texts.proofs.Laying.{Pushes}
 use Rattle.gc_texts.proofs.attempts.push_attempts.Given as goal
 
 -- the attempts before this one were appended
 abbrev pub invariant-loop-left : goal.invariant-loop-left
-invariant-loop-left l = Pushes l.initial.tasks.items l.tasks.items l.retry l.chain l.number l.left
+invariant-loop-left l = Pushes l.initial.tasks.items l.tasks.items l.retry (sendings l.agree (tasks_planned l.chain)) l.number l.left
 
 -- each attempt leaves one less
 abbrev pub decreases-loop-left : goal.decreases-loop-left

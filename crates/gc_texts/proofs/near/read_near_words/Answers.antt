@@ -1,4 +1,5 @@
 use Rattle.std.proofs.Common.{rules, ◌≡◌, false}
+use Rattle.std.specs.Option.{option_copied}
 use Rattle.gc_values.specs.Directions.{is_place, is_tolerance}
 use Rattle.gc_texts.specs.Nears.{AreNearWords}
 use Rattle.gc_texts.specs.declared.near.Near.{Near}
@@ -7,29 +8,34 @@ use Rattle.gc_texts.proofs.near.read_near_words.Goals as goal
 
 pub returns-in_err-hz : goal.returns-in_err-hz
 returns-in_err-hz c =
-    let none : (near : Near) → AreNearWords c.args.target.now c.args.hz.now c.args.v.now c.args.tolerance.now near → ⊥ =
+    let none : (near : Near) → AreNearWords c.args.target.now c.args.hz.now c.args.v.now c.args.tolerance.now (option_copied c.args.words) near → ⊥ =
     λ near are. c.in_err-hz.ensures near.place.hz are.hz_is in search rules
 
 pub returns-in_err-v : goal.returns-in_err-v
 returns-in_err-v c =
-    let none : (near : Near) → AreNearWords c.args.target.now c.args.hz.now c.args.v.now c.args.tolerance.now near → ⊥ =
+    let none : (near : Near) → AreNearWords c.args.target.now c.args.hz.now c.args.v.now c.args.tolerance.now (option_copied c.args.words) near → ⊥ =
     λ near are. c.in_err-v.ensures near.place.v are.v_is in search rules
 
 pub returns-in_err-tolerance : goal.returns-in_err-tolerance
 returns-in_err-tolerance c =
-    let none : (near : Near) → AreNearWords c.args.target.now c.args.hz.now c.args.v.now c.args.tolerance.now near → ⊥ =
+    let none : (near : Near) → AreNearWords c.args.target.now c.args.hz.now c.args.v.now c.args.tolerance.now (option_copied c.args.words) near → ⊥ =
     λ near are. c.in_err-tolerance.ensures near.tolerance are.tolerance_is in search rules
+
+pub returns-in_err-range : goal.returns-in_err-range
+returns-in_err-range c =
+    let none : (near : Near) → AreNearWords c.args.target.now c.args.hz.now c.args.v.now c.args.tolerance.now (option_copied c.args.words) near → ⊥ =
+    λ near are. c.in_err-range.ensures near.range are.range_is in search rules
 
 pub returns-then-not-is_place : goal.returns-then-not-is_place
 returns-then-not-is_place c near are =
     let isnt : is_place (record { hz = c.in_ok-hz.hz; v = c.in_ok-v.v }) ≡ false = search rules in
-    no_place c.args.target.now c.args.hz.now c.args.v.now c.args.tolerance.now near are c.in_ok-hz.hz c.in_ok-v.v
+    no_place c.args.target.now c.args.hz.now c.args.v.now c.args.tolerance.now (option_copied c.args.words) near are c.in_ok-hz.hz c.in_ok-v.v
     c.in_ok-hz.ensures c.in_ok-v.ensures isnt
 
 pub returns-then-not-is_tolerance : goal.returns-then-not-is_tolerance
 returns-then-not-is_tolerance c near are =
     let isnt : is_tolerance c.in_ok-tolerance.tolerance ≡ false = search rules in
-    no_tolerance c.args.target.now c.args.hz.now c.args.v.now c.args.tolerance.now near are c.in_ok-tolerance.tolerance c.in_ok-tolerance.ensures isnt
+    no_tolerance c.args.target.now c.args.hz.now c.args.v.now c.args.tolerance.now (option_copied c.args.words) near are c.in_ok-tolerance.tolerance c.in_ok-tolerance.ensures isnt
 
 pub returns : goal.returns
 returns c =
@@ -40,4 +46,5 @@ returns c =
       tolerance_is = c.in_ok-tolerance.ensures;
       place_is = search rules;
       tolerance_in = search rules;
+      range_is = c.in_ok-range.ensures;
     }

@@ -11,6 +11,7 @@ returns-in-None c (says.Locating near) is = c.in_default-read_locating.ensures n
 returns-in-None c (says.Unwatching target) is = c.in_default-read_unwatching.ensures target is
 returns-in-None c (says.Accepting codes) is = c.in_default-read_accepting.ensures codes is
 returns-in-None c (says.Retrying retry) is = c.in_default-read_retrying.ensures retry is
+returns-in-None c (says.Agreeing agree) is = c.in_default-read_agreeing.ensures agree is
 returns-in-None c says.AtStart is = let both : true ≡ false = sym (c.is_word-3.ensures.1 is) ∙ c.if-is_word-3.false in cc
 returns-in-None c says.EachCycle is = let both : true ≡ false = sym (c.is_word-4.ensures.1 is) ∙ c.if-is_word-4.false in cc
 returns-in-None c (says.Command wish true) is = c.in_default-read_clock_setting.ensures wish is

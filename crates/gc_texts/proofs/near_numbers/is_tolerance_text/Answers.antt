@@ -1,5 +1,5 @@
 use Rattle.std.proofs.Common.{◌≡◌, inr, sym, ◌∙◌}
-use Rattle.gc_texts.proofs.trouble.is_tolerance_text.Goals as goal
+use Rattle.gc_texts.proofs.near_numbers.is_tolerance_text.Goals as goal
 
 pub returns-in-Some-clause-fit : goal.returns-in-Some-clause-fit
 returns-in-Some-clause-fit c holds =

@@ -1,7 +1,7 @@
 use Rattle.std.proofs.Common.{◌≡◌, Bool, true, false, inr, subst, sym, ◌∙◌}
 use Rattle.gc_values.specs.Directions.{is_place}
 use Rattle.gc_values.specs.declared.decimal.Decimal.{Decimal}
-use Rattle.gc_texts.proofs.trouble.is_hz.Goals as goal
+use Rattle.gc_texts.proofs.near_numbers.is_hz.Goals as goal
 
 pub returns-in-Some-clause-fit : goal.returns-in-Some-clause-fit
 returns-in-Some-clause-fit c holds =

@@ -1,0 +1,10 @@
+use Rattle.std.proofs.Common.{◌≡◌, ◌++◌, length, map, take}
+use Rattle.gc_texts.specs.Attempts.{in_attempt, tasks_planned}
+use Rattle.gc_texts.specs.Sendings.{sent_from}
+use Rattle.gc_texts.proofs.attempts.push_sending.Given as goal
+
+-- the tasks of the commands so far were appended
+abbrev pub invariant-loop-nth : goal.invariant-loop-nth
+invariant-loop-nth l =
+    l.tasks.items ≡ l.initial.tasks.items ++ map (in_attempt l.attempt.number l.attempt.again l.attempt.commands)
+    (sent_from l.sending (length l.chain) 0 (tasks_planned (take l.nth l.chain)))

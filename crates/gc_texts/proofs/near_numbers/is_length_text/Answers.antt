@@ -1,0 +1,10 @@
+use Rattle.std.proofs.Common.{inr, sym, ◌∙◌}
+use Rattle.gc_texts.proofs.near_numbers.is_length_text.Goals as goal
+
+pub returns-in-Some-clause-fit : goal.returns-in-Some-clause-fit
+returns-in-Some-clause-fit c holds =
+    record { number = c.in-Some.length; spelled = c.in-Some.ensures; is = sym c.is_length.ensures ∙ holds }
+
+pub returns-in-Some-clause-unfit : goal.returns-in-Some-clause-unfit
+returns-in-Some-clause-unfit c fails =
+    record { is = inr (c.in-Some.length, c.in-Some.ensures, sym c.is_length.ensures ∙ fails) }
