@@ -31,7 +31,7 @@ use Rattle.gc_station.specs.Reasons.{HoldsBefore}
 use Rattle.gc_station.specs.Records.{Record}
 use Rattle.gc_station.specs.Runs.{state_after, OfEachRecord}
 use Rattle.gc_station.specs.ActKinds.{moment_in, Puts, ReadsClock, IsOpening, ReadsLink}
-use Rattle.gc_station.specs.Model.{Model, opening, action_at, waiting_of, next_request_text, null_text, first_text, with_progress, is_heard, client_sent, asks_first, asks_next, after_pass, with_more_passes, next_left_out, with_listed, listed_after_skip, with_more_records, unsent_record, end_unsent, first_unsent_record, after_clock, after_put, after_open, after_read, Performs, moved, Runs, cycle_length, place_to_send, text_or_null, asks_setup, null_request, request_or_null, asks_for}
+use Rattle.gc_station.specs.Model.{Model, opening, action_at, waiting_of, next_request_text, null_text, first_text, with_progress, is_heard, client_sent, asks_first, asks_next, after_pass, with_more_passes, next_left_out, with_listed, listed_after_skip, with_more_records, unsent_record, end_unsent, first_unsent_record, after_clock, after_put, after_open, after_read, Performs, moved, Runs, cycle_length, place_to_send, text_or_null, asks_setup, null_request, request_or_null, asks_for, mark_sent}
 use Rattle.gc_station.specs.NextCommand.{mark_next, place_next, upcoming_after, mark_setup}
 use Rattle.gc_station.proofs.InCycle.{within_window}
 use Rattle.gc_station.proofs.EachRun.{invariant_holds}
@@ -260,7 +260,7 @@ module _ (plan : Plan) (commands : List Task) (scope : Scope) (acts : List Act) 
       (λ (x : Model). with_progress (sent (upcoming_after 1 commands x.progress)) (asks_next plan commands x))
       (with_progress turned s) act
       (first_honest act (upcoming_after 1 commands s.progress)
-      (drop (place_next commands s.progress) commands) (mark_next plan commands s.progress) fine h
+      (drop (place_next commands s.progress) commands) (mark_sent plan commands s) fine h
       (record { sends = inl is; cycle = sym (send_cycle plan s is); place = sym (send_place plan commands s is); sent = refl }) (within_window _ _ needs.3.1)
       (ap (λ n. drop n commands) (send_place plan commands s is)) o)
   moved_honest actions.Skip act tail fine h is needs o ends =

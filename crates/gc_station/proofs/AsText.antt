@@ -1,27 +1,30 @@
 -- Each mark expects of its command's answer what the text says, and each record is as its text says: it has the turn of its
--- command; an answer that ends as answered is near the place or has no direction, and one that ends as elsewhere isn't near it;
--- and its quality is as listed. Besides, `listed` of a model is what its records say. `KeepsToText` says all of this of a
+-- command; an answer that ends as answered was measured at the target, as far as it says where, and one that ends as elsewhere
+-- wasn't; and its quality is as listed. Besides, `listed` of a model is what its records say. `KeepsToText` says all of this of a
 -- model. An act is one call on the link, with its result. A mark says which command an outstanding request is of, and what is
 -- expected of its answer.
 use Rattle.std.proofs.Common.{◌≡◌, ℕ, zero, suc, Bool, List, [], ◌∷◌, ◌++◌, drop, Option, Some, None, refl, sym, ap, ◌∙◌, subst, ◌<◌, ◌||◌, true, false, length, if◌then◌else◌, nat_eq, arith, append-nil}
 use Rattle.std.specs.Prelude.{slice_get}
 use Rattle.std.specs.List.{AllByRecursion}
 use Rattle.gc_values.proofs.Every.{every_drop}
+use Rattle.gc_catalogue.specs.declared.answer.Answer.{Answer}
 use Rattle.gc_catalogue.specs.declared.asked.Asked.{Asked}
 use Rattle.gc_client.specs.Rule
 use Rattle.gc_client.specs.Rule.{heard, hears, restarts}
-use Rattle.gc_texts.specs.Endings.{Answered, Elsewhere}
+use Rattle.gc_texts.specs.Endings.{Answered, Elsewhere, Disagree}
 use Rattle.gc_texts.specs.Nears.{is_elsewhere}
+use Rattle.gc_texts.specs.declared.agree.Twice.TheVariants as twice
 use Rattle.gc_texts.specs.declared.near.Expected.{Expected}
 use Rattle.gc_texts.specs.declared.tasks.Task.{Task}
-use Rattle.gc_texts.proofs.Placing.{near_unless_elsewhere, elsewhere_has_place}
+use Rattle.gc_texts.proofs.Placing.{there_unless_elsewhere, elsewhere_has_place}
 use Rattle.gc_links.specs.Acts.{Act, Told, Gave, Cut}
 use Rattle.gc_links.specs.declared.link.Moment.{Moment}
-use Rattle.gc_station.specs.Marks.{record_of, records_of, end_of}
-use Rattle.gc_station.specs.Model.{Model, opening, action_at, asks_for, asks_next, with_progress, with_moment, line_came, is_heard, after_piece, end_unsent, first_unsent_record, losing, moved, after, asks_setup, waiting_of, listed_unsent, request_for, null_request}
+use Rattle.gc_station.specs.Agreeing.{HasFirst, AgreesWithFirst, IsConfirmed, IsUnconfirmed, DisagreesInSecond}
+use Rattle.gc_station.specs.Marks.{agrees_in, quality_in, record_of, records_of, end_of}
+use Rattle.gc_station.specs.Model.{Model, opening, action_at, asks_for, asks_next, with_progress, with_moment, line_came, is_heard, after_piece, end_unsent, first_unsent_record, losing, moved, after, asks_setup, waiting_of, listed_unsent, request_for, null_request, mark_sent}
 use Rattle.gc_station.specs.NextCommand.{expected_first, mark_next, place_next, commands_left, mark_setup, cycles_begun}
 use Rattle.gc_station.specs.Nearness.{IsAtItsTarget, HasAnswer, ElsewhereIsJustified}
-use Rattle.gc_station.specs.Qualities.{IsOfQuality, IsAsListed, accepted_at}
+use Rattle.gc_station.specs.Qualities.{IsOfQuality, IsAsListed, accepted_at, quality_as, twice_at}
 use Rattle.gc_station.specs.Progressing.{turned, moment_noted, loses_all}
 use Rattle.gc_station.specs.Records.{Record}
 use Rattle.gc_station.specs.Runs.{state_after}
@@ -32,9 +35,10 @@ use Rattle.gc_station.specs.declared.progress.Action.{Action}
 use Rattle.gc_station.specs.declared.progress.Action.TheVariants as actions
 use Rattle.gc_station.specs.declared.progress.Progress.{Progress}
 use Rattle.gc_station.specs.declared.station.sending.Outgoing.{Outgoing}
+use Rattle.gc_station.proofs.Agreeing.{AllAfter, after_append, after_all, all_both, has_first_more, confirmed_more, first_is_recorded}
 use Rattle.gc_station.proofs.Booking.{all_settled}
-use Rattle.gc_station.proofs.Lists.{all_append}
-use Rattle.gc_station.proofs.Qualified.{ended_near, ended_away, ended_quality}
+use Rattle.gc_station.proofs.Lists.{all_append, all_on}
+use Rattle.gc_station.proofs.Qualified.{ended_near, ended_away, ended_quality, ended_good, ended_second}
 use Rattle.gc_station.proofs.Tasked.{no_end_of_sent}
 use Rattle.gc_station.proofs.Walk.{came_along, first_along, setup_along, losing_along, acts_along, moved_changed}
 use Rattle.std.proofs.lemmas.List.{length-drop}
@@ -47,7 +51,7 @@ use Rattle.gc_station.proofs.EachRun.{invariant_after, invariant_opening}
 use Rattle.gc_station.proofs.Facts.{action_for}
 use Rattle.gc_station.proofs.InCycle.{not_zero}
 use Rattle.gc_station.proofs.Invariant.{Invariant}
-use Rattle.gc_station.proofs.Listed.{code_is_in_line, named_by, any_listed, any_append, expected_as, near_expected, accepted_expected}
+use Rattle.gc_station.proofs.Listed.{code_is_in_line, named_by, any_listed, any_append, expected_as, near_expected, accepted_expected, twice_expected}
 
 -- what is expected of the answer of the command at a place is what its task says
 expected_there : (commands : List Task) (k : ℕ) (task : Task) → slice_get commands k ≡ Some task → expected_first (drop k commands) ≡ expected_first (task ∷ [])
@@ -56,15 +60,37 @@ expected_there [] (suc k) task e = cc
 expected_there (t ∷ commands) zero task e = let same : t ≡ task = cc in ap (λ (x : Task). expected_first (x ∷ [])) same
 expected_there (t ∷ commands) (suc k) task e = expected_there commands k task e
 
+-- before a command is sent it isn't known with which answer its own is compared
+none_known : (commands : List Task) (k : ℕ) (answer : Option Answer) → (expected_first (drop k commands)).first ≡ Some answer → ⊥
+none_known commands k answer e = by_front (drop k commands) e where
+  -- the lemma above, by the commands from there on
+  by_front : (left : List Task) → (expected_first left).first ≡ Some answer → ⊥
+  by_front [] e = cc
+  by_front (task ∷ others) e = cc
+
 module _ (plan : Plan) (commands : List Task) (scope : Scope) where
-  -- a mark expects of its command's answer what the text says; of a command of the setup, in the attempt of its turn
+  -- a mark expects of its command's answer what the text says; of a command of the setup, in the attempt of its turn. With which answer of
+  -- a first sending it is compared, the text doesn't say
   abbrev pub ExpectsAsText : Option Mark → Type 0
   ExpectsAsText None = Unit {0}
-  ExpectsAsText (Some mark) = mark.expected ≡ expected_of commands mark.cycle mark.expected.turn.attempt mark.place
+  ExpectsAsText (Some mark) = mark.expected ≡ record (expected_of commands mark.cycle mark.expected.turn.attempt mark.place) { first = mark.expected.first }
 
-  -- a record is as its text says: `HasItsTurn`, `IsAtItsTarget`, `ElsewhereIsJustified` and `IsAsListed` hold of it
+  -- the answer of a first sending with which a mark has its own compared, if there is one, is that of one of these records
+  abbrev ComesFrom : List Record → Option Mark → Type 0
+  ComesFrom rs None = Unit {0}
+  ComesFrom rs (Some mark) = (answer : Option Answer) → mark.expected.first ≡ Some answer → HasFirst rs mark.cycle mark.expected.turn answer
+
+  -- with more records behind, it still is
+  comes_more : (rs more : List Record) (mark : Option Mark) → ComesFrom rs mark → ComesFrom (rs ++ more) mark
+  comes_more rs more None h = tt
+  comes_more rs more (Some mark) h = λ answer e. has_first_more rs more mark.cycle mark.expected.turn answer (h answer e)
+
+  -- a record is as its text says: `HasItsTurn`, `IsAtItsTarget`, `ElsewhereIsJustified`, `IsAsListed`, `IsUnconfirmed` and
+  -- `DisagreesInSecond` hold of it
   abbrev pub IsAsItsText : Record → Type 0
-  IsAsItsText r = HasItsTurn commands r × IsAtItsTarget commands r × ElsewhereIsJustified scope.reads commands r × IsAsListed scope.reads commands r
+  IsAsItsText r =
+      HasItsTurn commands r × IsAtItsTarget commands r × ElsewhereIsJustified scope.reads commands r × IsAsListed scope.reads commands r
+      × IsUnconfirmed commands r × DisagreesInSecond commands r
 
   -- a mark that is `ExpectsAsText` expects the place of its command's target
   near_as_text : (mark : Mark) → ExpectsAsText (Some mark) → mark.expected.near ≡ (expected_first (drop mark.place commands)).near
@@ -74,14 +100,22 @@ module _ (plan : Plan) (commands : List Task) (scope : Scope) where
   codes_as_text : (mark : Mark) → ExpectsAsText (Some mark) → mark.expected.accepted ≡ accepted_at commands mark.place
   codes_as_text mark placed = ap (λ (k : Expected). k.accepted) placed ∙ accepted_expected (nat_eq mark.cycle 0) mark.expected.turn.attempt (expected_first (drop mark.place commands))
 
+  -- a mark that is `ExpectsAsText` is of the sending of its command (`twice_at`)
+  sending_as_text : (mark : Mark) → ExpectsAsText (Some mark) → mark.expected.twice ≡ twice_at commands mark.place
+  sending_as_text mark placed = ap (λ (k : Expected). k.twice) placed ∙ twice_expected (nat_eq mark.cycle 0) mark.expected.turn.attempt (expected_first (drop mark.place commands))
+
+  -- so it is of that of its task
+  twice_as_text : (mark : Mark) (task : Task) → ExpectsAsText (Some mark) → slice_get commands mark.place ≡ Some task → mark.expected.twice ≡ task.twice
+  twice_as_text mark task placed at =
+      sending_as_text mark placed ∙ ap (λ (k : Expected). k.twice) (expected_there commands mark.place task at)
+
   -- the record of a settlement whose mark is `ExpectsAsText` is as its text says
   record_keeps : (utc : ℕ) (mark : Mark) (x : Rule.Settlement Asked) → ExpectsAsText (Some mark) → IsAsItsText (record_of scope.reads utc mark x)
   record_keeps utc mark x placed = (
     ap (λ (k : Expected). k.turn) placed,
-    (λ task near quality answer line d at has e toward.
+    (λ task near quality answer line at has e.
         let stands : mark.expected.near ≡ Some near = near_as_text mark placed ∙ ap (λ (k : Expected). k.near) (expected_there commands mark.place task at) ∙ has in
-        near_unless_elsewhere near answer d
-        (ap (λ o. is_elsewhere o answer) (sym stands) ∙ ended_near scope.reads mark.expected x.call line x.outcome quality answer e) toward),
+        there_unless_elsewhere near answer (ap (λ o. is_elsewhere o answer) (sym stands) ∙ ended_near scope.reads mark.expected x.call line x.outcome quality answer e)),
     (λ task line at e.
         let away = ended_away scope.reads mark.expected x.call line x.outcome e in
         let is = elsewhere_has_place mark.expected.near away.0 away.2 in
@@ -90,22 +124,45 @@ module _ (plan : Plan) (commands : List Task) (scope : Scope) where
         record {
           answer = away.0;
           near = is.0;
-          direction = is.1;
           says = subst (λ codes. HasAnswer scope.reads codes x.call line away.0) there away.1;
-          known = sym near_there ∙ is.2;
-          toward = is.3;
-          away = is.4;
+          known = sym near_there ∙ is.1;
+          away = is.2;
         }),
     (λ quality said line e.
-        subst (λ codes. IsOfQuality scope.reads codes x.call quality said line) (codes_as_text mark placed)
-        (ended_quality scope.reads mark.expected x.call line quality said x.outcome e)),
+        let so = ended_quality scope.reads mark.expected x.call line quality said x.outcome e in
+        (so.0, so.1 ∙ ap (λ t. quality_as t so.0) (sending_as_text mark placed), subst (λ codes. IsOfQuality scope.reads codes x.call so.0 said line) (codes_as_text mark placed) so.2)),
+    (λ task quality answer line at first e good.
+        let so = ended_good scope.reads mark.expected x.call line x.outcome quality answer e good in
+        sym so.quality ∙ ap (λ t. quality_in t so.would_be) (twice_as_text mark task placed at ∙ first)),
+    (λ task line at e.
+        let so = ended_second scope.reads mark.expected x.call line x.outcome e in
+        (so.0, so.1, sym (twice_as_text mark task placed at) ∙ so.2)),
   )
 
-  -- once a cycle has begun, the mark of the next command of a cycle is `ExpectsAsText`
-  next_expects : (p : Progress) → 0 < cycles_begun plan p → ExpectsAsText (Some (mark_next plan commands p))
-  next_expects p many =
+  -- the record of a settlement whose mark is `ExpectsAsText`, and has its answer compared with that of one of these records, is confirmed
+  -- by them
+  record_confirmed : (rs : List Record) (utc : ℕ) (mark : Mark) (x : Rule.Settlement Asked) → ExpectsAsText (Some mark) → ComesFrom rs (Some mark)
+      → IsConfirmed commands rs (record_of scope.reads utc mark x)
+  record_confirmed rs utc mark x placed from task agree nth quality answer line at second e good =
+      let twice_is : mark.expected.twice ≡ twice.Second agree nth = twice_as_text mark task placed at ∙ second in
+      let so = ended_good scope.reads mark.expected x.call line x.outcome quality answer e good in
+      by_first mark.expected.first refl (ap (λ t. agrees_in t mark.expected.first answer) (sym twice_is) ∙ so.agrees) where
+        -- the lemma above, by the answer with which its own is compared
+        by_first : (first : Option (Option Answer)) → mark.expected.first ≡ first → agrees_in (twice.Second agree nth) first answer ≡ true
+            → AgreesWithFirst agree rs (record_of scope.reads utc mark x) answer
+        by_first None is agreed = cc
+        by_first (Some said) is agreed = record { said = said; first = from said is; agreed = agreed }
+
+  -- once a cycle has begun, the mark of the next command of a cycle is `ExpectsAsText`, whatever its answer is compared with
+  next_expects : (p : Progress) (first : Option (Option Answer)) → 0 < cycles_begun plan p
+      → let mark = mark_next plan commands p in ExpectsAsText (Some (record mark { expected = record mark.expected { first = first } }))
+  next_expects p first many =
       let expected = expected_first (drop (place_next commands p) commands) in
-      ap (λ (b : Bool). expected_as b expected.turn.attempt expected) (sym (not_zero (cycles_begun plan p) many))
+      ap (λ (b : Bool). record (expected_as b expected.turn.attempt expected) { first = first }) (sym (not_zero (cycles_begun plan p) many))
+
+  -- so is it if that isn't known
+  next_expects_so_far : (p : Progress) → 0 < cycles_begun plan p → ExpectsAsText (Some (mark_next plan commands p))
+  next_expects_so_far p many = next_expects p (mark_next plan commands p).expected.first many
 
   -- `listed_after_settlements` of settlements is `any_listed` of their records, if their marks are `ExpectsAsText`
   listed_as_recorded : (utc : ℕ) (marks : List (Option Mark)) (xs : List (Rule.Settlement Asked)) (b : Bool) → AllByRecursion ExpectsAsText marks
@@ -123,12 +180,15 @@ module _ (plan : Plan) (commands : List Task) (scope : Scope) where
       ∙ ap (λ y. any_listed scope.reads commands (kept || y) (records_of scope.reads utc marks xs)) same
 
   -- a model reads replies as the scope does, each of its marks is `ExpectsAsText`, each of its records `IsAsItsText`, and its
-  -- `listed` is what its records say
+  -- `listed` is what its records say; what its marks have their answers compared with comes from its records, each of which is confirmed by
+  -- those before it
   pub record KeepsToText (s : Model) : Type 0 where
     pub reads : s.reads ≡ scope.reads
     pub marks : AllByRecursion ExpectsAsText s.marks
     pub records : AllByRecursion IsAsItsText s.records
     pub listed : s.listed ≡ any_listed scope.reads commands false s.records
+    pub firsts : AllByRecursion (ComesFrom s.records) s.marks
+    pub agreed : AllAfter (IsConfirmed commands) [] s.records
 
   -- if `KeepsToText` holds of `s`, its records and those of the settlements `x` after them are all `IsAsItsText`
   settles_keeps : (s : Model) (x : List (Rule.Settlement Asked)) → KeepsToText s → AllByRecursion IsAsItsText (s.records ++ records_of s.reads s.progress.moment.utc s.marks x)
@@ -149,42 +209,85 @@ module _ (plan : Plan) (commands : List Task) (scope : Scope) where
       ∙ sym (any_append scope.reads commands s.records (records_of scope.reads utc s.marks x) false)
       ∙ sym (ap (λ (reads : Reads). any_listed scope.reads commands false (s.records ++ records_of reads utc s.marks x)) k.reads)
 
+  -- if `KeepsToText` holds of `s`, what its marks have their answers compared with comes from its records and those of `x`, also of the marks
+  -- that are left
+  settles_firsts : (s : Model) (n : ℕ) (x : List (Rule.Settlement Asked)) → KeepsToText s
+      → AllByRecursion (ComesFrom (s.records ++ records_of s.reads s.progress.moment.utc s.marks x)) (drop n s.marks)
+  settles_firsts s n x k =
+      let news = records_of s.reads s.progress.moment.utc s.marks x in
+      every_drop (ComesFrom (s.records ++ news)) s.marks n (all_on (ComesFrom s.records) (ComesFrom (s.records ++ news)) s.marks (comes_more s.records news) k.firsts)
+
+  -- if `KeepsToText` holds of `s`, each of its records and those of the settlements `x` is confirmed by those before it
+  settles_agreed : (s : Model) (x : List (Rule.Settlement Asked)) → KeepsToText s
+      → AllAfter (IsConfirmed commands) [] (s.records ++ records_of s.reads s.progress.moment.utc s.marks x)
+  settles_agreed s x k =
+      let utc = s.progress.moment.utc in
+      let rs = s.records in
+      subst (λ (reads : Reads). AllAfter (IsConfirmed commands) [] (rs ++ records_of reads utc s.marks x)) (sym k.reads)
+      (after_append (IsConfirmed commands) [] rs (records_of scope.reads utc s.marks x) k.agreed
+      (after_all (IsConfirmed commands) (confirmed_more commands) rs (records_of scope.reads utc s.marks x)
+      (all_settled (λ m. ExpectsAsText m × ComesFrom rs m) (IsConfirmed commands rs) scope.reads utc s.marks [] x
+      (λ mark y both. record_confirmed rs utc mark y both.0 both.1) (all_both ExpectsAsText (ComesFrom rs) s.marks k.marks k.firsts) tt)))
+
   -- `KeepsToText` is preserved by a line that is heard
   line_keeps : (s : Model) (line : List ℕ) → KeepsToText s → KeepsToText (line_came s line)
   line_keeps s line k =
       let x = hears s.client line (heard line) in
-      record { reads = k.reads; marks = every_drop ExpectsAsText s.marks _ k.marks; records = settles_keeps s x.settlements k; listed = settles_listed s x.settlements k }
+      record {
+        reads = k.reads;
+        marks = every_drop ExpectsAsText s.marks _ k.marks;
+        records = settles_keeps s x.settlements k;
+        listed = settles_listed s x.settlements k;
+        firsts = settles_firsts s _ x.settlements k;
+        agreed = settles_agreed s x.settlements k;
+      }
 
   -- `KeepsToText` is preserved by a piece
   came_keeps : (heard : Bool) (word piece : List ℕ) (s : Model) → KeepsToText s → KeepsToText (after_piece heard word piece s)
   came_keeps heard word piece s k =
-      came_along KeepsToText line_keeps heard word piece s (record { reads = k.reads; marks = k.marks; records = k.records; listed = k.listed })
-      (record { reads = k.reads; marks = k.marks; records = k.records; listed = k.listed }) k
+      came_along KeepsToText line_keeps heard word piece s (record { reads = k.reads; marks = k.marks; records = k.records; listed = k.listed; firsts = k.firsts; agreed = k.agreed })
+      (record { reads = k.reads; marks = k.marks; records = k.records; listed = k.listed; firsts = k.firsts; agreed = k.agreed }) k
 
   -- `KeepsToText` is preserved by the loss of what is outstanding
   losing_keeps : (all : Bool) (s : Model) → KeepsToText s → KeepsToText (losing all s)
   losing_keeps all s k =
       let x = restarts s.client in
       losing_along KeepsToText all s
-      (record { reads = k.reads; marks = every_drop ExpectsAsText s.marks _ k.marks; records = settles_keeps s x.settlements k; listed = settles_listed s x.settlements k }) k
+      (record {
+        reads = k.reads;
+        marks = every_drop ExpectsAsText s.marks _ k.marks;
+        records = settles_keeps s x.settlements k;
+        listed = settles_listed s x.settlements k;
+        firsts = settles_firsts s _ x.settlements k;
+        agreed = settles_agreed s x.settlements k;
+      }) k
 
-  -- `KeepsToText` is preserved by a request that is sent, if its mark is `ExpectsAsText`
-  asks_keeps : (x : Outgoing) (s : Model) → ExpectsAsText x.mark → KeepsToText s → KeepsToText (asks_for x s)
-  asks_keeps x s placed k = record { reads = k.reads; marks = all_append ExpectsAsText s.marks _ k.marks (placed, tt); records = k.records; listed = k.listed }
+  -- `KeepsToText` is preserved by a request that is sent, if its mark is `ExpectsAsText`, and what it has its answer compared with comes from
+  -- the records
+  asks_keeps : (x : Outgoing) (s : Model) → ExpectsAsText x.mark → ComesFrom s.records x.mark → KeepsToText s → KeepsToText (asks_for x s)
+  asks_keeps x s placed from k = record {
+    reads = k.reads;
+    marks = all_append ExpectsAsText s.marks _ k.marks (placed, tt);
+    records = k.records;
+    listed = k.listed;
+    firsts = all_append (ComesFrom s.records) s.marks _ k.firsts (from, tt);
+    agreed = k.agreed;
+  }
 
   -- `KeepsToText` is preserved by the send of the next command of a cycle, once one has begun
   next_keeps : (s : Model) → 0 < cycles_begun plan s.progress → KeepsToText s → KeepsToText (asks_next plan commands s)
   next_keeps s many k =
-      let mark = mark_next plan commands s.progress in
+      let mark = mark_sent plan commands s in
       first_along KeepsToText mark (drop (place_next commands s.progress) commands) s
-      (λ task. asks_keeps (request_for mark task) s (next_expects s.progress many) k) k
+      (λ task. asks_keeps (request_for mark task) s (next_expects s.progress mark.expected.first many)
+      (λ answer e. first_is_recorded s.records mark.cycle mark.expected.turn mark.expected.twice answer e) k) k
 
   -- `KeepsToText` is preserved by the send of the next command of the setup
   setup_keeps : (s : Model) → KeepsToText s → KeepsToText (asks_setup plan commands s)
   setup_keeps s k =
       let mark = mark_setup commands s.progress in
       setup_along KeepsToText plan mark (drop s.progress.prepared commands) s
-      (λ task. asks_keeps (request_for mark task) s refl k) (asks_keeps (null_request plan) s tt k)
+      (λ task. asks_keeps (request_for mark task) s refl (λ answer e. absurd (none_known commands s.progress.prepared answer e)) k) (asks_keeps (null_request plan) s tt tt k)
 
   -- whether a rule names the end of a command that isn't sent is the same without a code and with the code of that end
   unsent_named : (again : Again) (call : Asked) (missed : Bool)
@@ -198,12 +301,20 @@ module _ (plan : Plan) (commands : List Task) (scope : Scope) where
   skips_keeps p m mark (task ∷ others) placed = (
     (
       ap (λ (k : Expected). k.turn) placed,
-      (λ t near quality answer line d at has e toward. absurd (no_end_of_sent p.missed (Answered quality (Some answer) line) refl e)),
+      (λ t near quality answer line at has e. absurd (no_end_of_sent p.missed (Answered quality (Some answer) line) refl e)),
       (λ t line at e. absurd (no_end_of_sent p.missed (Elsewhere line) refl e)),
       (λ quality said line e. absurd (no_end_of_sent p.missed (Answered quality said line) refl e)),
+      (λ t quality answer line at first e good. absurd (no_end_of_sent p.missed (Answered quality answer line) refl e)),
+      (λ t line at e. absurd (no_end_of_sent p.missed (Disagree line) refl e)),
     ),
     tt,
   )
+
+  -- the record of a command that isn't sent is confirmed by any records: it isn't answered
+  skips_confirmed : (rs : List Record) (p : Progress) (m : Moment) (mark : Mark) (left : List Task) → AllByRecursion (IsConfirmed commands rs) (first_unsent_record p m mark left)
+  skips_confirmed rs p m mark [] = tt
+  skips_confirmed rs p m mark (task ∷ others) =
+      ((λ t agree nth quality answer line at second e good. absurd (no_end_of_sent p.missed (Answered quality answer line) refl e)), tt)
 
   -- once a cycle has begun, `listed_unsent` of the next command, of which there is one, is `any_listed` of its
   -- record
@@ -215,7 +326,7 @@ module _ (plan : Plan) (commands : List Task) (scope : Scope) where
       let end = end_unsent p.missed in
       ap (λ x. (if nat_eq mark.expected.turn.link 0 then false else b) || x)
       (unsent_named mark.expected.again task.command.call p.missed
-      ∙ ap (λ (k : Expected). repeats_after k.again (code_of_end scope.reads task.command.call end) end) (next_expects p many))
+      ∙ ap (λ (k : Expected). repeats_after k.again (code_of_end scope.reads task.command.call end) end) (next_expects_so_far p many))
 
   -- if this action sends the next command of a cycle, or records it without sending it, a cycle has begun, and there is such a
   -- command
@@ -226,12 +337,12 @@ module _ (plan : Plan) (commands : List Task) (scope : Scope) where
 
   -- `KeepsToText` is preserved by an act of each action of which `HasItsCommand` holds, before what is outstanding is lost
   moved_keeps : (next : Action) (s : Model) (act : Act) → HasItsCommand next s → KeepsToText s → KeepsToText (moved plan commands next s act)
-  moved_keeps actions.Prepare s (Cut bytes count) some k = let n = setup_keeps s k in record { reads = n.reads; marks = n.marks; records = n.records; listed = n.listed }
-  moved_keeps actions.Prepare s act some k = let n = setup_keeps s k in record { reads = n.reads; marks = n.marks; records = n.records; listed = n.listed }
-  moved_keeps actions.Send s (Cut bytes count) some k = let n = next_keeps s some.0 k in record { reads = n.reads; marks = n.marks; records = n.records; listed = n.listed }
-  moved_keeps actions.Send s act some k = let n = next_keeps s some.0 k in record { reads = n.reads; marks = n.marks; records = n.records; listed = n.listed }
-  moved_keeps actions.Flush s (Cut bytes count) some k = let n = asks_keeps (null_request plan) s tt k in record { reads = n.reads; marks = n.marks; records = n.records; listed = n.listed }
-  moved_keeps actions.Flush s act some k = let n = asks_keeps (null_request plan) s tt k in record { reads = n.reads; marks = n.marks; records = n.records; listed = n.listed }
+  moved_keeps actions.Prepare s (Cut bytes count) some k = let n = setup_keeps s k in record { reads = n.reads; marks = n.marks; records = n.records; listed = n.listed; firsts = n.firsts; agreed = n.agreed }
+  moved_keeps actions.Prepare s act some k = let n = setup_keeps s k in record { reads = n.reads; marks = n.marks; records = n.records; listed = n.listed; firsts = n.firsts; agreed = n.agreed }
+  moved_keeps actions.Send s (Cut bytes count) some k = let n = next_keeps s some.0 k in record { reads = n.reads; marks = n.marks; records = n.records; listed = n.listed; firsts = n.firsts; agreed = n.agreed }
+  moved_keeps actions.Send s act some k = let n = next_keeps s some.0 k in record { reads = n.reads; marks = n.marks; records = n.records; listed = n.listed; firsts = n.firsts; agreed = n.agreed }
+  moved_keeps actions.Flush s (Cut bytes count) some k = let n = asks_keeps (null_request plan) s tt tt k in record { reads = n.reads; marks = n.marks; records = n.records; listed = n.listed; firsts = n.firsts; agreed = n.agreed }
+  moved_keeps actions.Flush s act some k = let n = asks_keeps (null_request plan) s tt tt k in record { reads = n.reads; marks = n.marks; records = n.records; listed = n.listed; firsts = n.firsts; agreed = n.agreed }
   moved_keeps actions.Skip s (Told m) some k =
       let left = drop (place_next commands s.progress) commands in
       let p = s.progress in
@@ -239,7 +350,10 @@ module _ (plan : Plan) (commands : List Task) (scope : Scope) where
       record {
         reads = k.reads;
         marks = k.marks;
-        records = all_append IsAsItsText s.records _ k.records (skips_keeps p m (mark_next plan commands p) left (next_expects p some.0));
+        records = all_append IsAsItsText s.records _ k.records (skips_keeps p m (mark_next plan commands p) left (next_expects_so_far p some.0));
+        firsts = all_on (ComesFrom s.records) (ComesFrom (s.records ++ rs)) s.marks (comes_more s.records rs) k.firsts;
+        agreed = after_append (IsConfirmed commands) [] s.records rs k.agreed
+            (after_all (IsConfirmed commands) (confirmed_more commands) s.records rs (skips_confirmed s.records p m (mark_next plan commands p) left));
         listed = skips_listed s.listed p m left some.0 some.1 ∙ ap (λ b. any_listed scope.reads commands b rs) k.listed ∙ sym (any_append scope.reads commands s.records rs false);
       }
   moved_keeps actions.Skip s act some k = record {
@@ -247,20 +361,22 @@ module _ (plan : Plan) (commands : List Task) (scope : Scope) where
     marks = k.marks;
     records = all_append IsAsItsText s.records [] k.records tt;
     listed = k.listed ∙ sym (ap (any_listed scope.reads commands false) (append-nil s.records));
+    firsts = all_on (ComesFrom s.records) (ComesFrom (s.records ++ [])) s.marks (comes_more s.records []) k.firsts;
+    agreed = after_append (IsConfirmed commands) [] s.records [] k.agreed tt;
   }
   moved_keeps (actions.Read until) s (Gave bytes m) some k =
       let n = came_keeps (is_heard s.progress.phase) s.progress.word bytes (with_moment m (with_progress (moment_noted m) s))
-      (record { reads = k.reads; marks = k.marks; records = k.records; listed = k.listed }) in
-      record { reads = n.reads; marks = n.marks; records = n.records; listed = n.listed }
-  moved_keeps (actions.Read until) s act some k = record { reads = k.reads; marks = k.marks; records = k.records; listed = k.listed }
-  moved_keeps next s act some k = subst KeepsToText (sym (moved_changed plan commands next s act)) (record { reads = k.reads; marks = k.marks; records = k.records; listed = k.listed })
+      (record { reads = k.reads; marks = k.marks; records = k.records; listed = k.listed; firsts = k.firsts; agreed = k.agreed }) in
+      record { reads = n.reads; marks = n.marks; records = n.records; listed = n.listed; firsts = n.firsts; agreed = n.agreed }
+  moved_keeps (actions.Read until) s act some k = record { reads = k.reads; marks = k.marks; records = k.records; listed = k.listed; firsts = k.firsts; agreed = k.agreed }
+  moved_keeps next s act some k = subst KeepsToText (sym (moved_changed plan commands next s act)) (record { reads = k.reads; marks = k.marks; records = k.records; listed = k.listed; firsts = k.firsts; agreed = k.agreed })
 
   -- `KeepsToText` is preserved by an act, if `Invariant` holds before it
   after_keeps : (s : Model) (act : Act) → Invariant plan commands s → KeepsToText s → KeepsToText (after plan commands s act)
   after_keeps s act fine k =
       let t = moved plan commands (action_at plan s) (with_progress turned s) act in
       losing_keeps (loses_all t.progress) t (moved_keeps (action_at plan s) (with_progress turned s) act (next_has_its_command (action_at plan s) (action_for plan s.progress (waiting_of s)))
-      (record { reads = k.reads; marks = k.marks; records = k.records; listed = k.listed })) where
+      (record { reads = k.reads; marks = k.marks; records = k.records; listed = k.listed; firsts = k.firsts; agreed = k.agreed })) where
         -- if a command is unsent, a cycle has begun, and there is a next command
         has_next_if_unsent : 0 < s.progress.unsent → (0 < cycles_begun plan s.progress) × (0 < length (commands_left commands s.progress))
         has_next_if_unsent unsent =
@@ -278,4 +394,4 @@ module _ (plan : Plan) (commands : List Task) (scope : Scope) where
   pub kept_all : (acts : List Act) → KeepsToText (state_after plan commands scope acts)
   kept_all acts =
       (acts_along plan commands (λ (s : Model). Invariant plan commands s × KeepsToText s) (λ s act h. (invariant_after plan commands s act h.0, after_keeps s act h.0 h.1))
-      (opening plan scope) acts (invariant_opening plan commands scope, record { reads = refl; marks = tt; records = tt; listed = refl })).1
+      (opening plan scope) acts (invariant_opening plan commands scope, record { reads = refl; marks = tt; records = tt; listed = refl; firsts = tt; agreed = tt })).1

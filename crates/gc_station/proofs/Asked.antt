@@ -19,8 +19,8 @@ use Rattle.gc_station.specs.Deciding.{has_begun, is_none_left}
 use Rattle.gc_station.specs.Parts as part
 use Rattle.gc_station.specs.Parts.{Part, only_sync_steps, sync_part, client_part, in_front, parts_of}
 use Rattle.gc_station.specs.Progressing.{is_over, loses_all}
-use Rattle.gc_station.specs.Model.{Performs, Runs, Model, after, is_heard, lines_completed, action_at}
-use Rattle.gc_station.specs.NextCommand.{mark_next, place_next}
+use Rattle.gc_station.specs.Model.{Performs, Runs, Model, after, is_heard, lines_completed, action_at, mark_sent}
+use Rattle.gc_station.specs.NextCommand.{place_next}
 use Rattle.gc_station.proofs.Beginnings.{word_after, word_if_resynchronizing}
 use Rattle.gc_station.proofs.Midway.{none_lost_parts}
 use Rattle.gc_station.proofs.Turns.{no_act_once_over}
@@ -223,7 +223,7 @@ module _ (plan : Plan) (commands : List Task) where
   put_part_no_sync_steps : (s : Model) (o : Action) → (part.put_part plan commands s o).sync_steps ≡ []
   put_part_no_sync_steps s action.Flush = refl
   put_part_no_sync_steps s action.Prepare = refl
-  put_part_no_sync_steps s action.Send = first_request_no_sync_steps s.progress.moment.elapsed (mark_next plan commands s.progress) (drop (place_next commands s.progress) commands)
+  put_part_no_sync_steps s action.Send = first_request_no_sync_steps s.progress.moment.elapsed (mark_sent plan commands s) (drop (place_next commands s.progress) commands)
   put_part_no_sync_steps s o = refl
 
   -- the part of an act, once the station has synchronized, has no steps of a synchronization

@@ -468,7 +468,9 @@ module _ (plan : Plan) (commands : List Task) (scope : Scope) where
           last = l.last;
           own_cycle = ap (λ (r : RunRequest). r.cycle) own;
           own_place = ap (λ (r : RunRequest). r.place) own;
-          good = record { line = l.line; quality = l.quality; said = l.said; answered = l.answered; well = l.well; says = listed l.quality l.said l.line l.answered };
+          good =
+              let so = listed l.quality l.said l.line l.answered in
+              record { line = l.line; quality = l.quality; said = l.said; answered = l.answered; well = l.well; plain = so.0; sent_as = so.1; says = so.2 };
           in_time = true_one l.line (ap line_of l.answered);
         } in
         (linked, w.keeps, w.no_setup)

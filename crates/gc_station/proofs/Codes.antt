@@ -2,7 +2,7 @@
 -- unless it was measured elsewhere than where its target is. `line` is the reply line of a command with this call, and `r` its
 -- fields; `reads` gives what each line says for a call (`AreReadings`), and `expected` what the command expects: the return
 -- codes that it accepts, and the place of its target.
-use Rattle.std.proofs.Common.{◌≡◌, ◌==◌, ◌&&◌, ◌||◌, ◌⊎◌, inl, inr, ℕ, zero, suc, replicate, Bool, true, false, not, List, refl, sym, ap, ◌∙◌}
+use Rattle.std.proofs.Common.{◌≡◌, ◌==◌, ◌&&◌, ◌||◌, ◌⊎◌, inl, inr, ℕ, zero, suc, replicate, Bool, true, false, not, List, Option, Some, None, if◌then◌else◌, refl, sym, ap, ◌∙◌}
 use Rattle.std.specs.List.{list_any}
 use Rattle.std.proofs.lemmas.Bool.Decides.{eqb_tells}
 use Rattle.std.proofs.lemmas.Bool.{both_ways}
@@ -15,17 +15,20 @@ use Rattle.gc_catalogue.specs.declared.asked.Asked.TheVariants.{Table, Raw}
 use Rattle.gc_catalogue.specs.Asked.{IsAskedReading}
 use Rattle.gc_client.specs.Rule.{Answered}
 use Rattle.gc_texts.specs.Codes.{lists_code, no_codes}
+use Rattle.gc_texts.specs.Endings as ends
 use Rattle.gc_texts.specs.Nears.{is_elsewhere}
 use Rattle.gc_texts.specs.Qualities.{is_good}
 use Rattle.gc_texts.specs.Zeroed.{as_zero}
 use Rattle.gc_texts.specs.declared.codes.Codes.{Codes}
+use Rattle.gc_texts.specs.declared.agree.Twice.{Twice}
+use Rattle.gc_texts.specs.declared.agree.Twice.TheVariants as twice
 use Rattle.gc_texts.specs.declared.near.Expected.{Expected}
 use Rattle.gc_texts.specs.declared.quality.Quality.{Quality}
 use Rattle.gc_texts.specs.declared.quality.Quality.TheVariants as quality
 use Rattle.gc_texts.proofs.ZeroReplies.{zero_reads}
 use Rattle.gc_station.specs.Codes.{WellIsAnAcceptedCode}
 use Rattle.gc_station.specs.Qualities.{GoodIsAnAnswer}
-use Rattle.gc_station.specs.Marks.{value_as, warned_as, refused_as, answer_as, end_of, is_well}
+use Rattle.gc_station.specs.Marks.{agrees_in, quality_in, answered_as, value_as, warned_as, refused_as, answer_as, end_of, is_well}
 use Rattle.gc_station.specs.Scopes.{AreReadings, Reads}
 
 -- a reply with a communication code other than 0 says that fault, whatever was asked
@@ -38,10 +41,27 @@ pub refused_is : (asked : Asked) (r : ReplyFields) → r.rc_com ≡ 0 → (r.rc 
 refused_is (Table call) r none other = (none, other, refl)
 refused_is (Raw raw) r none other = (none, other, refl)
 
--- a command whose reply is an answer of a good quality is answered well exactly if it wasn't measured elsewhere
-value_well : (q : Quality) → is_good q ≡ true → (said : Answer) (line : List ℕ) (away : Bool) → is_well (value_as q away said line) ≡ not away
-value_well q good said line true = refl
-value_well q good said line false = good
+-- a good quality is a good one in each sending of a chain
+good_in : (t : Twice) (q : Quality) → is_good q ≡ true → is_good (quality_in t q) ≡ true
+good_in twice.Once q good = good
+good_in twice.First q good = refl
+good_in (twice.Second agree nth) q good = good
+
+-- a command whose reply has these values, or none, and a good quality is answered well exactly if they agree with those of the first
+-- sending, if it is of a second one
+answered_well : (expected : Expected) (q : Quality) → is_good q ≡ true → (said : Option Answer) (line : List ℕ)
+    → is_well (answered_as expected q said line) ≡ agrees_in expected.twice expected.first said
+answered_well expected q good said line = by_test (agrees_in expected.twice expected.first said) where
+  -- the lemma above, by whether they agree
+  by_test : (b : Bool) → is_well (if b then ends.Answered (quality_in expected.twice q) said line else ends.Disagree line) ≡ b
+  by_test true = good_in expected.twice q good
+  by_test false = refl
+
+-- a command whose reply is an answer of a good quality is answered well exactly if it wasn't measured elsewhere, and agrees
+value_well : (expected : Expected) (q : Quality) → is_good q ≡ true → (said : Answer) (line : List ℕ) (away : Bool)
+    → is_well (value_as expected q away said line) ≡ (not away && agrees_in expected.twice expected.first (Some said))
+value_well expected q good said line true = refl
+value_well expected q good said line false = answered_well expected q good (Some said) line
 
 -- a code other than 0 isn't among places that all have 0
 not_among_zeros : (n code : ℕ) → (code ≡ 0 → ⊥) → list_any (λ c. c == code) (replicate n 0) ≡ true → ⊥
@@ -78,8 +98,8 @@ module _ (reads : Reads) (expected : Expected) (call : Asked) (line : List ℕ) 
 
   -- a line that is a refusal ends the command as `refused_as` says, with b for whether the refusal's code is accepted
   ended_refused : (code : ℕ) (b : Bool) → reads call line ≡ reading.Refused code → lists_code expected.accepted code ≡ b
-      → end_of reads expected call (Answered line) ≡ refused_as b expected.near (reads call (as_zero line)) line
-  ended_refused code b e accepted = ended (reading.Refused code) e ∙ ap (λ x. refused_as x expected.near (reads call (as_zero line)) line) accepted
+      → end_of reads expected call (Answered line) ≡ refused_as b expected (reads call (as_zero line)) line
+  ended_refused code b e accepted = ended (reading.Refused code) e ∙ ap (λ x. refused_as x expected (reads call (as_zero line)) line) accepted
 
   -- a command that is refused with a code that isn't accepted isn't answered well
   refused_unwell : (code : ℕ) → reads call line ≡ reading.Refused code → lists_code expected.accepted code ≡ false → is_well (end_of reads expected call (Answered line)) ≡ false
@@ -117,21 +137,22 @@ module _ (reads : Reads) (expected : Expected) (call : Asked) (line : List ℕ) 
   -- a reply with both codes 0 and an answer ends a command as answered with the quality `Fine`, or as elsewhere where its
   -- direction isn't near the target's place
   value_ends : (answer : Answer) → IsAskedReading call r (reading.Value answer)
-      → end_of reads expected call (Answered line) ≡ value_as quality.Fine (is_elsewhere expected.near answer) answer line
+      → end_of reads expected call (Answered line) ≡ value_as expected quality.Fine (is_elsewhere expected.near answer) answer line
   value_ends answer has = ended (reading.Value answer) (says (reading.Value answer) has)
 
   -- a reply with an accepted return code other than 0 ends a command as `warned_as` says, by what its line says with return
   -- code 0
   warned_ends : (said : Reading) → r.rc_com ≡ 0 → (r.rc ≡ 0 → ⊥) → lists_code expected.accepted r.rc ≡ true → IsAskedReading call (record r { rc = 0 }) said
-      → end_of reads expected call (Answered line) ≡ warned_as expected.near said line
+      → end_of reads expected call (Answered line) ≡ warned_as expected said line
   warned_ends said none some accepted read =
-      ended_refused r.rc true (says (reading.Refused r.rc) (refused_is call r none some)) accepted ∙ ap (λ x. warned_as expected.near x line) (says_zeroed said read)
+      ended_refused r.rc true (says (reading.Refused r.rc) (refused_is call r none some)) accepted ∙ ap (λ x. warned_as expected x line) (says_zeroed said read)
 
 -- the law: if no code is accepted, the line of an answer of a good quality says an answer (both codes are 0), and the record has
 -- it
 pub without_accept : GoodIsAnAnswer
 without_accept reads call quality.Fine said line is good = is
 without_accept reads call quality.Warning said line (code, refusal, listed, has) good = absurd (none_accepted code listed)
+without_accept reads call quality.Unconfirmed said line is good = absurd is
 without_accept reads call quality.Refused said line is good = cc
 
 -- the law: how a command that a reply in time ended is answered well or not, by its codes (`EndsByItsCodes`); and one that is
@@ -147,13 +168,13 @@ accepted_codes = record {
         (first, without_codes expected.accepted r.rc none (rc_zero reads expected call line r are is first well));
     unread = λ said reading none unlisted. unread_unwell reads expected call line r are is said (says reads expected call line r are is said reading) none unlisted;
     found = λ answer has.
-        ap is_well (value_ends reads expected call line r are is answer has) ∙ value_well quality.Fine refl answer line (is_elsewhere expected.near answer);
-    away = λ answer has elsewhere. value_ends reads expected call line r are is answer has ∙ ap (λ b. value_as quality.Fine b answer line) elsewhere;
+        ap is_well (value_ends reads expected call line r are is answer has) ∙ value_well expected quality.Fine refl answer line (is_elsewhere expected.near answer);
+    away = λ answer has elsewhere. value_ends reads expected call line r are is answer has ∙ ap (λ b. value_as expected quality.Fine b answer line) elsewhere;
     warned = λ answer none some accepted has.
         ap is_well (warned_ends reads expected call line r are is (reading.Value answer) none some accepted has)
-        ∙ value_well quality.Warning refl answer line (is_elsewhere expected.near answer);
+        ∙ value_well expected quality.Warning refl answer line (is_elsewhere expected.near answer);
     warned_away = λ answer none some accepted has elsewhere.
-        warned_ends reads expected call line r are is (reading.Value answer) none some accepted has ∙ ap (λ b. value_as quality.Warning b answer line) elsewhere;
+        warned_ends reads expected call line r are is (reading.Value answer) none some accepted has ∙ ap (λ b. value_as expected quality.Warning b answer line) elsewhere;
     warned_without = λ fault none some accepted unreadable.
         warned_ends reads expected call line r are is (reading.Unreadable fault) none some accepted unreadable;
   };

@@ -31,8 +31,8 @@ use Rattle.gc_station.specs.Reasons.{HoldsBefore, IsGoingOn, IsReadyOrOverdue}
 use Rattle.gc_station.specs.Records.{Record}
 use Rattle.gc_station.specs.Runs.{state_after}
 use Rattle.gc_station.specs.Tasked.{EachRecordIsOfItsTask}
-use Rattle.gc_station.specs.Model.{Model, opening, action_at, waiting_of, with_progress, asks_first, asks_next, next_left_out, with_more_passes, with_listed, listed_after_skip, after_pass, with_more_records, end_unsent, unsent_record, first_unsent_record, after_clock, moved, after, after_all, cycle_length, asks_setup, request_for, null_request, request_or_null, asks_for}
-use Rattle.gc_station.specs.NextCommand.{place_next, commands_left, expected_first, mark_next, upcoming_after, mark_setup, cycles_begun}
+use Rattle.gc_station.specs.Model.{Model, opening, action_at, waiting_of, with_progress, asks_first, asks_next, next_left_out, with_more_passes, with_listed, listed_after_skip, after_pass, with_more_records, end_unsent, unsent_record, first_unsent_record, after_clock, moved, after, after_all, cycle_length, asks_setup, request_for, null_request, request_or_null, asks_for, mark_sent}
+use Rattle.gc_station.specs.NextCommand.{place_next, commands_left, mark_next, upcoming_after, mark_setup, cycles_begun}
 use Rattle.gc_station.proofs.InCycle.{within_window}
 use Rattle.gc_station.proofs.Acting.{mid_fail, mid_moment, mid_clock, mid_put, mid_open, mid_close, mid_read}
 use Rattle.gc_station.proofs.Each.{row_empty, reached_whole}
@@ -120,16 +120,16 @@ module _ (plan : Plan) (commands : List Task) (next : Upcoming) (s : Model) wher
   -- `Ready`, if a command is unsent and there is room for a request
   mid_first : (left : List Task) → (there : commands_left commands s.progress ≡ left)
       → (is_ready : s.progress.phase ≡ Ready) → (some : 0 < s.progress.unsent) → (room : length s.client.waiting < WINDOW) → HoldsMidAct plan commands s
-      → HoldsMidAct plan commands (with_progress (sent next) (asks_first (mark_next plan commands s.progress) left s))
+      → HoldsMidAct plan commands (with_progress (sent next) (asks_first (mark_sent plan commands s) left s))
   mid_first [] at is some room mid =
       let sound = mid.0 in
       let n : length commands - place_next commands s.progress ≡ 0 = sym (length-drop (place_next commands s.progress) commands) ∙ ap length at in
       absurd (omega (arith, n, some, sound.unsents))
   mid_first (task ∷ others) at is some room mid =
       let p = s.progress in
-      let t = asks_first (mark_next plan commands p) (task ∷ others) s in (
+      let t = asks_first (mark_sent plan commands s) (task ∷ others) s in (
         sound_sent plan commands (ledger_at s p) p.moment.utc (later p.moment.elapsed task.deadline)
-            (expected_first (drop (place_next commands p) commands)) task others room some at mid.0,
+            (mark_sent plan commands s).expected task others room some at mid.0,
         ready_fits p.phase p.left (p.unsent - 1) s.rest t.marks is,
       )
 

@@ -1,5 +1,5 @@
 -- The watched commands of a run: how they change in place, which was answered well the longest ago, and what becomes of each.
-use Rattle.std.proofs.Common.{◌≡◌, ◌≤◌, ◌<◌, ◌-◌, ◌+◌, ◌==◌, ◌&&◌, ◌⊎◌, inl, inr, ℕ, zero, suc, nat_lt, if◌then◌else◌, Bool, true, false, List, [], ◌∷◌, ◌++◌, take, drop, length, map, get_or, slice_set, Option, Some, None, refl, sym, ap, ◌∙◌, subst, append-nil, arith}
+use Rattle.std.proofs.Common.{◌≡◌, ◌≤◌, ◌<◌, ◌+◌, ◌==◌, ◌&&◌, ◌⊎◌, inl, inr, ℕ, zero, suc, nat_lt, if◌then◌else◌, Bool, true, false, List, [], ◌∷◌, ◌++◌, take, drop, length, map, get_or, slice_set, Option, Some, None, refl, sym, ap, ◌∙◌, subst, append-nil, arith}
 use Rattle.std.specs.List.{AllByRecursion}
 use Rattle.std.proofs.lemmas.List.{map-id, map-append, take_more}
 use Rattle.std.proofs.lemmas.List.Concat.{flat_map-append}
@@ -9,7 +9,7 @@ use Rattle.std.proofs.Math.Nat.{min-eq_left, min-le_right}
 use Rattle.gc_texts.specs.Endings.{End}
 use Rattle.gc_texts.specs.declared.tasks.Task.{Task}
 use Rattle.gc_station.specs.declared.watching.Watch.{Watch}
-use Rattle.gc_station.specs.Marks.{is_well}
+use Rattle.gc_station.specs.Marks.{ended_confirmed}
 use Rattle.gc_station.specs.Watching.{watched_at, watched_in, unanswered, renews, renewed_if, renewed, cut_to, older, oldest_from, oldest, fresh_in, fresh_of}
 
 -- Lists whose items are changed in place.
@@ -130,20 +130,20 @@ pub renewed_place : (is : Bool) (now utc : ℕ) (w : Watch) → (renewed_if is n
 renewed_place true now utc w = refl
 renewed_place false now utc w = refl
 
--- the record of a command that wasn't answered well renews no watched command
-pub unwell_renews_none : (cycle place : ℕ) (end : End) (watched : ℕ) → is_well end ≡ false → renews cycle place end watched ≡ false
+-- the record of a command without a confirmed answer renews no watched command
+pub unwell_renews_none : (cycle place : ℕ) (end : End) (watched : ℕ) → ended_confirmed end ≡ false → renews cycle place end watched ≡ false
 unwell_renews_none cycle place end watched unwell = ap (λ b. b && (nat_lt 0 cycle && (watched == place))) unwell
 
 -- so it changes none
-pub unwell_changes_none : (now utc cycle place : ℕ) (end : End) (ws : List Watch) → is_well end ≡ false → map (renewed now utc cycle place end) ws ≡ ws
+pub unwell_changes_none : (now utc cycle place : ℕ) (end : End) (ws : List Watch) → ended_confirmed end ≡ false → map (renewed now utc cycle place end) ws ≡ ws
 unwell_changes_none now utc cycle place end ws unwell =
     ap (λ b. map (λ (w : Watch). renewed_if (b && (nat_lt 0 cycle && (w.place == place))) now utc w) ws) unwell ∙ map-id ws
 
--- a command that was answered well, in a cycle, renews each watched command with its place
-pub well_renews_each : (now utc cycle place : ℕ) (end : End) (ws : List Watch) → (is_well end && nat_lt 0 cycle) ≡ true
+-- a command with a confirmed answer, in a cycle, renews each watched command with its place
+pub well_renews_each : (now utc cycle place : ℕ) (end : End) (ws : List Watch) → (ended_confirmed end && nat_lt 0 cycle) ≡ true
     → map (λ (w : Watch). renewed_if (w.place == place) now utc w) ws ≡ map (renewed now utc cycle place end) ws
-well_renews_each now utc cycle place end ws well = by_parts (is_well end) (nat_lt 0 cycle) well where
-  -- the lemma above, by whether the command was answered well, and in a cycle
+well_renews_each now utc cycle place end ws well = by_parts (ended_confirmed end) (nat_lt 0 cycle) well where
+  -- the lemma above, by whether the command has a confirmed answer, and in a cycle
   by_parts : (b c : Bool) → (b && c) ≡ true
       → map (λ (w : Watch). renewed_if (w.place == place) now utc w) ws ≡ map (λ (w : Watch). renewed_if (b && (c && (w.place == place))) now utc w) ws
   by_parts true true e = refl
@@ -151,9 +151,9 @@ well_renews_each now utc cycle place end ws well = by_parts (is_well end) (nat_l
   by_parts false c e = cc
 
 -- any other renews none
-pub other_renews_none : (now utc cycle place : ℕ) (end : End) (ws : List Watch) → (is_well end && nat_lt 0 cycle) ≡ false → ws ≡ map (renewed now utc cycle place end) ws
-other_renews_none now utc cycle place end ws unwell = by_parts (is_well end) (nat_lt 0 cycle) unwell where
-  -- the lemma above, by whether the command was answered well, and in a cycle
+pub other_renews_none : (now utc cycle place : ℕ) (end : End) (ws : List Watch) → (ended_confirmed end && nat_lt 0 cycle) ≡ false → ws ≡ map (renewed now utc cycle place end) ws
+other_renews_none now utc cycle place end ws unwell = by_parts (ended_confirmed end) (nat_lt 0 cycle) unwell where
+  -- the lemma above, by whether the command has a confirmed answer, and in a cycle
   by_parts : (b c : Bool) → (b && c) ≡ false → ws ≡ map (λ (w : Watch). renewed_if (b && (c && (w.place == place))) now utc w) ws
   by_parts true true e = cc
   by_parts true false e = sym (map-id ws)

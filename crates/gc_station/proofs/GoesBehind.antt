@@ -24,8 +24,8 @@ use Rattle.gc_station.specs.Deciding.{has_begun, is_none_left}
 use Rattle.gc_station.specs.Parts.{Part, put_part, first_request_part, heard_steps, client_part, sync_part}
 use Rattle.gc_station.specs.Progressing.{one_more_in_window, turned, time_passed}
 use Rattle.gc_station.specs.Reasons.{HoldsBefore}
-use Rattle.gc_station.specs.Model.{Model, waiting_of, is_heard, with_progress, with_rest, line_came, lines_came, lines_completed, after_piece, moved, Performs}
-use Rattle.gc_station.specs.NextCommand.{place_next, mark_next}
+use Rattle.gc_station.specs.Model.{Model, waiting_of, is_heard, with_progress, with_rest, line_came, lines_came, lines_completed, after_piece, moved, Performs, mark_sent}
+use Rattle.gc_station.specs.NextCommand.{place_next}
 use Rattle.gc_station.proofs.Behind.{behind_by}
 use Rattle.gc_station.proofs.Booking.{sent_by}
 use Rattle.gc_station.proofs.FirstReply.{SendsNulls}
@@ -68,7 +68,7 @@ module _ (plan : Plan) (commands : List Task) where
   behind_counted s action.Send act fine is obeys begun still =
       let left = drop (place_next commands s.progress) commands in
       let many : length left ≡ length commands - place_next commands s.progress = length-drop (place_next commands s.progress) commands in
-      let one = first_counted s.client s.progress.behind s.progress.moment.elapsed (mark_next plan commands s.progress) left (omega (arith, many, is.2, fine.unsent)) in
+      let one = first_counted s.client s.progress.behind s.progress.moment.elapsed (mark_sent plan commands s) left (omega (arith, many, is.2, fine.unsent)) in
       walk plan commands (IsCounted action.Send s) action.Send (with_progress turned s) act obeys (λ m. one, λ n. one)
   behind_counted s (action.Read until) act fine is obeys begun still =
       walk plan commands (IsCounted (action.Read until) s) (action.Read until) (with_progress turned s) act obeys (
@@ -143,7 +143,7 @@ module _ (plan : Plan) (commands : List Task) (s : Model) (k : ById Asked) (more
   put_goes_out : (o : Action) → GoesOut (put_part plan commands s o) → (front ≡ []) × SendsAs o
   put_goes_out action.Flush h =
       let none = no_step_before_send _ front later target call deadline h.0 in (none, null_goes_out _ none h.0 h.1)
-  put_goes_out action.Send h = (first_goes_out s.progress.moment.elapsed (mark_next plan commands s.progress) (drop (place_next commands s.progress) commands) h, tt)
+  put_goes_out action.Send h = (first_goes_out s.progress.moment.elapsed (mark_sent plan commands s) (drop (place_next commands s.progress) commands) h, tt)
   put_goes_out action.Prepare h = (no_step_before_send _ front later target call deadline h.0, tt)
   put_goes_out o h = absurd (no_send [] front later target call deadline tt h.0)
 

@@ -35,11 +35,12 @@ use Rattle.gc_station.specs.declared.progress.Waiting.{Waiting}
 use Rattle.gc_station.specs.declared.recorded.Recorded.{Recorded}
 use Rattle.gc_station.specs.declared.station.Station.{Station}
 use Rattle.gc_station.specs.Attempts.{listed_after_settlements}
+use Rattle.gc_station.specs.Firsts.{firsts_after}
 use Rattle.gc_station.specs.Marks.{commands_in, records_of, last_well}
 use Rattle.gc_station.specs.Watching.{fresh_after, cut_to}
-use Rattle.gc_station.specs.Progressing.{behind_noted, ended_noted, line_noted, bytes_noted, early_noted, after_failure, closed, failing, lines_synchronizing, line_synchronizing}
+use Rattle.gc_station.specs.Progressing.{behind_noted, ended_noted, doubt_noted, line_noted, bytes_noted, early_noted, after_failure, closed, failing, lines_synchronizing, line_synchronizing}
 use Rattle.gc_station.specs.Records.{Record, Grew, texts_of, WritesPart, WritesBy}
-use Rattle.gc_station.specs.Model.{Model, Performs, line_came, lines_came, lines_completed, lines_taken, with_rest, with_progress, with_moment, waiting_of, settles, piece_heard}
+use Rattle.gc_station.specs.Model.{Model, Performs, raises_doubt, line_doubted, line_came, lines_came, lines_completed, lines_taken, with_rest, with_progress, with_moment, waiting_of, settles, piece_heard}
 use Rattle.gc_station.specs.Stations.{waiting_of_station, Refines, Took, TookPart, RefinesOrTookPart, Makes, ReadsMoment, DropsMarks, as_seen, station_expiring}
 use Rattle.gc_station.specs.Scopes.{AreReadings, ForEachReadings}
 use Rattle.gc_station.specs.Tallies.{empty_counts, tallied}
@@ -47,7 +48,7 @@ use Rattle.gc_station.specs.Writing.{recorded_after}
 use Rattle.gc_station.proofs.Growing.{lines_records}
 use Rattle.gc_station.proofs.Making.{refines_with}
 use Rattle.gc_station.proofs.Readings.{lines_reads, same_readings}
-use Rattle.gc_station.proofs.Records.{grew_none, grew_then, part_since_grew, part_more_grew, tallied-append, last-append}
+use Rattle.gc_station.proofs.Records.{grew_none, grew_then, part_since_grew, part_more_grew, tallied-append, last-append, firsts-append}
 
 -- the lines of a frame and of the frames after it: first its line, if it has one
 pub lines_split : (frame : Frame) (later : List Frame) → filter_map line_in (completed frame ++ later) ≡ option_to_list (line_in frame) ++ filter_map line_in later
@@ -200,6 +201,8 @@ refines_kept station kept rest s stands is = record {
   well = stands.well;
   listed = stands.listed;
   fresh = stands.fresh;
+  reads = stands.reads;
+  firsts = stands.firsts;
 }
 
 -- As many marks are taken out as requests are settled.
@@ -292,6 +295,9 @@ module _ (text : Record → List ℕ) (old mid : Station) (s : Model) (x : Settl
           fresh = λ are. ap (λ (r : Recorded). r.fresh) (kept are) ∙ ap (λ f. fresh_after mid.progress.moment.elapsed f added) (stands.fresh are)
               ∙ ap (λ (p : Progress). fresh_after p.moment.elapsed s.fresh added) (between.progress ∙ stands.progress)
               ∙ ap (fresh_after s.progress.moment.elapsed s.fresh) records;
+          reads = stands.reads;
+          firsts = ap (λ (r : Recorded). r.firsts) (kept stands.reads) ∙ ap (λ fs. firsts_after fs added) stands.firsts ∙ sym (firsts-append [] s.records added)
+              ∙ ap (λ rs. firsts_after [] (s.records ++ rs)) records;
         },
         λ are. subst (λ (rs : List Record). Appends start taken' (texts_of text (s.records ++ rs))) records (wrote are),
       )
@@ -314,6 +320,14 @@ adds_acts_append None b c xs ys p q = tt
 adds_acts_append (Some a) None c xs ys p q = absurd p
 adds_acts_append (Some a) (Some b) None xs ys p q = absurd q
 adds_acts_append (Some a) (Some b) (Some c) xs ys p q = q ∙ ap (λ zs. zs ++ ys) p ∙ append_assoc a xs ys
+
+-- a station that noted whether a line that comes raises a doubt is as the model that noted it
+pub refines_doubted : (mid new : Station) (line : List ℕ) (s : Model) → Refines mid s → new ≡ record mid { progress = doubt_noted (raises_doubt mid.client.ids line) mid.progress }
+    → Refines new (line_doubted line s)
+refines_doubted mid new line s stands is =
+    subst (λ (x : Station). Refines x (line_doubted line s)) (sym is)
+    (refines_with mid (doubt_noted (raises_doubt mid.client.ids line) mid.progress) (doubt_noted (raises_doubt s.client line)) s stands
+    (ap (λ ids. doubt_noted (raises_doubt ids line) mid.progress) stands.ids))
 
 -- a station that noted whether a line was a reply is as the model that noted it
 pub refines_noted : (mid : Station) (p : Progress) (b b' : Bool) (s : Model) → Refines mid s → b ≡ b' → p ≡ line_noted b mid.progress
@@ -346,6 +360,8 @@ refines_expired station new p q m s stands e is = subst (λ (x : Station). Refin
   well = stands.well;
   listed = stands.listed;
   fresh = λ are. ap (map (cut_to m.elapsed)) (stands.fresh are);
+  reads = stands.reads;
+  firsts = stands.firsts;
 })
 
 -- a station whose requests timed out at a moment is as the model at that moment

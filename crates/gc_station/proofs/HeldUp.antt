@@ -34,8 +34,8 @@ use Rattle.gc_station.specs.Parts.{put_part, request_part, first_request_part, c
 use Rattle.gc_station.specs.Progressing.{one_more_in_window, turned, time_passed, is_over, loses_all}
 use Rattle.gc_station.specs.Reasons.{HoldsBefore}
 use Rattle.gc_station.specs.Runs.{state_after}
-use Rattle.gc_station.specs.Model.{Model, opening, action_at, waiting_of, is_some_of_table, ends_with_table, is_heard, with_progress, with_rest, lines_completed, moved, losing, after, Performs, with_losses, request_or_null}
-use Rattle.gc_station.specs.NextCommand.{place_next, mark_next, mark_setup}
+use Rattle.gc_station.specs.Model.{Model, opening, action_at, waiting_of, is_some_of_table, ends_with_table, is_heard, with_progress, with_rest, lines_completed, moved, losing, after, Performs, with_losses, request_or_null, mark_sent}
+use Rattle.gc_station.specs.NextCommand.{place_next, mark_setup}
 use Rattle.gc_station.proofs.Always.{always}
 use Rattle.gc_station.proofs.Behind.{behind_by, behind_step}
 use Rattle.gc_station.proofs.Counts.{losing_progress}
@@ -288,7 +288,7 @@ module _ (plan : Plan) (commands : List Task) (all : AreOfTable commands) where
       setup_tables plan s.progress.moment.elapsed (mark_setup commands s.progress) (drop s.progress.prepared commands)
       (every_drop (λ task. is_of_table task.command.call ≡ true) commands s.progress.prepared all)
   put_tables s action.Send =
-      first_tables s.progress.moment.elapsed (mark_next plan commands s.progress) (drop (place_next commands s.progress) commands)
+      first_tables s.progress.moment.elapsed (mark_sent plan commands s) (drop (place_next commands s.progress) commands)
       (every_drop (λ task. is_of_table task.command.call ≡ true) commands (place_next commands s.progress) all)
   put_tables s o = tt
 
@@ -403,7 +403,7 @@ full_waits : (plan : Plan) (p : Progress) (w : Waiting) (o : Action) → nat_lt 
 full_waits plan p w o full =
     let all : WINDOW ≤ w.all = ltb-false w.all WINDOW full in
     let more : nat_lt (w.all + p.last_ended) WINDOW ≡ false = not_less (w.all + p.last_ended) WINDOW (omega (arith, all)) in
-    let lacks : has_room_to_ask plan p w ≡ false = and_right (nat_lt w.current (width_of plan)) (nat_lt (w.all + p.last_ended) WINDOW) more in
+    let lacks : has_room_to_ask plan p w ≡ false = ap (λ (b : Bool). b && not p.doubtful) (and_right (nat_lt w.current (width_of plan)) (nat_lt (w.all + p.last_ended) WINDOW) more) in
     ap (λ (b : Bool). if b && not (is_dead plan p w) then o else action_waiting plan p w) lacks
 
 -- if as many requests were sent after the last call of the table that a reply ended (`behind`) as are outstanding,

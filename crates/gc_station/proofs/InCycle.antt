@@ -13,7 +13,7 @@ use Rattle.gc_station.specs.declared.progress.Action.TheVariants as action
 use Rattle.gc_station.specs.declared.progress.Progress.{Progress}
 use Rattle.gc_station.specs.declared.progress.Until.TheVariants.{Limit, Due}
 use Rattle.gc_station.specs.declared.progress.Waiting.{Waiting}
-use Rattle.gc_station.specs.Reasons.{HoldsBefore, IsBetweenChains, IsFinished, IsHeld, HasRoomToAsk, MayGo, MayRetry, NothingMayGo, WaitsForWhatIsInFlight, IsAtItsEnd, IsResting, StaysInItsChain, HasConnectionFor, WantsNull}
+use Rattle.gc_station.specs.Reasons.{HoldsBefore, IsBetweenChains, IsFinished, IsHeld, HasRoomToAsk, MayGo, MayRetry, NothingMayGo, WaitsForWhatIsInFlight, IsAtItsEnd, IsResting, MayAskNoMore, StaysInItsChain, HasConnectionFor, WantsNull}
 use Rattle.gc_station.specs.Deciding.{width_of, has_begun, is_up, is_unquiet, is_silent, is_dead, is_due, is_finished, has_room_to_ask, may_go, waits_for_all, action_again, action_held, action_settled, action_done, action_to_send, action_room, action_waiting, is_between_chains, is_resting, is_cut, is_stopping, is_held_back, action_cycle, is_preparing}
 
 -- Tests.
@@ -49,16 +49,31 @@ not_zero n some = grind (arith, nat_tests, some)
 -- where `has_room_to_ask` says so, there is room
 room_by_test : (plan : Plan) (p : Progress) (w : Waiting) → has_room_to_ask plan p w ≡ true → HasRoomToAsk plan p w
 room_by_test plan p w e =
-    let it = and_parts (nat_lt w.current (width_of plan)) (nat_lt (w.all + p.last_ended) WINDOW) e in
-    (ltb-true w.current (width_of plan) it.0, ltb-true (w.all + p.last_ended) WINDOW it.1)
+    let both = and_parts (nat_lt w.current (width_of plan) && nat_lt (w.all + p.last_ended) WINDOW) (not p.doubtful) e in
+    let it = and_parts (nat_lt w.current (width_of plan)) (nat_lt (w.all + p.last_ended) WINDOW) both.0 in
+    (ltb-true w.current (width_of plan) it.0, ltb-true (w.all + p.last_ended) WINDOW it.1, not-true p.doubtful both.1)
 
 -- if there is room, fewer than seven requests are outstanding
 pub within_window : (all last : ℕ) → all + last < WINDOW → all < WINDOW
 within_window all last room = omega (arith, room)
 
--- there is no room for a request: one of the two tests of `has_room_to_ask` fails
+-- there is no room for a request: as many are in flight as may be that haven't timed out, or more; or no other may be sent
+-- (`MayAskNoMore`)
 abbrev pub LacksRoom : Plan → Progress → Waiting → Type 0
-LacksRoom plan p w = (nat_lt w.current (width_of plan) ≡ false) ⊎ (nat_lt (w.all + p.last_ended) WINDOW ≡ false)
+LacksRoom plan p w = (width_of plan ≤ w.current) ⊎ MayAskNoMore p w
+
+-- so it is where `has_room_to_ask` says so
+lacks_by_test : (plan : Plan) (p : Progress) (w : Waiting) → has_room_to_ask plan p w ≡ false → LacksRoom plan p w
+lacks_by_test plan p w e = by_doubt (and_cases (nat_lt w.current (width_of plan) && nat_lt (w.all + p.last_ended) WINDOW) (not p.doubtful) e) where
+  -- the lemma above, by which of the first two tests fails
+  by_test : ((nat_lt w.current (width_of plan) ≡ false) ⊎ (nat_lt (w.all + p.last_ended) WINDOW ≡ false)) → LacksRoom plan p w
+  by_test (inl full) = inl (ltb-false w.current (width_of plan) full)
+  by_test (inr full) = inr (inl (ltb-false (w.all + p.last_ended) WINDOW full))
+
+  -- the lemma above, whether the last test fails
+  by_doubt : (((nat_lt w.current (width_of plan) && nat_lt (w.all + p.last_ended) WINDOW) ≡ false) ⊎ (not p.doubtful ≡ false)) → LacksRoom plan p w
+  by_doubt (inl full) = by_test (and_cases (nat_lt w.current (width_of plan)) (nat_lt (w.all + p.last_ended) WINDOW) full)
+  by_doubt (inr doubt) = inr (inr (not-false p.doubtful doubt))
 
 -- if the line is dead, it is silent, and all outstanding requests have timed out
 pub dead_parts : (plan : Plan) (p : Progress) (w : Waiting) → is_dead plan p w ≡ true → (is_silent plan p w ≡ true) × (w.current ≡ 0)
@@ -124,13 +139,13 @@ awake_up p (now, is) = ap is_up is
 pub awake_reads : (p : Progress) → Awake p → CanRead p
 awake_reads p (now, is) = (now, λ c. let other : Ready ≡ Clearing = sym is ∙ c in cc)
 
--- if all outstanding requests have timed out, these, and those that the last line ended that ended any, are together seven or more
-abbrev pub SevenIfAllTimedOut : Progress → Waiting → Type 0
-SevenIfAllTimedOut p w = w.current ≡ 0 → WINDOW ≤ w.all + p.last_ended
+-- if all outstanding requests have timed out, no other may be sent
+abbrev pub NoMoreIfAllTimedOut : Progress → Waiting → Type 0
+NoMoreIfAllTimedOut p w = w.current ≡ 0 → MayAskNoMore p w
 
 -- for a station at work, `Holds` is true of `action_waiting`, if no command may be sent where something is in flight that hasn't timed
--- out, and `SevenIfAllTimedOut` where the line isn't dead
-waiting_for : (plan : Plan) (p : Progress) (w : Waiting) → IsAtWork p → (0 < w.current → NothingMayGo plan p w) → (is_dead plan p w ≡ false → SevenIfAllTimedOut p w) → Holds plan p w (action_waiting plan p w)
+-- out, and `NoMoreIfAllTimedOut` where the line isn't dead
+waiting_for : (plan : Plan) (p : Progress) (w : Waiting) → IsAtWork p → (0 < w.current → NothingMayGo plan p w) → (is_dead plan p w ≡ false → NoMoreIfAllTimedOut p w) → Holds plan p w (action_waiting plan p w)
 waiting_for plan p w work nothing full =
     let P = Holds plan p w in
     let up = awake_up p work.awake in
@@ -151,22 +166,22 @@ width_above_zero : (plan : Plan) → 0 < width_of plan
 width_above_zero plan = omega arith
 
 -- so it is if there is no room
-seven_if_no_room : (plan : Plan) (p : Progress) (w : Waiting) → LacksRoom plan p w → SevenIfAllTimedOut p w
-seven_if_no_room plan p w (inl e) none = let few : width_of plan ≤ w.current = ltb-false w.current (width_of plan) e in absurd (omega (arith, none, few, width_above_zero plan))
-seven_if_no_room plan p w (inr e) none = ltb-false (w.all + p.last_ended) WINDOW e
+no_more_if_no_room : (plan : Plan) (p : Progress) (w : Waiting) → LacksRoom plan p w → NoMoreIfAllTimedOut p w
+no_more_if_no_room plan p w (inl few) none = absurd (omega (arith, none, few, width_above_zero plan))
+no_more_if_no_room plan p w (inr it) none = it
 
 -- and so it is if there is no room, or the line is dead, and it isn't dead
-seven_if_alive : (plan : Plan) (p : Progress) (w : Waiting) → (has_room_to_ask plan p w ≡ false) ⊎ (not (is_dead plan p w) ≡ false) → is_dead plan p w ≡ false → SevenIfAllTimedOut p w
-seven_if_alive plan p w (inl none) alive = seven_if_no_room plan p w (and_cases (nat_lt w.current (width_of plan)) (nat_lt (w.all + p.last_ended) WINDOW) none)
-seven_if_alive plan p w (inr dead) alive = let both : true ≡ false = sym (not-false (is_dead plan p w) dead) ∙ alive in cc
+no_more_if_alive : (plan : Plan) (p : Progress) (w : Waiting) → (has_room_to_ask plan p w ≡ false) ⊎ (not (is_dead plan p w) ≡ false) → is_dead plan p w ≡ false → NoMoreIfAllTimedOut p w
+no_more_if_alive plan p w (inl none) alive = no_more_if_no_room plan p w (lacks_by_test plan p w none)
+no_more_if_alive plan p w (inr dead) alive = let both : true ≡ false = sym (not-false (is_dead plan p w) dead) ∙ alive in cc
 
 -- if there is no room, or the line is dead, no command may be sent where something is in flight that hasn't timed out
 nothing_if_no_room : (plan : Plan) (p : Progress) (w : Waiting) → (has_room_to_ask plan p w ≡ false) ⊎ (not (is_dead plan p w) ≡ false) → 0 < w.current → NothingMayGo plan p w
-nothing_if_no_room plan p w (inl none) some = by_test (and_cases (nat_lt w.current (width_of plan)) (nat_lt (w.all + p.last_ended) WINDOW) none) where
-  -- the lemma above, by which test fails
+nothing_if_no_room plan p w (inl none) some = by_test (lacks_by_test plan p w none) where
+  -- the lemma above, by what there is no room for
   by_test : LacksRoom plan p w → NothingMayGo plan p w
-  by_test (inl full) = inl (ltb-false w.current (width_of plan) full)
-  by_test (inr full) = inr (inl (ltb-false (w.all + p.last_ended) WINDOW full))
+  by_test (inl full) = inl full
+  by_test (inr it) = inr (inl it)
 nothing_if_no_room plan p w (inr dead) some = let none = (dead_parts plan p w (not-false (is_dead plan p w) dead)).1 in absurd (omega (arith, none, some))
 
 -- `action_room` is the action o if there is room for a request and the line isn't dead, and else the action of a station that
@@ -176,7 +191,7 @@ pub room_for : (plan : Plan) (p : Progress) (w : Waiting) (o : Action) → IsAtW
 room_for plan p w o work step =
     cond_both (has_room_to_ask plan p w && not (is_dead plan p w)) o _ (Holds plan p w)
     (λ e. let it = and_parts (has_room_to_ask plan p w) (not (is_dead plan p w)) e in step (room_by_test plan p w it.0) (not-true (is_dead plan p w) it.1))
-    (λ e. let lacks = and_cases (has_room_to_ask plan p w) (not (is_dead plan p w)) e in waiting_for plan p w work (nothing_if_no_room plan p w lacks) (seven_if_alive plan p w lacks))
+    (λ e. let lacks = and_cases (has_room_to_ask plan p w) (not (is_dead plan p w)) e in waiting_for plan p w work (nothing_if_no_room plan p w lacks) (no_more_if_alive plan p w lacks))
 
 -- for a station at work, `Holds` is true of `action_to_send` with the action o, if it is true of o
 -- where there is room, the line isn't dead and the count `behind` is below seven, and a null procedure is wanted where that

@@ -17,8 +17,8 @@ use Rattle.gc_catalogue.specs.declared.asked.Asked.TheVariants.{Table}
 use Rattle.gc_catalogue.specs.declared.call.Call.TheVariants.{NullProc}
 use Rattle.gc_station.specs.Deciding.{later}
 use Rattle.gc_station.specs.Progressing.{turned, moment_noted, cycle_start, due_at, time_passed, loses_all}
-use Rattle.gc_station.specs.Model.{Model, sent_to, client_sent, with_progress, with_moment, with_rest, waiting_of, line_came, lines_completed, is_heard, piece_at, Performs, moved, asks_for, asks_first, asks_setup, null_request, request_or_null, with_losses}
-use Rattle.gc_station.specs.NextCommand.{place_next, mark_next, mark_setup}
+use Rattle.gc_station.specs.Model.{Model, sent_to, client_sent, with_progress, with_moment, with_rest, waiting_of, line_came, lines_completed, is_heard, piece_at, Performs, moved, asks_for, asks_first, asks_setup, null_request, request_or_null, with_losses, mark_sent}
+use Rattle.gc_station.specs.NextCommand.{place_next, mark_setup}
 use Rattle.gc_station.specs.Requests.{command_at}
 use Rattle.gc_station.specs.Quiet.{IsAsking}
 use Rattle.gc_station.specs.declared.mark.Mark.{Mark}
@@ -217,7 +217,7 @@ module _ (plan : Plan) (longest span : ℕ) where
         let u = with_progress turned s in
         let left = drop (place_next commands s.progress) commands in
         let within = every_drop (λ (task : Task). task.deadline ≤ longest) commands (place_next commands s.progress) all_few in
-        let mark = mark_next plan commands (turned s.progress) in
+        let mark = mark_sent plan commands u in
         let all = first_ends u ((s.progress.began + 2 * plan.every) + span) mark left (short tt) h.1 within in
         let recent = first_ends u (s.progress.moment.elapsed + longest) mark left (omega arith) h.3 within in
         walk plan commands (OutAfter s) actions.Send u act obeys (λ m rises. (h.0, all, λ e. cc, recent), λ n rises. (h.0, all, λ e. cc, recent))

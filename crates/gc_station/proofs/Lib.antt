@@ -1,5 +1,6 @@
 pub mod Acting
 mod Always
+mod Agreeing
 mod AsText
 pub mod Answers
 pub mod Beginnings

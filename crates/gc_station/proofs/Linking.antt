@@ -21,8 +21,8 @@ use Rattle.gc_station.specs.Parts.{Part, parts_joined, first_request_part, clien
 use Rattle.gc_station.specs.Runs.{state_after}
 use Rattle.gc_station.specs.Scopes.{Scope}
 use Rattle.gc_station.specs.ActKinds.{Puts}
-use Rattle.gc_station.specs.Model.{Model, Runs, opening, action_at, cycle_to_send, after, after_all}
-use Rattle.gc_station.specs.NextCommand.{place_next, commands_left, cycles_begun, expected_first, mark_next}
+use Rattle.gc_station.specs.Model.{Model, Runs, opening, action_at, cycle_to_send, after, after_all, mark_sent}
+use Rattle.gc_station.specs.NextCommand.{place_next, commands_left, cycles_begun}
 use Rattle.gc_station.proofs.Chaining.{StaysBegun, SendsNoSetup, PreparesNothing, each_act_append, chain_linked, IsLinkedStill}
 use Rattle.gc_station.proofs.EachRun.{invariant_holds}
 use Rattle.gc_station.proofs.Outs.{sends_next_of_cycle, send_cycle, send_place, sends_of_cycle}
@@ -82,7 +82,7 @@ pub marks_go_on : MarksGoOn
 marks_go_on plan commands scope acts runs i j m n p q a b e f g h l above below =
     let x = sent_at plan commands (opening plan scope) acts i m p a e g in
     let y = sent_at plan commands (opening plan scope) acts j n q b f h in
-    let at_x = mark_next plan commands (state_after plan commands scope x.before).progress in
+    let at_x = mark_sent plan commands (state_after plan commands scope x.before) in
     let x_is = sends_next_of_cycle plan commands (state_after plan commands scope x.before) (action_at plan (state_after plan commands scope x.before)) a x.its above in
     let y_is = sends_next_of_cycle plan commands (state_after plan commands scope y.before) (action_at plan (state_after plan commands scope y.before)) b y.its below in
     subst (λ (u : Mark). IsBefore u.cycle u.place b.cycle b.place) (sym x_is.1)
@@ -98,14 +98,14 @@ asked_mark now mark (task ∷ others) some = refl
 -- once the station has synchronized, the part of an act that puts bytes for `Send` has the mark of the cycle's next command
 -- first, if there is one
 put_asks : (plan : Plan) (commands : List Task) (s : Model) (act : Act) (bytes : List ℕ) → Puts bytes act → has_begun s.progress ≡ true → 0 < length (commands_left commands s.progress)
-    → slice_get (part_of_act plan commands s Send act).marks 0 ≡ Some (Some (mark_next plan commands s.progress))
+    → slice_get (part_of_act plan commands s Send act).marks 0 ≡ Some (Some (mark_sent plan commands s))
 put_asks plan commands s act bytes puts begun some = subst (λ (b : Bool). slice_get
-    (if b then client_part plan commands s Send act else sync_part s Send act).marks 0 ≡ Some (Some (mark_next plan commands s.progress))) (sym begun)
+    (if b then client_part plan commands s Send act else sync_part s Send act).marks 0 ≡ Some (Some (mark_sent plan commands s))) (sym begun)
     (by_act act puts) where
       -- the lemma above, by how the act puts the bytes: whole or in part
-      by_act : (a : Act) → Puts bytes a → slice_get (client_part plan commands s Send a).marks 0 ≡ Some (Some (mark_next plan commands s.progress))
-      by_act (Put out) puts = asked_mark s.progress.moment.elapsed (mark_next plan commands s.progress) (drop (place_next commands s.progress) commands) some
-      by_act (Cut out count) puts = asked_mark s.progress.moment.elapsed (mark_next plan commands s.progress) (drop (place_next commands s.progress) commands) some
+      by_act : (a : Act) → Puts bytes a → slice_get (client_part plan commands s Send a).marks 0 ≡ Some (Some (mark_sent plan commands s))
+      by_act (Put out) puts = asked_mark s.progress.moment.elapsed (mark_sent plan commands s) (drop (place_next commands s.progress) commands) some
+      by_act (Cut out count) puts = asked_mark s.progress.moment.elapsed (mark_sent plan commands s) (drop (place_next commands s.progress) commands) some
       by_act a puts = absurd puts
 
 -- part i of these parts, counted from 0, has a request with this mark
@@ -139,20 +139,20 @@ last_has_mark p false (x ∷ ps) qs i mark some size has = still_has_mark p qs i
 
 -- the first request of this act, by a station with the model u, has the mark of the next command of a cycle
 abbrev SendsNextFirst : Plan → List Task → (u : Model) → Act → Type 0
-SendsNextFirst plan commands u act = slice_get (part_of_act plan commands u (action_at plan u) act).marks 0 ≡ Some (Some (mark_next plan commands u.progress))
+SendsNextFirst plan commands u act = slice_get (part_of_act plan commands u (action_at plan u) act).marks 0 ≡ Some (Some (mark_sent plan commands u))
 
 -- part i is the last one after the acts `start`. If the first request of the act that follows has the next command's mark, part i
 -- of all acts (`start`, that act and `rest`) has that mark, too
 has_mark_after_all : (plan : Plan) (commands : List Task) (s : Model) (start : List Act) (act : Act) (rest : List Act) (i : ℕ) → length (parts_of plan commands s start) ≡ suc i
     → SendsNextFirst plan commands (after_all plan commands s start) act
-    → HasMark (parts_of plan commands s (start ++ act ∷ rest)) i (mark_next plan commands (after_all plan commands s start).progress)
+    → HasMark (parts_of plan commands s (start ++ act ∷ rest)) i (mark_sent plan commands (after_all plan commands s start))
 has_mark_after_all plan commands s [] act rest zero size e =
-    first_has_mark (part_of_act plan commands s (action_at plan s) act) (ends_part plan commands s act) (parts_of plan commands (after plan commands s act) rest) (mark_next plan commands s.progress) e
+    first_has_mark (part_of_act plan commands s (action_at plan s) act) (ends_part plan commands s act) (parts_of plan commands (after plan commands s act) rest) (mark_sent plan commands s) e
 has_mark_after_all plan commands s [] act rest (suc i) size e = absurd (omega (arith, size))
 has_mark_after_all plan commands s (x ∷ start) act rest i size e =
     let u = after plan commands s x in
     last_has_mark (part_of_act plan commands s (action_at plan s) x) (ends_part plan commands s x) (parts_of plan commands u start)
-    (parts_of plan commands u (start ++ act ∷ rest)) i (mark_next plan commands (after_all plan commands u start).progress) (some_parts plan commands u start) size
+    (parts_of plan commands u (start ++ act ∷ rest)) i (mark_sent plan commands (after_all plan commands u start)) (some_parts plan commands u start) size
     (λ j many. has_mark_after_all plan commands u start act rest j many e)
 
 -- Back along a chain.
@@ -190,7 +190,7 @@ module _ (plan : Plan) (commands : List Task) (scope : Scope) where
     rest : List Act
     order : before ≡ start ++ act ∷ rest
     sends : action_at plan (at start) ≡ Send
-    mark : mark_of (expected_first (commands_left commands (at start).progress)) its.answer ≡ mark_next plan commands (at start).progress
+    mark : mark_of (mark_sent plan commands (at start)).expected its.answer ≡ mark_sent plan commands (at start)
     same : length (parts plan commands scope before) ≡ length (parts plan commands scope start)
     no_setup : PreparesNothing plan commands (at start) (act ∷ rest)
 
@@ -233,7 +233,7 @@ module _ (plan : Plan) (commands : List Task) (scope : Scope) where
         order = l.order;
         sends = l.sends;
         mark =
-            let expected = expected_first (drop (place_next commands (at l.before).progress) commands) in
+            let expected = (mark_sent plan commands (at l.before)).expected in
             ap (λ c. record { cycle = c; place = l.answer.place; sent = unwrap_or l.answer.sent 0; expected = expected }) l.own_cycle
             ∙ ap (λ p. record { cycle = cycles_begun plan (at l.before).progress; place = p; sent = unwrap_or l.answer.sent 0; expected = expected }) l.own_place
             ∙ ap (λ o. record { cycle = cycles_begun plan (at l.before).progress; place = place_next commands (at l.before).progress; sent = unwrap_or o 0; expected = expected }) utc;
@@ -299,11 +299,11 @@ module _ (plan : Plan) (commands : List Task) (scope : Scope) where
   -- of the part that still goes on, each command after the one that `AnsweredInPart` speaks of, which is request m, is of a
   -- cycle: one of the setup would be sent by an act after that one
   cycles_behind : (acts : List Act) (i m cycle a : ℕ) (first : Part) → (there : slice_get (parts plan commands scope acts) i ≡ Some first) → (h : AnsweredInPart acts cycle a)
-      → (mark_there : slice_get first.marks m ≡ Some (Some (mark_next plan commands (at h.start).progress)))
+      → (mark_there : slice_get first.marks m ≡ Some (Some (mark_sent plan commands (at h.start))))
       → (some : 0 < cycles_begun plan (at h.start).progress)
       → (x : ℕ) (mark : Mark) → (behind : m < x) → slice_get first.marks x ≡ Some (Some mark) → 0 < mark.cycle
   cycles_behind acts i m cycle a first of_parts h got many x mark later found =
-      let own = mark_next plan commands (at h.start).progress in
+      let own = mark_sent plan commands (at h.start) in
       let p = sent_at plan commands (opening plan scope) acts i m first own of_parts got in
       let q = sent_at plan commands (opening plan scope) acts i x first mark of_parts found in
       let p_is = sends_next_of_cycle plan commands (at p.before) (action_at plan (at p.before)) own p.its many in
@@ -335,18 +335,18 @@ module _ (plan : Plan) (commands : List Task) (scope : Scope) where
       let unsent : 0 < s.progress.unsent = needs.2 in
       let many : length (drop (place_next commands s.progress) commands) ≡ length commands - place_next commands s.progress = length-drop (place_next commands s.progress) commands in
       let asks = put_asks plan commands s h.act _ (puts_text commands plan s h.act h.sends on.0) needs.1 (omega (arith, many, unsent, fine.unsent)) in
-      let asks_here = subst (λ (o : Action). slice_get (part_of_act plan commands s o h.act).marks 0 ≡ Some (Some (mark_next plan commands s.progress))) (sym h.sends) asks in
+      let asks_here = subst (λ (o : Action). slice_get (part_of_act plan commands s o h.act).marks 0 ≡ Some (Some (mark_sent plan commands s))) (sym h.sends) asks in
       let has = has_mark_after_all plan commands (opening plan scope) h.start h.act h.rest i (sym h.same ∙ last) asks_here in
       let same : has.0 ≡ first = same_Some has.0 first (sym has.1 ∙ ap (λ xs. slice_get (parts plan commands scope xs) i) (sym h.order) ∙ of_parts) in
       record {
         its = h.its;
         m = has.2;
-        expected = expected_first (drop (place_next commands s.progress) commands);
+        expected = (mark_sent plan commands s).expected;
         mark =
-            subst (λ (p : Part). slice_get p.marks has.2 ≡ Some (Some (mark_of (expected_first (drop (place_next commands s.progress) commands)) h.its.answer))) same
+            subst (λ (p : Part). slice_get p.marks has.2 ≡ Some (Some (mark_of (mark_sent plan commands s).expected h.its.answer))) same
             (subst (λ (k : Mark). slice_get has.0.marks has.2 ≡ Some (Some k)) (sym h.mark) has.3);
         of_cycles =
-            cycles_behind acts i has.2 cycle a first of_parts h (subst (λ (p : Part). slice_get p.marks has.2 ≡ Some (Some (mark_next plan commands s.progress))) same has.3)
+            cycles_behind acts i has.2 cycle a first of_parts h (subst (λ (p : Part). slice_get p.marks has.2 ≡ Some (Some (mark_sent plan commands s))) same has.3)
             (let below = fine.begun unsent in omega (arith, below));
       }
 

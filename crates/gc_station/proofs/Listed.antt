@@ -9,7 +9,7 @@ use Rattle.gc_catalogue.specs.declared.answer.Reading.{Reading}
 use Rattle.gc_catalogue.specs.declared.asked.Asked.{Asked}
 use Rattle.gc_client.specs.Rule
 use Rattle.gc_texts.specs.Again.{repeats_after, has_code}
-use Rattle.gc_texts.specs.Endings.{End, Answered, Unreadable, Elsewhere, Late, Lost, Skipped, Missed, line_of}
+use Rattle.gc_texts.specs.Endings.{End, Answered, Unreadable, Elsewhere, Disagree, Late, Lost, Skipped, Missed, line_of}
 use Rattle.gc_texts.specs.Zeroed.{as_zero}
 use Rattle.gc_texts.specs.declared.again.Again.{Again}
 use Rattle.gc_texts.specs.declared.near.Expected.{Expected}
@@ -47,6 +47,7 @@ pub named_by : (reads : Reads) (again : Again) (call : Asked) (code : Option ℕ
 named_by reads again call code (Answered q said l) is = ap (has_code again.codes) (is q said l refl)
 named_by reads again call code (Unreadable line fault) is = refl
 named_by reads again call code (Elsewhere line) is = refl
+named_by reads again call code (Disagree line) is = refl
 named_by reads again call code Late is = refl
 named_by reads again call code Lost is = refl
 named_by reads again call code Skipped is = refl
@@ -146,3 +147,8 @@ near_expected false attempt expected = refl
 pub accepted_expected : (is_setup : Bool) (attempt : ℕ) (expected : Expected) → (expected_as is_setup attempt expected).accepted ≡ expected.accepted
 accepted_expected true attempt expected = refl
 accepted_expected false attempt expected = refl
+
+-- in either case it is of the same sending
+pub twice_expected : (is_setup : Bool) (attempt : ℕ) (expected : Expected) → (expected_as is_setup attempt expected).twice ≡ expected.twice
+twice_expected true attempt expected = refl
+twice_expected false attempt expected = refl

@@ -11,7 +11,9 @@ use Rattle.gc_client.specs.declared.window.TheConstants.{WINDOW}
 use Rattle.gc_client.specs.Rule.{ById, send_unless_full}
 use Rattle.gc_texts.specs.Endings.{End}
 use Rattle.gc_texts.specs.declared.tasks.Task.{Task}
+use Rattle.gc_texts.specs.declared.turn.Turn.{Turn}
 use Rattle.gc_links.specs.declared.link.Moment.{Moment}
+use Rattle.gc_station.specs.declared.firsts.FirstAnswer.{FirstAnswer}
 use Rattle.gc_station.specs.declared.mark.Mark.{Mark}
 use Rattle.gc_station.specs.declared.plan.Plan.{Plan}
 use Rattle.gc_station.specs.declared.cause.Cause.TheVariants as cause
@@ -21,7 +23,8 @@ use Rattle.gc_station.specs.declared.progress.Until.{Until}
 use Rattle.gc_station.specs.declared.station.Station.{Station}
 use Rattle.gc_links.specs.Acts.{Act, AddsActs, put_act, IsPartIfErr}
 use Rattle.gc_station.specs.Deciding.{later}
-use Rattle.gc_station.specs.Marks.{is_well, last_well, record_with}
+use Rattle.gc_station.specs.Firsts.{first_noted, firsts_after}
+use Rattle.gc_station.specs.Marks.{is_well, ended_confirmed, last_well, record_with}
 use Rattle.gc_station.specs.Progressing.{failing, unsent_at}
 use Rattle.gc_station.specs.Records.{Record}
 use Rattle.gc_station.specs.ActKinds.{Puts, ReadsLink}
@@ -33,7 +36,7 @@ use Rattle.gc_station.specs.Tallies.{empty_counts, counted_in, tallied}
 use Rattle.gc_station.specs.Writing.{noted, recorded_unsent}
 use Rattle.gc_station.specs.declared.recorded.Recorded.{Recorded}
 use Rattle.gc_station.specs.declared.station.sending.Outgoing.{Outgoing}
-use Rattle.gc_station.proofs.Records.{tallied-append, last-append}
+use Rattle.gc_station.proofs.Records.{tallied-append, last-append, firsts-append}
 use Rattle.gc_station.specs.Watching.{renewed}
 use Rattle.gc_station.specs.declared.watching.Watch.{Watch}
 use Rattle.gc_station.proofs.Walk.{first_along}
@@ -53,6 +56,8 @@ refines_with station p f s stands is = record {
   well = stands.well;
   listed = stands.listed;
   fresh = stands.fresh;
+  reads = stands.reads;
+  firsts = stands.firsts;
 }
 
 -- Bytes are put.
@@ -113,6 +118,8 @@ asks_refines old new s asking other stands room e is =
       well = λ are. ap (λ (n : Station). n.recorded.well) is ∙ stands.well are;
       listed = λ are. ap (λ (n : Station). n.recorded.listed) is ∙ stands.listed are;
       fresh = λ are. ap (λ (n : Station). n.recorded.fresh) is ∙ stands.fresh are;
+      reads = stands.reads;
+      firsts = ap (λ (n : Station). n.recorded.firsts) is ∙ stands.firsts;
     }
 
 -- a station that is as the model `s` after it sent `task` with `mark` is as `s` after it sent the first of the commands in `list`
@@ -150,6 +157,16 @@ pub unwell_end : (missed : Bool) → is_well (end_unsent missed) ≡ false
 unwell_end true = refl
 unwell_end false = refl
 
+-- nor that of one with a confirmed answer
+pub unconfirmed_end : (missed : Bool) → ended_confirmed (end_unsent missed) ≡ false
+unconfirmed_end true = refl
+unconfirmed_end false = refl
+
+-- nor does it have an answer of a first sending
+pub unsent_is_no_first : (cycle : ℕ) (turn : Turn) (missed : Bool) (fs : List (Option FirstAnswer)) → first_noted cycle turn (end_unsent missed) fs ≡ fs
+unsent_is_no_first cycle turn true fs = refl
+unsent_is_no_first cycle turn false fs = refl
+
 -- what is noted of the first command of `list`, which isn't sent, if the two marks are equal: its record is counted, and it
 -- wasn't answered well
 pub noted_unsent : (p : Progress) (m : Moment) (mark mark' : Mark) (end : End) (list : List Task) (task : Task) (others : List Task) (r : Recorded)
@@ -164,13 +181,22 @@ noted_unsent p m mark mark' end list task others r is e ends =
       well = b;
       listed = listed_after r.listed mark'.expected None (end_unsent p.missed);
       fresh = map (renewed m.elapsed m.utc mark'.cycle mark'.expected.turn.place (end_unsent p.missed)) r.fresh;
+      firsts = first_noted mark'.cycle mark'.expected.turn (end_unsent p.missed) r.firsts;
     }) (unwell_end p.missed)
     ∙ ap (λ (ws : List Watch). record {
       tally = counted_in mark'.cycle mark'.expected.turn (end_unsent p.missed) r.tally;
       well = false;
       listed = listed_after r.listed mark'.expected None (end_unsent p.missed);
       fresh = ws;
-    }) (unwell_changes_none m.elapsed m.utc mark'.cycle mark'.expected.turn.place (end_unsent p.missed) r.fresh (unwell_end p.missed))
+      firsts = first_noted mark'.cycle mark'.expected.turn (end_unsent p.missed) r.firsts;
+    }) (unwell_changes_none m.elapsed m.utc mark'.cycle mark'.expected.turn.place (end_unsent p.missed) r.fresh (unconfirmed_end p.missed))
+    ∙ ap (λ (fs : List (Option FirstAnswer)). record {
+      tally = counted_in mark'.cycle mark'.expected.turn (end_unsent p.missed) r.tally;
+      well = false;
+      listed = listed_after r.listed mark'.expected None (end_unsent p.missed);
+      fresh = r.fresh;
+      firsts = fs;
+    }) (unsent_is_no_first mark'.cycle mark'.expected.turn p.missed r.firsts)
     ∙ sym (ap (λ (left : List Task). recorded_unsent (first_unsent_record p m mark' left) (listed_after r.listed mark'.expected None (end_unsent p.missed)) r) is)
 
 -- after the record of the first of the commands in `list`, of which there is one, as not sent, the last command wasn't answered
@@ -180,12 +206,18 @@ pub skips_unwell : (well : Bool) (p : Progress) (m : Moment) (mark : Mark) (list
 skips_unwell b p m mark [] some = absurd (omega (arith, some))
 skips_unwell b p m mark (task ∷ others) some = unwell_end p.missed
 
+-- the record of a command that isn't sent has no answer of a first sending
+pub skips_no_first : (p : Progress) (m : Moment) (mark : Mark) (list : List Task) (fs : List (Option FirstAnswer)) → firsts_after fs (first_unsent_record p m mark list) ≡ fs
+skips_no_first p m mark [] fs = refl
+skips_no_first p m mark (task ∷ others) fs = unsent_is_no_first mark.cycle mark.expected.turn p.missed fs
+
 -- if the station `old` is as the model `s`, and after the records `rs` the last command wasn't answered well, whatever it was
--- before them, then `old` with these records counted, and `b` as `listed`, is as `s` with these records, and b' as `listed`. b
+-- before them, and they have no answer of a first sending, then `old` with these records counted, and `b` as `listed`, is as `s` with these records, and b' as `listed`. b
 -- and b' are equal if what `s` has for `reads` is right (`AreReadings`)
-pub skipped_refines : (old new : Station) (s : Model) (rs : List Record) (b b' : Bool) → Refines old s → ((b : Bool) → last_well b rs ≡ false) → (AreReadings s.reads → b ≡ b')
+pub skipped_refines : (old new : Station) (s : Model) (rs : List Record) (b b' : Bool) → Refines old s → ((b : Bool) → last_well b rs ≡ false)
+    → ((fs : List (Option FirstAnswer)) → firsts_after fs rs ≡ fs) → (AreReadings s.reads → b ≡ b')
     → new ≡ record old { recorded = recorded_unsent rs b old.recorded } → Refines new (with_listed b' (with_more_records rs s))
-skipped_refines old new s rs b b' stands unwell same is = record {
+skipped_refines old new s rs b b' stands unwell none same is = record {
   progress = ap (λ (n : Station). n.progress) is ∙ stands.progress;
   ids = ap (λ (n : Station). n.client.ids) is ∙ stands.ids;
   width = ap (λ (n : Station). n.client.width) is ∙ stands.width;
@@ -196,6 +228,8 @@ skipped_refines old new s rs b b' stands unwell same is = record {
   well = λ are. ap (λ (n : Station). n.recorded.well) is ∙ sym (last-append false s.records rs ∙ unwell (last_well false s.records));
   listed = λ are. ap (λ (n : Station). n.recorded.listed) is ∙ same are;
   fresh = λ are. ap (λ (n : Station). n.recorded.fresh) is ∙ stands.fresh are;
+  reads = stands.reads;
+  firsts = ap (λ (n : Station). n.recorded.firsts) is ∙ stands.firsts ∙ sym (firsts-append [] s.records rs ∙ none (firsts_after [] s.records));
 }
 
 -- a model to which no records are added is as it was

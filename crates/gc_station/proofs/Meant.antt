@@ -18,8 +18,8 @@ use Rattle.gc_station.specs.Deciding.{later, has_begun}
 use Rattle.gc_station.specs.Parts.{Asks, Part, only_sync_steps, idle_part, request_part, first_request_part, put_part, sync_part}
 use Rattle.gc_station.specs.Reasons.{HoldsBefore}
 use Rattle.gc_station.specs.ActKinds.{Puts, ReadsClock, IsOpening, ReadsLink}
-use Rattle.gc_station.specs.Model.{Model, action_at, waiting_of, next_request_text, null_text, first_text, Performs, text_or_null, request_for, null_request, request_or_null}
-use Rattle.gc_station.specs.NextCommand.{place_next, mark_next, mark_setup}
+use Rattle.gc_station.specs.Model.{Model, action_at, waiting_of, next_request_text, null_text, first_text, Performs, text_or_null, request_for, null_request, request_or_null, mark_sent}
+use Rattle.gc_station.specs.NextCommand.{place_next, mark_setup}
 use Rattle.gc_station.proofs.InCycle.{within_window}
 use Rattle.gc_station.proofs.Facts.{action_for}
 use Rattle.gc_station.proofs.Invariant.{Invariant}
@@ -111,7 +111,7 @@ module _ (plan : Plan) (commands : List Task) where
   put_by_action s action.Send act bytes fine is obeys e begun =
       let left = drop (place_next commands s.progress) commands in
       let many : length left ≡ length commands - place_next commands s.progress = length-drop (place_next commands s.progress) commands in
-      inr (first_put s (mark_next plan commands s.progress) left bytes (omega (arith, many, is.2, fine.unsent)) (within_window _ _ is.3.1) (puts_same (first_text s.progress.moment.utc s.client left) bytes act e obeys))
+      inr (first_put s (mark_sent plan commands s) left bytes (omega (arith, many, is.2, fine.unsent)) (within_window _ _ is.3.1) (puts_same (first_text s.progress.moment.utc s.client left) bytes act e obeys))
   put_by_action s action.ReadClock act bytes fine is obeys e begun = absurd (never_puts act bytes e (inl obeys))
   put_by_action s action.Skip act bytes fine is obeys e begun = absurd (never_puts act bytes e (inl obeys))
   put_by_action s action.Pass act bytes fine is obeys e begun = absurd (never_puts act bytes e (inl obeys))

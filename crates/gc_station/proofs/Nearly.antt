@@ -1,8 +1,12 @@
--- Answers are near their targets' places, and their qualities are as listed: each record is as its text says (`IsAsItsText`).
+-- Answers are near their targets' places, their qualities are as listed, and those of two sendings agree: each record is as its text says
+-- (`IsAsItsText`), and is confirmed by those before it.
+use Rattle.std.proofs.Common.{[]}
+use Rattle.gc_station.specs.Agreeing.{IsConfirmed, IsUnconfirmed, DisagreesInSecond, AgreedRowsAgree}
 use Rattle.gc_station.specs.Nearness.{IsAtItsTarget, ElsewhereIsJustified, AnswersAreAtTheirTargets}
 use Rattle.gc_station.specs.Qualities.{IsAsListed, QualitiesAreAsListed}
 use Rattle.gc_station.specs.Runs.{state_after}
 use Rattle.gc_station.proofs.Lists.{all_on}
+use Rattle.gc_station.proofs.Agreeing.{after_split}
 use Rattle.gc_station.proofs.AsText.{IsAsItsText, kept_all}
 
 -- the law: after any acts, `IsAtItsTarget` and `ElsewhereIsJustified` hold of each record
@@ -16,3 +20,15 @@ at_their_targets plan commands scope acts =
 pub qualities_as_listed : QualitiesAreAsListed
 qualities_as_listed plan commands scope acts =
     all_on (IsAsItsText plan commands scope) (λ r. IsAsListed scope.reads commands r) (state_after plan commands scope acts).records (λ r so. so.3) (kept_all plan commands scope acts).records
+
+-- the law: after any acts, the answer of a second sending that isn't refused agrees with that of the first, which is in a record before it;
+-- one of a first sending is unconfirmed; and only one of a second sending ends as disagreeing
+pub rows_agree : AgreedRowsAgree
+rows_agree = record {
+  second = λ plan commands scope acts earlier later r at.
+      after_split (IsConfirmed commands) [] (state_after plan commands scope acts).records earlier r later (kept_all plan commands scope acts).agreed at;
+  first = λ plan commands scope acts.
+      all_on (IsAsItsText plan commands scope) (λ r. IsUnconfirmed commands r) (state_after plan commands scope acts).records (λ r so. so.4) (kept_all plan commands scope acts).records;
+  disagree = λ plan commands scope acts.
+      all_on (IsAsItsText plan commands scope) (λ r. DisagreesInSecond commands r) (state_after plan commands scope acts).records (λ r so. so.5) (kept_all plan commands scope acts).records;
+}

@@ -14,7 +14,7 @@ use Rattle.gc_client.proofs.OneForOne.{length-settle}
 use Rattle.gc_texts.specs.declared.tasks.Task.{Task}
 use Rattle.gc_station.specs.Deciding.{has_begun}
 use Rattle.gc_station.specs.Marks.{commands_in}
-use Rattle.gc_station.specs.Model.{Model, with_progress, is_reply, line_came, line_settles, ends_with_table, is_some_of_table}
+use Rattle.gc_station.specs.Model.{Model, with_progress, is_reply, line_came, line_doubted, line_settles, ends_with_table, is_some_of_table}
 use Rattle.gc_station.specs.Parts.{MarksAsk}
 use Rattle.gc_station.specs.Progressing.{line_noted}
 use Rattle.gc_station.specs.declared.mark.Mark.{Mark}
@@ -252,10 +252,10 @@ some_heard n x line k below h =
 pub line_heard : (n : ℕ) (x : Model) (line : List ℕ) → Listens n x → Listens n (line_came x line)
 line_heard n x line h = by_id (heard line) where
   -- by the id of the line
-  by_id : (o : Option ℕ) → Listens n (heard_as line (hears x.client line o) x)
+  by_id : (o : Option ℕ) → Listens n (heard_as line (hears x.client line o) (line_doubted line x))
   by_id None = h
   by_id (Some id) = by_test (place_in x.client id) (fits x.client (Some id)) refl where
     -- whether a request has that id
-    by_test : (k : ℕ) (b : Bool) → nat_lt k (length x.client.waiting) ≡ b → Listens n (heard_as line (settles_at x.client line k b) x)
-    by_test k true e = some_heard n x line k (grind (arith, nat_tests, e)) h
+    by_test : (k : ℕ) (b : Bool) → nat_lt k (length x.client.waiting) ≡ b → Listens n (heard_as line (settles_at x.client line k b) (line_doubted line x))
+    by_test k true e = some_heard n (line_doubted line x) line k (grind (arith, nat_tests, e)) h
     by_test k false e = h

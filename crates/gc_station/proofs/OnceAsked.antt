@@ -1,7 +1,7 @@
 -- How long a run goes on once its end was asked for: what a read waits for then, and how many requests are sent. Each request leaves less
 -- that may be sent: a command of the cycle, or one of the null procedures after the last command (`requests_left`). An act is one call on
 -- the link, with its result.
-use Rattle.std.proofs.Common.{◌≡◌, ◌⊎◌, inl, inr, ℕ, suc, ◌+◌, ◌*◌, ◌-◌, ◌<◌, ◌≤◌, ◌&&◌, ◌||◌, Bool, true, false, not, if◌then◌else◌, List, [], ◌∷◌, ◌++◌, length, map, Option, None, nat_lt, nat_le, nat_eq, refl, sym, ap, ◌∙◌, subst, arith, append_assoc}
+use Rattle.std.proofs.Common.{◌≡◌, inl, inr, ℕ, suc, ◌+◌, ◌*◌, ◌-◌, ◌<◌, ◌≤◌, ◌&&◌, ◌||◌, Bool, true, false, not, if◌then◌else◌, List, [], ◌∷◌, ◌++◌, length, map, Option, None, nat_lt, nat_le, nat_eq, refl, sym, ap, ◌∙◌, subst, arith, append_assoc}
 use Rattle.std.proofs.lemmas.List.{length-map}
 use Rattle.std.proofs.lemmas.Bool.{both_ways, cond_both, and_parts, false_from_ne_true}
 use Rattle.std.proofs.lemmas.Bool.Decides.{nat_tests}
@@ -17,7 +17,7 @@ use Rattle.gc_station.specs.NextCommand.{commands_before}
 use Rattle.gc_station.specs.Model.{Model, opening, action_at, waiting_of, with_progress, with_rest, lines_completed, is_heard, after_piece, moved, losing, with_losses, after, Performs, Runs}
 use Rattle.gc_station.specs.OnceAsked.{requests_by, requests_sent, EndsSoonOnceAsked}
 use Rattle.gc_station.specs.Progressing.{turned, loses_all, is_over, time_passed, quieted, one_more_in_window}
-use Rattle.gc_station.specs.Reasons.{HoldsBefore, AwaitsSomething, WantsNull, IsOverdue}
+use Rattle.gc_station.specs.Reasons.{HoldsBefore, AwaitsSomething, WantsNull}
 use Rattle.gc_station.specs.RecordedInTime.{MayTakeTime}
 use Rattle.gc_station.specs.Runs.{state_after, WhereNext}
 use Rattle.gc_station.specs.Scopes.{Scope}

@@ -11,8 +11,8 @@ use Rattle.gc_texts.specs.declared.tasks.Task.{Task}
 use Rattle.gc_links.specs.Acts.{Act, Told, Gave, Silent}
 use Rattle.gc_links.specs.declared.link.Moment.{Moment}
 use Rattle.gc_station.specs.Cycles.{ClockRises}
-use Rattle.gc_station.specs.Model.{Model, opening, action_at, waiting_of, with_progress, with_moment, with_rest, line_came, lines_completed, is_heard, piece_at, moved, with_losses, after, Performs, Runs}
-use Rattle.gc_station.specs.NextCommand.{place_next, mark_next}
+use Rattle.gc_station.specs.Model.{Model, opening, action_at, waiting_of, with_progress, with_moment, with_rest, line_came, lines_completed, is_heard, piece_at, moved, with_losses, after, Performs, Runs, mark_sent}
+use Rattle.gc_station.specs.NextCommand.{place_next}
 use Rattle.gc_station.specs.OnceAsked.{requests_by, requests_sent, requests_once_asked, requests_of_table_once_asked, end_bound, EndsByBoundOnceAsked, EndsATableRunByBoundOnceAsked}
 use Rattle.gc_station.specs.Progressing.{turned, moment_noted, time_passed, loses_all}
 use Rattle.gc_station.specs.Quiet.{IsAsking}
@@ -126,7 +126,7 @@ module _ (plan : Plan) (commands : List Task) (longest : ℕ) (few : plan.deadli
   ends_moved limit s actions.Send act obeys short h =
       let place = place_next commands s.progress in
       let within = every_drop (λ (task : Task). task.deadline ≤ longest) commands place all_few in
-      let all = first_ends plan longest 0 commands few all_few (with_progress turned s) limit (mark_next plan commands (turned s.progress)) (drop place commands) (short tt) h.0 within in
+      let all = first_ends plan longest 0 commands few all_few (with_progress turned s) limit (mark_sent plan commands (with_progress turned s)) (drop place commands) (short tt) h.0 within in
       walk plan commands (λ (act : Act). Ends limit) actions.Send (with_progress turned s) act obeys (λ m. (all, λ e. cc), λ n. (all, λ e. cc))
   ends_moved limit s actions.Flush act obeys short h =
       let all = null_ends plan longest 0 commands few all_few (with_progress turned s) limit (short tt) h.0 in

@@ -25,7 +25,7 @@ use Rattle.gc_station.specs.Progressing.{turned}
 use Rattle.gc_station.specs.Reasons.{HoldsBefore}
 use Rattle.gc_station.specs.Records.{Record}
 use Rattle.gc_station.specs.declared.mark.Mark.{Mark}
-use Rattle.gc_station.specs.Model.{Model, waiting_of, Performs, with_progress, with_moment, with_rest, asks_first, unsent_record, first_unsent_record, line_came, lines_came, lines_completed, is_heard, after_piece, after_read, moved, request_for, null_request, request_or_null, asks_for}
+use Rattle.gc_station.specs.Model.{Model, waiting_of, Performs, with_progress, with_moment, with_rest, asks_first, unsent_record, first_unsent_record, line_came, lines_came, lines_completed, is_heard, after_piece, after_read, moved, request_for, null_request, request_or_null, asks_for, mark_sent}
 use Rattle.gc_station.specs.NextCommand.{place_next, mark_next, mark_setup}
 use Rattle.gc_station.specs.Scopes.{Reads}
 use Rattle.gc_station.proofs.InCycle.{within_window}
@@ -149,7 +149,7 @@ module _ (plan : Plan) (commands : List Task) where
       let left = drop (place_next commands s.progress) commands in
       let many : length left ≡ length commands - place_next commands s.progress = length-drop (place_next commands s.progress) commands in
       let sends = subst (λ (t : Model). Leads commands s (put_part plan commands s action.Send) t) (sym (sent_same plan commands (with_progress turned s)))
-      (leads_first s (mark_next plan commands s.progress) left refl (omega (arith, many, is.2, fine.unsent)) (within_window _ _ is.3.1)) in
+      (leads_first s (mark_sent plan commands s) left refl (omega (arith, many, is.2, fine.unsent)) (within_window _ _ is.3.1)) in
       walk plan commands (LeadsByPart action.Send s) action.Send (with_progress turned s) act obeys (λ m. sends, λ n. sends)
   leads_synchronized s action.Skip act fine is obeys begun =
       let books = Books s.reads commands s.client s.marks (sent_of s.records) in

@@ -17,14 +17,15 @@ use Rattle.gc_client.specs.Rule
 use Rattle.gc_client.specs.Settlements.{settlement_seen}
 use Rattle.gc_station.specs.declared.mark.Mark.{Mark}
 use Rattle.gc_texts.specs.Codes.{lists_code}
-use Rattle.gc_texts.specs.Endings.{End, Answered, Unreadable, Elsewhere}
+use Rattle.gc_texts.specs.Endings.{End, Answered, Unreadable, Elsewhere, Disagree}
 use Rattle.gc_texts.specs.Nears.{is_elsewhere}
 use Rattle.gc_texts.specs.declared.near.Expected.{Expected}
-use Rattle.gc_texts.specs.declared.near.Near.{Near}
 use Rattle.gc_texts.specs.declared.quality.Quality.{Quality}
 use Rattle.gc_texts.specs.declared.quality.Quality.TheVariants.{Fine, Warning, Refused}
+use Rattle.gc_station.specs.Firsts.{first_noted, firsts_after}
+use Rattle.gc_station.specs.declared.firsts.FirstAnswer.{FirstAnswer}
 use Rattle.gc_station.specs.Attempts.{code_of, listed_after, listed_after_settlements}
-use Rattle.gc_station.specs.Marks.{commands_in, first_mark, value_as, warned_as, refused_as, answer_as, end_of, command_of, record_with, record_of, records_of, is_well, last_well}
+use Rattle.gc_station.specs.Marks.{commands_in, first_mark, agrees_in, quality_in, answered_as, value_as, warned_as, refused_as, answer_as, end_of, command_of, record_with, record_of, records_of, is_well, last_well}
 use Rattle.gc_station.specs.Watching.{renewed_by, fresh_after}
 use Rattle.gc_station.specs.declared.watching.Watch.{Watch}
 use Rattle.gc_station.specs.Records.{Record, Grew, texts_of, WritesPart}
@@ -64,36 +65,48 @@ commands_more marks i b below e =
 
 -- Endings.
 
+-- a fact of endings holds of the ending by an answer, or without one, whether it agrees with that of a first sending or not, if it holds of
+-- each answer by this line, and of the ending as disagreeing by it
+answered_along : (P : End → Type 0) (expected : Expected) (q : Quality) (said : Option Answer) (line : List ℕ)
+    → ((quality : Quality) (answer : Option Answer) → P (Answered quality answer line)) → P (Disagree line) → P (answered_as expected q said line)
+answered_along P expected q said line answered disagree = by_test (agrees_in expected.twice expected.first said) where
+  -- the lemma above, by whether it agrees
+  by_test : (b : Bool) → P (if b then Answered (quality_in expected.twice q) said line else Disagree line)
+  by_test true = answered (quality_in expected.twice q) said
+  by_test false = disagree
+
 -- a fact of endings holds of the ending by an answer, whether that is elsewhere or not, if it holds of each answer by this line,
--- and of the ending as elsewhere by it
-value_along : (P : End → Type 0) (q : Quality) (away : Bool) (said : Answer) (line : List ℕ)
-    → ((quality : Quality) (answer : Option Answer) → P (Answered quality answer line)) → P (Elsewhere line) → P (value_as q away said line)
-value_along P q true said line answered elsewhere = elsewhere
-value_along P q false said line answered elsewhere = answered q (Some said)
+-- and of the endings as elsewhere and as disagreeing by it
+value_along : (P : End → Type 0) (expected : Expected) (q : Quality) (away : Bool) (said : Answer) (line : List ℕ)
+    → ((quality : Quality) (answer : Option Answer) → P (Answered quality answer line)) → P (Elsewhere line) → P (Disagree line) → P (value_as expected q away said line)
+value_along P expected q true said line answered elsewhere disagree = elsewhere
+value_along P expected q false said line answered elsewhere disagree = answered_along P expected q (Some said) line answered disagree
 
--- as `value_along`, of the ending by a reply with an accepted return code, whatever its line says with return code 0
-warned_along : (P : End → Type 0) (near : Option Near) (zeroed : Reading) (line : List ℕ)
-    → ((quality : Quality) (answer : Option Answer) → P (Answered quality answer line)) → P (Elsewhere line) → P (warned_as near zeroed line)
-warned_along P near (reading.Value said) line answered elsewhere = value_along P Warning (is_elsewhere near said) said line answered elsewhere
-warned_along P near (reading.Refused code) line answered elsewhere = answered Warning None
-warned_along P near (reading.ComFault code) line answered elsewhere = answered Warning None
-warned_along P near (reading.Unreadable fault) line answered elsewhere = answered Warning None
+-- so it does of the ending by a reply with an accepted code, whatever the line says with return code 0 (`zeroed`)
+warned_along : (P : End → Type 0) (expected : Expected) (zeroed : Reading) (line : List ℕ)
+    → ((quality : Quality) (answer : Option Answer) → P (Answered quality answer line)) → P (Elsewhere line) → P (Disagree line) → P (warned_as expected zeroed line)
+warned_along P expected (reading.Value said) line answered elsewhere disagree =
+    value_along P expected Warning (is_elsewhere expected.near said) said line answered elsewhere disagree
+warned_along P expected (reading.Refused code) line answered elsewhere disagree = answered_along P expected Warning None line answered disagree
+warned_along P expected (reading.ComFault code) line answered elsewhere disagree = answered_along P expected Warning None line answered disagree
+warned_along P expected (reading.Unreadable fault) line answered elsewhere disagree = answered_along P expected Warning None line answered disagree
 
--- as `value_along`, of the ending by a reply with a return code other than 0, whether that is accepted or not
-refused_along : (P : End → Type 0) (accepted : Bool) (near : Option Near) (zeroed : Reading) (line : List ℕ)
-    → ((quality : Quality) (answer : Option Answer) → P (Answered quality answer line)) → P (Elsewhere line) → P (refused_as accepted near zeroed line)
-refused_along P true near zeroed line answered elsewhere = warned_along P near zeroed line answered elsewhere
-refused_along P false near zeroed line answered elsewhere = answered Refused None
+-- so it does of the ending by a refused reply, whether its code is accepted or not
+refused_along : (P : End → Type 0) (accepted : Bool) (expected : Expected) (zeroed : Reading) (line : List ℕ)
+    → ((quality : Quality) (answer : Option Answer) → P (Answered quality answer line)) → P (Elsewhere line) → P (Disagree line) → P (refused_as accepted expected zeroed line)
+refused_along P true expected zeroed line answered elsewhere disagree = warned_along P expected zeroed line answered elsewhere disagree
+refused_along P false expected zeroed line answered elsewhere disagree = answered Refused None
 
--- as `value_along`, of the ending by a reply in time, whatever its line says, if the fact holds also of each unreadable one
+-- so it does of the ending by any reply in time, if it holds of each ending as unreadable by this line, too
 pub answer_along : (P : End → Type 0) (expected : Expected) (said zeroed : Reading) (line : List ℕ)
-    → ((quality : Quality) (answer : Option Answer) → P (Answered quality answer line)) → P (Elsewhere line) → ((fault : ValueFault) → P (Unreadable line fault))
+    → ((quality : Quality) (answer : Option Answer) → P (Answered quality answer line)) → P (Elsewhere line) → P (Disagree line) → ((fault : ValueFault) → P (Unreadable line fault))
     → P (answer_as expected said zeroed line)
-answer_along P expected (reading.Value said) zeroed line answered elsewhere unreadable = value_along P Fine (is_elsewhere expected.near said) said line answered elsewhere
-answer_along P expected (reading.Refused code) zeroed line answered elsewhere unreadable =
-    refused_along P (lists_code expected.accepted code) expected.near zeroed line answered elsewhere
-answer_along P expected (reading.ComFault code) zeroed line answered elsewhere unreadable = answered Refused None
-answer_along P expected (reading.Unreadable fault) zeroed line answered elsewhere unreadable = unreadable fault
+answer_along P expected (reading.Value said) zeroed line answered elsewhere disagree unreadable =
+    value_along P expected Fine (is_elsewhere expected.near said) said line answered elsewhere disagree
+answer_along P expected (reading.Refused code) zeroed line answered elsewhere disagree unreadable =
+    refused_along P (lists_code expected.accepted code) expected zeroed line answered elsewhere disagree
+answer_along P expected (reading.ComFault code) zeroed line answered elsewhere disagree unreadable = answered Refused None
+answer_along P expected (reading.Unreadable fault) zeroed line answered elsewhere disagree unreadable = unreadable fault
 
 -- Records.
 
@@ -256,20 +269,26 @@ pub fresh-append : (now : ℕ) (fresh : List Watch) (xs ys : List Record) → fr
 fresh-append now fresh [] ys = refl
 fresh-append now fresh (x ∷ xs) ys = fresh-append now (map (renewed_by now x) fresh) xs ys
 
+-- the kept answers of a first sending after the records `xs` and then `ys` are those after `ys` from those after `xs` on
+pub firsts-append : (fs : List (Option FirstAnswer)) (xs ys : List Record) → firsts_after fs (xs ++ ys) ≡ firsts_after (firsts_after fs xs) ys
+firsts-append fs [] ys = refl
+firsts-append fs (x ∷ xs) ys = firsts-append (first_noted x.cycle x.turn x.end fs) xs ys
+
 -- what is kept of records is equal where each of its fields is
-recorded_same : (a b : Recorded) → a.tally ≡ b.tally → a.well ≡ b.well → a.listed ≡ b.listed → a.fresh ≡ b.fresh → a ≡ b
-recorded_same a b tally well listed fresh =
+recorded_same : (a b : Recorded) → a.tally ≡ b.tally → a.well ≡ b.well → a.listed ≡ b.listed → a.fresh ≡ b.fresh → a.firsts ≡ b.firsts → a ≡ b
+recorded_same a b tally well listed fresh firsts =
     ap (λ (x : Counts). record a { tally = x }) tally
     ∙ ap (λ (x : Bool). record a { tally = b.tally; well = x }) well
     ∙ ap (λ (x : Bool). record a { tally = b.tally; well = b.well; listed = x }) listed
     ∙ ap (λ (x : List Watch). record a { tally = b.tally; well = b.well; listed = b.listed; fresh = x }) fresh
+    ∙ ap (λ (x : List (Option FirstAnswer)). record a { tally = b.tally; well = b.well; listed = b.listed; fresh = b.fresh; firsts = x }) firsts
 
 -- without settlements, what is kept of records stays as it was
 pub recorded-none : (reads : Reads) (now : Moment) (marks : List (Option Mark)) (r : Recorded) → recorded_after now marks [] reads r ≡ r
 recorded-none reads now marks r =
     let none = records-none reads now.utc marks in
     recorded_same (recorded_after now marks [] reads r) r (ap (tallied r.tally) none) (ap (last_well r.well) none) (listed-none reads r.listed marks)
-    (ap (fresh_after now.elapsed r.fresh) none)
+    (ap (fresh_after now.elapsed r.fresh) none) (ap (firsts_after r.firsts) none)
 
 -- `s` is the settlement at place i, and `mark` the first of the marks from place i on
 module _ (reads : Reads) (marks : List (Option Mark)) (ss : List (Settlement Asked)) (i : ℕ) (s : Settlement Asked) (mark : Option Mark)
@@ -312,6 +331,7 @@ module _ (reads : Reads) (marks : List (Option Mark)) (ss : List (Settlement Ask
       (fold_more last_well last-append a.well b.well c.well front one _ (ap (λ (r : Recorded). r.well) so) (ap (λ (r : Recorded). r.well) more) next)
       (listed_more a.listed b.listed c.listed (ap (λ (r : Recorded). r.listed) so) (ap (λ (r : Recorded). r.listed) more))
       (fold_more (fresh_after now.elapsed) (fresh-append now.elapsed) a.fresh b.fresh c.fresh front one _ (ap (λ (r : Recorded). r.fresh) so) (ap (λ (r : Recorded). r.fresh) more) next)
+      (fold_more firsts_after firsts-append a.firsts b.firsts c.firsts front one _ (ap (λ (r : Recorded). r.firsts) so) (ap (λ (r : Recorded). r.firsts) more) next)
 
 -- the record with the ending that a settlement gives is the record of the settlement
 pub record_of_ending : (reads : Reads) (utc : ℕ) (mark : Mark) (x : Rule.Settlement Asked) (end : End) → end ≡ end_of reads mark.expected x.call x.outcome

@@ -27,8 +27,8 @@ use Rattle.gc_station.specs.Progressing.{moment_noted, turned, loses_all}
 use Rattle.gc_station.specs.Reasons.{HoldsBefore}
 use Rattle.gc_station.specs.Runs.{state_after}
 use Rattle.gc_station.specs.Scopes.{Scope}
-use Rattle.gc_station.specs.Model.{Model, opening, action_at, waiting_of, Performs, Runs, is_heard, asks_first, after_piece, line_came, losing, moved, piece_at, with_progress, with_moment, null_request, asks_for}
-use Rattle.gc_station.specs.NextCommand.{cycles_begun, place_next, mark_next}
+use Rattle.gc_station.specs.Model.{Model, opening, action_at, waiting_of, Performs, Runs, is_heard, asks_first, after_piece, line_came, losing, moved, piece_at, with_progress, with_moment, null_request, asks_for, mark_sent}
+use Rattle.gc_station.specs.NextCommand.{cycles_begun, place_next}
 use Rattle.gc_station.proofs.Always.{always}
 use Rattle.gc_station.proofs.Each.{row, row_moment, row_settles, more_waiting, marked_none, waiting_marked}
 use Rattle.gc_station.proofs.EachRun.{invariant_holds}
@@ -124,7 +124,7 @@ module _ (plan : Plan) (commands : List Task) where
       let some : 0 < length left = omega (arith, many, is.2, fine.unsent) in
       let below = fine.begun is.2 in
       let cycle : 0 < cycles_begun plan p = omega (arith, below) in
-      let last = sent_last (mark_next plan commands p) left t fine.paired (within_window _ _ is.3.1) some cycle in
+      let last = sent_last (mark_sent plan commands t) left t fine.paired (within_window _ _ is.3.1) some cycle in
       walk plan commands (λ a (u : Model). LastIsOfCycle u) action.Send t act o (λ m e. last, λ n e. last)
   last_moved action.Prepare s act fine is o h = walk plan commands (λ a (u : Model). LastIsOfCycle u) action.Prepare (with_progress turned s) act o (λ m e. cc, λ n e. cc)
   last_moved action.Skip s act fine is o h =

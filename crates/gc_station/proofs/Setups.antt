@@ -21,7 +21,7 @@ use Rattle.gc_station.specs.Reasons.{HoldsBefore}
 use Rattle.gc_station.specs.Records.{Record}
 use Rattle.gc_station.specs.Runs.{state_after}
 use Rattle.gc_station.specs.Scopes.{Scope, Reads}
-use Rattle.gc_station.specs.Model.{Model, opening, action_at, waiting_of, is_heard, asks_first, after_piece, line_came, losing, moved, piece_at, first_unsent_record, with_progress, with_moment, with_rest, after, after_all, request_or_null, asks_for}
+use Rattle.gc_station.specs.Model.{Model, opening, action_at, waiting_of, is_heard, asks_first, after_piece, line_came, losing, moved, piece_at, first_unsent_record, with_progress, with_moment, with_rest, after, after_all, request_or_null, asks_for, mark_sent}
 use Rattle.gc_station.specs.NextCommand.{cycles_begun, place_next, commands_left, mark_next, mark_setup}
 use Rattle.gc_station.specs.Setups.{Dispatch, dispatch_of_record, dispatch_of_mark, dispatches_of, of_setup, sent_first, setup_sent_at, setup_sent_by, EachSetUpOnce, IsNextAfter, GoOn, AreInOrder, SetUpsGoOn, dispatch_row}
 use Rattle.gc_station.proofs.Counts.{with_losses_progress}
@@ -99,9 +99,9 @@ module _ (plan : Plan) (commands : List Task) where
 
   -- an act that sends the next command of a cycle adds it to `dispatch_row`, if there is one
   dispatch_row_sent : (s : Model) (act : Act) → dispatch_row (moved plan commands action.Send s act)
-      ≡ dispatch_row s ++ sent_first (mark_next plan commands s.progress) (commands_left commands s.progress)
-  dispatch_row_sent s (Cut bytes n) = dispatch_row_first (mark_next plan commands s.progress) (drop (place_next commands s.progress) commands) s
-  dispatch_row_sent s act = dispatch_row_first (mark_next plan commands s.progress) (drop (place_next commands s.progress) commands) s
+      ≡ dispatch_row s ++ sent_first (mark_sent plan commands s) (commands_left commands s.progress)
+  dispatch_row_sent s (Cut bytes n) = dispatch_row_first (mark_sent plan commands s) (drop (place_next commands s.progress) commands) s
+  dispatch_row_sent s act = dispatch_row_first (mark_sent plan commands s) (drop (place_next commands s.progress) commands) s
 
   -- an action by which no command is sent, or recorded without being sent: any but `Prepare`, `Send` and `Skip`
   abbrev pub LeavesDispatchRow : Action → Type 0
@@ -172,9 +172,9 @@ module _ (plan : Plan) (commands : List Task) where
       ∙ ap (λ xs. of_setup (dispatch_row s) ++ xs) (setup_sent_is_of_setup commands t.progress (drop t.progress.prepared commands))
   setup_moved action.Send s act fine is =
       let t = with_progress turned s in
-      let one = sent_first (mark_next plan commands t.progress) (drop (place_next commands t.progress) commands) in
+      let one = sent_first (mark_sent plan commands t) (drop (place_next commands t.progress) commands) in
       ap of_setup (dispatch_row_sent plan commands t act) ∙ filter-append _ (dispatch_row s) one
-      ∙ ap (λ xs. of_setup (dispatch_row s) ++ xs) (no_setup_sent (mark_next plan commands t.progress) (drop (place_next commands t.progress) commands) (some_cycle s fine is.2))
+      ∙ ap (λ xs. of_setup (dispatch_row s) ++ xs) (no_setup_sent (mark_sent plan commands t) (drop (place_next commands t.progress) commands) (some_cycle s fine is.2))
   setup_moved action.Skip s (Told m) fine is =
       let p = turned s.progress in
       let left = drop (place_next commands p) commands in

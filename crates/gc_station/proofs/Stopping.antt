@@ -26,7 +26,7 @@ use Rattle.gc_station.specs.declared.progress.Until.{Until}
 use Rattle.gc_station.specs.declared.progress.Waiting.{Waiting}
 use Rattle.gc_station.specs.Closing.{Shows, EndsRun}
 use Rattle.gc_station.specs.Deciding.{is_stale, action_of, action_in, action_on}
-use Rattle.gc_station.specs.Marks.{records_of, is_well}
+use Rattle.gc_station.specs.Marks.{records_of, ended_confirmed}
 use Rattle.gc_station.specs.Model.{Model, opening, action_at, waiting_of, unsent_record, first_unsent_record, with_progress, with_moment, with_rest, is_heard, line_came, lines_completed, after_piece, piece_at, Performs, moved, losing, after, Runs}
 use Rattle.gc_station.specs.NextCommand.{place_next, mark_next}
 use Rattle.gc_station.specs.Progressing.{turned, moment_noted, quieted, time_passed, loses_all}
@@ -42,7 +42,7 @@ use Rattle.gc_station.proofs.Closings.{cause_in, no_cause_shown, Decided, after_
 use Rattle.gc_station.proofs.Counts.{with_losses_progress}
 use Rattle.gc_station.proofs.Going.{after_all-append, runs_behind}
 use Rattle.gc_station.proofs.Lists.{all_append}
-use Rattle.gc_station.proofs.Making.{unwell_end}
+use Rattle.gc_station.proofs.Making.{unconfirmed_end}
 use Rattle.gc_station.proofs.Opens.{Quits}
 use Rattle.gc_station.proofs.Records.{fresh-append}
 use Rattle.gc_station.proofs.Silences.{closes_at_its_end, ended_by_close, not_closing}
@@ -58,16 +58,16 @@ abbrev HasWell : (place : ℕ) → List Record → Type 0
 HasWell place rs =
     (front : List Record) × (r : Record) × (later : List Record) × (rs ≡ front ++ r ∷ later) × (renews r.cycle r.turn.place r.end place ≡ true)
 
--- the record `r` is of a command that wasn't answered well
+-- the record `r` is of a command that wasn't answered well, or is unconfirmed
 abbrev IsNotWell : Record → Type 0
-IsNotWell r = is_well r.end ≡ false
+IsNotWell r = ended_confirmed r.end ≡ false
 
--- records of which none is of a command that was answered well renew no watched command
+-- such records renew no watched command
 unwell_renew_none : (place : ℕ) (rs : List Record) → AllByRecursion IsNotWell rs → AllByRecursion (RenewsNot place) rs
 unwell_renew_none place [] all = tt
 unwell_renew_none place (r ∷ rs) all = (unwell_renews_none r.cycle r.turn.place r.end place all.0, unwell_renew_none place rs all.1)
 
--- such records don't change when the watched commands were answered well last
+-- they don't change when the watched commands were answered well last
 unwell_same : (now : ℕ) (ws : List Watch) (rs : List Record) → AllByRecursion IsNotWell rs → fresh_after now ws rs ≡ ws
 unwell_same now ws [] all = refl
 unwell_same now ws (r ∷ rs) all =
@@ -117,7 +117,7 @@ fresh_cases now w (r ∷ rs) =
 -- the record of the first of these commands, if it isn't sent, isn't of one that was answered well
 unsent_unwell : (p : Progress) (m : Moment) (mark : Mark) (list : List Task) → AllByRecursion IsNotWell (first_unsent_record p m mark list)
 unsent_unwell p m mark [] = tt
-unsent_unwell p m mark (task ∷ others) = (unwell_end p.missed, tt)
+unsent_unwell p m mark (task ∷ others) = (unconfirmed_end p.missed, tt)
 
 -- the records of requests that are lost are of commands that weren't answered well
 lost_unwell : (reads : Reads) (utc : ℕ) (marks : List (Option Mark)) (ps : List (Pending Asked)) → AllByRecursion IsNotWell (records_of reads utc marks (map lost ps))

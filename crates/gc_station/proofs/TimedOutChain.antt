@@ -16,7 +16,7 @@ use Rattle.gc_links.specs.Acts.{Act}
 use Rattle.gc_links.specs.declared.link.Moment.{Moment}
 use Rattle.gc_station.specs.Deciding.{later}
 use Rattle.gc_station.specs.Marks.{commands_in, records_of, end_of, is_well, last_well}
-use Rattle.gc_station.specs.Model.{Model, waiting_of, with_progress, with_moment, is_reply, line_came, line_settles, is_heard, client_sent, sent_to, asks_for, null_request, end_unsent, first_unsent_record, moved, Performs}
+use Rattle.gc_station.specs.Model.{Model, waiting_of, with_progress, with_moment, is_reply, line_came, line_doubted, line_settles, is_heard, client_sent, sent_to, asks_for, null_request, end_unsent, first_unsent_record, moved, Performs}
 use Rattle.gc_station.specs.NextCommand.{mark_next, commands_left}
 use Rattle.gc_station.specs.Progressing.{turned, moment_noted, line_noted}
 use Rattle.gc_station.specs.Reasons.{HoldsBefore, MayGo}
@@ -160,12 +160,12 @@ line_heard x line h = by_id (heard line) where
       ∙ ap (last_well (last_well false x.records)) (records-none x.reads x.progress.moment.utc x.marks) ∙ h.2 none
 
   -- by the id of the line
-  by_id : (o : Option ℕ) → CannotGoOn (heard_as line (hears x.client line o) x)
+  by_id : (o : Option ℕ) → CannotGoOn (heard_as line (hears x.client line o) (line_doubted line x))
   by_id None = (h.0, h.1, same)
   by_id (Some id) = by_test (place_in x.client id) (fits x.client (Some id)) refl where
     -- whether a request has that id
-    by_test : (k : ℕ) (b : Bool) → nat_lt k (length x.client.waiting) ≡ b → CannotGoOn (heard_as line (settles_at x.client line k b) x)
-    by_test k true e = some_heard x line k (grind (arith, nat_tests, e)) h
+    by_test : (k : ℕ) (b : Bool) → nat_lt k (length x.client.waiting) ≡ b → CannotGoOn (heard_as line (settles_at x.client line k b) (line_doubted line x))
+    by_test k true e = some_heard (line_doubted line x) line k (grind (arith, nat_tests, e)) h
     by_test k false e = (h.0, h.1, same)
 
 -- a moment keeps it so

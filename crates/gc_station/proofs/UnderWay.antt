@@ -17,7 +17,7 @@ use Rattle.gc_texts.specs.declared.tasks.Task.{Task}
 use Rattle.gc_texts.specs.declared.wish.Wish.{Wish}
 use Rattle.gc_station.specs.Deciding.{later, has_begun, is_up, is_preparing, setup_permits}
 use Rattle.gc_station.specs.Marks.{commands_in, last_well, records_of}
-use Rattle.gc_station.specs.Model.{Model, waiting_of, with_progress, is_reply, sent_to, client_sent, line_came, line_settles, ends_with_table, is_some_of_table, losing, with_losses}
+use Rattle.gc_station.specs.Model.{Model, waiting_of, with_progress, is_reply, sent_to, client_sent, line_came, line_doubted, line_settles, ends_with_table, is_some_of_table, losing, with_losses}
 use Rattle.gc_station.specs.Progressing.{failing, is_over, is_over_in, loses_all, line_noted}
 use Rattle.gc_station.specs.RecordedInTime.{raw_count}
 use Rattle.gc_station.specs.Records.{Record}
@@ -265,13 +265,13 @@ module _ (plan : Plan) (longest call turn loss : ℕ) (commands : List Task) whe
   pub line_heard : (x : Model) (line : List ℕ) → Listens x → Listens (line_came x line)
   line_heard x line h = (λ on some. by_id (heard line) (h.0 on some), all_heard (EndsAfter x.progress.moment.elapsed) x.client line (heard line) h.1, h.2) where
     -- by the id of the line
-    by_id : (o : Option ℕ) → IsUnderWay x → IsUnderWay (heard_as line (hears x.client line o) x)
-    by_id None under = nothing_heard x line under
+    by_id : (o : Option ℕ) → IsUnderWay x → IsUnderWay (heard_as line (hears x.client line o) (line_doubted line x))
+    by_id None under = nothing_heard (line_doubted line x) line under
     by_id (Some id) under = by_test (place_in x.client id) (fits x.client (Some id)) refl where
       -- whether a request has that id
-      by_test : (k : ℕ) (b : Bool) → nat_lt k (length x.client.waiting) ≡ b → IsUnderWay (heard_as line (settles_at x.client line k b) x)
-      by_test k true e = some_heard x line k (grind (arith, nat_tests, e)) under h.1 h.2
-      by_test k false e = nothing_heard x line under
+      by_test : (k : ℕ) (b : Bool) → nat_lt k (length x.client.waiting) ≡ b → IsUnderWay (heard_as line (settles_at x.client line k b) (line_doubted line x))
+      by_test k true e = some_heard (line_doubted line x) line k (grind (arith, nat_tests, e)) under h.1 h.2
+      by_test k false e = nothing_heard (line_doubted line x) line under
 
   -- a call that failed leaves a setup within its connection
   failed_within : (p : Progress) (why : Cause) → IsWithin p → IsWithin (failing why p)

@@ -25,8 +25,8 @@ use Rattle.gc_station.specs.Deciding.{is_quiet}
 use Rattle.gc_station.specs.Marks.{commands_in}
 use Rattle.gc_station.specs.Progressing.{turned, moment_noted, cycle_begun, skipped, failing, opened, after_failure, cleared, request_noted, null_sent, resynchronized, sent, line_synchronizing, lines_synchronizing, pause_ended, drained, quieted, time_passed, early_noted, ended_for, closed, setup_sent}
 use Rattle.gc_station.specs.ActKinds.{Puts}
-use Rattle.gc_station.specs.Model.{Model, waiting_of, next_request_text, null_text, first_text, listed_after_skip, with_listed, after_pass, Performs, is_heard, with_progress, with_moment, with_rest, with_more_records, asks_for, asks_first, asks_next, unsent_record, line_came, lines_came, lines_completed, piece_heard, after_piece, piece_noted, piece_at, after_read, after_put, after_close, moved, settles, losing, after, after_all, cycle_length, text_or_null, asks_setup, request_for, null_request, request_or_null}
-use Rattle.gc_station.specs.NextCommand.{place_next, commands_left, mark_next, commands_before, upcoming_after}
+use Rattle.gc_station.specs.Model.{Model, waiting_of, next_request_text, null_text, first_text, listed_after_skip, with_listed, after_pass, Performs, is_heard, with_progress, with_moment, with_rest, with_more_records, asks_for, asks_first, asks_next, unsent_record, line_came, lines_came, lines_completed, piece_heard, after_piece, piece_noted, piece_at, after_read, after_put, after_close, moved, settles, losing, after, after_all, cycle_length, text_or_null, asks_setup, request_for, null_request, request_or_null, mark_sent}
+use Rattle.gc_station.specs.NextCommand.{place_next, commands_left, commands_before, upcoming_after}
 
 -- Parts of an act.
 
@@ -119,7 +119,7 @@ first_sent_same next mark (task ∷ others) s = refl
 -- the model that sent the next command, by its fields (`model_sent`), is that after the act that sends
 pub sent_same : (plan : Plan) (commands : List Task) (s : Model)
     → model_sent plan commands s ≡ with_progress (sent (upcoming_after 1 commands s.progress)) (asks_next plan commands s)
-sent_same plan commands s = first_sent_same (upcoming_after 1 commands s.progress) (mark_next plan commands s.progress)
+sent_same plan commands s = first_sent_same (upcoming_after 1 commands s.progress) (mark_sent plan commands s)
     (drop (place_next commands s.progress) commands) s
 
 -- Which fields change.
@@ -174,6 +174,7 @@ progress_of Renew p q = record (told_of p q) {
   chain_unbroken = q.chain_unbroken;
   behind = q.behind;
   last_ended = q.last_ended;
+  doubtful = q.doubtful;
   preparing = q.preparing;
   prepared = q.prepared;
   attempt = q.attempt;
@@ -204,6 +205,7 @@ progress_of (Read until) p q = record (told_of p q) {
   pause = q.pause;
   behind = q.behind;
   last_ended = q.last_ended;
+  doubtful = q.doubtful;
 }
 progress_of (Close why) p q = connecting_of p q
 progress_of (Stop why) p q = p
@@ -235,7 +237,7 @@ changed action s t = record (changed_by action s t) {
 
 -- the progress p with those fields of q that lines change which are heard while the station synchronizes
 abbrev asked_of : (p q : Progress) → Progress
-asked_of p q = record p { word = q.word; again = q.again; alive = q.alive; asked = q.asked; behind = q.behind; last_ended = q.last_ended }
+asked_of p q = record p { word = q.word; again = q.again; alive = q.alive; asked = q.asked; behind = q.behind; last_ended = q.last_ended; doubtful = q.doubtful }
 
 -- lines that are heard while the station synchronizes change no other fields than `asked_of` says
 lines_changed : (p : Progress) (lines : List (List ℕ)) → lines_synchronizing p lines ≡ asked_of p (lines_synchronizing p lines)

@@ -11,6 +11,7 @@ use Rattle.gc_catalogue.specs.declared.call.Call.TheVariants.{InstrumentNo}
 use Rattle.gc_texts.specs.Again.{no_again}
 use Rattle.gc_texts.specs.Codes.{no_codes}
 use Rattle.gc_texts.specs.Endings.{Missed}
+use Rattle.gc_texts.specs.declared.agree.Twice.TheVariants.{Once}
 use Rattle.gc_texts.specs.declared.tasks.Task.{Task}
 use Rattle.gc_links.specs.Acts.{Act, Told, Put, Gave, Silent, Opened, Unopened}
 use Rattle.gc_links.specs.declared.link.Moment.{Moment}
@@ -39,6 +40,7 @@ number_task deadline chained = record {
   turn = no_turn;
   others = 0;
   now = false;
+  twice = Once;
 }
 
 -- a plan of two cycles with these due moments and this longest deadline, without a setup, with a quiet time of `quiet` milliseconds

@@ -140,7 +140,7 @@ action_done plan p = if nat_eq p.left 0 then Close Done else if is_due plan p th
 
 -- whether there is room for another request: the test of `HasRoomToAsk`
 abbrev pub has_room_to_ask : Plan → Progress → Waiting → Bool
-has_room_to_ask plan p w = nat_lt w.current (width_of plan) && nat_lt (w.all + p.last_ended) WINDOW
+has_room_to_ask plan p w = nat_lt w.current (width_of plan) && nat_lt (w.all + p.last_ended) WINDOW && not p.doubtful
 
 -- `action`, which sends a request, if there is room for one and the line isn't dead; otherwise the action of a station that waits
 abbrev pub action_room : Plan → Progress → Waiting → Action → Action

@@ -3,11 +3,10 @@
 -- act that recorded it as lost a line came with the id of a request that was put after it, or the station resynchronizes,
 -- because all that is outstanding has timed out, and there is no room for another request or the cycle is overdue, or the run stopped.
 -- An act is one call on the link, with its result.
-use Rattle.std.specs.Prelude.{◌+◌, ◌≡◌, ◌⊎◌, ℕ, ◌<◌, ◌≤◌, List, [], ◌∷◌, ◌++◌, length, Some, IsSomeAnd}
+use Rattle.std.specs.Prelude.{◌≡◌, ◌⊎◌, ℕ, ◌<◌, ◌≤◌, List, [], ◌∷◌, ◌++◌, Some, IsSomeAnd}
 use Rattle.gc_catalogue.specs.declared.asked.Asked.{Asked}
 use Rattle.gc_client.specs.Ids.{Waits}
 use Rattle.gc_client.specs.Rule.{deadlines, heard}
-use Rattle.gc_client.specs.declared.window.TheConstants.{WINDOW}
 use Rattle.gc_texts.specs.Endings.{Late, Lost}
 use Rattle.gc_texts.specs.declared.tasks.Task.{Task}
 use Rattle.gc_station.specs.declared.cause.Cause.{Cause}
@@ -21,7 +20,7 @@ use Rattle.gc_station.specs.Records.{Record}
 use Rattle.gc_station.specs.Runs.{state_after}
 use Rattle.gc_station.specs.ActKinds.{Puts, moment_in}
 use Rattle.gc_station.specs.Marks.{commands_in}
-use Rattle.gc_station.specs.Reasons.{IsOverdue}
+use Rattle.gc_station.specs.Reasons.{IsOverdue, MayAskNoMore}
 use Rattle.gc_station.specs.Model.{action_at, next_request_text, waiting_of, Model}
 use Rattle.gc_station.specs.Scopes.{Scope}
 
@@ -63,9 +62,9 @@ pub record IsOvertaken (plan : Plan) (commands : List Task) (scope : Scope) (bef
   pub id : heard line ≡ Some (state_after plan commands scope (before ++ request ∷ first)).client.next
 
 -- why a station that has the model `s` resynchronizes: the outstanding requests, and those that the last line ended that ended any, are
--- together seven or more; or commands are outstanding, and the cycle is overdue
+-- together seven or more; or a line raised a doubt; or commands are outstanding, and the cycle is overdue
 abbrev pub MayResynchronize : Plan → Model → Type 0
-MayResynchronize plan s = (WINDOW ≤ length s.client.waiting + s.progress.last_ended) ⊎ (IsOverdue plan s.progress (waiting_of s) × (0 < commands_in s.marks))
+MayResynchronize plan s = MayAskNoMore s.progress (waiting_of s) ⊎ (IsOverdue plan s.progress (waiting_of s) × (0 < commands_in s.marks))
 
 -- the act, before which a station has the model `s`, resynchronizes it: the act reads the clock; there is no room for another
 -- request, or the cycle is overdue; and all that is outstanding has timed out

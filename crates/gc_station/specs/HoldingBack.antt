@@ -2,7 +2,7 @@
 -- allows may take the replies that are still in flight for those of later requests with the same ids. So no request is sent unless the
 -- outstanding ones, and those that the last line ended that ended any, are together fewer than seven. That is what the laws on damaged
 -- lines ask of a client (`gc_damage`). A part reaches from one synchronization to the next (`Parts`).
-use Rattle.std.specs.Prelude.{◌≡◌, ℕ, ◌+◌, ◌<◌, if◌then◌else◌, nat_lt, List, [], ◌∷◌, ◌++◌, length, Some, slice_get}
+use Rattle.std.specs.Prelude.{◌≡◌, ℕ, ◌+◌, ◌<◌, List, [], ◌∷◌, ◌++◌, length, Some, slice_get}
 use Rattle.gc_catalogue.specs.declared.asked.Asked.{Asked}
 use Rattle.gc_client.specs.OneForOne.{Step, Send, Hear}
 use Rattle.gc_client.specs.Rule.{ById, fresh, heard, hears}

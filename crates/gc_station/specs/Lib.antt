@@ -2,6 +2,7 @@ pub mod Causes
 pub mod Scopes
 pub mod Records
 pub mod Marks
+pub mod Firsts
 pub mod Zeros
 pub mod Lines
 pub mod Deciding
@@ -38,12 +39,14 @@ pub mod Links
 pub mod Behind
 pub mod NullFirst
 pub mod HoldingBack
+pub mod InDoubt
 pub mod Codes
 pub mod Counting
 pub mod Room
 pub mod Cycles
 pub mod Pauses
 pub mod Nearness
+pub mod Agreeing
 pub mod Qualities
 pub mod Stopping
 pub mod CallTimes

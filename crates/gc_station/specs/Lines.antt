@@ -1,7 +1,15 @@
--- Which lines are replies, this project's own.
-use Rattle.std.specs.Prelude.{ℕ, Bool, List, is_ok}
+-- Which lines are replies, and which of these show that a line was altered, this project's own.
+use Rattle.std.specs.Prelude.{ℕ, Bool, List, length, is_ok}
 use Rattle.gc_lines.specs.Readers.{reply_at}
+use Rattle.gc_catalogue.specs.declared.asked.Asked.{Asked}
+use Rattle.gc_client.specs.Rule.{ById, heard}
+use Rattle.gc_texts.specs.Strays.{is_impossible}
 
 -- whether `line` reads as a reply
 abbrev pub is_reply : List ℕ → Bool
 is_reply line = is_ok (reply_at line)
+
+-- whether `line`, as this client hears it, raises a doubt: it is a stray that can't repeat the reply that settled last
+-- (`is_impossible`), so that it was altered, or the line that settled last was
+abbrev pub raises_doubt : ById Asked → List ℕ → Bool
+raises_doubt c line = is_impossible c.next (length c.waiting) (heard line)

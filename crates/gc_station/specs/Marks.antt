@@ -1,19 +1,21 @@
 -- Marks, this project's own: for each outstanding request, which command of which cycle it is; a null procedure of the
 -- station's own has none.
-use Rattle.std.specs.Prelude.{ℕ, suc, Bool, true, false, List, [], ◌∷◌, map, Option, Some, None, slice_get, unwrap_or}
+use Rattle.std.specs.Prelude.{ℕ, suc, Bool, true, false, List, [], ◌∷◌, map, Option, Some, None, if◌then◌else◌, slice_get, unwrap_or}
 use Rattle.gc_catalogue.specs.declared.answer.Answer.{Answer}
 use Rattle.gc_catalogue.specs.declared.answer.Reading.{Reading}
 use Rattle.gc_catalogue.specs.declared.answer.Reading.TheVariants as reading
 use Rattle.gc_catalogue.specs.declared.asked.Asked.{Asked}
 use Rattle.gc_client.specs.Rule.{Settlement, Outcome, Answered, Late, Lost}
 use Rattle.gc_texts.specs.declared.wish.Wish.{Wish}
+use Rattle.gc_texts.specs.Agrees.{agrees}
 use Rattle.gc_texts.specs.Codes.{lists_code}
 use Rattle.gc_texts.specs.Endings.{End}
 use Rattle.gc_texts.specs.Nears.{is_elsewhere}
-use Rattle.gc_texts.specs.Qualities.{is_good}
+use Rattle.gc_texts.specs.Qualities.{is_good, is_confirmed}
 use Rattle.gc_texts.specs.Zeroed.{as_zero}
 use Rattle.gc_texts.specs.declared.near.Expected.{Expected}
-use Rattle.gc_texts.specs.declared.near.Near.{Near}
+use Rattle.gc_texts.specs.declared.agree.Twice.{Twice}
+use Rattle.gc_texts.specs.declared.agree.Twice.TheVariants as twice
 use Rattle.gc_texts.specs.declared.quality.Quality.{Quality}
 use Rattle.gc_texts.specs.declared.quality.Quality.TheVariants as quality
 use Rattle.gc_texts.specs.Endings as end
@@ -39,32 +41,51 @@ with_marks (mark ∷ marks) [] = []
 with_marks (None ∷ marks) (x ∷ xs) = with_marks marks xs
 with_marks (Some mark ∷ marks) (x ∷ xs) = (mark, x) ∷ with_marks marks xs
 
+-- whether an answer, or none, may end a command as answered, by which sending of its chain it is of: one of a second sending only if there
+-- is an answer of the first, `first`, and it agrees with that; any other always
+abbrev pub agrees_in : Twice → (first : Option (Option Answer)) → (answer : Option Answer) → Bool
+agrees_in (twice.Second agree nth) None answer = false
+agrees_in (twice.Second agree nth) (Some first) answer = agrees agree first answer
+agrees_in _ first answer = true
+
+-- the quality of an answer that would have this one if its chain were sent once: in a first sending it is unconfirmed
+abbrev pub quality_in : Twice → Quality → Quality
+quality_in twice.First q = quality.Unconfirmed
+quality_in _ q = q
+
+-- how a command ends whose reply, `line`, has this answer, or none, and this quality: as answered, unless it is of a second sending and
+-- doesn't agree with that of the first; then as disagreeing
+abbrev pub answered_as : Expected → Quality → (answer : Option Answer) → (line : List ℕ) → End
+answered_as expected quality answer line =
+    if agrees_in expected.twice expected.first answer then end.Answered (quality_in expected.twice quality) answer line else end.Disagree line
+
 -- how a command ends whose reply, `line`, has this answer. If the answer was measured elsewhere than the command's target is
--- (`away`): as elsewhere. Otherwise as answered, with this quality
-abbrev pub value_as : Quality → (away : Bool) → Answer → (line : List ℕ) → End
-value_as quality true answer line = end.Elsewhere line
-value_as quality false answer line = end.Answered quality (Some answer) line
+-- (`away`): as elsewhere. Otherwise as `answered_as` says, with this quality
+abbrev pub value_as : Expected → Quality → (away : Bool) → Answer → (line : List ℕ) → End
+value_as expected quality true answer line = end.Elsewhere line
+value_as expected quality false answer line = answered_as expected quality (Some answer) line
 
 -- how a command ends whose reply, `line`, has a return code that is accepted. The reading is what the line would say with
--- return code 0. If that is an answer, the command ends with a warning and the answer, or as elsewhere if the answer's
--- direction isn't near `near`; otherwise with a warning and no answer
-abbrev pub warned_as : Option Near → Reading → List ℕ → End
-warned_as near (reading.Value answer) line = value_as quality.Warning (is_elsewhere near answer) answer line
-warned_as near _ line = end.Answered quality.Warning None line
+-- return code 0. If that is an answer, the command ends with a warning and the answer, or as elsewhere if the answer
+-- was measured away from its target; otherwise with a warning and no answer
+abbrev pub warned_as : Expected → Reading → List ℕ → End
+warned_as expected (reading.Value answer) line = value_as expected quality.Warning (is_elsewhere expected.near answer) answer line
+warned_as expected _ line = answered_as expected quality.Warning None line
 
 -- how a command ends whose reply, `line`, has a return code other than 0, which is accepted or not. The line would say `zeroed`
--- with return code 0, and `near` says where the command's target is, if the text says so
-abbrev pub refused_as : (accepted : Bool) → Option Near → (zeroed : Reading) → (line : List ℕ) → End
-refused_as true near zeroed line = warned_as near zeroed line
-refused_as false near zeroed line = end.Answered quality.Refused None line
+-- with return code 0. `expected` says where the command's target is, if the text says so, and with which answer its own is compared
+abbrev pub refused_as : (accepted : Bool) → Expected → (zeroed : Reading) → (line : List ℕ) → End
+refused_as true expected zeroed line = warned_as expected zeroed line
+refused_as false expected zeroed line = end.Answered quality.Refused None line
 
 -- how a command ends whose reply, `line`, came in time. The line says `said`, and would say `zeroed` with return code 0;
--- `expected` says where the target is, if the text says so, and which return codes are accepted. An answer ends it as `value_as`
+-- `expected` says where the target is, if the text says so, which return codes are accepted, and with which answer of a first sending
+-- the answer is compared. An answer ends it as `value_as`
 -- says, and a return code as `refused_as` does. It is unreadable if its values don't read, and refused with a communication code
 abbrev pub answer_as : Expected → (said zeroed : Reading) → (line : List ℕ) → End
 answer_as expected (reading.Unreadable fault) zeroed line = end.Unreadable line fault
-answer_as expected (reading.Value answer) zeroed line = value_as quality.Fine (is_elsewhere expected.near answer) answer line
-answer_as expected (reading.Refused code) zeroed line = refused_as (lists_code expected.accepted code) expected.near zeroed line
+answer_as expected (reading.Value answer) zeroed line = value_as expected quality.Fine (is_elsewhere expected.near answer) answer line
+answer_as expected (reading.Refused code) zeroed line = refused_as (lists_code expected.accepted code) expected zeroed line
 answer_as expected (reading.ComFault code) zeroed line = end.Answered quality.Refused None line
 
 -- how a command ended that asked for `call`, if its request had this outcome, and `expected` is expected of its answer
@@ -103,6 +124,11 @@ records_of reads utc marks settlements = map (λ (x : Mark × Settlement Asked).
 abbrev pub is_well : End → Bool
 is_well (end.Answered quality answer line) = is_good quality
 is_well _ = false
+
+-- whether a command with this ending was answered well, and its answer doesn't wait to be confirmed by a second sending
+abbrev pub ended_confirmed : End → Bool
+ended_confirmed (end.Answered quality answer line) = is_confirmed quality
+ended_confirmed _ = false
 
 -- whether the last of these records is of a command that was answered well; if there are none, `well`
 abbrev pub last_well : (well : Bool) → List Record → Bool

@@ -26,16 +26,18 @@ use Rattle.gc_station.specs.declared.progress.Action.TheVariants.{ReadClock, Ren
 use Rattle.gc_station.specs.declared.progress.Progress.{Progress}
 use Rattle.gc_station.specs.declared.progress.Until.{Until}
 use Rattle.gc_station.specs.declared.progress.Waiting.{Waiting}
+use Rattle.gc_station.specs.declared.firsts.FirstAnswer.{FirstAnswer}
 use Rattle.gc_station.specs.declared.mark.Mark.{Mark}
 use Rattle.gc_station.specs.declared.station.sending.Outgoing.{Outgoing}
 use Rattle.gc_links.specs.Acts.{Act, Told, Cut, Gave, Silent, Ended, Broke, Closed, Opened}
 use Rattle.gc_station.specs.ActKinds.{Puts, ReadsClock, IsOpening, ReadsLink}
 use Rattle.gc_station.specs.Deciding.{later, is_none_left, is_preparing, action_of}
-pub use Rattle.gc_station.specs.Lines.{is_reply}
+pub use Rattle.gc_station.specs.Lines.{is_reply, raises_doubt}
 use Rattle.gc_station.specs.Attempts.{listed_after, listed_after_settlements}
+use Rattle.gc_station.specs.Firsts.{firsts_after, with_first}
 use Rattle.gc_station.specs.Marks.{commands_in, record_with, records_of, last_well}
 use Rattle.gc_station.specs.NextCommand.{place_next, commands_left, cycles_begun, mark_next, mark_setup, commands_before, upcoming_after}
-use Rattle.gc_station.specs.Progressing.{at_start, turned, moment_noted, cycle_begun, skipped, attempts_left_out, unsent_at, failing, opened, after_failure, cleared, request_noted, null_sent, resynchronized, sent, behind_noted, ended_noted, line_noted, lines_synchronizing, bytes_noted, silent, early_noted, closed, loses_all, setup_sent}
+use Rattle.gc_station.specs.Progressing.{at_start, turned, moment_noted, cycle_begun, skipped, attempts_left_out, unsent_at, failing, opened, after_failure, cleared, request_noted, null_sent, resynchronized, sent, behind_noted, ended_noted, doubt_noted, line_noted, lines_synchronizing, bytes_noted, silent, early_noted, closed, loses_all, setup_sent}
 use Rattle.gc_station.specs.Records.{Record}
 use Rattle.gc_station.specs.Requests.{RunRequest, requests, of_task, command_at}
 use Rattle.gc_station.specs.Scopes.{Scope, Reads}
@@ -211,9 +213,18 @@ abbrev pub asks_first : Mark → List Task → Model → Model
 asks_first mark [] s = s
 asks_first mark (task ∷ others) s = asks_for (request_for mark task) s
 
+-- the kept answers of a first sending, once all records of the model `s` were made
+abbrev pub firsts_of : Model → List (Option FirstAnswer)
+firsts_of s = firsts_after [] s.records
+
+-- the mark with which the cycle's next command is sent: that of `mark_next`, with the answer of the first sending with which its own
+-- is compared
+abbrev pub mark_sent : Plan → List Task → Model → Mark
+mark_sent plan commands s = with_first (firsts_of s) (mark_next plan commands s.progress)
+
 -- the model `s` once the cycle's next command was sent
 abbrev pub asks_next : Plan → List Task → Model → Model
-asks_next plan commands s = asks_first (mark_next plan commands s.progress) (commands_left commands s.progress) s
+asks_next plan commands s = asks_first (mark_sent plan commands s) (commands_left commands s.progress) s
 
 -- the model `s` once the setup's next command was sent
 abbrev pub asks_setup : Plan → List Task → Model → Model
@@ -292,9 +303,13 @@ abbrev pub line_settles : Settled Asked (ById Asked) → Model → Model
 line_settles x s =
     with_progress (λ p. ended_noted (length x.settlements) (behind_noted (ends_with_table x.settlements) (length x.client.waiting) p)) (settles x s)
 
+-- the model `s` once it is noted whether `line`, which its client is about to hear, raises a doubt
+abbrev pub line_doubted : List ℕ → Model → Model
+line_doubted line s = with_progress (doubt_noted (raises_doubt s.client line)) s
+
 -- the model `s` after the client heard `line`
 abbrev pub line_came : Model → List ℕ → Model
-line_came s line = with_progress (line_noted (is_reply line)) (line_settles (hears s.client line (heard line)) s)
+line_came s line = with_progress (line_noted (is_reply line)) (line_settles (hears s.client line (heard line)) (line_doubted line s))
 
 -- the model `s` after the client heard these lines, in order
 abbrev pub lines_came : Model → List (List ℕ) → Model

@@ -1,15 +1,13 @@
 -- Where an answer was measured, this project's own: whatever the line, the instrument or its operator did, an answered command
--- of a target with a known place was measured there, as far as its answer has a direction. An act is one call on the link, with
--- its result.
+-- of a target with a known place was measured there, as far as its answer has a direction, or a distance and the place one. An act
+-- is one call on the link, with its result.
 use Rattle.std.specs.Prelude.{◌≡◌, ◌⊎◌, ℕ, true, List, Some, slice_get}
 use Rattle.gc_catalogue.specs.declared.answer.Answer.{Answer}
 use Rattle.gc_catalogue.specs.declared.answer.Reading.TheVariants.{Value, Refused}
 use Rattle.gc_catalogue.specs.declared.asked.Asked.{Asked}
-use Rattle.gc_values.specs.Directions.{IsNear}
-use Rattle.gc_values.specs.declared.direction.Direction.{Direction}
 use Rattle.gc_texts.specs.Codes.{lists_code}
 use Rattle.gc_texts.specs.Endings.{Answered, Elsewhere}
-use Rattle.gc_texts.specs.Nears.{direction_of}
+use Rattle.gc_texts.specs.Nears.{IsThere, IsAway}
 use Rattle.gc_texts.specs.Zeroed.{as_zero}
 use Rattle.gc_texts.specs.declared.codes.Codes.{Codes}
 use Rattle.gc_texts.specs.declared.near.Near.{Near}
@@ -19,12 +17,12 @@ use Rattle.gc_station.specs.Records.{Record}
 use Rattle.gc_station.specs.Runs.{OfAnyRecord}
 use Rattle.gc_station.specs.Scopes.{Reads}
 
--- if the record `r` is answered, its answer has a direction, and the text says where its command's target is, that direction is
--- near that place, within its tolerance
+-- if the record `r` is answered, with an answer, and the text says where its command's target is, the answer was measured there: its
+-- direction, if it has one, is near that place, and its distance, if it has one and the text says the target's, within the tolerance of it
 abbrev pub IsAtItsTarget : List Task → Record → Type 0
 IsAtItsTarget commands r =
-    (task : Task) (near : Near) (quality : Quality) (answer : Answer) (line : List ℕ) (d : Direction) → slice_get commands r.place ≡ Some task → task.near ≡ Some near
-    → r.end ≡ Answered quality (Some answer) line → direction_of answer ≡ Some d → IsNear d near.place near.tolerance
+    (task : Task) (near : Near) (quality : Quality) (answer : Answer) (line : List ℕ) → slice_get commands r.place ≡ Some task → task.near ≡ Some near
+    → r.end ≡ Answered quality (Some answer) line → IsThere near answer
 
 -- `line` says `answer` of `call`: it has both codes 0; or it has an accepted return code, and says the answer once 0 replaces
 -- that code
@@ -33,16 +31,14 @@ HasAnswer reads accepted call line answer =
     (reads call line ≡ Value answer)
     ⊎ ((code : ℕ) × (reads call line ≡ Refused code) × (lists_code accepted code ≡ true) × (reads call (as_zero line) ≡ Value answer))
 
--- `line` says an answer of `call` (`HasAnswer`), the text says where the target of `task` is (`known`), and the answer has a
--- direction (`toward`) that isn't near that place (`away`)
+-- `line` says an answer of `call` (`HasAnswer`), the text says where the target of `task` is (`known`), and the answer was measured
+-- away from there: it has a direction that isn't near that place, or a distance that isn't within the tolerance of the target's (`away`)
 pub record WasMeasuredElsewhere (reads : Reads) (task : Task) (call : Asked) (line : List ℕ) : Type 0 where
   pub answer : Answer
   pub near : Near
-  pub direction : Direction
   pub says : HasAnswer reads task.accepted call line answer
   pub known : task.near ≡ Some near
-  pub toward : direction_of answer ≡ Some direction
-  pub away : IsNear direction near.place near.tolerance → ⊥
+  pub away : IsAway near answer
 
 -- if the record `r` ended as elsewhere, its answer was measured elsewhere than the target of its command is
 abbrev pub ElsewhereIsJustified : Reads → List Task → Record → Type 0

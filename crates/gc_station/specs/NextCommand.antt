@@ -3,6 +3,7 @@
 use Rattle.std.specs.Prelude.{ℕ, ◌+◌, ◌-◌, ◌||◌, Bool, false, List, [], ◌∷◌, length, drop, None, if◌then◌else◌, nat_eq}
 use Rattle.gc_texts.specs.Again.{no_again}
 use Rattle.gc_texts.specs.Codes.{no_codes}
+use Rattle.gc_texts.specs.declared.agree.Twice.TheVariants as twice
 use Rattle.gc_texts.specs.declared.near.Expected.{Expected}
 use Rattle.gc_texts.specs.declared.tasks.Task.{Task}
 use Rattle.gc_texts.specs.declared.turn.Turn.{Turn}
@@ -34,10 +35,12 @@ abbrev pub no_turn : Turn
 no_turn = record { place = 0; attempt = 1; link = 0 }
 
 -- what the text says of the answer of the first of these commands: where its target is, which return codes are accepted, and
--- which endings send the chain again; and its turn. If there is no command: no place, no codes, no endings and `no_turn`
+-- which endings send the chain again; its turn, and which sending of its chain it is of. If there is no command: no place, no codes,
+-- no endings, `no_turn`, and a chain that is sent once. With which answer its own is compared is known once it is sent
 abbrev pub expected_first : List Task → Expected
-expected_first [] = record { near = None; accepted = no_codes; again = no_again; turn = no_turn }
-expected_first (task ∷ others) = record { near = task.near; accepted = task.accepted; again = task.again; turn = task.turn }
+expected_first [] = record { near = None; accepted = no_codes; again = no_again; turn = no_turn; twice = twice.Once; first = None }
+expected_first (task ∷ others) =
+    record { near = task.near; accepted = task.accepted; again = task.again; turn = task.turn; twice = task.twice; first = None }
 
 -- what is expected of the answer of the command at `place` in the list `commands` (`expected_first`)
 abbrev pub expected_at : List Task → (place : ℕ) → Expected

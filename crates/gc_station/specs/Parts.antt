@@ -12,7 +12,7 @@ pub use Rattle.gc_client.specs.OneForOne.{course_at}
 use Rattle.gc_client.specs.Rule.{ById}
 use Rattle.gc_texts.specs.declared.near.Expected.{Expected}
 use Rattle.gc_texts.specs.declared.tasks.Task.{Task}
-use Rattle.gc_texts.specs.Endings.{End, Answered, Unreadable, Elsewhere, Late, Lost, Skipped, Missed}
+use Rattle.gc_texts.specs.Endings.{End, Answered, Unreadable, Elsewhere, Disagree, Late, Lost, Skipped, Missed}
 use Rattle.gc_station.specs.declared.plan.Plan.{Plan}
 use Rattle.gc_station.specs.declared.mark.Mark.{Mark}
 use Rattle.gc_station.specs.declared.station.sending.Outgoing.{Outgoing}
@@ -23,8 +23,8 @@ use Rattle.gc_station.specs.Deciding.{later, has_begun}
 use Rattle.gc_station.specs.Progressing.{loses_all}
 use Rattle.gc_station.specs.Records.{Record}
 use Rattle.gc_station.specs.Requests.{asked_at}
-use Rattle.gc_station.specs.Model.{Model, action_at, lines_completed, is_heard, after, request_for, null_request, request_of_setup}
-use Rattle.gc_station.specs.NextCommand.{commands_left, mark_next}
+use Rattle.gc_station.specs.Model.{Model, action_at, lines_completed, is_heard, after, request_for, null_request, request_of_setup, mark_sent}
+use Rattle.gc_station.specs.NextCommand.{commands_left}
 
 -- one step of a station while it synchronizes
 pub data SyncStep : Type 0 where
@@ -84,7 +84,7 @@ put_part plan commands s action.Flush = request_part s.progress.moment.elapsed (
 put_part plan commands s action.Prepare =
     request_part s.progress.moment.elapsed (request_of_setup plan commands s.progress)
 put_part plan commands s action.Send =
-    first_request_part s.progress.moment.elapsed (mark_next plan commands s.progress) (commands_left commands s.progress)
+    first_request_part s.progress.moment.elapsed (mark_sent plan commands s) (commands_left commands s.progress)
 put_part plan commands s _ = idle_part
 
 -- the client's steps for `piece`, if `rest` are the bytes before it since the last line feed: if the piece is heard (`ready`),
@@ -149,6 +149,7 @@ abbrev pub went_out : End → Bool
 went_out (Answered quality answer line) = true
 went_out (Unreadable line fault) = true
 went_out (Elsewhere line) = true
+went_out (Disagree line) = true
 went_out Late = true
 went_out Lost = true
 went_out Skipped = false

@@ -46,6 +46,7 @@ at_start plan turns = record {
   turns = turns;
   behind = WINDOW;
   last_ended = 1;
+  doubtful = false;
   preparing = nat_lt 0 plan.setup;
   prepared = 0;
   attempt = 1;
@@ -232,7 +233,7 @@ null_sent plan p = let q = request_noted p in record q { again = later p.moment.
 abbrev pub resynchronized : Plan → Moment → Progress → Progress
 resynchronized plan m p =
     let q = moment_noted_meanwhile m p in
-    setup_restarted plan (record q { word = the_word; again = 0; asked = p.asked && goes_on plan q; chain_unbroken = false; behind = WINDOW; last_ended = 1 })
+    setup_restarted plan (record q { word = the_word; again = 0; asked = p.asked && goes_on plan q; chain_unbroken = false; behind = WINDOW; last_ended = 1; doubtful = false })
 
 -- the progress after the cycle's next command was sent. `next` is noted of the one after it
 abbrev pub sent : (next : Upcoming) → Progress → Progress
@@ -259,6 +260,10 @@ ended_last more last = if nat_lt 0 more then more else last
 -- the progress once a line was heard that ended `more` requests
 abbrev pub ended_noted : (more : ℕ) → Progress → Progress
 ended_noted more p = record p { last_ended = ended_last more p.last_ended }
+
+-- the progress once a line came that raised a doubt, or none (`raised`): a doubt stays until the station resynchronizes
+abbrev pub doubt_noted : (raised : Bool) → Progress → Progress
+doubt_noted raised p = record p { doubtful = p.doubtful || raised }
 
 -- the progress after `line` was heard while the station synchronizes: if the line's id is that of the first null procedure that
 -- is left, that one is answered, and the next one, if there is one, is sent at once

@@ -1,6 +1,6 @@
 -- What the quality of an answer says of its line, this project's own: fine with both codes 0, a warning with a return code that
--- the text accepts of that command, and else refused.
-use Rattle.std.specs.Prelude.{◌≡◌, ℕ, true, false, List, Option, Some, None}
+-- the text accepts of that command, unconfirmed with either in the first sending of a chain that is sent twice, and else refused.
+use Rattle.std.specs.Prelude.{◌≡◌, ◌⊎◌, ℕ, true, false, List, Option, Some, None}
 use Rattle.gc_catalogue.specs.declared.answer.Answer.{Answer}
 use Rattle.gc_catalogue.specs.declared.answer.Reading.{Reading}
 use Rattle.gc_catalogue.specs.declared.answer.Reading.TheVariants as reading
@@ -9,9 +9,11 @@ use Rattle.gc_texts.specs.Codes.{lists_code, no_codes}
 use Rattle.gc_texts.specs.Endings.{Answered}
 use Rattle.gc_texts.specs.Qualities.{is_good}
 use Rattle.gc_texts.specs.Zeroed.{as_zero}
+use Rattle.gc_texts.specs.declared.agree.Twice.{Twice}
+use Rattle.gc_texts.specs.declared.agree.Twice.TheVariants.{First}
 use Rattle.gc_texts.specs.declared.codes.Codes.{Codes}
 use Rattle.gc_texts.specs.declared.quality.Quality.{Quality}
-use Rattle.gc_texts.specs.declared.quality.Quality.TheVariants.{Fine, Warning, Refused}
+use Rattle.gc_texts.specs.declared.quality.Quality.TheVariants.{Fine, Warning, Unconfirmed, Refused}
 use Rattle.gc_texts.specs.declared.tasks.Task.{Task}
 use Rattle.gc_station.specs.NextCommand.{expected_at}
 use Rattle.gc_station.specs.Records.{Record}
@@ -30,35 +32,60 @@ IsRefusedReading accepted (reading.Refused code) = lists_code accepted code ≡ 
 IsRefusedReading accepted (reading.ComFault code) = Unit {0}
 IsRefusedReading accepted (reading.Unreadable fault) = ⊥
 
+-- `line`, the reply to `call`, says an answer, and the record has it (`said`)
+abbrev pub SaysAnswer : Reads → Asked → (said : Option Answer) (line : List ℕ) → Type 0
+SaysAnswer reads call said line = (answer : Answer) × (said ≡ Some answer) × (reads call line ≡ reading.Value answer)
+
+-- `line`, the reply to `call`, says a refusal with a code of `accepted`, and the record has the answer, if any, that it would say with
+-- return code 0 (`said`)
+abbrev pub SaysAccepted : Reads → (accepted : Codes) → Asked → (said : Option Answer) (line : List ℕ) → Type 0
+SaysAccepted reads accepted call said line =
+    (code : ℕ) × (reads call line ≡ reading.Refused code) × (lists_code accepted code ≡ true) × (said ≡ answer_in (reads call (as_zero line)))
+
 -- what `line`, the reply to `call`, says if its answer is of this quality, and which values its record has (`said`)
 abbrev pub IsOfQuality : Reads → (accepted : Codes) → Asked → Quality → (said : Option Answer) (line : List ℕ) → Type 0
--- the line says an answer, and the record has it
-IsOfQuality reads accepted call Fine said line = (answer : Answer) × (said ≡ Some answer) × (reads call line ≡ reading.Value answer)
--- the line says a refusal with a code of `accepted`, and the record has the answer, if any, that it would say with return code 0
-IsOfQuality reads accepted call Warning said line =
-    (code : ℕ) × (reads call line ≡ reading.Refused code) × (lists_code accepted code ≡ true) × (said ≡ answer_in (reads call (as_zero line)))
+-- the line says an answer
+IsOfQuality reads accepted call Fine said line = SaysAnswer reads call said line
+-- the line says a refusal with an accepted code
+IsOfQuality reads accepted call Warning said line = SaysAccepted reads accepted call said line
+-- no line says by itself that its answer is unconfirmed (`quality_as`)
+IsOfQuality reads accepted call Unconfirmed said line = ⊥
 -- the line says any other refusal or a fault of communication, and the record has no answer
 IsOfQuality reads accepted call Refused said line = (said ≡ None) × IsRefusedReading accepted (reads call line)
+
+-- the quality of an answer in a sending of its chain, which would have this one if its chain were sent once: a good one of a first sending
+-- is unconfirmed
+abbrev pub quality_as : Twice → Quality → Quality
+quality_as First Fine = Unconfirmed
+quality_as First Warning = Unconfirmed
+quality_as _ quality = quality
+
+-- which sending of its chain the command at `place` in the list `commands` is in
+abbrev pub twice_at : List Task → (place : ℕ) → Twice
+twice_at commands place = (expected_at commands place).twice
 
 -- the return codes that are accepted of the command at `place` in the list `commands`
 abbrev pub accepted_at : List Task → (place : ℕ) → Codes
 accepted_at commands place = (expected_at commands place).accepted
 
 -- the record `r` is an answer of a good quality: with both codes 0 and values that read, or with a return code that is accepted
--- of its command. `line` is its reply, and `said` the values that it has; the line says them, with that quality (`says`)
+-- of its command, confirmed or not. `line` is its reply, and `said` the values that it has; the line says them, with the quality `plain`, which
+-- its sending makes the record's (`says`, `sent_as`)
 pub record IsGoodAnswer (reads : Reads) (commands : List Task) (r : Record) : Type 0 where
   pub line : List ℕ
   pub quality : Quality
   pub said : Option Answer
   pub answered : r.end ≡ Answered quality said line
   pub well : is_good quality ≡ true
-  pub says : IsOfQuality reads (accepted_at commands r.place) r.command.call quality said line
+  pub plain : Quality
+  pub sent_as : quality ≡ quality_as (twice_at commands r.place) plain
+  pub says : IsOfQuality reads (accepted_at commands r.place) r.command.call plain said line
 
--- if the record `r` is answered, its answer has the quality of its line, by the codes that are accepted of its command
+-- if the record `r` is answered, its answer has the quality of its line, by the codes that are accepted of its command, in its sending
 abbrev pub IsAsListed : Reads → List Task → Record → Type 0
 IsAsListed reads commands r =
     (quality : Quality) (said : Option Answer) (line : List ℕ) → r.end ≡ Answered quality said line
-    → IsOfQuality reads (accepted_at commands r.place) r.command.call quality said line
+    → (plain : Quality) × (quality ≡ quality_as (twice_at commands r.place) plain) × IsOfQuality reads (accepted_at commands r.place) r.command.call plain said line
 
 -- after any acts `IsAsListed` holds of each record
 abbrev pub QualitiesAreAsListed : Type 0

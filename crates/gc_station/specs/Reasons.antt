@@ -15,10 +15,16 @@ use Rattle.gc_station.specs.declared.progress.Until.TheVariants.{Limit, Due}
 use Rattle.gc_station.specs.declared.progress.Waiting.{Waiting}
 use Rattle.gc_station.specs.Deciding.{width_of, has_begun, is_up, is_unquiet, is_due, is_idle, is_silent, is_dead, is_stale, may_go, is_preparing}
 
--- another request may be sent: fewer that haven't timed out are in flight than `width_of` allows; and all that are outstanding, and those
--- that the last line ended that ended any, are together fewer than the window has places
+-- another request may be sent: fewer that haven't timed out are in flight than `width_of` allows; all that are outstanding, and those
+-- that the last line ended that ended any, are together fewer than the window has places; and no line raised a doubt since the station
+-- synchronized
 abbrev pub HasRoomToAsk : Plan → Progress → Waiting → Type 0
-HasRoomToAsk plan p w = (w.current < width_of plan) × (w.all + p.last_ended < WINDOW)
+HasRoomToAsk plan p w = (w.current < width_of plan) × (w.all + p.last_ended < WINDOW) × (p.doubtful ≡ false)
+
+-- another request may not be sent, though nothing is in flight that hasn't timed out: all that are outstanding, and those that the last
+-- line ended that ended any, are together as many as the window has places, or more; or a line raised a doubt since the station synchronized
+abbrev pub MayAskNoMore : Progress → Waiting → Type 0
+MayAskNoMore p w = (WINDOW ≤ w.all + p.last_ended) ⊎ (p.doubtful ≡ true)
 
 -- no further command may be sent before those that were sent are settled: no command of the cycle is left, or the next one waits
 -- for the answer of the one before it in its chain, or begins a further attempt of its chain
@@ -85,7 +91,7 @@ WaitsForWhatIsInFlight plan p w =
 
 -- no command may be sent: there is no room for a request (`HasRoomToAsk`); or the station waits for what is in flight
 abbrev pub NothingMayGo : Plan → Progress → Waiting → Type 0
-NothingMayGo plan p w = (width_of plan ≤ w.current) ⊎ ((WINDOW ≤ w.all + p.last_ended) ⊎ WaitsForWhatIsInFlight plan p w)
+NothingMayGo plan p w = (width_of plan ≤ w.current) ⊎ (MayAskNoMore p w ⊎ WaitsForWhatIsInFlight plan p w)
 
 -- the next command may be sent, as far as its chain goes: it is the first of its chain, or of a further attempt, of which
 -- `MayRetry` says more; or all that were sent are settled, the one before it was answered well, and since that was sent no
@@ -157,10 +163,10 @@ AwaitsSomething plan p w Due = (p.phase ≡ phase.Ready) × AwaitsDueMoment plan
 -- the moment read last is out of date (`clock_due`). No request is sent over a dead line
 abbrev pub HoldsBefore : Plan → Progress → Waiting → Action → Type 0
 HoldsBefore plan p w action.ReadClock = p.clock_due ≡ true
--- the station resynchronizes where all outstanding requests have timed out, and there is no room for another (`HasRoomToAsk`); or, with or
+-- the station resynchronizes where all outstanding requests have timed out, and another may not be sent (`MayAskNoMore`); or, with or
 -- without a connection, where commands are outstanding and the cycle is overdue
 HoldsBefore plan p w action.Renew =
-    IsReadyOrOverdue plan p w × (has_begun p ≡ true) × (w.current ≡ 0) × ((WINDOW ≤ w.all + p.last_ended) ⊎ (IsOverdue plan p w × (0 < w.commands)))
+    IsReadyOrOverdue plan p w × (has_begun p ≡ true) × (w.current ≡ 0) × (MayAskNoMore p w ⊎ (IsOverdue plan p w × (0 < w.commands)))
 HoldsBefore plan p w action.Begin =
     IsReadyOrOverdue plan p w × ((has_begun p ≡ true) ⊎ IsOverdue plan p w) × (p.unsent ≡ 0) × (w.commands ≡ 0) × (0 < p.left)
     × (p.stops ≡ false) × IsPreparedOrOverdue plan p w

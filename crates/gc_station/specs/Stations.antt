@@ -28,7 +28,7 @@ use Rattle.gc_station.specs.Runs.{RunSeen}
 use Rattle.gc_station.specs.Scopes.{AreReadings}
 use Rattle.gc_station.specs.Progressing.{failing, moment_noted_meanwhile, advanced, early_noted}
 use Rattle.gc_station.specs.Records.{Record, texts_of, WritesPart}
-use Rattle.gc_station.specs.Model.{Model, Performs, moved, stepped, waiting_by, lines_taken, sent_to, unsent_record, listed_unsent}
+use Rattle.gc_station.specs.Model.{Model, Performs, moved, stepped, waiting_by, lines_taken, sent_to, unsent_record, listed_unsent, firsts_of}
 use Rattle.gc_station.specs.Tallies.{empty_counts, tallied}
 use Rattle.gc_station.specs.Watching.{fresh_of, cut_to}
 use Rattle.gc_station.specs.Writing.{recorded_unsent}
@@ -45,9 +45,10 @@ IsPaired station = length station.marks.items ≡ length station.client.ids.wait
 abbrev pub CanSend : Station → Type 0
 CanSend station = (station.client.width ≡ WINDOW) × (length station.client.ids.waiting < WINDOW) × IsPaired station
 
--- the model `s` describes `station`. The station's tally and what it notes of its last records are as `s` gives them, if
--- `s.reads` gives each reply's reading for its call
+-- the model `s` describes `station`, and `s.reads` gives each reply's reading for its call
 pub record Refines (station : Station) (s : Model) : Type 0 where
+  -- replies are read as the model says
+  pub reads : AreReadings s.reads
   -- the progress is the model's
   pub progress : station.progress ≡ s.progress
   -- the client's ids and outstanding requests are the model's
@@ -67,6 +68,8 @@ pub record Refines (station : Station) (s : Model) : Type 0 where
   pub listed : AreReadings s.reads → station.recorded.listed ≡ s.listed
   -- when each watched command was recorded last as answered well: as the model says
   pub fresh : AreReadings s.reads → station.recorded.fresh ≡ s.fresh
+  -- the kept answers of a first sending are those of the model's records
+  pub firsts : station.recorded.firsts ≡ firsts_of s
 
 -- from `start`, what it had taken before the run, to `taken` a book took the texts of the records of the model `s`, each
 -- written by `text`; if `s.reads` gives each reply's reading for its call

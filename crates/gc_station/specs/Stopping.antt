@@ -34,7 +34,7 @@ asked_after asked [] = asked
 asked_after asked (act ∷ acts) = asked_after (option_map_or (λ m. asked || m.stops) (moment_in act) asked) acts
 
 -- the record `r` doesn't renew the watched command with this place (`renews`): it is of another command, or of the setup, or of a
--- command that wasn't answered well
+-- command that wasn't answered well, or it is unconfirmed
 abbrev pub RenewsNot : (place : ℕ) → Record → Type 0
 RenewsNot place r = renews r.cycle r.turn.place r.end place ≡ false
 
@@ -65,7 +65,7 @@ pub record NoneWellSince (plan : Plan) (commands : List Task) (scope : Scope) (a
   pub least : fresh ≡ least_moment from behind
 
 -- at the model `s` a watched command is stale: the plan sets a limit (`wanted`), and at least that many milliseconds lie between when the
--- command was recorded last as answered well, and the moment read last (`long`)
+-- command was recorded last as answered well and confirmed, and the moment read last (`long`)
 pub record HasStale (plan : Plan) (s : Model) : Type 0 where
   pub front : List Watch
   pub watch : Watch

@@ -5,7 +5,7 @@ use Rattle.std.specs.Option.{option_map_or}
 use Rattle.gc_texts.specs.Endings.{End}
 use Rattle.gc_texts.specs.declared.tasks.Task.{Task}
 use Rattle.gc_station.specs.declared.watching.Watch.{Watch}
-use Rattle.gc_station.specs.Marks.{is_well}
+use Rattle.gc_station.specs.Marks.{ended_confirmed}
 use Rattle.gc_station.specs.Records.{Record}
 
 -- whether a task stands for a command that is watched: its text doesn't leave its target unwatched, and the task is in the first
@@ -35,9 +35,10 @@ abbrev pub unanswered : (place : ℕ) → Watch
 unanswered place = record { place = place; fresh = 0; utc = None }
 
 -- whether the record of a command with this cycle, place in the text and ending renews the watched command with the place `watched`:
--- it is of that command, in some cycle, and was answered well. A command of the setup, whose cycle is 0, renews none
+-- it is of that command, in some cycle, and was answered well, without having to be confirmed by a second sending. A command of the
+-- setup, whose cycle is 0, renews none
 abbrev pub renews : (cycle place : ℕ) → End → (watched : ℕ) → Bool
-renews cycle place end watched = is_well end && (nat_lt 0 cycle && (watched == place))
+renews cycle place end watched = ended_confirmed end && (nat_lt 0 cycle && (watched == place))
 
 -- a watched command, if it `is` renewed at the moment `now`, by the clock for deadlines, and `utc`, by that of time stamps; otherwise as it
 -- was

@@ -7,6 +7,7 @@ use Rattle.gc_client.specs.declared.settlement.Settlement.{Settlement}
 use Rattle.gc_lines.specs.Ports.{FailsWith}
 use Rattle.gc_links.specs.declared.link.Moment.{Moment}
 use Rattle.gc_station.specs.Attempts.{listed_after, listed_after_settlements}
+use Rattle.gc_station.specs.Firsts.{first_noted, firsts_after}
 use Rattle.gc_station.specs.Marks.{records_of, is_well, last_well}
 use Rattle.gc_station.specs.Records.{Record}
 use Rattle.gc_station.specs.Scopes.{ForEachReadings, Reads}
@@ -30,6 +31,7 @@ noted mark now code end r = record {
   well = is_well end;
   listed = listed_after r.listed mark.expected code end;
   fresh = map (renewed now.elapsed now.utc mark.cycle mark.expected.turn.place end) r.fresh;
+  firsts = first_noted mark.cycle mark.expected.turn end r.firsts;
 }
 
 -- what is kept of the records, `r`, once `records`, of commands that weren't sent, are written; with `listed` in place of its own
@@ -45,6 +47,7 @@ recorded_after now marks settlements reads r =
       well = last_well r.well news;
       listed = listed_after_settlements reads r.listed marks settlements;
       fresh = fresh_after now.elapsed r.fresh news;
+      firsts = firsts_after r.firsts news;
     }
 
 -- if the call with this result succeeded, what is kept of the records is `new`: what `recorded_after` makes of `old`, for each

@@ -83,6 +83,16 @@ pub trait Book {
         ensures is_durable { is_durable self.new ≡ is_durable self.old }
         ensures form { text self.new ≡ text self.old };
 
+    /// Takes note that a stray came that can't repeat the reply that settled last: a reply with an id that no outstanding request has. So
+    /// it was altered, or the line that settled last was, which ended `ended` requests, null procedures too; 1 if no line ended any since
+    /// the station synchronized. It is called before the next record is written, and as often as such a stray comes.
+    fn doubts(&mut self, ended: usize)
+        ensures same_overruns { overruns self.new ≡ overruns self.old }
+        ensures same { taken self.new ≡ taken self.old }
+        ensures works { failed self.new ≡ failed self.old }
+        ensures is_durable { is_durable self.new ≡ is_durable self.old }
+        ensures form { text self.new ≡ text self.old };
+
     /// Takes note that this cycle, counted from 1, was not done when the next was due. It is called at most once for a cycle, and
     /// for none that was missed.
     fn overran(&mut self, cycle: u64)

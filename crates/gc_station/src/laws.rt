@@ -4,9 +4,10 @@
 //! one null procedure more, alone, as it does after each synchronization; and once a reply has ended it, the commands of its text,
 //! cycle by cycle. It resynchronizes where all outstanding requests have timed out and there is no room for another, or
 //! commands are outstanding and the cycle is overdue: two periods have passed since its due moment, and all that is outstanding has timed
-//! out. There is room if the outstanding requests, and those that the last line ended that ended any, are together fewer than seven. A
-//! request is sent where its bytes are written, all of them or some. It is outstanding until it is settled, also once it has timed
-//! out at its deadline. A chain is a row of commands for one target, each sent only once the one before it was answered well.
+//! out. There is room if the outstanding requests, and those that the last line ended that ended any, are together fewer than seven,
+//! and no line raised a doubt: no stray came since the synchronization that can't repeat the reply that settled last. A request is sent
+//! where its bytes are written, all of them or some. It is outstanding until it is settled, also once it has timed out at its deadline.
+//! A chain is a row of commands for one target, each sent only once the one before it was answered well.
 
 ghost use Rattle.std.specs.Prelude.{◌≡◌, List, ◌∷◌, ◌++◌};
 ghost use Rattle.gc_lines.specs.Frames.{rest_of};
@@ -16,6 +17,7 @@ ghost use Rattle.gc_station.specs.declared.cause.Cause.TheVariants as cause;
 ghost use Rattle.gc_station.specs.declared.progress.Action.TheVariants.{Send, Close, Stop};
 ghost use Rattle.gc_station.specs.declared.plan.Plan.{Plan};
 ghost use Rattle.gc_links.specs.Acts.{Act, Closed};
+ghost use Rattle.gc_station.specs.Agreeing.{AgreedRowsAgree};
 ghost use Rattle.gc_station.specs.Answers.{AnswerIsJustified};
 ghost use Rattle.gc_station.specs.Behind.{CommandsAreSentNearTheTable, TheTableIsNeverHeldUp};
 ghost use Rattle.gc_station.specs.NullFirst.{SynchronizationsEndWithANull};
@@ -23,6 +25,7 @@ ghost use Rattle.gc_station.specs.Beginnings.{NoneBeforeTheLastAnswer, Synchroni
 ghost use Rattle.gc_station.specs.Closing.{IsReasoned, ClosesForACause, EndsForTurnsOnlyAfterAsManyActs, StopsForACause};
 ghost use Rattle.gc_station.specs.Deciding.{dead_after};
 ghost use Rattle.gc_station.specs.HoldingBack.{RequestsAreHeldBack};
+ghost use Rattle.gc_station.specs.InDoubt.{NothingIsSentInDoubt};
 ghost use Rattle.gc_station.specs.Codes.{WellIsAnAcceptedCode};
 ghost use Rattle.gc_station.specs.Counting.{TalliesCountRecords};
 ghost use Rattle.gc_station.specs.Cycles.{CyclesBeginWhenDue, SentOnlyInTime, UnsentForACause};
@@ -243,16 +246,30 @@ pub fn answered_well_is_an_accepted_code()
     ensures { WellIsAnAcceptedCode }
 {}
 
-/// Whatever the line, the instrument or its operator did: if a record is answered, its answer has a direction, and the text
-/// says where the command's target is, that direction is near it. The reply of a record that is `elsewhere` has both codes 0 or
-/// an accepted return code, and a direction that isn't near the target.
+/// Whatever the line, the instrument or its operator did: if a record is answered, and the text says where the command's target
+/// is, the answer was measured there. Its direction, if it has one, is near that place; and its distance, if it has one and the text says
+/// the target's, is within the tolerance of that. The reply of a record that is `elsewhere` has both codes 0 or an accepted return
+/// code, and a direction that isn't near the target, or a distance that isn't within the tolerance of the target's.
 pub fn answers_are_at_their_targets()
     ensures { AnswersAreAtTheirTargets }
 {}
 
+/// A chain that the text has sent twice, whatever the line, the instrument or its operator did:
+/// - `second`: if a record is of a second sending, and is answered and not refused, then before it is one of the first sending of the same
+///   command of the text, in the same cycle and in the attempt before, which is answered and unconfirmed. The answers of the two agree: each
+///   value of the second is within the text's tolerance of that of the first.
+/// - `first`: a record of a first sending that is answered and not refused is unconfirmed, so it never counts as a measurement.
+/// - `disagree`: only a record of a second sending ends as `disagree`.
+///
+/// So if at most one of the two reply lines was damaged, each value of a confirmed record is within the tolerance of one that the instrument
+/// sent. That isn't proved here: these runs know nothing of an instrument.
+pub fn agreed_rows_agree()
+    ensures { AgreedRowsAgree }
+{}
+
 /// Each answered record has the quality of its line: fine with both codes 0; a warning with communication code 0 and a return
-/// code that the text accepts of its command, and with the values that the line has with return code 0, if these read; and else
-/// refused, and without values.
+/// code that the text accepts of its command, and with the values that the line has with return code 0, if these read; unconfirmed in
+/// place of either in the first sending of a chain that is sent twice; and else refused, and without values.
 pub fn qualities_are_as_listed()
     ensures { QualitiesAreAsListed }
 {}
@@ -302,6 +319,13 @@ pub fn each_request_has_room()
 /// (`gc_damage`).
 pub fn requests_are_held_back()
     ensures { RequestsAreHeldBack }
+{}
+
+/// Once a stray shows that a line was altered, nothing is sent before the next synchronization. Such a stray can't repeat the reply that
+/// settled last: its id is neither that of an outstanding request nor the one before that of the oldest. Null procedures of the station's
+/// own wait, too.
+pub fn nothing_is_sent_in_doubt()
+    ensures { NothingIsSentInDoubt }
 {}
 
 /// If the plan's `every` is above 0 and the clock doesn't go back, each cycle begins at or after it is due: the first is due
@@ -433,8 +457,8 @@ pub fn the_table_is_never_held_up()
     ensures { TheTableIsNeverHeldUp }
 {}
 
-/// A run ends as stale only if of some watched command of a cycle no answer of a good quality was recorded for as long as the plan allows.
-/// This time ends at the moment read last. It begins at the moment of the act that recorded such an answer of that command last, in
+/// A run ends as stale only if of some watched command of a cycle no answer of a good quality, confirmed where its chain is sent twice,
+/// was recorded for as long as the plan allows. This time ends at the moment read last. It begins at the moment of the act that recorded such an answer of that command last, in
 /// whatever attempt, or at 0 if none did; or if the clock went back since, at the least moment read since. And a run with turns left ends
 /// at the first moment read at which this is so of some watched command: after that at most one act is made, a close. Nothing else renews
 /// a command: neither an answer to another one, nor one of the setup. So a run ends as stale no later than one that any answer renews,

@@ -4,6 +4,8 @@
 mod book;
 mod cause;
 mod deciding;
+mod doubting;
+mod firsts;
 mod kept;
 pub mod laws;
 mod mark;
@@ -21,6 +23,7 @@ mod writing;
 
 pub use book::{Book, LinkHealth};
 pub use cause::Cause;
+pub use firsts::FIRSTS;
 pub use kept::Kept;
 pub use plan::Plan;
 pub use run::run_station;

@@ -7,7 +7,7 @@ ghost use Rattle.gc_client.specs.Hearing.{HearsInto};
 ghost use Rattle.gc_client.specs.Rule.{ById};
 ghost use Rattle.gc_client.specs.declared.settlement.Settlement.{Settlement};
 ghost use Rattle.gc_station.specs.Deciding.{later};
-ghost use Rattle.gc_station.specs.Progressing.{still_prepares, turned, moment_noted, moment_noted_meanwhile, cycle_start, lateness, is_missed_at, due_of, cycle_begun, advanced, unsent_at, failing, opened, is_finished, is_idle, is_spared, phase_again, pause_again, after_failure, cleared, request_noted, null_sent, resynchronized, line_synchronizing, sent, behind_noted, ended_noted, line_noted, early_after, bytes_noted, pause_ended, drained, quieted, time_passed, silent, early_noted, ended_for, closed, is_over, loses_all, next_attempt, setup_restarted, setup_sent, gives_back};
+ghost use Rattle.gc_station.specs.Progressing.{still_prepares, turned, moment_noted, moment_noted_meanwhile, cycle_start, lateness, is_missed_at, due_of, cycle_begun, advanced, unsent_at, failing, opened, is_finished, is_idle, is_spared, phase_again, pause_again, after_failure, cleared, request_noted, null_sent, resynchronized, line_synchronizing, sent, behind_noted, ended_noted, doubt_noted, line_noted, early_after, bytes_noted, pause_ended, drained, quieted, time_passed, silent, early_noted, ended_for, closed, is_over, loses_all, next_attempt, setup_restarted, setup_sent, gives_back};
 ghost use Rattle.gc_station.specs.Lines.{is_reply};
 
 use crate::cause::Cause;
@@ -322,6 +322,7 @@ impl Progress {
         self.chain_unbroken = false;
         self.behind = WINDOW;
         self.last_ended = 1;
+        self.doubtful = false;
         self.restart_setup(plan);
     }
 

@@ -1,11 +1,12 @@
 //! What a station keeps of the records that it wrote.
 
-ghost use Rattle.std.specs.Prelude.{◌≡◌, false, map};
+ghost use Rattle.std.specs.Prelude.{◌≡◌, false, map, []};
 ghost use Rattle.gc_station.specs.Tallies.{empty_counts};
 ghost use Rattle.gc_station.specs.Watching.{unanswered, places_of};
 ghost use Rattle.gc_station.specs.Writing.{noted};
 ghost use Rattle.gc_texts.specs.Endings.{ending_seen};
 
+use crate::firsts::Firsts;
 use crate::mark::Mark;
 use crate::tally::Counts;
 use crate::watching::Watches;
@@ -26,12 +27,14 @@ pub(crate) struct Recorded {
     pub(crate) listed: bool,
     // Of each watched command, when it was recorded last as answered well.
     pub(crate) fresh: Watches,
+    // The answers of the chain that was sent the first time last.
+    pub(crate) firsts: Firsts,
 }
 
 impl Recorded {
     // Nothing was recorded yet, of these watched commands either.
     pub(crate) fn new(mut watches: Watches) -> Recorded
-        ensures { result ≡ record { tally = empty_counts; well = false; listed = false; fresh = map unanswered (places_of watches) } }
+        ensures { result ≡ record { tally = empty_counts; well = false; listed = false; fresh = map unanswered (places_of watches); firsts = [] } }
     {
         watches.begin();
         Recorded {
@@ -39,6 +42,7 @@ impl Recorded {
             well: false,
             listed: false,
             fresh: watches,
+            firsts: Firsts::new(),
         }
     }
 
@@ -51,5 +55,6 @@ impl Recorded {
         self.well = is_well(ending);
         self.listed = is_listed_after(self.listed, &mark.expected, code, ending);
         self.fresh.note(mark, now, ending);
+        self.firsts.note(mark, ending);
     }
 }

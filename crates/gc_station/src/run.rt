@@ -100,7 +100,8 @@ pub(crate) fn run<L: Link, B: Book>(
 /// command of a cycle that is `chained` is sent only if the one before it was answered well, and since that was sent no
 /// connection was closed and the station didn't resynchronize; else it is written as skipped. A further attempt of a chain
 /// is sent only if a command of the attempt before ended as the chain's rule (`again`) names; else it is left out, without a
-/// record. In a missed cycle nothing is sent: its commands are written as missed, and further attempts are left out.
+/// record. In a chain that is sent twice the answers of the first sending are written as unconfirmed, and those of the second are
+/// compared with them: one that doesn't agree ends its command as `Disagree`. In a missed cycle nothing is sent: its commands are written as missed, and further attempts are left out.
 ///
 /// A cycle has until the cycle after the next is due. Then nothing more of it is sent; and once nothing is in flight that hasn't timed
 /// out, what isn't settled is written as lost, what wasn't sent as skipped, and the next cycle, which had no time left, as missed. So
@@ -126,7 +127,7 @@ pub(crate) fn run<L: Link, B: Book>(
 ///   commands before the cycle's next one in the list (0 before the first cycle); `LinkClosed`, the other end closed the
 ///   connection; `Socket`, no connection could be made; `SetUp`, a command of the setup wasn't answered well. `Read` and
 ///   `LinkClosed` also while tries are left, if a read without a connection failed or gave an end.
-/// - `Stale`: of some command of `watches` no answer of a good quality was recorded for `stale` milliseconds, counted from the last
+/// - `Stale`: of some command of `watches` no answer of a good quality that isn't unconfirmed was recorded for `stale` milliseconds, counted from the last
 ///   one, or if there was none, from the start of the link's clock for deadlines. Which command that is the book was told
 ///   (`unanswered`).
 /// - `TooManyReads`: `max_turns` acts were made. A connection that is open then is closed by one act more.

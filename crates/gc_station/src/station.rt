@@ -4,6 +4,7 @@ ghost use Rattle.std.specs.Prelude.{◌≡◌, List, length, drop, Option, OnOk,
 ghost use Rattle.gc_catalogue.specs.Asked.{IsAskedReading};
 ghost use Rattle.gc_client.specs.Settlements.{AreReadBy};
 ghost use Rattle.gc_station.specs.Deciding.{action_of};
+ghost use Rattle.gc_station.specs.Firsts.{with_first};
 ghost use Rattle.gc_station.specs.Keeping.{reads_clock_alone};
 ghost use Rattle.gc_station.specs.Marks.{commands_in};
 ghost use Rattle.gc_station.specs.Scopes.{AreReadings, scoped, Reads};
@@ -33,7 +34,7 @@ use gc_catalogue::Asked;
 use gc_client::{Client, Settlement, SlotsOf, WINDOW};
 use gc_lines::{Assembler, PortFailed};
 use gc_links::{Link, Moment};
-use gc_texts::{Again, Codes, Expected, Task, Turn};
+use gc_texts::{Again, Codes, Expected, Task, Turn, Twice};
 
 // Whether a command at this place is sent only once the one before it was answered well; `false` if there is no such command.
 fn is_chained_at(commands: &[Task], place: usize) -> bool
@@ -46,7 +47,8 @@ fn is_chained_at(commands: &[Task], place: usize) -> bool
 }
 
 // What is expected of the answer of the command at this place. If there is none, nothing is: no place of a target, no accepted
-// codes, no endings that send it again; and its turn is place 0, attempt 1 and link 0.
+// codes, no endings that send it again; its turn is place 0, attempt 1 and link 0; and its chain is sent once. With which answer of a
+// first sending its own is compared is known once it is sent (`mark_sent`).
 fn expected_at(commands: &[Task], place: usize) -> Expected
     ensures { result ≡ expected_first (drop place commands.now) }
 {
@@ -56,6 +58,8 @@ fn expected_at(commands: &[Task], place: usize) -> Expected
             accepted: task.accepted,
             again: task.again,
             turn: task.turn,
+            twice: task.twice,
+            first: None,
         },
         None => Expected {
             near: None,
@@ -66,6 +70,8 @@ fn expected_at(commands: &[Task], place: usize) -> Expected
                 attempt: 1,
                 link: 0,
             },
+            twice: Twice::Once,
+            first: None,
         },
     }
 }
@@ -100,7 +106,7 @@ pub(crate) struct Station {
 impl Station {
     // A station that has done nothing, and watches these commands.
     pub(crate) fn new(plan: &Plan, max_turns: u64, watches: Watches) -> Station
-        ensures { (reads : Reads) → Refines result (opening plan.now (scoped max_turns (places_of watches) reads)) }
+        ensures { (reads : Reads) → AreReadings reads → Refines result (opening plan.now (scoped max_turns (places_of watches) reads)) }
     {
         Station {
             client: Client::new(SlotsOf::new()),
@@ -171,6 +177,16 @@ impl Station {
             sent: self.progress.moment.utc,
             expected: expected_at(commands, self.place(commands)),
         }
+    }
+
+    // The mark with which the cycle's next command is sent: that of `mark`, with the answer of the first sending with which its own
+    // is compared.
+    fn mark_sent(&self, plan: &Plan, commands: &[Task]) -> Mark
+        ensures { result ≡ with_first self.now.recorded.firsts (mark_next plan.now commands.now self.now.progress) }
+    {
+        let mut mark = self.mark(plan, commands);
+        mark.expected.first = self.recorded.firsts.answer_for(mark.cycle, &mark.expected);
+        mark
     }
 
     // The mark of the next command of the setup: it has cycle 0, and the attempt of the setup. No ending sends the command again,

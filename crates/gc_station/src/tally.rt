@@ -9,7 +9,8 @@ use gc_texts::{Ending, Quality, Turn};
 /// How many commands ended how, of the last attempt of each chain. A count stops at 2^64 - 1.
 #[derive(Clone, Copy)]
 pub struct Tally {
-    /// A reply came in time, and it is neither `unreadable` nor `elsewhere`.
+    /// A reply came in time, and it is none of `unreadable`, `elsewhere` and `disagree`. In a chain that is sent twice the commands of
+    /// both sendings are counted.
     pub answered: u64,
     /// How many of `answered` were refused: the reply's communication code isn't 0, or its return code is neither 0 nor an accepted
     /// one.
@@ -27,6 +28,9 @@ pub struct Tally {
     pub missed: u64,
     /// A reply came in time, with both codes 0 or an accepted return code, whose direction isn't near where its target is.
     pub elsewhere: u64,
+    /// A reply came in time, with both codes 0 or an accepted return code, in the second sending of its chain, and its values don't
+    /// agree with those of the first.
+    pub disagree: u64,
     /// How many times a chain was sent again.
     pub again: u64,
 }
@@ -45,6 +49,7 @@ impl Tally {
             unreadable: 0,
             missed: 0,
             elsewhere: 0,
+            disagree: 0,
             again: 0,
         }
     }
@@ -57,6 +62,7 @@ impl Tally {
             Ending::Answered(quality, ..) => self.count_answered(quality),
             Ending::Unreadable(_, _) => self.unreadable = self.unreadable.saturating_add(1),
             Ending::Elsewhere(_) => self.elsewhere = self.elsewhere.saturating_add(1),
+            Ending::Disagree(_) => self.disagree = self.disagree.saturating_add(1),
             Ending::Late => self.late = self.late.saturating_add(1),
             Ending::Lost => self.lost = self.lost.saturating_add(1),
             Ending::Skipped => self.skipped = self.skipped.saturating_add(1),
@@ -89,6 +95,7 @@ impl Tally {
             unreadable: self.unreadable.saturating_add(other.unreadable),
             missed: self.missed.saturating_add(other.missed),
             elsewhere: self.elsewhere.saturating_add(other.elsewhere),
+            disagree: self.disagree.saturating_add(other.disagree),
             again: self.again.saturating_add(other.again),
         }
     }

@@ -3,11 +3,11 @@
 
 ghost use Rattle.std.specs.Prelude.{◌≡◌, ◌==◌, ◌&&◌, ◌++◌, drop, map, nat_lt, IfOk, OnOk};
 ghost use Rattle.gc_texts.specs.Endings.{ending_seen};
-ghost use Rattle.gc_station.specs.Marks.{is_well};
+ghost use Rattle.gc_station.specs.Marks.{ended_confirmed};
 ghost use Rattle.gc_station.specs.Watching.{is_watched, watched_at, watched_in, watched_of, places_of, unanswered, renewed_if, renewed, cut_to, older, oldest};
 
 use crate::mark::Mark;
-use crate::writing::is_well;
+use crate::writing::is_confirmed;
 use gc_links::Moment;
 use gc_texts::{Ending, Task};
 use std::alloc::{AllocError, Global};
@@ -129,11 +129,11 @@ fn begin_each(watches: &mut Vec<Watch>)
 }
 
 // Whether the record of a command with this cycle and ending renews the watched command that it is of: it is of a cycle, and was answered
-// well. A command of the setup has cycle 0.
+// well, without having to be confirmed by a second sending. A command of the setup has cycle 0.
 fn renews(cycle: u64, ending: Ending<'_>) -> bool
-    ensures { result ≡ (is_well (ending_seen ending.entry) && nat_lt 0 cycle) }
+    ensures { result ≡ (ended_confirmed (ending_seen ending.entry) && nat_lt 0 cycle) }
 {
-    is_well(ending) && cycle > 0
+    is_confirmed(ending) && cycle > 0
 }
 
 // Renews each watched command with this place, which was answered well and recorded at the moment `now`.

@@ -1,11 +1,11 @@
 //! Writing settlements into a book, and counting them.
 
-ghost use Rattle.std.specs.Prelude.{◌≡◌, [], ◌∷◌, length, drop, map, OnOk};
+ghost use Rattle.std.specs.Prelude.{◌≡◌, [], ◌∷◌, length, drop, map, option_map, OnOk};
 ghost use Rattle.gc_catalogue.specs.declared.asked.Asked.{Asked};
 ghost use Rattle.gc_catalogue.specs.Asked.{IsAskedReading};
 ghost use Rattle.gc_client.specs.Settlements.{settlement_seen, outcome_seen, IsReadBy, AreReadBy};
 ghost use Rattle.gc_station.specs.Attempts.{code_of, listed_after};
-ghost use Rattle.gc_station.specs.Marks.{first_mark, value_as, refused_as, end_of, is_well};
+ghost use Rattle.gc_station.specs.Marks.{first_mark, agrees_in, quality_in, answered_as, value_as, refused_as, end_of, is_well, ended_confirmed};
 ghost use Rattle.gc_station.specs.Model.{ends_with_table};
 ghost use Rattle.gc_station.specs.Zeros.{IsZeroOf};
 ghost use Rattle.gc_station.specs.Scopes.{AreReadings, Reads};
@@ -23,7 +23,9 @@ use gc_catalogue::{Answer, Asked, Reading};
 use gc_client::{Outcome, Settlement, WINDOW};
 use gc_lines::{Line, PortFailed};
 use gc_links::Moment;
-use gc_texts::{Ending, Expected, Near, Quality, Stamp, Wish, is_elsewhere, reading_as_zero};
+use gc_texts::{
+    Ending, Expected, Quality, Stamp, Twice, Wish, agrees, is_elsewhere, reading_as_zero,
+};
 
 // Removes the mark of the oldest outstanding request, and returns it. `None`: that request is a null procedure, or none is
 // outstanding.
@@ -31,45 +33,87 @@ fn take_mark(marks: &mut ArrayVec<Option<Mark>, WINDOW>) -> Option<Mark>
     ensures goes { marks.new.items ≡ drop 1 marks.old.items }
     ensures first { result ≡ first_mark marks.old.items }
 {
-    marks.pop_at(0).flatten()
+    match marks.pop_at(0) {
+        Some(mark) => mark,
+        None => None,
+    }
 }
 
-// The ending of a command whose reply, this line, has this answer: elsewhere if the answer has a direction that isn't near where
-// the target is (`near`), else answered with this quality. Without `near` the text doesn't say where that is, and the ending is
-// answered.
-fn value_ending<'a>(
+// Whether an answer, or none, may end a command as answered: in a second sending only if there is an answer of the first and it
+// agrees with that; otherwise always.
+fn agrees_in(expected: &Expected, answer: Option<&Answer>) -> bool
+    ensures { result ≡ agrees_in expected.now.twice expected.now.first (option_map (λ a. a.now) answer.entry) }
+{
+    match (&expected.twice, &expected.first) {
+        (Twice::Second { agree, .. }, Some(first)) => agrees(agree, first, answer),
+        (Twice::Second { .. }, None) => false,
+        (Twice::Once | Twice::First, _) => true,
+    }
+}
+
+// The quality of an answer that would have this one if its chain were sent once: in a first sending it is unconfirmed.
+fn quality_in(twice: &Twice, quality: Quality) -> Quality
+    ensures { result ≡ quality_in twice.now quality }
+{
+    match twice {
+        Twice::First => Quality::Unconfirmed,
+        Twice::Once | Twice::Second { .. } => quality,
+    }
+}
+
+// The ending of a command whose reply, this line, has this answer, or none, and this quality: answered, unless it is of a second
+// sending and the answer doesn't agree with that of the first.
+fn answered_ending<'a>(
+    expected: &Expected,
     quality: Quality,
-    near: Option<Near>,
+    answer: Option<&'a Answer>,
+    line: &'a Line,
+) -> Ending<'a>
+    ensures { ending_seen result ≡ answered_as expected.now quality (option_map (λ a. a.now) answer.entry) line.now.items }
+{
+    if agrees_in(expected, answer) {
+        Ending::Answered(quality_in(&expected.twice, quality), answer, line)
+    } else {
+        Ending::Disagree(line)
+    }
+}
+
+// The ending of a command whose reply, this line, has this answer: elsewhere if the answer was measured away from where the target
+// is (`is_elsewhere`), else as `answered_ending` says, with this quality. If the text doesn't say where the target is, no answer is
+// elsewhere.
+fn value_ending<'a>(
+    expected: &Expected,
+    quality: Quality,
     answer: &'a Answer,
     line: &'a Line,
 ) -> Ending<'a>
-    ensures { ending_seen result ≡ value_as quality (is_elsewhere near answer.now) answer.now line.now.items }
+    ensures { ending_seen result ≡ value_as expected.now quality (is_elsewhere expected.now.near answer.now) answer.now line.now.items }
 {
-    if is_elsewhere(near, answer) {
+    if is_elsewhere(expected.near, answer) {
         Ending::Elsewhere(line)
     } else {
-        Ending::Answered(quality, Some(answer), line)
+        answered_ending(expected, quality, Some(answer), line)
     }
 }
 
 // The ending of a command whose reply, this line, has this return code, which isn't 0, and would say `zero` with return code 0.
-// With an accepted code: elsewhere if the values would read and were measured elsewhere, else answered with a warning, and with the
-// values if they would read. With another code: answered and refused, without values.
+// With an accepted code: elsewhere if the values would read and were measured elsewhere, else with a warning as `answered_ending`
+// says, and with the values if they would read. With another code: answered and refused, without values.
 fn refused_ending<'a>(
     expected: &Expected,
     code: u16,
     zero: &'a Reading,
     line: &'a Line,
 ) -> Ending<'a>
-    ensures { ending_seen result ≡ refused_as (lists_code expected.now.accepted code) expected.now.near zero.now line.now.items }
+    ensures { ending_seen result ≡ refused_as (lists_code expected.now.accepted code) expected.now zero.now line.now.items }
 {
     if !expected.accepted.has(code) {
         return Ending::Answered(Quality::Refused, None, line);
     }
     match zero {
-        Reading::Value(answer) => value_ending(Quality::Warning, expected.near, answer, line),
+        Reading::Value(answer) => value_ending(expected, Quality::Warning, answer, line),
         Reading::Refused(_) | Reading::ComFault(_) | Reading::Unreadable(_) => {
-            Ending::Answered(Quality::Warning, None, line)
+            answered_ending(expected, Quality::Warning, None, line)
         }
     }
 }
@@ -93,7 +137,7 @@ fn ending_of<'a>(expected: &Expected, zero: &'a Reading, outcome: &'a Outcome) -
     match outcome {
         Outcome::Answered(Reading::Unreadable(fault), line) => Ending::Unreadable(line, *fault),
         Outcome::Answered(Reading::Value(answer), line) => {
-            value_ending(Quality::Fine, expected.near, answer, line)
+            value_ending(expected, Quality::Fine, answer, line)
         }
         Outcome::Answered(Reading::Refused(code), line) => {
             refused_ending(expected, *code, zero, line)
@@ -107,12 +151,22 @@ fn ending_of<'a>(expected: &Expected, zero: &'a Reading, outcome: &'a Outcome) -
 }
 
 /// Whether a command with this ending was answered well: its reply has both codes 0 and values that read, or an accepted return
-/// code; and in either case it isn't elsewhere.
+/// code; and in either case it is neither elsewhere nor, in the second sending of its chain, apart from the first.
 pub fn is_well(ending: Ending<'_>) -> bool
     ensures { result ≡ is_well (ending_seen ending.entry) }
 {
     match ending {
         Ending::Answered(quality, ..) => quality.is_good(),
+        _ => false,
+    }
+}
+
+// Whether a command with this ending was answered well, and its answer doesn't wait to be confirmed by a second sending.
+pub(crate) fn is_confirmed(ending: Ending<'_>) -> bool
+    ensures { result ≡ ended_confirmed (ending_seen ending.entry) }
+{
+    match ending {
+        Ending::Answered(quality, ..) => quality.is_confirmed(),
         _ => false,
     }
 }

@@ -13,8 +13,8 @@ use gc_texts::{Ending, Quality, Stamp, Wish};
 /// sent, if it was. A case may have it fail at one write, or at each sync after the first few.
 #[derive(Drop)]
 pub struct WordBook {
-    /// The words of the records, and for each cycle that was reported as overrun its last digit and `!`, each with a blank after
-    /// it. What has no room any more is left out.
+    /// The words of the records, for each cycle that was reported as overrun its last digit and `!`, and for each stray that shows an
+    /// altered line a word with `~`, each with a blank after it. What has no room any more is left out.
     pub text: ArrayVec<u8, 256>,
     // How many writes there were.
     writes: u64,
@@ -106,9 +106,11 @@ impl Book for WordBook {
         self.note_digit(stamp.place as u64);
         match ending {
             Ending::Answered(Quality::Warning, _, line) => self.note_reply(b"w", line),
+            Ending::Answered(Quality::Unconfirmed, _, line) => self.note_reply(b"f", line),
             Ending::Answered(_, _, line) => self.note_reply(b"a", line),
             Ending::Unreadable(line, _) => self.note_reply(b"u", line),
             Ending::Elsewhere(line) => self.note_reply(b"e", line),
+            Ending::Disagree(line) => self.note_reply(b"d", line),
             Ending::Late => note(&mut self.text, b"l"),
             Ending::Lost => note(&mut self.text, b"x"),
             Ending::Skipped => note(&mut self.text, b"s"),
@@ -135,6 +137,13 @@ impl Book for WordBook {
     fn unanswered(&mut self, watch: Watch) {
         self.note_digit(watch.place as u64);
         note(&mut self.text, b"? ");
+    }
+
+    // Appends the word of a stray that can't repeat the reply that settled last: how many requests the line that settled last had ended,
+    // and `~`.
+    fn doubts(&mut self, ended: usize) {
+        self.note_digit(ended as u64);
+        note(&mut self.text, b"~ ");
     }
 
     // Appends the word of a cycle that overran: its last digit, and `!`.

@@ -10,11 +10,13 @@
 //!                                 was cut; where `with` says `timed`, `@` and the milliseconds since the start come after each,
 //!                                 and of a request there is the id alone, as `#1@15`
 //!     ends 10a 11w[0:1283]2.25    the last digits of cycle and place and a letter for each record: answered, a warning,
-//!                                 unreadable and elsewhere (each with what its reply says after it: the communication code and
+//!                                 answered in a first sending and unconfirmed (f), unreadable, elsewhere and disagree (each with
+//!                                 what its reply says after it: the communication code and
 //!                                 the return code in brackets, unless both are 0, and the values), late, lost (x), skipped or
 //!                                 missed; where `with` says `stamped`, `@` and the moment at which its request was sent, in
 //!                                 milliseconds since 1970, if it was; the last digit of a cycle that overran, with `!`; and that of the
-//!                                 place of the command by which the run is stale, with `?`
+//!                                 place of the command by which the run is stale, with `?`; and for each stray that can't repeat
+//!                                 the reply that settled last how many requests the line had ended that settled last, with `~`
 //!     end fault 46                the fault, if there is one
 //!     counts answered 3 ..        how many commands were answered, late, skipped and missed, and how many times a chain was sent
 //!                                 again, where `with` says `counted`, after a run without a fault over a link without a log

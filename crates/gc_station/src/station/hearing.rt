@@ -17,7 +17,7 @@ use gc_links::{Came, Link, Moment};
 
 impl Station {
     // Hears the line of a frame; nothing happens if the frame is no line. Once the station has synchronized (`begun`), what the
-    // line settles is recorded. Until then a reply with the first id that is left answers its null procedure, and nothing is
+    // line settles is recorded, after it was noted whether the line raises a doubt (`doubt`). Until then a reply with the first id that is left answers its null procedure, and nothing is
     // settled. `Err`: the book failed at a record.
     fn hear<B: Book>(
         &mut self,
@@ -36,6 +36,7 @@ impl Station {
             self.progress.hear_synchronizing(line);
             return Ok(());
         }
+        self.doubt(book, line);
         let hearing = self.client.hear(line, &mut self.settled);
         if let Err(failed) = self.write(book) {
             return Err(failed);

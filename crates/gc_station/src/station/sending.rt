@@ -136,7 +136,7 @@ impl Station {
         ensures { MakesMoveAlone plan.now commands.now Send (L.acts link.old) (L.acts link.new) self.old self.new }
     {
         let requests = self.commands_before(plan, commands);
-        let mark = self.mark(plan, commands);
+        let mark = self.mark_sent(plan, commands);
         let task = &commands[self.place(commands)];
         let next = self.upcoming_after(1, commands);
         let asking = request_for(task, mark);

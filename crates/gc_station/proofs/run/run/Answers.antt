@@ -1,5 +1,4 @@
 use Rattle.std.proofs.Common.{◌≡◌, inl, inr, refl, ap, sym, ◌∙◌, arith}
-use Rattle.gc_catalogue.specs.declared.answer.Reading.TheVariants.{Refused}
 use Rattle.gc_station.specs.Tallies.{total}
 use Rattle.gc_station.specs.declared.progress.Progress.{Progress}
 use Rattle.gc_station.specs.Keeping.{reads_clock_alone}
@@ -7,7 +6,7 @@ use Rattle.gc_station.specs.Runs.{state_after}
 use Rattle.gc_station.specs.Scopes.{Scope, Reads}
 use Rattle.gc_station.specs.Model.{opening}
 use Rattle.gc_station.specs.Watching.{places_of}
-use Rattle.gc_station.proofs.Readings.{reads_as_in_scope, same_readings}
+use Rattle.gc_station.proofs.Readings.{reads_as_in_scope, same_readings, some_readings}
 use Rattle.gc_station.proofs.Going.{on_call, went_nothing, kept_same, went_kept, fails_at_sync, went_on, fails_at_record, went_nearer, has_model_on}
 use Rattle.gc_station.proofs.Noting.{noted_nothing, noted_kept, noted_on, noted_end, noted_closed, noted_refused}
 use Rattle.gc_station.proofs.run.run.Goals as goal
@@ -152,18 +151,18 @@ pub loop-unsynced-init : goal.loop-unsynced-init
 loop-unsynced-init g c =
     let plan = c.args.plan.now in
     let commands = c.args.commands.now in
-    let any : Reads = λ call line. Refused 0 in
+    let any : Reads = some_readings.0 in
     let start : Scope = record { turns = c.args.max_turns; watched = places_of c.args.watches; reads = any } in
-    let stands = c.new-station.ensures any in
+    let stands = c.new-station.ensures any some_readings.1 in
     let none : c.new-station.result.progress.unsent ≡ 0 = ap (λ (p : Progress). p.unsent) stands.progress in
     record {
       within = omega (arith, none);
       below = omega (arith, none);
       some = (opening plan start, stands);
       went = λ reads are. went_nothing plan commands (record { turns = c.args.max_turns; watched = places_of c.args.watches; reads = reads }) (g.B.Book.text c.args.book.now)
-          (g.L.Link.acts c.args.link.now) (g.B.Book.taken c.args.book.now) c.new-station.result (c.new-station.ensures reads);
+          (g.L.Link.acts c.args.link.now) (g.B.Book.taken c.args.book.now) c.new-station.result (c.new-station.ensures reads are);
       noted = λ reads are. noted_nothing plan commands (record { turns = c.args.max_turns; watched = places_of c.args.watches; reads = reads }) (g.B.Book.text c.args.book.now)
-          (g.L.Link.acts c.args.link.now) (g.B.Book.taken c.args.book.now) c.new-station.result c.args.kept.now.turns (c.new-station.ensures reads);
+          (g.L.Link.acts c.args.link.now) (g.B.Book.taken c.args.book.now) c.new-station.result c.args.kept.now.turns (c.new-station.ensures reads are);
       form = refl;
       failed = refl;
     }

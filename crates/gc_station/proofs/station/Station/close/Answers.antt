@@ -28,6 +28,8 @@ returns g c commands text known =
           well = stands.well;
           listed = stands.listed;
           fresh = stands.fresh;
+          reads = stands.reads;
+          firsts = stands.firsts;
         },
         so,
       );

@@ -4,26 +4,31 @@ use Rattle.gc_client.specs.Rule.{hears, heard}
 use Rattle.gc_client.specs.Settlements.{settlement_seen}
 use Rattle.gc_lines.specs.Frames.{line_in}
 use Rattle.gc_lines.specs.Lent.{lent_seen}
-use Rattle.gc_station.specs.Model.{Model, is_reply, ends_with_table, settles, line_settles, lines_taken, with_progress}
+use Rattle.gc_station.specs.Model.{Model, is_reply, ends_with_table, settles, line_doubted, line_settles, lines_taken, with_progress}
 use Rattle.gc_station.specs.Progressing.{behind_noted, line_synchronizing}
-use Rattle.gc_station.specs.Stations.{Refines, Took}
+use Rattle.gc_station.specs.Stations.{Refines, Took, TookPart}
 use Rattle.gc_station.specs.declared.station.Station.{Station}
 use Rattle.std.specs.Option.{option_to_list}
-use Rattle.gc_station.proofs.Hearing.{hears_paired, settles_ok, settles_part, refines_settled, refines_ended, refines_noted, no_line, taken_none}
+use Rattle.gc_station.proofs.Hearing.{hears_paired, settles_ok, settles_part, refines_doubted, refines_settled, refines_ended, refines_noted, no_line, taken_none}
 use Rattle.gc_station.proofs.Making.{refines_with}
 use Rattle.gc_station.proofs.station.Station.hear.Goals as goal
 
 pub returns-clause-hears : goal.returns-clause-hears
-returns-clause-hears g c s start stands so =
+returns-clause-hears g c old start stood took =
     let line = c.in-Line.line.now in
     let short : length line ≤ 512 = rw c.in-Line.is at c.requires in
+    let s = line_doubted line old in
+    let stands : Refines c.doubt.new.self s = refines_doubted c.args.self.now c.doubt.new.self line old stood c.doubt.ensures.notes in
+    let text = g.B.Book.text c.doubt.new.book in
+    let so : Took text start (g.B.Book.taken c.doubt.new.book) s =
+    subst (λ f. Took f start (g.B.Book.taken c.doubt.new.book) s) (sym c.doubt.ensures.form) (subst (λ taken. Took (g.B.Book.text c.args.book.now) start taken s) (sym c.doubt.ensures.taken) took) in
     let x = hears s.client line (heard line) in
     let seen = ap (λ ids. hears ids line (heard line)) stands.ids in
     let client = c.hear-hearing.ensures.client short in
     let items = c.hear-hearing.new.settled.items in
     let same = (c.hear-hearing.ensures.settled short).seen ∙ ap (λ y. y.settlements) seen in
     let reply = c.heard_reply.ensures _ _ line _ (c.hear-hearing.ensures.heard short) in
-    let t = settles_ok (g.B.Book.text c.args.book.now) c.args.self.now _ s x (map settlement_seen items) stands
+    let t = settles_ok text c.doubt.new.self _ s x (map settlement_seen items) stands
     (record {
       ids_are = ap (λ w. w.ids) client ∙ ap (λ y. y.client) seen;
       width = ap
@@ -50,20 +55,25 @@ returns-clause-hears g c s start stands so =
     rw c.if-not-begun.false (rw c.in-Line.is (
       refines_noted (record c.write.new.self { progress = c.note_ended.new.self }) c.note_line.new.self c.heard_reply.result
           (is_reply line) (line_settles x s) noted reply c.note_line.ensures,
-      t.1,
+      subst (λ f. Took f start (g.B.Book.taken c.write.new.book) (settles x s)) c.doubt.ensures.form t.1,
     ))
 
 pub returns-in-Err-clause-hears : goal.returns-in-Err-clause-hears
-returns-in-Err-clause-hears g c s start stands so =
+returns-in-Err-clause-hears g c old start stood took =
     let line = c.in-Line.line.now in
     let short : length line ≤ 512 = rw c.in-Line.is at c.requires in
+    let s = line_doubted line old in
+    let stands : Refines c.doubt.new.self s = refines_doubted c.args.self.now c.doubt.new.self line old stood c.doubt.ensures.notes in
+    let text = g.B.Book.text c.doubt.new.book in
+    let so : Took text start (g.B.Book.taken c.doubt.new.book) s =
+    subst (λ f. Took f start (g.B.Book.taken c.doubt.new.book) s) (sym c.doubt.ensures.form) (subst (λ taken. Took (g.B.Book.text c.args.book.now) start taken s) (sym c.doubt.ensures.taken) took) in
     let x = hears s.client line (heard line) in
     let seen = ap (λ ids. hears ids line (heard line)) stands.ids in
     let client = c.hear-hearing.ensures.client short in
     let items = c.hear-hearing.new.settled.items in
     let same = (c.hear-hearing.ensures.settled short).seen ∙ ap (λ y. y.settlements) seen in
-    let t = settles_part (g.B.Book.text c.args.book.now) c.args.self.now
-    (record c.args.self.now { client = c.hear-hearing.new.self; settled = c.hear-hearing.new.settled }) s x (map settlement_seen items) stands
+    let t = settles_part text c.doubt.new.self
+    (record c.doubt.new.self { client = c.hear-hearing.new.self; settled = c.hear-hearing.new.settled }) s x (map settlement_seen items) stands
     (record {
       ids_are = ap (λ w. w.ids) client ∙ ap (λ y. y.client) seen;
       width = ap
@@ -76,7 +86,7 @@ returns-in-Err-clause-hears g c s start stands so =
     same
     start (g.B.Book.taken c.write.new.book)
     (λ are. c.in-Err.ensures.wrote s.reads are start s.records (so are)) in
-    rw c.if-not-begun.false (rw c.in-Line.is t)
+    rw c.if-not-begun.false (rw c.in-Line.is (subst (λ f. TookPart f s.records start (g.B.Book.taken c.write.new.book) (settles x s)) c.doubt.ensures.form t))
 
 pub returns-then-not-begun-clause-hears : goal.returns-then-not-begun-clause-hears
 returns-then-not-begun-clause-hears g c s start stands so =

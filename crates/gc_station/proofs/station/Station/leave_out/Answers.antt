@@ -35,6 +35,8 @@ returns-in-Some g c text known =
             well = stands.well;
             listed = stands.listed;
             fresh = stands.fresh;
+            reads = stands.reads;
+            firsts = stands.firsts;
           } in
           let here = refines_timed_out old mid m (with_more_passes (next_left_out plan commands s.progress) s) there c.in-Some.ensures.1 in
           let noted = ap (λ k. early_noted plan k (goes_on mid.progress)) (ap commands_in here.marks) in (

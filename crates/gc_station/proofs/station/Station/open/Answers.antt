@@ -26,6 +26,8 @@ returns-in-Err g c commands text known =
           well = stands.well;
           listed = stands.listed;
           fresh = stands.fresh;
+          reads = stands.reads;
+          firsts = stands.firsts;
         },
         so,
       );

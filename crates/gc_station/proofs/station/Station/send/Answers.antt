@@ -6,9 +6,11 @@ use Rattle.gc_texts.specs.declared.tasks.Task.{Task}
 use Rattle.gc_station.specs.declared.station.sending.Outgoing.{Outgoing}
 use Rattle.gc_links.specs.Acts.{put_act}
 use Rattle.gc_station.specs.declared.mark.Mark.{Mark}
+use Rattle.gc_station.specs.declared.progress.Progress.{Progress}
 use Rattle.gc_station.specs.declared.progress.Upcoming.{Upcoming}
+use Rattle.gc_station.specs.Firsts.{with_first}
 use Rattle.gc_station.specs.Progressing.{sent}
-use Rattle.gc_station.specs.Model.{Model, next_request_text, first_text, request_for, asks_next, with_progress}
+use Rattle.gc_station.specs.Model.{Model, next_request_text, first_text, request_for, asks_next, firsts_of, mark_sent, with_progress}
 use Rattle.gc_station.specs.NextCommand.{place_next, mark_next, upcoming_after, commands_before}
 use Rattle.gc_station.proofs.Making.{refines_with, asks_refines, put_puts, put_refines, put_took, first_refines, first_took}
 use Rattle.gc_station.proofs.station.Station.send.Goals as goal
@@ -26,7 +28,7 @@ returns g c text known =
     let others : List Task = drop (place + 1) commands in
     let here : drop place commands ≡ task ∷ others =
     drop_more commands place task below ∙ ap (λ x. x ∷ others) (sym c.index-commands-place.is) in
-    let mark = c.mark-mark.result in
+    let mark = c.mark_sent-mark.result in
     let asking = c.request_for-asking.result in
     let line = next_request_text old.client.ids asking.command.call in
     record {
@@ -38,8 +40,10 @@ returns g c text known =
           let f : Model → Model = λ (x : Model). with_progress (sent (upcoming_after 1 commands x.progress)) (asks_next plan commands x) in
           let asked = asks_refines old c.ask-put.new.self s asking (request_for mark task) stands c.requires.ready.1 c.request_for-asking.ensures c.ask-put.ensures.asks in
           let utc = s.progress.moment.utc in
-          let next : mark ≡ mark_next plan commands s.progress = c.mark-mark.ensures ∙ ap (mark_next plan commands) stands.progress in
-          let first = first_refines c.ask-put.new.self s mark (mark_next plan commands s.progress) list task others is next asked in (
+          let next : mark ≡ mark_sent plan commands s =
+          c.mark_sent-mark.ensures ∙ ap (λ fs. with_first fs (mark_next plan commands old.progress)) stands.firsts
+          ∙ ap (λ (p : Progress). with_first (firsts_of s) (mark_next plan commands p)) stands.progress in
+          let first = first_refines c.ask-put.new.self s mark (mark_sent plan commands s) list task others is next asked in (
             put_puts put line (first_text utc s.client list) (ap (λ (ids : ById Asked). next_request_text ids asking.command.call) stands.ids
                 ∙ ap (λ (a : Outgoing). next_request_text s.client a.command.call) (c.request_for-asking.ensures ∙ ap (λ (m : Mark). request_for m task) next) ∙ sym
                 (ap (first_text utc s.client) is)) c.ask-put.ensures.part,
@@ -48,6 +52,6 @@ returns g c text known =
                 (c.note_sent.ensures ∙ ap (λ (u : Upcoming). sent u c.ask-put.new.self.progress)
                 (c.upcoming_after-next.ensures ∙ ap (upcoming_after 1 commands) stands.progress))) c.note_cut.ensures
                 (c.commands_before-requests.ensures ∙ ap (commands_before plan commands) stands.progress),
-            put_took text start known put line (commands_before plan commands s.progress) f s (first_took text start known s (mark_next plan commands s.progress) list so),
+            put_took text start known put line (commands_before plan commands s.progress) f s (first_took text start known s (mark_sent plan commands s) list so),
           );
     }

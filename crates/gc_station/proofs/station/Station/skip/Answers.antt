@@ -11,7 +11,7 @@ use Rattle.gc_station.specs.Model.{listed_after_skip, unsent_record, with_moment
 use Rattle.gc_station.specs.NextCommand.{place_next, mark_next, upcoming_after}
 use Rattle.gc_station.specs.Stations.{Refines, station_expiring, station_advancing}
 use Rattle.gc_station.proofs.Hearing.{refines_timed_out, untold_does}
-use Rattle.gc_station.proofs.Making.{refines_with, skips_unwell, skipped_refines, with_no_records}
+use Rattle.gc_station.proofs.Making.{refines_with, skips_unwell, skips_no_first, skipped_refines, with_no_records}
 use Rattle.gc_station.proofs.station.Station.skip.Goals as goal
 
 pub returns-in_default-clause-does : goal.returns-in_default-clause-does
@@ -43,6 +43,7 @@ returns-in_default-clause-does g c =
           let here_stands : Refines mid (with_listed listed (with_more_records rs (with_moment m s))) = skipped_refines timed mid (with_moment m s) rs
           (listed_unsent plan commands p timed.recorded.listed) listed here
           (λ b. skips_unwell b p m (mark_next plan commands p) (drop (place_next commands p) commands) some)
+          (λ fs. skips_no_first p m (mark_next plan commands p) (drop (place_next commands p) commands) fs)
           (λ are. ap (λ b. listed_unsent plan commands p b) (here.listed are) ∙ ap (λ (x : Progress). listed_unsent plan commands x s.listed) is)
           c.in_default.ensures.after in
           let rs' = ap (λ (x : Progress). unsent_record plan commands x (Told m)) is in

@@ -39,6 +39,8 @@ returns-clause-takes g c s start stands so =
         well = t.0.well;
         listed = t.0.listed;
         fresh = t.0.fresh;
+        reads = t.0.reads;
+        firsts = t.0.firsts;
       },
       t.1,
     )

@@ -1,0 +1,51 @@
+-- The answers of a chain's first sending, with which those of its second are compared: this project's own.
+use Rattle.std.specs.Prelude.{ℕ, ◌-◌, ◌==◌, ◌&&◌, if◌then◌else◌, nat_lt, List, [], ◌∷◌, ◌++◌, take, Option, Some, None, slice_get, unwrap_or}
+use Rattle.gc_catalogue.specs.declared.answer.Answer.{Answer}
+use Rattle.gc_texts.specs.Endings.{End, Answered}
+use Rattle.gc_texts.specs.declared.agree.Twice.{Twice}
+use Rattle.gc_texts.specs.declared.agree.Twice.TheVariants as twice
+use Rattle.gc_texts.specs.declared.near.Expected.{Expected}
+use Rattle.gc_texts.specs.declared.quality.Quality.TheVariants.{Unconfirmed}
+use Rattle.gc_texts.specs.declared.turn.Turn.{Turn}
+use Rattle.gc_station.specs.declared.firsts.FirstAnswer.{FirstAnswer}
+use Rattle.gc_station.specs.declared.firsts.TheConstants.{FIRSTS}
+use Rattle.gc_station.specs.declared.mark.Mark.{Mark}
+use Rattle.gc_station.specs.Records.{Record}
+
+-- the answer `first` of a first sending, if it is that of the same command of the text as `turn` is of, in this cycle and in the
+-- attempt before
+abbrev pub answer_of : (first : FirstAnswer) (cycle : ℕ) → Turn → Option (Option Answer)
+answer_of first cycle turn =
+    if (first.cycle == cycle) && ((first.turn.place == turn.place) && (turn.attempt - first.turn.attempt == 1)) then Some first.answer else None
+
+-- the answer `found` of a first sending, if there is one, and it is that of the same command (`answer_of`)
+abbrev pub answer_found : (found : Option FirstAnswer) (cycle : ℕ) → Turn → Option (Option Answer)
+answer_found None cycle turn = None
+answer_found (Some first) cycle turn = answer_of first cycle turn
+
+-- the answer of the first sending with which that of a command with this turn in this cycle is compared: none, unless the command is of
+-- a second sending. `firsts` are the answers that are kept
+abbrev pub answer_first : (firsts : List (Option FirstAnswer)) (cycle : ℕ) → Turn → Twice → Option (Option Answer)
+answer_first firsts cycle turn (twice.Second agree nth) = answer_found (unwrap_or (slice_get firsts nth) None) cycle turn
+answer_first firsts cycle turn _ = None
+
+-- the kept answers of a first sending with one more, in the place of its command in the chain: those from there on are discarded, and
+-- one that comes after 32 commands isn't kept
+abbrev pub put : FirstAnswer → List (Option FirstAnswer) → List (Option FirstAnswer)
+put first firsts = if nat_lt first.turn.link FIRSTS then take first.turn.link firsts ++ Some first ∷ [] else firsts
+
+-- the kept answers of a first sending once a command with this cycle, turn and ending was recorded: with its answer, if that is
+-- unconfirmed
+abbrev pub first_noted : (cycle : ℕ) → Turn → End → List (Option FirstAnswer) → List (Option FirstAnswer)
+first_noted cycle turn (Answered Unconfirmed answer line) firsts = put (record { cycle = cycle; turn = turn; answer = answer }) firsts
+first_noted cycle turn _ firsts = firsts
+
+-- the kept answers of a first sending once these records were made
+abbrev pub firsts_after : List (Option FirstAnswer) → List Record → List (Option FirstAnswer)
+firsts_after firsts [] = firsts
+firsts_after firsts (r ∷ others) = firsts_after (first_noted r.cycle r.turn r.end firsts) others
+
+-- `mark` of a command that is sent, with the answer of the first sending with which its own is compared
+abbrev pub with_first : List (Option FirstAnswer) → Mark → Mark
+with_first firsts mark =
+    record mark { expected = record mark.expected { first = answer_first firsts mark.cycle mark.expected.turn mark.expected.twice } }

@@ -1,0 +1,50 @@
+//! Doubts. A stray that can't repeat the reply that settled last shows that a line was altered: the stray, or the line that settled
+//! last. The book is told of it, and nothing is sent before the next synchronization (`has_room_to_ask` of `deciding.rt`).
+
+ghost use Rattle.std.specs.Prelude.{◌≡◌};
+ghost use Rattle.gc_station.specs.Lines.{raises_doubt};
+ghost use Rattle.gc_station.specs.Progressing.{doubt_noted};
+
+use crate::book::Book;
+use crate::progress::Progress;
+use crate::station::Station;
+use gc_catalogue::Asked;
+use gc_client::{Client, SlotsOf};
+use gc_lines::read_reply;
+use gc_texts::is_impossible;
+
+// Whether a line raises a doubt, as this client hears it: it is a reply with an id, and a stray that can't repeat the one that settled
+// last.
+fn raises_doubt(client: &Client<SlotsOf<Asked>>, line: &[u8]) -> bool
+    ensures { result ≡ raises_doubt client.now.ids line.now }
+{
+    match read_reply(line) {
+        Ok(reply) => is_impossible(client.next_id(), client.waiting(), reply.id),
+        Err(_) => false,
+    }
+}
+
+impl Progress {
+    // Notes whether a line that came raised a doubt, which stays until the station resynchronizes.
+    fn note_doubt(&mut self, raised: bool)
+        ensures { self.new ≡ doubt_noted raised self.old }
+    {
+        self.doubtful = self.doubtful || raised;
+    }
+}
+
+impl Station {
+    // Notes whether a line that its client is about to hear raises a doubt, and tells the book of it.
+    pub(crate) fn doubt<B: Book>(&mut self, book: &mut B, line: &[u8])
+        ensures notes { self.new ≡ record self.old { progress = doubt_noted (raises_doubt self.old.client.ids line.now) self.old.progress } }
+        ensures taken { B.taken book.new ≡ B.taken book.old }
+        ensures failed { B.failed book.new ≡ B.failed book.old }
+        ensures form { B.text book.new ≡ B.text book.old }
+    {
+        let raised = raises_doubt(&self.client, line);
+        self.progress.note_doubt(raised);
+        if raised {
+            book.doubts(self.progress.last_ended);
+        }
+    }
+}
