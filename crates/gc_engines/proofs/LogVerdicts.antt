@@ -2,7 +2,7 @@
 -- pieces that come after it. `WritesVerdicts`: the verdicts on the lines that end in a piece went out. `WritesVerdictsInPart`:
 -- only a front of them did. `HasChecked`: they did, and the check keeps the bytes since the last line feed. `HasJudged`: some of them
 -- did, and the others wait. a, b and c are what the sink had taken at three moments, in order, and n, m and k how many verdicts had
--- gone out by then.
+-- gone out by then. The client is as far as the log shows it: `x` before p, `y` after it, and `z` after q.
 use Rattle.std.proofs.Common.{◌≡◌, ℕ, ◌+◌, ◌-◌, ◌<◌, ◌≤◌, Bool, true, false, cond, nat_lt, List, [], ◌∷◌, ◌++◌, length, take, map, Option, Some, None, refl, sym, ap, subst, ◌∙◌, arith, append_assoc, append-nil, length-append}
 use Rattle.std.specs.Io.KnownBytes.{Appends}
 use Rattle.std.proofs.lemmas.Bool.{ltb-true, ltb-false}
@@ -17,35 +17,54 @@ use Rattle.gc_lines.proofs.Cutting.{front_joins_piece, pieces-append, rest-appen
 use Rattle.gc_lines.proofs.InOrder.{all_of-append}
 use Rattle.gc_lines.proofs.Known.{Appends-is}
 use Rattle.gc_texts.specs.Cuts.{Cuts, Lacks}
-use Rattle.gc_texts.specs.LineForms.{ItemForm, AreLinesOf}
-use Rattle.gc_texts.proofs.TextLines.{AreLinesOf-append}
 use Rattle.gc_engines.specs.Checking.{WritesPart}
-use Rattle.gc_engines.specs.LogChecking.{IsLogVerdict, AreLogVerdicts, HasChecked, HasJudged, JudgesLine, JudgesMore, KeepsLine, NoneWait, StopsWriting, TakesLine, TakesPiece, TakesPieceInPart, WritesVerdicts, WritesVerdictsInPart, WritesWaiting}
+use Rattle.gc_engines.specs.LogChecking.{AreLogVerdicts, AreVerdictsBetween, AreVerdictsFrom, HasChecked, HasJudged, JudgesLine, JudgesMore, KeepsLine, NoneWait, StopsWriting, TakesLine, TakesPiece, TakesPieceInPart, WritesVerdicts, WritesVerdictsInPart, WritesWaiting}
 use Rattle.gc_engines.specs.declared.check_log.LogCheck.{LogCheck}
 use Rattle.gc_engines.specs.declared.check_log.PartialLine.{PartialLine}
+use Rattle.gc_engines.specs.declared.log_client.LogClient.{LogClient}
+
+-- where texts are what is written of the lines `ls`, and then of `ms`, they are what is written of all
+verdicts_append : (x y z : LogClient) (ls ms ts us : List (List ℕ)) → AreVerdictsBetween x y ls ts → AreVerdictsBetween y z ms us
+    → AreVerdictsBetween x z (ls ++ ms) (ts ++ us)
+verdicts_append x y z [] ms [] us h k = subst (λ (w : LogClient). AreVerdictsBetween w z ms us) h k
+verdicts_append x y z [] ms (t ∷ ts) us h k = absurd h
+verdicts_append x y z (l ∷ ls) ms [] us h k = absurd h
+verdicts_append x y z (l ∷ ls) ms (t ∷ ts) us (next, is, more) k = (next, is, verdicts_append next y z ls ms ts us more k)
+
+-- where texts are what is written of lines, the first of them are what is written of the first lines
+verdicts_split : (x z : LogClient) (ls ts us : List (List ℕ)) → AreVerdictsBetween x z ls (ts ++ us)
+    → (ms : List (List ℕ)) × (ns : List (List ℕ)) × (ls ≡ ms ++ ns) × AreVerdictsFrom x ms ts
+verdicts_split x z ls [] us h = ([], ls, refl, record { new = x; are = refl })
+verdicts_split x z [] (t ∷ ts) us h = absurd h
+verdicts_split x z (l ∷ ls) (t ∷ ts) us (next, is, more) =
+    let k = verdicts_split next z ls ts us more in
+    (l ∷ k.0, k.1, ap (λ (ms : List (List ℕ)). l ∷ ms) k.2, record { new = k.3.new; are = (next, is, k.3.are) })
 
 -- where `WritesVerdicts` is true of p, and then of q after it, it is true of `p ++ q`
-verdicts_then : (rest p q : List ℕ) (a b c : Option (List ℕ)) (n m k : ℕ) → WritesVerdicts rest p a b n m
-    → WritesVerdicts (rest_behind rest p) q b c m k → WritesVerdicts rest (p ++ q) a c n k
-verdicts_then rest p q a b c n m k one next = record {
+verdicts_then : (x y z : LogClient) (rest p q : List ℕ) (a b c : Option (List ℕ)) (n m k : ℕ) → WritesVerdicts x y rest p a b n m
+    → WritesVerdicts y z (rest_behind rest p) q b c m k → WritesVerdicts x z rest (p ++ q) a c n k
+verdicts_then x y z rest p q a b c n m k one next = record {
   texts = one.texts ++ next.texts;
-  are = subst (λ ls. AreLogVerdicts ls (one.texts ++ next.texts)) (sym (pieces-append rest p q))
-      (AreLinesOf-append IsLogVerdict (pieces_behind rest p) (pieces_behind (rest_behind rest p) q) one.texts next.texts one.are next.are);
+  are = subst (λ ls. AreVerdictsBetween x z ls (one.texts ++ next.texts)) (sym (pieces-append rest p q))
+      (verdicts_append x y z (pieces_behind rest p) (pieces_behind (rest_behind rest p) q) one.texts next.texts one.are next.are);
   took = Appends-is a c (all_of one.texts ++ all_of next.texts) (all_of (one.texts ++ next.texts)) (sym (all_of-append one.texts next.texts)) (Appends-trans a b c _ _ one.took next.took);
   counts = omega (arith, one.counts, next.counts, length-append one.texts next.texts);
 }
 
 -- where `WritesVerdicts` is true of p, and then `WritesVerdictsInPart` of q after it, `WritesVerdictsInPart` is true of `p ++ q`
-verdicts_part_then : (rest p q : List ℕ) (a b c : Option (List ℕ)) (n m k bytes : ℕ) → WritesVerdicts rest p a b n m
-    → WritesVerdictsInPart (rest_behind rest p) q b c m k bytes → WritesVerdictsInPart rest (p ++ q) a c n k bytes
-verdicts_part_then rest p q a b c n m k bytes one next = record {
+verdicts_part_then : (x y : LogClient) (rest p q : List ℕ) (a b c : Option (List ℕ)) (n m k bytes : ℕ) → WritesVerdicts x y rest p a b n m
+    → WritesVerdictsInPart y (rest_behind rest p) q b c m k bytes → WritesVerdictsInPart x rest (p ++ q) a c n k bytes
+verdicts_part_then x y rest p q a b c n m k bytes one next = record {
   seen = pieces_behind rest p ++ next.seen;
   later = next.later;
   order = pieces-append rest p q ∙ ap (λ ls. pieces_behind rest p ++ ls) next.order ∙ sym (append_assoc (pieces_behind rest p) next.seen next.later);
   whole = one.texts ++ next.whole;
   line = next.line;
-  are = subst (AreLogVerdicts (pieces_behind rest p ++ next.seen)) (sym (append_assoc one.texts next.whole (next.line ∷ [])))
-      (AreLinesOf-append IsLogVerdict (pieces_behind rest p) next.seen one.texts (next.whole ++ next.line ∷ []) one.are next.are);
+  are = record {
+    new = next.are.new;
+    are = subst (AreVerdictsBetween x next.are.new (pieces_behind rest p ++ next.seen)) (sym (append_assoc one.texts next.whole (next.line ∷ [])))
+        (verdicts_append x y next.are.new (pieces_behind rest p) next.seen one.texts (next.whole ++ next.line ∷ []) one.are next.are.are);
+  };
   counts = omega (arith, one.counts, next.counts, length-append one.texts next.whole);
   not_all = next.not_all;
   took = Appends-is a c _ _
@@ -54,9 +73,9 @@ verdicts_part_then rest p q a b c n m k bytes one next = record {
 }
 
 -- where `WritesVerdictsInPart` is true of p, it is true of `p ++ q`: what comes after a failed write changes nothing
-verdicts_part_before : (rest p q : List ℕ) (a b : Option (List ℕ)) (n k bytes : ℕ) → WritesVerdictsInPart rest p a b n k bytes
-    → WritesVerdictsInPart rest (p ++ q) a b n k bytes
-verdicts_part_before rest p q a b n k bytes one = record {
+verdicts_part_before : (x : LogClient) (rest p q : List ℕ) (a b : Option (List ℕ)) (n k bytes : ℕ) → WritesVerdictsInPart x rest p a b n k bytes
+    → WritesVerdictsInPart x rest (p ++ q) a b n k bytes
+verdicts_part_before x rest p q a b n k bytes one = record {
   seen = one.seen;
   later = one.later ++ pieces_behind (rest_behind rest p) q;
   order = pieces-append rest p q ∙ ap (λ ls. ls ++ pieces_behind (rest_behind rest p) q) one.order ∙ append_assoc one.seen one.later _;
@@ -71,14 +90,6 @@ verdicts_part_before rest p q a b n k bytes one = record {
 -- where bytes have no LF, no line ends in them, and all of them come after the rest
 lacking : (rest bs : List ℕ) → Lacks 10 bs → (pieces_behind rest bs ≡ []) × (rest_behind rest bs ≡ rest ++ bs)
 lacking rest bs lacks = subst (λ l. (pieces_behind rest l ≡ []) × (rest_behind rest l ≡ rest ++ bs)) (append-nil bs) (front_joins_piece rest bs [] lacks)
-
--- where lines have the forms of the items `es` and then `fs`, the first of them have those of `es`
-lines_split : {Item : Type 0} (form : ItemForm Item) (xs : List (List ℕ)) (es fs : List Item) → AreLinesOf form xs (es ++ fs)
-    → (ys : List (List ℕ)) × (zs : List (List ℕ)) × (xs ≡ ys ++ zs) × AreLinesOf form ys es
-lines_split form xs [] fs h = ([], xs, refl, tt)
-lines_split form [] (e ∷ es) fs h = absurd h
-lines_split form (x ∷ xs) (e ∷ es) fs h =
-    let k = lines_split form xs es fs h.1 in (x ∷ k.0, k.1, ap (λ l. x ∷ l) k.2, (h.0, k.3))
 
 -- where texts have no lengths, there are none
 no_texts : (texts : List (List ℕ)) → [] ≡ map length texts → texts ≡ []
@@ -144,15 +155,15 @@ cuts_texts (t ∷ ts) whole taken less = elim (nat_lt taken (length t)) as (λ b
 ] refl
 
 -- of the lines that end in p the check `check` has judged all
-module _ (check : LogCheck) (rest p : List ℕ) (a b : Option (List ℕ)) (n : ℕ) (h : HasJudged check rest p a b n) where
+module _ (x : LogClient) (check : LogCheck) (rest p : List ℕ) (a b : Option (List ℕ)) (n : ℕ) (h : HasJudged x check rest p a b n) where
   -- where bytes without LF come, and are kept, the same lines are judged
   pub judged_kept : (kept : PartialLine) (line : List ℕ) → Lacks 10 line → ((r : List ℕ) → KeepsLine check.kept r → KeepsLine kept (r ++ line))
-      → HasJudged (record { kept = kept; text = check.text; lengths = check.lengths; replies = check.replies }) rest (p ++ line) a b n
+      → HasJudged x (record { kept = kept; client = check.client; text = check.text; lengths = check.lengths; replies = check.replies }) rest (p ++ line) a b n
   judged_kept kept line lacks keeps = record {
     keeps = subst (KeepsLine kept) (sym (rest-append rest p line ∙ (lacking (rest_behind rest p) line lacks).1)) (keeps (rest_behind rest p) h.keeps);
     done = h.done;
     held = h.held;
-    are = subst (λ ls. AreLogVerdicts ls (h.done ++ h.held))
+    are = subst (λ ls. AreVerdictsBetween x check.client ls (h.done ++ h.held))
         (sym (pieces-append rest p line ∙ ap (λ ls. pieces_behind rest p ++ ls) (lacking (rest_behind rest p) line lacks).0 ∙ append-nil (pieces_behind rest p))) h.are;
     took = h.took;
     counts = h.counts;
@@ -162,14 +173,14 @@ module _ (check : LogCheck) (rest p : List ℕ) (a b : Option (List ℕ)) (n : �
 
   -- where an LF ends the line that is kept, and what is written of it joins the texts that wait, that line is judged, too
   pub judged_line : (after : LogCheck) → JudgesLine check after (rest_behind rest p) → KeepsLine after.kept [] → after.replies ≡ check.replies
-      → HasJudged after rest (p ++ 10 ∷ []) a b n
+      → HasJudged x after rest (p ++ 10 ∷ []) a b n
   judged_line after j keeps same = record {
     keeps = subst (KeepsLine after.kept) (sym (rest-append rest p (10 ∷ []))) keeps;
     done = h.done;
     held = h.held ++ j.text ∷ [];
-    are = subst (λ ls. AreLogVerdicts ls (h.done ++ (h.held ++ j.text ∷ []))) (sym (pieces-append rest p (10 ∷ [])))
-        (subst (AreLogVerdicts (pieces_behind rest p ++ rest_behind rest p ∷ [])) (append_assoc h.done h.held (j.text ∷ []))
-        (AreLinesOf-append IsLogVerdict (pieces_behind rest p) (rest_behind rest p ∷ []) (h.done ++ h.held) (j.text ∷ []) h.are (j.is, tt)));
+    are = subst (λ ls. AreVerdictsBetween x after.client ls (h.done ++ (h.held ++ j.text ∷ []))) (sym (pieces-append rest p (10 ∷ [])))
+        (subst (AreVerdictsBetween x after.client (pieces_behind rest p ++ rest_behind rest p ∷ [])) (append_assoc h.done h.held (j.text ∷ []))
+        (verdicts_append x check.client after.client (pieces_behind rest p) (rest_behind rest p ∷ []) (h.done ++ h.held) (j.text ∷ []) h.are (after.client, j.is, refl)));
     took = h.took;
     counts = same ∙ h.counts;
     text_is = j.longer ∙ ap (λ (xs : List ℕ). xs ++ j.text) h.text_is ∙ ap (λ (xs : List ℕ). all_of h.held ++ xs) (sym (append-nil j.text))
@@ -178,13 +189,14 @@ module _ (check : LogCheck) (rest p : List ℕ) (a b : Option (List ℕ)) (n : �
   }
 
   -- where all texts that wait go out, the same lines are judged, and none waits
-  pub judged_written : (c : Option (List ℕ)) (after : LogCheck) → Appends b c check.text.items → after.kept ≡ check.kept → NoneWait after
-      → after.replies ≡ check.replies + length check.lengths.items → HasJudged after rest p a c n
-  judged_written c after took kept none counts = record {
+  pub judged_written : (c : Option (List ℕ)) (after : LogCheck) → Appends b c check.text.items → after.kept ≡ check.kept → after.client ≡ check.client
+      → NoneWait after → after.replies ≡ check.replies + length check.lengths.items → HasJudged x after rest p a c n
+  judged_written c after took kept client none counts = record {
     keeps = subst (λ k. KeepsLine k (rest_behind rest p)) (sym kept) h.keeps;
     done = h.done ++ h.held;
     held = [];
-    are = subst (AreLogVerdicts (pieces_behind rest p)) (sym (append-nil (h.done ++ h.held))) h.are;
+    are = subst (λ (w : LogClient). AreVerdictsBetween x w (pieces_behind rest p) ((h.done ++ h.held) ++ [])) (sym client)
+        (subst (AreVerdictsBetween x check.client (pieces_behind rest p)) (sym (append-nil (h.done ++ h.held))) h.are);
     took = Appends-is a c _ _ (sym (all_of-append h.done h.held)) (Appends-trans a b c _ _ h.took (Appends-is b c _ _ h.text_is took));
     counts = omega (arith, counts, h.counts, ap (λ (ns : List ℕ). length ns) h.lengths_are, length-map h.held length, length-append h.done h.held);
     text_is = none.0;
@@ -193,15 +205,15 @@ module _ (check : LogCheck) (rest p : List ℕ) (a b : Option (List ℕ)) (n : �
 
   -- where only the first `taken` bytes of the texts that wait go out, `WritesVerdictsInPart` is true of p
   pub judged_part : (c : Option (List ℕ)) (taken total bytes : ℕ) → TakesFront b c taken check.text.items
-      → (total, bytes) ≡ whole_and_part check.replies taken check.lengths.items → WritesVerdictsInPart rest p a c n total bytes
+      → (total, bytes) ≡ whole_and_part check.replies taken check.lengths.items → WritesVerdictsInPart x rest p a c n total bytes
   judged_part c taken total bytes took counts =
       let k = cuts_texts h.held check.replies taken (subst (λ (xs : List ℕ). taken < length xs) h.text_is took.0) in
       let grown : check.replies + length k.front ≡ n + length (h.done ++ k.front) = omega (arith, h.counts, length-append h.done k.front) in
       let same : (total, bytes) ≡ (check.replies + length k.front, k.bytes) = counts ∙ ap (λ (ns : List ℕ). whole_and_part check.replies taken ns) h.lengths_are ∙ k.counts in
       let order : h.done ++ h.held ≡ ((h.done ++ k.front) ++ k.text ∷ []) ++ k.later =
       ap (λ l. h.done ++ l) k.order ∙ sym (append_assoc h.done k.front (k.text ∷ k.later)) ∙ sym (append_assoc (h.done ++ k.front) (k.text ∷ []) k.later) in
-      let cut = lines_split IsLogVerdict (pieces_behind rest p) ((h.done ++ k.front) ++ k.text ∷ []) k.later (subst (AreLogVerdicts (pieces_behind rest p)) order h.are) in
-      let part : WritesVerdictsInPart rest p a c n (check.replies + length k.front) k.bytes = record {
+      let cut = verdicts_split x check.client (pieces_behind rest p) ((h.done ++ k.front) ++ k.text ∷ []) k.later (subst (AreVerdictsBetween x check.client (pieces_behind rest p)) order h.are) in
+      let part : WritesVerdictsInPart x rest p a c n (check.replies + length k.front) k.bytes = record {
         seen = cut.0;
         later = cut.1;
         order = cut.2;
@@ -213,27 +225,27 @@ module _ (check : LogCheck) (rest p : List ℕ) (a b : Option (List ℕ)) (n : �
         took = Appends-is a c _ _ (sym (append_assoc (all_of h.done) (all_of k.front) (take k.bytes k.text)) ∙ ap (λ l. l ++ take k.bytes k.text) (sym (all_of-append h.done k.front)))
             (Appends-trans a b c _ _ h.took (Appends-is b c _ _ (ap (λ (xs : List ℕ). take taken xs) h.text_is ∙ k.taken_is) took.1));
       } in
-      subst (λ (x : ℕ × ℕ). WritesVerdictsInPart rest p a c n x.0 x.1) (sym same) part
+      subst (λ (w : ℕ × ℕ). WritesVerdictsInPart x rest p a c n w.0 w.1) (sym same) part
 
   -- where no text waits, the check is done with p
-  pub judged_all : NoneWait check → HasChecked check rest p a b n
+  pub judged_all : NoneWait check → HasChecked x check rest p a b n
   judged_all none =
       let all : h.done ++ h.held ≡ h.done = ap (λ l. h.done ++ l) (no_texts h.held (sym none.1 ∙ h.lengths_are)) ∙ append-nil h.done in (
         h.keeps,
-        record { texts = h.done; are = subst (AreLogVerdicts (pieces_behind rest p)) all h.are; took = h.took; counts = h.counts },
+        record { texts = h.done; are = subst (AreVerdictsBetween x check.client (pieces_behind rest p)) all h.are; took = h.took; counts = h.counts },
       )
 
 -- the check with these bytes kept in place of those before
 abbrev with_kept : LogCheck → PartialLine → LogCheck
-with_kept check kept = record { kept = kept; text = check.text; lengths = check.lengths; replies = check.replies }
+with_kept check kept = record { kept = kept; client = check.client; text = check.text; lengths = check.lengths; replies = check.replies }
 
 -- bytes were cut at their first LF, and what is before it, `line`, was kept
 module _ (check : LogCheck) (kept : PartialLine) where
   -- where there is no LF, all bytes were taken
   pub takes_all : (bytes line : List ℕ) (a : Option (List ℕ)) → Cuts 10 bytes line None
       → ((r : List ℕ) → KeepsLine check.kept r → KeepsLine kept (r ++ line)) → TakesLine check (with_kept check kept) bytes None a a
-  takes_all bytes line a cut keeps rest piece start count h =
-      subst (λ l. HasJudged (with_kept check kept) rest (piece ++ l) start a count) (sym cut.0) (judged_kept check rest piece start a count h kept line cut.1 keeps)
+  takes_all bytes line a cut keeps x rest piece start count h =
+      subst (λ l. HasJudged x (with_kept check kept) rest (piece ++ l) start a count) (sym cut.0) (judged_kept x check rest piece start a count h kept line cut.1 keeps)
 
   -- where the LF then ended that line, the bytes through it were taken
   pub takes_line : (next : LogCheck) (bytes line behind : List ℕ) (a b : Option (List ℕ)) → Cuts 10 bytes line (Some behind)
@@ -242,20 +254,20 @@ module _ (check : LogCheck) (kept : PartialLine) where
   takes_line next bytes line behind a b cut keeps more = (
     line,
     cut.0,
-    λ rest piece start count h.
-        subst (λ l. HasJudged next rest l start b count) (append_assoc piece line (10 ∷ []))
-        (more rest (piece ++ line) start count (judged_kept check rest piece start a count h kept line cut.1 keeps)),
+    λ x rest piece start count h.
+        subst (λ l. HasJudged x next rest l start b count) (append_assoc piece line (10 ∷ []))
+        (more x rest (piece ++ line) start count (judged_kept x check rest piece start a count h kept line cut.1 keeps)),
   )
 
   -- where the sink then failed, it is as if it had failed before
   pub stops_behind : (next : LogCheck) (bytes line behind : List ℕ) (a b : Option (List ℕ)) (n : ℕ) → Cuts 10 bytes line (Some behind)
       → ((r : List ℕ) → KeepsLine check.kept r → KeepsLine kept (r ++ line)) → StopsWriting (with_kept check kept) next a b n
       → StopsWriting check next a b n
-  stops_behind next bytes line behind a b n cut keeps stops rest piece start count h =
+  stops_behind next bytes line behind a b n cut keeps stops x rest piece start count h =
       let same : pieces_behind rest (piece ++ line) ≡ pieces_behind rest piece =
       pieces-append rest piece line ∙ ap (λ ls. pieces_behind rest piece ++ ls) (lacking (rest_behind rest piece) line cut.1).0 ∙ append-nil (pieces_behind rest piece) in
-      subst (λ ls. WritesPart AreLogVerdicts ls start b count next.replies n) same
-      (stops rest (piece ++ line) start count (judged_kept check rest piece start a count h kept line cut.1 keeps))
+      subst (λ ls. WritesPart (AreVerdictsFrom x) ls start b count next.replies n) same
+      (stops x rest (piece ++ line) start count (judged_kept x check rest piece start a count h kept line cut.1 keeps))
 
 -- what is left of a piece; nothing, if nothing is (`None`)
 abbrev pub all_left : Option (List ℕ) → List ℕ
@@ -266,7 +278,7 @@ all_left (Some bytes) = bytes
 pub record Walks (first check : LogCheck) (piece : List ℕ) (left : Option (List ℕ)) (a b : Option (List ℕ)) : Type 0 where
   pub front : List ℕ
   pub whole : front ++ all_left left ≡ piece
-  pub judged : (rest : List ℕ) → KeepsLine first.kept rest → HasJudged check rest front a b first.replies
+  pub judged : (rest : List ℕ) → KeepsLine first.kept rest → HasJudged first.client check rest front a b first.replies
 
 -- before a piece, if no text waits
 pub walk_begins : (first : LogCheck) (piece : List ℕ) (a : Option (List ℕ)) → NoneWait first → Walks first first piece (Some piece) a a
@@ -277,7 +289,7 @@ walk_begins first piece a none = record {
     keeps = keeps;
     done = [];
     held = [];
-    are = tt;
+    are = refl;
     took = Appends-nil a;
     counts = omega arith;
     text_is = none.0;
@@ -291,12 +303,12 @@ pub walk_goes_on : (first check next : LogCheck) (piece bytes : List ℕ) (behin
 walk_goes_on first check next piece bytes None a b c w more = record {
   front = w.front ++ bytes;
   whole = append-nil (w.front ++ bytes) ∙ w.whole;
-  judged = λ rest keeps. more rest w.front a first.replies (w.judged rest keeps);
+  judged = λ rest keeps. more first.client rest w.front a first.replies (w.judged rest keeps);
 }
 walk_goes_on first check next piece bytes (Some behind) a b c w (line, is, more) = record {
   front = w.front ++ (line ++ 10 ∷ []);
   whole = append_assoc w.front (line ++ 10 ∷ []) behind ∙ ap (λ l. w.front ++ l) (append_assoc line (10 ∷ []) behind ∙ sym is) ∙ w.whole;
-  judged = λ rest keeps. more rest w.front a first.replies (w.judged rest keeps);
+  judged = λ rest keeps. more first.client rest w.front a first.replies (w.judged rest keeps);
 }
 
 -- what became of a piece of which nothing is left, once no text waits
@@ -304,26 +316,26 @@ pub walk_ends : (first check next : LogCheck) (piece : List ℕ) (a b c : Option
     → WritesWaiting check next b c → NoneWait next → TakesPiece first next piece a c
 walk_ends first check next piece a b c w writes none rest keeps =
     let whole : w.front ≡ piece = sym (append-nil w.front) ∙ w.whole in
-    subst (λ l. HasChecked next rest l a c first.replies) whole
-    (judged_all next rest w.front a c first.replies (writes rest w.front a first.replies (w.judged rest keeps)) none)
+    subst (λ l. HasChecked first.client next rest l a c first.replies) whole
+    (judged_all first.client next rest w.front a c first.replies (writes first.client rest w.front a first.replies (w.judged rest keeps)) none)
 
 -- what became of a piece, where the sink failed
 pub walk_stops : (first check next : LogCheck) (piece : List ℕ) (left a b c : Option (List ℕ)) (bytes : ℕ)
     → Walks first check piece left a b → StopsWriting check next b c bytes → TakesPieceInPart first next piece a c bytes
 walk_stops first check next piece left a b c bytes w stops rest keeps =
-    subst (λ l. WritesVerdictsInPart rest l a c first.replies next.replies bytes) w.whole
-    (verdicts_part_before rest w.front (all_left left) a c first.replies next.replies bytes (stops rest w.front a first.replies (w.judged rest keeps)))
+    subst (λ l. WritesVerdictsInPart first.client rest l a c first.replies next.replies bytes) w.whole
+    (verdicts_part_before first.client rest w.front (all_left left) a c first.replies next.replies bytes (stops first.client rest w.front a first.replies (w.judged rest keeps)))
 
 -- the check is done with p, and q, which comes after it, takes it from `check` to `next`
-module _ (check next : LogCheck) (rest p q : List ℕ) (a b c : Option (List ℕ)) (n : ℕ) (so : HasChecked check rest p a b n) where
+module _ (x : LogClient) (check next : LogCheck) (rest p q : List ℕ) (a b c : Option (List ℕ)) (n : ℕ) (so : HasChecked x check rest p a b n) where
   -- where q was checked whole, the check is done with `p ++ q`
-  pub checked_more : TakesPiece check next q b c → HasChecked next rest (p ++ q) a c n
+  pub checked_more : TakesPiece check next q b c → HasChecked x next rest (p ++ q) a c n
   checked_more takes =
       let it = takes (rest_behind rest p) so.0 in (
         subst (λ l. KeepsLine next.kept l) (sym (rest-append rest p q)) it.0,
-        verdicts_then rest p q a b c n check.replies next.replies so.1 it.1,
+        verdicts_then x check.client next.client rest p q a b c n check.replies next.replies so.1 it.1,
       )
 
   -- where the sink failed in q, `WritesVerdictsInPart` is true of `p ++ q`
-  pub checked_part : (bytes : ℕ) → TakesPieceInPart check next q b c bytes → WritesVerdictsInPart rest (p ++ q) a c n next.replies bytes
-  checked_part bytes takes = verdicts_part_then rest p q a b c n check.replies next.replies bytes so.1 (takes (rest_behind rest p) so.0)
+  pub checked_part : (bytes : ℕ) → TakesPieceInPart check next q b c bytes → WritesVerdictsInPart x rest (p ++ q) a c n next.replies bytes
+  checked_part bytes takes = verdicts_part_then x check.client rest p q a b c n check.replies next.replies bytes so.1 (takes (rest_behind rest p) so.0)

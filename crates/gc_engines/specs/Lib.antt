@@ -5,6 +5,7 @@ pub mod Drill
 pub mod SceneDrill
 pub mod Verdicts
 pub mod Checking
+pub mod LogClients
 pub mod LogChecking
 pub mod Laws
 pub mod RuleScenes

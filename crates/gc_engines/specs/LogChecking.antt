@@ -7,14 +7,15 @@ use Rattle.gc_lines.specs.Answering.{IsRunOverPorts, Ports, all_of}
 use Rattle.gc_lines.specs.Frames.{ends_in_return, pieces_behind, rest_behind}
 use Rattle.gc_lines.specs.declared.served.Served.{Served}
 use Rattle.gc_lines.specs.declared.served.ServeFault.{ServeFault}
-use Rattle.gc_texts.specs.LineForms.{AreLinesOf}
 use Rattle.gc_texts.specs.Logs.{marked_text, escaped, IsLogLine}
 use Rattle.gc_texts.specs.declared.log_line.LogMark.{LogMark}
 use Rattle.gc_texts.specs.declared.log_line.LogMark.TheVariants as mark
 use Rattle.gc_engines.specs.Checking.{WritesAll, WritesBy, WritesPart}
 use Rattle.gc_engines.specs.Verdicts.{IsLineVerdict, verdict_text}
+use Rattle.gc_engines.specs.LogClients.{after_entry, doubt_text, is_impossible_entry, nothing_known}
 use Rattle.gc_engines.specs.declared.check_log.LogCheck.{LogCheck}
 use Rattle.gc_engines.specs.declared.check_log.PartialLine.{PartialLine}
+use Rattle.gc_engines.specs.declared.log_client.LogClient.{LogClient}
 use Rattle.gc_engines.specs.declared.verdict.Verdict.{Verdict}
 use Rattle.gc_engines.specs.declared.verdict.Verdict.TheVariants as verdict
 
@@ -40,28 +41,44 @@ IsMarkedVerdict mark.Came bytes text = IsWholeVerdict bytes text
 IsMarkedVerdict mark.CamePart bytes text = text ≡ part_verdict bytes
 IsMarkedVerdict mark.Link bytes text = text ≡ escaped bytes
 
--- the text is what is written of a log line with this moment, mark and bytes: the moment and the mark as they are, and the verdict on
--- the bytes
-abbrev pub IsMarkedVerdictLine : (moment : List ℕ) → LogMark → (bytes text : List ℕ) → Type 0
-IsMarkedVerdictLine moment mark bytes text =
-    (words : List ℕ) × IsMarkedVerdict mark bytes words × (text ≡ marked_text moment mark (words ++ codes "\n"))
+-- the text is what is written of a log line with this moment, mark and bytes, of which the reply is impossible or not (`doubted`): the
+-- moment and the mark as they are, the verdict on the bytes, and whether the reply is impossible
+abbrev pub IsMarkedVerdictLine : (doubted : Bool) → (moment : List ℕ) → LogMark → (bytes text : List ℕ) → Type 0
+IsMarkedVerdictLine doubted moment mark bytes text =
+    (words : List ℕ) × IsMarkedVerdict mark bytes words × (text ≡ marked_text moment mark (words ++ (doubt_text doubted ++ codes "\n")))
 
 -- the most bytes of a line of a log that is read: this project's own
 abbrev pub log_line_most : ℕ
 log_line_most = 2100
 
--- the text is what is written of a line of the checked log. If the line reads as a log line, that is as `IsMarkedVerdictLine`
--- says; if not, that it is no log line. A line of more than `log_line_most` bytes, or of more than 514 bytes of the connection,
--- doesn't read
-pub data IsLogVerdict (line text : List ℕ) : Type 0 where
+-- the text is what is written of a line of the checked log, before which the client was `old`, as far as the log shows it, and after which
+-- it is `new`. If the line reads as a log line, that is as `IsMarkedVerdictLine` says; if not, that it is no log line, and nothing is
+-- known of the client any more. A line of more than `log_line_most` bytes, or of more than 514 bytes of the connection, doesn't read
+pub data IsLogVerdict (old : LogClient) (line text : List ℕ) (new : LogClient) : Type 0 where
   reads : (moment bytes : List ℕ) (mark : LogMark) → length line ≤ log_line_most → length bytes ≤ 514 → IsLogLine line moment mark bytes
-      → IsMarkedVerdictLine moment mark bytes text → IsLogVerdict line text
+      → IsMarkedVerdictLine (is_impossible_entry old mark bytes) moment mark bytes text → new ≡ after_entry old mark bytes
+      → IsLogVerdict old line text new
   unread : (length line ≤ log_line_most → (moment : List ℕ) (mark : LogMark) (bytes : List ℕ) → length bytes ≤ 514 → IsLogLine line moment mark bytes → ⊥)
-      → text ≡ codes "no log line\n" → IsLogVerdict line text
+      → text ≡ codes "no log line\n" → new ≡ nothing_known → IsLogVerdict old line text new
 
--- the texts are what is written of the lines of a checked log, one for one
+-- the texts are what is written of these lines of a checked log, one for one; they take the client, as far as the log shows it, from
+-- `old` to `new`
+abbrev pub AreVerdictsBetween : (old new : LogClient) → (lines texts : List (List ℕ)) → Type 0
+AreVerdictsBetween old new [] [] = new ≡ old
+AreVerdictsBetween old new [] (text ∷ texts) = ⊥
+AreVerdictsBetween old new (l ∷ lines) [] = ⊥
+AreVerdictsBetween old new (l ∷ lines) (text ∷ texts) =
+    (next : LogClient) × IsLogVerdict old l text next × AreVerdictsBetween next new lines texts
+
+-- the texts are what is written of these lines of a checked log, one for one, where the client before them was this one, as far as the
+-- log shows it
+pub record AreVerdictsFrom (old : LogClient) (lines texts : List (List ℕ)) : Type 0 where
+  pub new : LogClient
+  pub are : AreVerdictsBetween old new lines texts
+
+-- the texts are what is written of the lines of a checked log, one for one. Of its client nothing is known at first
 abbrev pub AreLogVerdicts : (lines texts : List (List ℕ)) → Type 0
-AreLogVerdicts lines texts = AreLinesOf IsLogVerdict lines texts
+AreLogVerdicts lines texts = AreVerdictsFrom nothing_known lines texts
 
 -- the value `kept` holds the bytes since the last line feed, `rest`: all of them, or only that they are more than `log_line_most`
 pub record KeepsLine (kept : PartialLine) (rest : List ℕ) : Type 0 where
@@ -70,31 +87,31 @@ pub record KeepsLine (kept : PartialLine) (rest : List ℕ) : Type 0 where
 
 -- Of a piece of the log. It came after the bytes `rest`, which no line feed had ended.
 
--- the verdict on each line that ends in the piece went out
-abbrev pub WritesVerdicts : (rest piece : List ℕ) → (old new : Option (List ℕ)) → (before count : ℕ) → Type 0
-WritesVerdicts rest piece old new before count = WritesAll AreLogVerdicts (pieces_behind rest piece) old new before count
+-- the verdict on each line that ends in the piece went out; these lines take the client from `from` to `to`, as far as the log shows it
+abbrev pub WritesVerdicts : (from to : LogClient) → (rest piece : List ℕ) → (old new : Option (List ℕ)) → (before count : ℕ) → Type 0
+WritesVerdicts from to rest piece old new before count = WritesAll (AreVerdictsBetween from to) (pieces_behind rest piece) old new before count
 
 -- of the verdicts on the lines that end in the piece only a front went out
-abbrev pub WritesVerdictsInPart : (rest piece : List ℕ) → (old new : Option (List ℕ)) → (before count bytes : ℕ) → Type 0
-WritesVerdictsInPart rest piece old new before count bytes =
-    WritesPart AreLogVerdicts (pieces_behind rest piece) old new before count bytes
+abbrev pub WritesVerdictsInPart : (from : LogClient) → (rest piece : List ℕ) → (old new : Option (List ℕ)) → (before count bytes : ℕ) → Type 0
+WritesVerdictsInPart from rest piece old new before count bytes =
+    WritesPart (AreVerdictsFrom from) (pieces_behind rest piece) old new before count bytes
 
 -- the check is done with the piece: it keeps what follows the last line feed, and the verdicts on the lines that end in the piece
--- went out. `count` is how many had gone out before
-abbrev pub HasChecked : LogCheck → (rest piece : List ℕ) → (old new : Option (List ℕ)) → (count : ℕ) → Type 0
-HasChecked check rest piece old new count =
-    KeepsLine check.kept (rest_behind rest piece) × WritesVerdicts rest piece old new count check.replies
+-- went out. `from` is the client before the piece, as far as the log shows it, and `count` how many verdicts had gone out
+abbrev pub HasChecked : (from : LogClient) → LogCheck → (rest piece : List ℕ) → (old new : Option (List ℕ)) → (count : ℕ) → Type 0
+HasChecked from check rest piece old new count =
+    KeepsLine check.kept (rest_behind rest piece) × WritesVerdicts from check.client rest piece old new count check.replies
 
 -- a piece was checked, which took the check from `before` to `after`, whatever rest of a line was kept (`HasChecked`)
 abbrev pub TakesPiece : (before after : LogCheck) → (piece : List ℕ) → (old new : Option (List ℕ)) → Type 0
 TakesPiece before after piece old new =
-    (rest : List ℕ) → KeepsLine before.kept rest → HasChecked after rest piece old new before.replies
+    (rest : List ℕ) → KeepsLine before.kept rest → HasChecked before.client after rest piece old new before.replies
 
 -- a piece was checked until the sink failed, after the first `bytes` bytes of a verdict's line, which took the check from `before` to
 -- `after`: whatever rest of a line was kept, only a front of the verdicts on the lines that end in the piece went out
 abbrev pub TakesPieceInPart : (before after : LogCheck) → (piece : List ℕ) → (old new : Option (List ℕ)) → (bytes : ℕ) → Type 0
 TakesPieceInPart before after piece old new bytes =
-    (rest : List ℕ) → KeepsLine before.kept rest → WritesVerdictsInPart rest piece old new before.replies after.replies bytes
+    (rest : List ℕ) → KeepsLine before.kept rest → WritesVerdictsInPart before.client rest piece old new before.replies after.replies bytes
 
 -- Of verdicts that wait to be written. No part of a promise.
 
@@ -116,12 +133,13 @@ bytes_left None = 0
 bytes_left (Some bytes) = length bytes
 
 -- the check has judged the lines that end in the piece, and keeps what follows the last line feed: the first verdicts, `done`, went
--- out, and the others, `held`, wait, with their lengths. `count` is how many had gone out before
-pub record HasJudged (check : LogCheck) (rest piece : List ℕ) (old new : Option (List ℕ)) (count : ℕ) : Type 0 where
+-- out, and the others, `held`, wait, with their lengths. `from` is the client before the piece, as far as the log shows it, and `count`
+-- how many verdicts had gone out
+pub record HasJudged (from : LogClient) (check : LogCheck) (rest piece : List ℕ) (old new : Option (List ℕ)) (count : ℕ) : Type 0 where
   pub keeps : KeepsLine check.kept (rest_behind rest piece)
   pub done : List (List ℕ)
   pub held : List (List ℕ)
-  pub are : AreLogVerdicts (pieces_behind rest piece) (done ++ held)
+  pub are : AreVerdictsBetween from check.client (pieces_behind rest piece) (done ++ held)
   pub took : Appends old new (all_of done)
   pub counts : check.replies ≡ count + length done
   pub text_is : check.text.items ≡ all_of held
@@ -130,8 +148,8 @@ pub record HasJudged (check : LogCheck) (rest piece : List ℕ) (old new : Optio
 -- a check that has judged any piece has also judged these further bytes after it (`HasJudged`)
 abbrev pub JudgesMore : (before after : LogCheck) → (more : List ℕ) → (old new : Option (List ℕ)) → Type 0
 JudgesMore before after more old new =
-    (rest piece : List ℕ) (start : Option (List ℕ)) (count : ℕ)
-    → HasJudged before rest piece start old count → HasJudged after rest (piece ++ more) start new count
+    (from : LogClient) (rest piece : List ℕ) (start : Option (List ℕ)) (count : ℕ)
+    → HasJudged from before rest piece start old count → HasJudged from after rest (piece ++ more) start new count
 
 -- the bytes through the first line feed were judged, and `behind` is what follows it; all bytes, if there is none
 abbrev pub TakesLine : (before after : LogCheck) → (bytes : List ℕ) → (behind : Option (List ℕ)) → (old new : Option (List ℕ)) → Type 0
@@ -142,21 +160,21 @@ TakesLine before after bytes (Some behind) old new =
 -- what is written of the line that the check keeps joins the texts that wait, and the next line begins
 pub record JudgesLine (before after : LogCheck) (line : List ℕ) : Type 0 where
   pub text : List ℕ
-  pub is : IsLogVerdict line text
+  pub is : IsLogVerdict before.client line text after.client
   pub longer : after.text.items ≡ before.text.items ++ text
   pub counted : after.lengths.items ≡ before.lengths.items ++ length text ∷ []
 
 -- all texts that waited went out, and what was judged is still the same (`HasJudged`)
 abbrev pub WritesWaiting : (before after : LogCheck) → (old new : Option (List ℕ)) → Type 0
 WritesWaiting before after old new =
-    (rest piece : List ℕ) (start : Option (List ℕ)) (count : ℕ)
-    → HasJudged before rest piece start old count → HasJudged after rest piece start new count
+    (from : LogClient) (rest piece : List ℕ) (start : Option (List ℕ)) (count : ℕ)
+    → HasJudged from before rest piece start old count → HasJudged from after rest piece start new count
 
 -- the sink failed while texts that waited were written, after the first `bytes` bytes of one of them
 abbrev pub StopsWriting : (before after : LogCheck) → (old new : Option (List ℕ)) → (bytes : ℕ) → Type 0
 StopsWriting before after old new bytes =
-    (rest piece : List ℕ) (start : Option (List ℕ)) (count : ℕ)
-    → HasJudged before rest piece start old count → WritesVerdictsInPart rest piece start new count after.replies bytes
+    (from : LogClient) (rest piece : List ℕ) (start : Option (List ℕ)) (count : ℕ)
+    → HasJudged from before rest piece start old count → WritesVerdictsInPart from rest piece start new count after.replies bytes
 
 -- Of a whole log.
 

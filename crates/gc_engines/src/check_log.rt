@@ -1,13 +1,15 @@
 //! `check --log`: each line of a log, with its verdict.
 
-ghost use Rattle.std.specs.Prelude.{◌≡◌, ◌+◌, ◌<◌, ◌≤◌, ◌++◌, ℕ, List, [], ◌∷◌, length, ◌^◌, OnOk, IfOk, IfErr, true};
+ghost use Rattle.std.specs.Prelude.{◌≡◌, ◌+◌, ◌<◌, ◌≤◌, ◌++◌, ℕ, List, [], ◌∷◌, length, ◌^◌, OnOk, IfOk, IfErr, true, codes};
 ghost use Rattle.std.specs.Option.{option_copied};
 ghost use Rattle.gc_engines.specs.LogChecking.{IsWholeVerdict, IsMarkedVerdictLine, part_verdict, ends_cleared, IsMarkedVerdict, IsLogVerdict, KeepsLine, TakesPiece, TakesPieceInPart, IsCheckingLog};
 ghost use Rattle.gc_engines.specs.LogChecking.{HasRoom, JudgesLine, JudgesMore, NoneWait, StopsWriting, TakesLine, WritesWaiting, bytes_left, texts_in};
+ghost use Rattle.gc_engines.specs.LogClients.{doubt_text, nothing_known};
 ghost use Rattle.gc_lines.specs.Answering.{AppendsText, ports_of};
 ghost use Rattle.gc_lines.specs.Passing.{whole_and_part};
 ghost use Rattle.gc_lines.specs.Ports.{FailsWith};
 
+use crate::log_client::LogClient;
 use crate::verdict::{Verdict, line_verdict, push_verdict};
 use arrayvec::ArrayVec;
 use gc_lines::{Outgoing, ServeFault, Served, Sink, Source, append, write_whole};
@@ -63,11 +65,12 @@ impl PartialLine {
     }
 }
 
-// How far a check has come: the bytes since the last line feed; the texts that wait to be written, one after the other, with the
-// length of each; and how many texts went out whole.
+// How far a check has come: the bytes since the last line feed; the client, as far as the lines before it show it; the texts that wait to
+// be written, one after the other, with the length of each; and how many texts went out whole.
 #[derive(Drop)]
 struct LogCheck {
     kept: PartialLine,
+    client: LogClient,
     text: Outgoing,
     lengths: ArrayVec<usize, WAITING_MOST>,
     replies: u64,
@@ -79,12 +82,14 @@ struct LogCheck {
 ///
 /// | Mark | Verdict |
 /// |---|---|
-/// | `>`, `<` | the verdict that `check` has for the line, and `overlong` for more than 512 bytes |
+/// | `>`, `<` | the verdict that `check` has for the line, and `overlong` for more than 512 bytes; after that of an impossible reply ` impossible` |
 /// | `>\|`, `<\|` | `cleared` where the bytes end in a line feed without a CR before it, else `part` |
 /// | `-` | the words as they are in the log |
 ///
 /// For a line that hasn't the form of a log's lines, or has more than 2100 bytes, or whose text after the mark stands for more
-/// than 514 bytes, it writes `no log line`. Bytes after the last line feed get no line. `replies` in the result, also in a fault,
+/// than 514 bytes, it writes `no log line`. A reply is impossible if no request is outstanding for it and it can't repeat the reply that
+/// ended requests last, so that it was altered, or that one was; what is outstanding is known from a beginning on that the log has whole
+/// (`specs/LogClients.antt`). Bytes after the last line feed get no line. `replies` in the result, also in a fault,
 /// counts the lines that went out whole. The lines of one read go out together, before the next read; earlier, where they are long. It
 /// takes no memory.
 ///
@@ -132,9 +137,11 @@ impl LogCheck {
         ensures kept { KeepsLine result.kept [] }
         ensures nothing { NoneWait result }
         ensures replies { result.replies ≡ 0 }
+        ensures client { result.client ≡ nothing_known }
     {
         LogCheck {
             kept: PartialLine::new(),
+            client: LogClient::new(),
             text: Outgoing::new(),
             lengths: ArrayVec::new(),
             replies: 0,
@@ -219,7 +226,7 @@ impl LogCheck {
         ensures one { length self.new.lengths.items ≡ length self.old.lengths.items + 1 }
     {
         let before = self.text.len();
-        push_log_verdict(&mut self.text, &self.kept);
+        push_log_verdict(&mut self.text, &mut self.client, &self.kept);
         self.lengths.push(self.text.len() - before);
         self.kept.clear();
     }
@@ -276,35 +283,61 @@ fn whole_and_part(whole: u64, taken: usize, lengths: &[usize]) -> (u64, usize)
 }
 
 // Appends what is written of a complete line of the log, whose bytes are `kept`: its moment, mark and verdict, or `no log line` if it
-// has more than 2100 bytes or doesn't read as a log line. The text ends in a line feed.
-fn push_log_verdict(text: &mut Outgoing, kept: &PartialLine)
+// has more than 2100 bytes or doesn't read as a log line. The text ends in a line feed. The client takes the line.
+fn push_log_verdict(text: &mut Outgoing, client: &mut LogClient, kept: &PartialLine)
     requires { length text.old.items + 4300 ≤ 8192 }
     ensures longer { length text.old.items ≤ length text.new.items }
-    ensures verdict { (rest : List ℕ) → KeepsLine kept.now rest → AppendsText (IsLogVerdict rest) text.old.items text.new.items }
+    ensures verdict { (rest : List ℕ) → KeepsLine kept.now rest → AppendsText (λ t. IsLogVerdict client.old rest t client.new) text.old.items text.new.items }
 {
     if kept.is_long {
-        append(text, b"no log line\n");
+        push_no_line(text, client);
         return;
     }
     match read_log_line(&kept.bytes) {
-        Some(line) => push_line_verdict(text, &line),
-        None => append(text, b"no log line\n"),
+        Some(line) => {
+            push_line_verdict(text, client.is_impossible(line.mark, &line.bytes), &line);
+            client.take(line.mark, &line.bytes);
+        }
+        None => push_no_line(text, client),
     }
 }
 
-// Appends what is written of a log line: its moment and mark, the verdict on its bytes, and a line feed.
-fn push_line_verdict(text: &mut Outgoing, line: &LogLine<'_>)
+// Appends that a line is no log line. Nothing is known of the client any more.
+fn push_no_line(text: &mut Outgoing, client: &mut LogClient)
+    requires { length text.old.items + 4300 ≤ 8192 }
+    ensures text { text.new.items ≡ text.old.items ++ codes "no log line\n" }
+    ensures client { client.new ≡ nothing_known }
+{
+    append(text, b"no log line\n");
+    *client = LogClient::new();
+}
+
+// Appends what is written of a log line: its moment and mark, the verdict on its bytes, whether it is an impossible reply (`doubted`), and
+// a line feed.
+fn push_line_verdict(text: &mut Outgoing, doubted: bool, line: &LogLine<'_>)
     requires short { length line.now.moment.now ≤ 2100 }
     requires room { length text.old.items + 4300 ≤ 8192 }
     ensures bytes { length line.now.bytes.items ≤ 514 }
-    ensures verdict { AppendsText (IsMarkedVerdictLine line.now.moment.now line.now.mark line.now.bytes.items) text.old.items text.new.items }
+    ensures verdict { AppendsText (IsMarkedVerdictLine doubted line.now.moment.now line.now.mark line.now.bytes.items) text.old.items text.new.items }
 {
     append(text, line.moment);
     append(text, b" ");
     append(text, line.mark.text());
     append(text, b" ");
     push_marked_verdict(text, line.mark, &line.bytes);
+    push_doubt(text, doubted);
     append(text, b"\n");
+}
+
+// Appends that a reply is impossible, if it is (`doubted`). There is room for it.
+fn push_doubt(text: &mut Outgoing, doubted: bool)
+    requires { length text.old.items + 20 ≤ 8192 }
+    ensures items { text.new.items ≡ text.old.items ++ doubt_text doubted }
+    ensures bound { length text.new.items ≤ length text.old.items + 20 }
+{
+    if doubted {
+        append(text, b" impossible");
+    }
 }
 
 // Appends what is written of a log line's bytes, by its mark: the verdict on a whole line, or on bytes that are no whole line; or

@@ -8,6 +8,7 @@ mod drill;
 mod event;
 mod exec;
 pub mod laws;
+mod log_client;
 mod report_text;
 mod rule_line;
 mod rule_scene;

@@ -151,6 +151,8 @@ fn ending_of<'a>(
         "missed" => Ending::Missed,
         "spelling" => Ending::Unreadable(line, ValueFault::Spelling),
         "elsewhere" => Ending::Elsewhere(line),
+        "disagree" => Ending::Disagree(line),
+        "unconfirmed" => Ending::Answered(Quality::Unconfirmed, answer_in(reading), line),
         "unread" => Ending::Answered(quality_of(reading), None, line),
         "accepted" => Ending::Answered(Quality::Warning, answer_in(zeroed), line),
         _ => match reading {

@@ -8,8 +8,9 @@ use gc_engines::read_schedule;
 use gc_lines::ToWriter;
 use gc_links::place_of;
 use gc_texts::{
-    Codes, Command, LogBytes, LogLine, LogMark, RunFault, Task, Tasks, Trouble, command_trouble_of,
-    line_at, read_commands, read_log_line, read_tasks, trouble_of, write_log_line,
+    Codes, Command, LogBytes, LogLine, LogMark, RunFault, Task, Tasks, Trouble, Twice,
+    command_trouble_of, line_at, read_commands, read_log_line, read_tasks, trouble_of,
+    write_log_line,
 };
 use gc_world::Event;
 use std::alloc::Global;
@@ -148,7 +149,7 @@ fn append_tasks(case: &Case<'_>, all: &Tasks, came: &mut Told) {
 
 // Appends a task's turn: its place, its attempt and its link; its `others`, which is how many tasks this attempt and those after
 // it have together if the task is the first of an attempt other than the first, and else 0; after which return codes and other
-// outcomes it is asked again; and whether it sets the clock.
+// outcomes it is asked again; whether it sets the clock; and its sending.
 fn append_turn(task: &Task, came: &mut Told) {
     came.titled(" place ", &task.turn.place);
     came.titled(" attempt ", &task.turn.attempt);
@@ -157,12 +158,29 @@ fn append_turn(task: &Task, came: &mut Told) {
     append_codes(" again ", &task.again.codes, came);
     append_outcomes(task, came);
     came.text_if(task.now, " now");
+    append_sending(task, came);
+}
+
+// Appends which sending of its chain a task is in, if the chain is sent twice; and of the second one which command of the chain it is, and
+// how far apart the values may be.
+fn append_sending(task: &Task, came: &mut Told) {
+    match task.twice {
+        Twice::Once => (),
+        Twice::First => came.text(" first"),
+        Twice::Second { agree, nth } => {
+            came.titled(" second ", &nth);
+            came.titled(" apart ", &agree.hz);
+            came.titled(" ", &agree.v);
+            came.titled(" ", &agree.distance);
+        }
+    }
 }
 
 // Appends the outcomes, other than return codes, after which a task is asked again.
 fn append_outcomes(task: &Task, came: &mut Told) {
     came.text_if(task.again.unreadable, " unreadable");
     came.text_if(task.again.elsewhere, " elsewhere");
+    came.text_if(task.again.disagree, " disagree");
     came.text_if(task.again.late, " late");
     came.text_if(task.again.lost, " lost");
     came.text_if(task.again.skipped, " skipped");
@@ -195,13 +213,18 @@ fn append_raw(asked: &Asked, came: &mut Told) {
     }
 }
 
-// Appends where the target of a task is, its horizontal and its vertical angle, and the tolerance, all in radians; nothing if the
-// text doesn't say them. Then, if the text leaves the target unwatched, that.
+// Appends where the target of a task is, its horizontal and its vertical angle, and the tolerance, all in radians, and its distance
+// and the tolerance of that, in metres, if the text says them; nothing if the text says no place. Then, if the text leaves the target
+// unwatched, that.
 fn append_near(task: &Task, came: &mut Told) {
     if let Some(near) = task.near {
         came.titled(" near ", &near.place.hz);
         came.titled(" ", &near.place.v);
         came.titled(" ", &near.tolerance);
+        if let Some(range) = near.range {
+            came.titled(" ", &range.distance);
+            came.titled(" ", &range.tolerance);
+        }
     }
     came.text_if(!task.watched, " unwatched");
 }

@@ -1,4 +1,4 @@
-use Rattle.std.proofs.Common.{◌≡◌, ◌≤◌, List, ℕ, length, subst, sym, ◌∙◌}
+use Rattle.std.proofs.Common.{◌≡◌, ◌≤◌, List, ℕ, length, rules, subst, sym, ◌∙◌}
 use Rattle.gc_texts.specs.Logs.{IsLogLine}
 use Rattle.gc_engines.specs.LogChecking.{reads}
 use Rattle.gc_engines.proofs.check_log.push_log_verdict.Goals as goal
@@ -13,5 +13,5 @@ returns-in-Some-clause-verdict c = λ rest keeps.
       text = it.text;
       appended = it.appended;
       is = reads c.in-Some.line.moment.now c.in-Some.line.bytes.items c.in-Some.line.mark
-          (subst (λ (l : List ℕ). length l ≤ 2100) same c.deref.ensures.1) c.push_line_verdict.ensures.bytes read it.is;
+          (subst (λ (l : List ℕ). length l ≤ 2100) same c.deref.ensures.1) c.push_line_verdict.ensures.bytes read (search rules) (search rules);
     }

@@ -1,6 +1,7 @@
 use Rattle.std.proofs.Common.{◌≡◌, ◌+◌, ◌*◌, ◌<◌, ◌≤◌, [], length, false}
 use Rattle.gc_lines.specs.Answering.{GaveInReads}
 use Rattle.gc_engines.specs.LogChecking.{HasChecked, NoneWait}
+use Rattle.gc_engines.specs.LogClients.{nothing_known}
 use Rattle.gc_engines.proofs.check_log.run_check_log.Given as goal
 
 -- the check is done with all bytes read so far (`HasChecked`), in `counter` reads, at most 256 verdicts for each; the last read, if
@@ -9,7 +10,7 @@ use Rattle.gc_engines.proofs.check_log.run_check_log.Given as goal
 abbrev pub invariant-loop : goal.invariant-loop
 invariant-loop g l = record {
   so : GaveInReads (g.S.Source.remaining l.initial.source) (g.S.Source.remaining l.source) l.counter
-      (λ given. HasChecked l.check [] given (g.K.Sink.taken l.initial.sink) (g.K.Sink.taken l.sink) 0);
+      (λ given. HasChecked nothing_known l.check [] given (g.K.Sink.taken l.initial.sink) (g.K.Sink.taken l.sink) 0);
   reads : g.S.Source.reads l.source ≡ g.S.Source.reads l.initial.source + l.counter;
   going : 0 < l.counter → g.S.Source.ended l.source ≡ false;
   source : g.S.Source.failed l.source ≡ g.S.Source.failed l.initial.source;

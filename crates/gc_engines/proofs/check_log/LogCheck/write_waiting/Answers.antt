@@ -3,10 +3,10 @@ use Rattle.gc_engines.proofs.LogVerdicts.{judged_part, judged_written}
 use Rattle.gc_engines.proofs.check_log.LogCheck.write_waiting.Goals as goal
 
 pub returns-in-Ok-clause-ok : goal.returns-in-Ok-clause-ok
-returns-in-Ok-clause-ok g c rest piece start count h =
-    judged_written c.args.self.now rest piece start _ count h _ _ (search rules) refl (search rules) (search rules)
+returns-in-Ok-clause-ok g c from rest piece start count h =
+    judged_written from c.args.self.now rest piece start _ count h _ _ (search rules) refl refl (search rules) (search rules)
 
 pub returns-in-Err-clause-err : goal.returns-in-Err-clause-err
-returns-in-Err-clause-err g c rest piece start count h =
-    judged_part c.args.self.now rest piece start _ count h (g.K.Sink.taken c.write_whole.new.sink) c.in-Err.taken c.count_part.new.self.replies c.count_part.result
+returns-in-Err-clause-err g c from rest piece start count h =
+    judged_part from c.args.self.now rest piece start _ count h (g.K.Sink.taken c.write_whole.new.sink) c.in-Err.taken c.count_part.new.self.replies c.count_part.result
     (search rules) (search rules)
