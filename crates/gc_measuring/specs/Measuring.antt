@@ -157,11 +157,13 @@ overrun_line cycle = codes "geocom: cycle " ++ decimal cycle ++ codes " was not 
 abbrev pub main_counts_text : Tally → List ℕ
 main_counts_text t = codes "answered " ++ decimal t.answered ++ codes " (refused " ++ decimal t.refused ++ codes ") late " ++ decimal t.late ++ codes " lost " ++ decimal t.lost ++ codes " "
 
--- the middle of the line of the counts: how many commands were skipped, unreadable, missed and elsewhere
+-- what follows in the line of the counts: how many commands were skipped, unreadable and missed
 abbrev pub other_counts_text : Tally → List ℕ
-other_counts_text t =
-    codes "skipped " ++ decimal t.skipped ++ codes " unreadable " ++ decimal t.unreadable ++ codes " missed " ++ decimal t.missed
-    ++ codes " elsewhere " ++ decimal t.elsewhere
+other_counts_text t = codes "skipped " ++ decimal t.skipped ++ codes " unreadable " ++ decimal t.unreadable ++ codes " missed " ++ decimal t.missed ++ codes " "
+
+-- what follows then: how many commands were elsewhere and in disagreement
+abbrev pub judged_counts_text : Tally → List ℕ
+judged_counts_text t = codes "elsewhere " ++ decimal t.elsewhere ++ codes " disagree " ++ decimal t.disagree
 
 -- the end of the line of the counts: how many times a chain was sent again
 abbrev pub repeats_text : Tally → List ℕ
@@ -169,7 +171,7 @@ repeats_text t = codes " again " ++ decimal t.again ++ codes "\n"
 
 -- the line of the counts of a run that is done, or whose end was asked for
 abbrev pub tally_line : Tally → List ℕ
-tally_line t = main_counts_text t ++ other_counts_text t ++ repeats_text t
+tally_line t = main_counts_text t ++ other_counts_text t ++ judged_counts_text t ++ repeats_text t
 
 -- how the program reports a station's end: by status 0 and the line of its counts, or by status 1 and the lines of its stop
 abbrev pub ReportsEndOfRun : Result Tally Stop → (status : ℕ) → (old new : Option (List ℕ)) → Type 0

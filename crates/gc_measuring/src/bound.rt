@@ -7,6 +7,7 @@ ghost use Rattle.gc_measuring.specs.Bounds.{lost_by};
 ghost use Rattle.gc_measuring.specs.declared.bound.TheConstants.{CALL};
 
 use crate::checking::write_target;
+use crate::sendings::repeats_before;
 use gc_station::Plan;
 use gc_texts::{Task, Tasks};
 use std::io::{self, Write};
@@ -103,7 +104,7 @@ pub(crate) fn outline_bound<W: Write>(
     writeln!(outline, ", 20 s for a call)")
 }
 
-/// Writes a line if the deadlines of a cycle's commands, each sent once, add up to more than two periods, and one for each chain whose
+/// Writes a line if the deadlines of a cycle's commands, each in one attempt of its chain, add up to more than two periods, and one for each chain whose
 /// deadlines alone do. Nothing is written if cycles have no due moments. `Err`: a message couldn't be written; those after that one
 /// aren't.
 pub(crate) fn report_tight_deadlines<E: Write>(
@@ -126,11 +127,11 @@ pub(crate) fn report_tight_deadlines<E: Write>(
     report_tight_chains(tasks, time, messages)
 }
 
-// The sum of the deadlines of a cycle's commands, each sent once, in milliseconds; at most `u64::MAX`.
+// The sum of the deadlines of a cycle's commands, each in one attempt of its chain, in milliseconds; at most `u64::MAX`.
 fn deadlines_of_cycle(tasks: &Tasks) -> u64 {
     let mut sum: u64 = 0;
     for task in tasks.tasks.iter().skip(tasks.setup) {
-        if task.turn.attempt == 1 {
+        if repeats_before(task) == 0 {
             sum = sum.saturating_add(task.deadline);
         }
     }
@@ -143,7 +144,7 @@ fn report_tight_chains<E: Write>(tasks: &Tasks, time: u64, messages: &mut E) -> 
     let periods = time / SECOND;
     let mut sum: u64 = 0;
     for task in tasks.tasks.iter().skip(tasks.setup) {
-        if task.turn.attempt > 1 {
+        if repeats_before(task) > 0 {
             continue;
         }
         let before = if task.turn.link == 0 { 0 } else { sum };

@@ -10,6 +10,7 @@ ghost use Rattle.gc_messages.specs.Statuses.{IsStatusUpTo};
 use crate::bound::{outline_bound, report_tight_deadlines};
 use crate::counts::report_end_of_run;
 use crate::plan::{commands_per_cycle, plan_of};
+use crate::sendings::{repeats_before, report_long_chains};
 use crate::stop::Stop;
 use crate::task_text::read_task_text;
 use gc_lines::{Sink, Source, write_whole};
@@ -18,7 +19,7 @@ use gc_messages::{
     report_unwatched,
 };
 use gc_station::Plan;
-use gc_texts::{Again, RunFault, Task, Tasks};
+use gc_texts::{Again, Agree, RunFault, Task, Tasks, Twice};
 use gc_words::Choice;
 use std::alloc::Global;
 use std::io::{self, Write};
@@ -28,7 +29,7 @@ use std::process::ExitCode;
 /// with the names of their targets, the deadlines of their commands in milliseconds, and how often and after what they may be
 /// sent again; and, where cycles have due moments, by when a row is written. What looks wrong, and is no fault, is reported on the
 /// messages, as far as they can be written: angles outside one turn, targets of which the text says where they are, though no command
-/// measures their direction, names of targets without a command, unwatched targets without a command of the cycle, spaces or tabs at
+/// measures their direction, chains that are too long for being sent twice, names of targets without a command, unwatched targets without a command of the cycle, spaces or tabs at
 /// ends of lines, and deadlines that add up to more than the time that a cycle has.
 ///
 /// Status 0: the text can be measured. Status 1: it can't be read or is refused, memory was refused, or the output failed, each
@@ -70,6 +71,7 @@ fn report_doubts<E: Write>(
 ) -> io::Result<()> {
     report_odd_angles(text, tasks, messages)?;
     report_unasked(tasks, messages)?;
+    report_long_chains(tasks, messages)?;
     report_unused_names(tasks, messages)?;
     report_unwatched(tasks, messages)?;
     report_blanks(text, messages)?;
@@ -113,25 +115,52 @@ fn outline_tasks<W: Write>(tasks: &Tasks, plan: &Plan, outline: &mut W) -> io::R
     outline_bound(tasks, plan, outline)
 }
 
-// Writes a line for each chain of a cycle: its target, its commands, and how often and after what it may be sent again.
+/// What the end of a chain's line says.
+#[derive(Clone, Copy)]
+struct ChainEnd {
+    // How far apart the values of its two sendings may be. `None`: it is sent once.
+    agree: Option<Agree>,
+    // How often it may be sent again, and after what.
+    again: u64,
+    rule: Again,
+}
+
+// Writes a line for each chain of a cycle: its target, its commands, whether they are sent twice, and how often and after what it may
+// be sent again.
 fn outline_chains<W: Write>(tasks: &Tasks, outline: &mut W) -> io::Result<()> {
-    // Of the chain that is being written: how often it may be sent again, and after what. `None`: no chain is being written.
-    let mut chain: Option<(u64, Again)> = None;
+    // Of the chain that is being written. `None`: no chain is being written.
+    let mut chain: Option<ChainEnd> = None;
     for task in tasks.tasks.iter().skip(tasks.setup) {
-        // A later attempt has the commands of the first: it only counts.
+        // A later attempt or sending has the commands of the first.
         if task.turn.attempt > 1 {
-            let again = task.turn.attempt - 1;
-            chain = chain.map(|(_, rule)| (again, rule));
+            chain = chain.map(|end| end_with(end, task));
             continue;
         }
         if task.turn.link == 0 {
             end_chain(chain, outline)?;
             begin_chain(tasks, task.command.target, outline)?;
-            chain = Some((0, task.again));
+            chain = Some(ChainEnd {
+                agree: None,
+                again: 0,
+                rule: task.again,
+            });
         }
         outline_command(task, outline)?;
     }
     end_chain(chain, outline)
+}
+
+// What the end of a chain's line says with a task of a later attempt or sending.
+fn end_with(end: ChainEnd, task: &Task) -> ChainEnd {
+    let agree = match task.twice {
+        Twice::Second { agree, .. } => Some(agree),
+        Twice::Once | Twice::First => end.agree,
+    };
+    ChainEnd {
+        agree,
+        again: repeats_before(task),
+        rule: end.rule,
+    }
 }
 
 // Writes the front of the line of a chain, or of a command of the setup: its target, and whether that is left unwatched.
@@ -167,11 +196,16 @@ fn outline_command<W: Write>(task: &Task, outline: &mut W) -> io::Result<()> {
     write!(outline, " within {deadline} ms;")
 }
 
-// Ends the line of a chain, if one is being written: how often it may be sent again, and after what, if it may be at all.
-fn end_chain<W: Write>(chain: Option<(u64, Again)>, outline: &mut W) -> io::Result<()> {
-    let Some((again, rule)) = chain else {
+// Ends the line of a chain, if one is being written: whether it is sent twice, and how far apart the values may be, angles in radians
+// and lengths in metres; and how often it may be sent again, and after what, if it may be at all.
+fn end_chain<W: Write>(chain: Option<ChainEnd>, outline: &mut W) -> io::Result<()> {
+    let Some(ChainEnd { agree, again, rule }) = chain else {
         return Ok(());
     };
+    if let Some(Agree { hz, v, distance }) = agree {
+        write!(outline, " twice, to agree within {hz} and {v} rad and ")?;
+        write!(outline, "{distance} m;")?;
+    }
     if again > 0 {
         write!(outline, " again at most {again} times, after")?;
         outline_rule(&rule, outline)?;
@@ -180,7 +214,7 @@ fn end_chain<W: Write>(chain: Option<(u64, Again)>, outline: &mut W) -> io::Resu
 }
 
 // Writes after which answers, by their return codes, and after which outcomes a chain is sent again, each after a space. An answer that
-// is `elsewhere` counts by that word alone.
+// is `elsewhere` counts by that word alone, as does one that is `disagree`.
 fn outline_rule<W: Write>(rule: &Again, outline: &mut W) -> io::Result<()> {
     if rule.codes.codes[0] != 0 {
         write!(outline, " answered")?;
@@ -194,6 +228,7 @@ fn outline_rule<W: Write>(rule: &Again, outline: &mut W) -> io::Result<()> {
     let outcomes = [
         ("unreadable", rule.unreadable),
         ("elsewhere", rule.elsewhere),
+        ("disagree", rule.disagree),
         ("late", rule.late),
         ("lost", rule.lost),
         ("skipped", rule.skipped),

@@ -4,7 +4,7 @@
 ghost use Rattle.std.specs.Prelude.{IfOk};
 ghost use Rattle.std.specs.Process.{exit_status};
 ghost use Rattle.gc_lines.specs.Ports.{WritesIfOk};
-ghost use Rattle.gc_measuring.specs.Measuring.{ReportsEndOfRun, main_counts_text, other_counts_text, repeats_text, tally_line};
+ghost use Rattle.gc_measuring.specs.Measuring.{ReportsEndOfRun, main_counts_text, other_counts_text, judged_counts_text, repeats_text, tally_line};
 ghost use Rattle.gc_messages.specs.Statuses.{IsStatusUpTo};
 
 use crate::stop::Stop;
@@ -39,6 +39,7 @@ fn write_counts<E: Write>(tally: Tally, messages: &mut E) -> io::Result<()>
 {
     write_main_counts(tally, messages)?;
     write_other_counts(tally, messages)?;
+    write_judged_counts(tally, messages)?;
     write_repeats(tally, messages)
 }
 
@@ -60,8 +61,8 @@ pub fn write_main_counts<E: Write>(tally: Tally, messages: &mut E) -> io::Result
     )
 }
 
-/// Writes the middle of the line of the counts, after `write_main_counts`: how many commands were skipped, unreadable, missed and
-/// elsewhere.
+/// Writes what follows in the line of the counts after `write_main_counts`: how many commands were skipped, unreadable and missed, and
+/// a space.
 pub fn write_other_counts<E: Write>(tally: Tally, messages: &mut E) -> io::Result<()>
     ensures { WritesIfOk E.contents messages.old messages.new result (other_counts_text tally) }
 {
@@ -69,16 +70,27 @@ pub fn write_other_counts<E: Write>(tally: Tally, messages: &mut E) -> io::Resul
         skipped,
         unreadable,
         missed,
-        elsewhere,
         ..
     } = tally;
     write!(
         messages,
-        "skipped {skipped} unreadable {unreadable} missed {missed} elsewhere {elsewhere}"
+        "skipped {skipped} unreadable {unreadable} missed {missed} "
     )
 }
 
-// Writes the end of the line of the counts, after `write_other_counts`: how many times a chain was sent again.
+/// Writes what follows in the line of the counts after `write_other_counts`: how many commands were elsewhere and in disagreement.
+pub fn write_judged_counts<E: Write>(tally: Tally, messages: &mut E) -> io::Result<()>
+    ensures { WritesIfOk E.contents messages.old messages.new result (judged_counts_text tally) }
+{
+    let Tally {
+        elsewhere,
+        disagree,
+        ..
+    } = tally;
+    write!(messages, "elsewhere {elsewhere} disagree {disagree}")
+}
+
+// Writes the end of the line of the counts, after `write_judged_counts`: how many times a chain was sent again.
 fn write_repeats<E: Write>(tally: Tally, messages: &mut E) -> io::Result<()>
     ensures { WritesIfOk E.contents messages.old messages.new result (repeats_text tally) }
 {

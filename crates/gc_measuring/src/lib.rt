@@ -4,6 +4,7 @@
 mod bound;
 mod checking;
 mod counts;
+mod doubts;
 pub mod laws;
 mod logging;
 mod measure;
@@ -11,6 +12,7 @@ mod plan;
 mod recording;
 mod reporter;
 mod row;
+mod sendings;
 mod signs;
 mod spot;
 mod station;
@@ -21,7 +23,7 @@ mod unwell;
 mod wanted;
 
 pub use checking::{check_task_text, write_target};
-pub use counts::{write_main_counts, write_other_counts};
+pub use counts::{write_judged_counts, write_main_counts, write_other_counts};
 pub use measure::run_station_text;
 pub use plan::{commands_per_cycle, plan_of};
 pub use recording::{Appended, append_at, append_text_at};

@@ -13,6 +13,7 @@ ghost use Rattle.gc_texts.specs.declared.text.TheConstants.{TEXT_LIMIT};
 use crate::plan::{commands_per_cycle, plan_of};
 use crate::reporter::Reporter;
 use crate::row::write_station_row;
+use crate::sendings::report_long_chains;
 use crate::spot::Spot;
 use crate::stop::Stop;
 use crate::task_text::{read_task_text, watches_of};
@@ -86,6 +87,7 @@ pub fn run_station_text<L: Link, S: Source, K: Durable, E: Write>(
     };
     let _ = report_odd_angles(text.as_slice(), &tasks, &mut streams.messages);
     let _ = report_unasked(&tasks, &mut streams.messages);
+    let _ = report_long_chains(&tasks, &mut streams.messages);
     // A run may take months: the memory of the text is given back first.
     drop(text);
     let (streams, end) = measure(link, tasks, watches, max_turns, spot, streams, kept);
@@ -130,7 +132,7 @@ fn measure<L: Link, S: Source, K: Durable, E: Write>(
         unwatched: _,
     } = tasks;
     let plan = plan_of(spot.station.choice, setup, tasks.as_slice());
-    let mut reporter = Reporter::new(spot.station.choice.watch, messages);
+    let mut reporter = Reporter::new(spot.station.choice.watch, spot.station.layout.run, messages);
     reporter.begin(spot.site.place, commands);
     let mut records = Records {
         sink: output,
@@ -255,6 +257,11 @@ impl<'a, K: Durable, E: Write> Book for Records<'a, K, E> {
     // Notes the watched command by which the run is stale, for its end.
     fn unanswered(&mut self, watch: Watch) {
         self.unanswered = Some(watch);
+    }
+
+    // Notes that a line was altered, for the messages.
+    fn doubts(&mut self, ended: usize) {
+        self.reporter.doubt(ended);
     }
 
     // Reports on the messages that this cycle wasn't done when the next was due, if a line of this kind may be written now.

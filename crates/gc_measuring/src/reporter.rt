@@ -7,6 +7,7 @@ ghost use Rattle.gc_measuring.specs.Measuring.{overrun_line};
 ghost use Rattle.gc_station.specs.Tallies.{counted};
 ghost use Rattle.gc_texts.specs.Endings.{ending_seen};
 
+use crate::doubts::{DoubtNews, Doubts};
 use crate::signs::Signs;
 use crate::unanswered::Unanswered;
 use gc_links::{Moment, Place};
@@ -21,15 +22,18 @@ pub(crate) struct Reporter<E> {
     signs: Signs,
     // What was reported of the station's files.
     files: FilesTold,
+    doubts: Doubts,
     messages: E,
 }
 
 impl<E: Write> Reporter<E> {
-    /// A reporter that has reported nothing yet. `watch`: who watches the station.
-    pub(crate) fn new(watch: Watch, messages: E) -> Reporter<E> {
+    /// A reporter that has reported nothing yet. `watch`: who watches the station. `run`: when its run began, in milliseconds since
+    /// 1970, as its rows have it.
+    pub(crate) fn new(watch: Watch, run: u64, messages: E) -> Reporter<E> {
         Reporter {
             signs: Signs::new(watch),
             files: FilesTold::new(),
+            doubts: Doubts::new(run),
             messages,
         }
     }
@@ -41,15 +45,21 @@ impl<E: Write> Reporter<E> {
         }
     }
 
-    /// Counts the record of a command for the signs of life, also one that can't be written.
+    /// Counts the record of a command for the signs of life, also one that can't be written, and keeps its row for a doubt.
     pub(crate) fn count(&mut self, stamp: Stamp, command: &Wish, ending: Ending<'_>)
         ensures { self.new.signs.counts ≡ counted (ending_seen ending.entry) self.old.signs.counts }
     {
+        self.doubts.note_row(stamp);
         self.signs.count(stamp, command, ending);
     }
 
+    /// Notes that a stray came that can't repeat the reply that settled last, whose line had ended `ended` requests.
+    pub(crate) fn doubt(&mut self, ended: usize) {
+        self.doubts.doubt(ended);
+    }
+
     /// Writes before an act what is new of the link and the line, unless nobody watches, and in any case what is new of the
-    /// files. Targets have their names among `names`.
+    /// files and of doubts. Targets have their names among `names`.
     pub(crate) fn report(
         &mut self,
         noticed: Noticed,
@@ -62,6 +72,16 @@ impl<E: Write> Reporter<E> {
             .see(health, noticed, moment, names, &mut self.messages);
         let _ = self.signs.report_odd(noticed.odd, &mut self.messages);
         self.report_files(noticed.files, moment);
+        let news = self.doubts.take_news(moment);
+        self.report_doubts(news);
+    }
+
+    // Writes what is new of doubts, if there is any, also if no signs of life are written.
+    fn report_doubts(&mut self, news: Option<DoubtNews>) {
+        if let Some(news) = news {
+            let _ = self.signs.clear(&mut self.messages);
+            let _ = news.tell(&mut self.messages);
+        }
     }
 
     // Writes what is new of the files, also if no signs of life are written.
@@ -81,13 +101,16 @@ impl<E: Write> Reporter<E> {
         }
     }
 
-    /// Writes at the end what no line reported yet, as `Signs::end` does, clears the status line of a terminal, and hands the
+    /// Writes at the end what no line reported yet, of doubts too, as `Signs::end` does, clears the status line of a terminal, and hands the
     /// messages back. What became of the files since the last `report` isn't written. `stale`: the run ended because it is stale
     /// by this command, which is written, too, also if nobody watches.
-    pub(crate) fn end(self, names: &[Name], stale: Option<Unanswered>) -> E {
+    pub(crate) fn end(mut self, names: &[Name], stale: Option<Unanswered>) -> E {
+        let rest = self.doubts.take_rest();
+        self.report_doubts(rest);
         let Reporter {
             mut signs,
             files: _,
+            doubts: _,
             mut messages,
         } = self;
         let _ = signs.end(names, &mut messages);

@@ -138,15 +138,14 @@ impl Signs {
             self.unprepared_since = Some(stamp.utc);
         }
         match ending {
-            Ending::Answered(..) | Ending::Unreadable(..) | Ending::Elsewhere(_) =>
-                self.note_answer(),
             Ending::Skipped => self.note_skipped(stamp.utc),
             Ending::Late | Ending::Lost | Ending::Missed => {}
+            _ => self.note_answer(),
         }
     }
 
-    // Notes that an answer came, also one with a return code other than 0, with values that can't be read, or with a direction
-    // that is elsewhere.
+    // Notes that an answer came, also one with a return code other than 0, with values that can't be read, with a direction that is
+    // elsewhere, or in disagreement with the one before.
     fn note_answer(&mut self)
         ensures { self.new.counts ≡ self.old.counts }
     {
@@ -495,6 +494,7 @@ fn show_others<E: Write>(counts: Tally, row: &mut E) -> io::Result<()> {
         ("unreadable", counts.unreadable),
         ("missed", counts.missed),
         ("elsewhere", counts.elsewhere),
+        ("disagree", counts.disagree),
     ] {
         show_count(name, count, row)?;
     }

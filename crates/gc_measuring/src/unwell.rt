@@ -20,6 +20,8 @@ enum Why {
     Unreadable,
     /// It was measured elsewhere.
     Elsewhere,
+    /// Its values don't agree with those of the chain's first sending.
+    Disagree,
 }
 
 impl Why {
@@ -29,6 +31,7 @@ impl Why {
             Ending::Answered(Quality::Refused, _, line) => Some(Why::of_refusal(line)),
             Ending::Unreadable(..) => Some(Why::Unreadable),
             Ending::Elsewhere(_) => Some(Why::Elsewhere),
+            Ending::Disagree(_) => Some(Why::Disagree),
             Ending::Answered(..) => None,
             Ending::Late | Ending::Lost | Ending::Skipped | Ending::Missed => None,
         }
@@ -51,6 +54,7 @@ impl Why {
             Why::Code(code) => writeln!(messages, "refused {code}"),
             Why::Unreadable => writeln!(messages, "unreadable"),
             Why::Elsewhere => writeln!(messages, "elsewhere"),
+            Why::Disagree => writeln!(messages, "disagree"),
         }
     }
 }

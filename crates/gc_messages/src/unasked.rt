@@ -1,22 +1,37 @@
-//! Targets of which a text says something that no command needs: where they are, though no command asks for their direction, so that
-//! no answer is compared with that; what they are called, though no command is for them; or that they aren't watched, though none is.
+//! Targets of which a text says something that no command needs: where they are, though no command asks for their direction, or for
+//! their distance, so that no answer is compared with that; what they are called, though no command is for them; or that they aren't
+//! watched, though none is.
 
-use gc_texts::Tasks;
+use gc_texts::{Near, Tasks};
 use std::io::{self, Write};
 
 /// Writes a line for each target of which the text says where it is (`near`), though no command of the setup or of the cycle
-/// measures its direction. `Err`: a message couldn't be written; those after that one aren't.
+/// measures its direction; and for each other of which it says how far away it is, though none measures its distance. `Err`: a message
+/// couldn't be written; those after that one aren't.
 pub fn report_unasked<E: Write>(tasks: &Tasks, messages: &mut E) -> io::Result<()> {
     for near in tasks.nears.as_slice() {
         let target = near.target;
-        if !tasks.asks_direction_of(target) {
-            writeln!(
-                messages,
-                "geocom: near {target}: no command measures the direction of target {target}"
-            )?;
-        }
+        let Some(unasked) = unasked_of(tasks, near) else {
+            continue;
+        };
+        writeln!(
+            messages,
+            "geocom: near {target}: no command measures the {unasked} of target {target}"
+        )?;
     }
     Ok(())
+}
+
+// What of a target's place no command measures: its direction, or else, if it has one, its distance. `None`: all of it is measured.
+// Each command that measures a distance measures a direction, too.
+fn unasked_of(tasks: &Tasks, near: &Near) -> Option<&'static str> {
+    if !tasks.asks_direction_of(near.target) {
+        return Some("direction");
+    }
+    if near.range.is_some() && !tasks.asks_distance_of(near.target) {
+        return Some("distance");
+    }
+    None
 }
 
 /// Writes a line for each target that has a name in the text, and for which the text has no command, neither of the setup nor of

@@ -9,16 +9,25 @@ use Rattle.gc_nights.specs.declared.halt.FalseRow.{FalseRow}
 use Rattle.gc_nights.specs.declared.halt.Halt.{Halt}
 use Rattle.gc_nights.specs.declared.halt.Halt.TheVariants.{Fault, Untrue}
 use Rattle.gc_rehearsal.specs.declared.truth.Truth.{Truth}
-use Rattle.gc_texts.specs.Endings.{End, Answered, Unreadable, Elsewhere, Late}
+use Rattle.gc_texts.specs.Endings.{End, Answered, Unreadable, Elsewhere, Disagree, Late}
 use Rattle.gc_texts.specs.declared.fault.RunFault.TheVariants.{Memory}
+use Rattle.gc_texts.specs.declared.quality.Quality.TheVariants.{Unconfirmed}
 
 -- whether a row with this ending says that a reply came, in time or late. Such a row makes a claim
 abbrev pub speaks_of_reply : End → Bool
 speaks_of_reply (Answered quality answer line) = true
 speaks_of_reply (Unreadable line fault) = true
 speaks_of_reply (Elsewhere line) = true
+speaks_of_reply (Disagree line) = true
 speaks_of_reply Late = true
 speaks_of_reply _ = false
+
+-- whether the values of a row with this ending don't count, by what the row says itself: it is of a first sending, which is unconfirmed,
+-- or of a second one that disagrees with it
+abbrev pub is_in_doubt : End → Bool
+is_in_doubt (Answered Unconfirmed answer line) = true
+is_in_doubt (Disagree line) = true
+is_in_doubt _ = false
 
 -- these bytes are the request line of what is asked, with one of the ids 0 to 7
 abbrev pub IsRequestFor : Asked → (line : List ℕ) → Type 0

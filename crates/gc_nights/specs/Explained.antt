@@ -1,6 +1,6 @@
 -- What it means that the rows of a line that alters bytes are explained: this project's own. A claim is what a row says of a reply, and a
 -- truth is a reply that came. A reply is damaged if its bytes were altered, or those of its request.
-use Rattle.std.specs.Prelude.{◌≡◌, ◌⊎◌, ℕ, ◌+◌, ◌<◌, ◌≤◌, true, false, List, [], ◌∷◌, drop, slice_get, Some, IfSome, Result, Ok, Err}
+use Rattle.std.specs.Prelude.{◌≡◌, ◌⊎◌, ℕ, ◌+◌, ◌<◌, ◌≤◌, true, false, List, [], ◌∷◌, drop, slice_get, Some, IfSome, Result, Ok, Err, if◌then◌else◌}
 use Rattle.gc_nights.specs.Claims.{NamesRow, SpeaksOf}
 use Rattle.gc_nights.specs.declared.claim.Claim.{Claim}
 use Rattle.gc_nights.specs.declared.explained.FalseRows.{FalseRows}
@@ -46,15 +46,19 @@ pub record IsBehindTwo (claim : Claim) (truths : List Truth) : Type 0 where
   pub one : IsDamagedAt claim.at truths first
   pub other : IsDamagedAt claim.at truths second
 
+-- a row counts as one in doubt if it says itself that its values don't count
+abbrev pub doubt_of : Claim → ℕ
+doubt_of claim = if claim.is_in_doubt then 1 else 0
+
 -- the rows are explained, where these replies came since the last true row: each is true by one of them, and the rows after it are
 -- explained by the replies after that one; or it is by a damaged reply, or else behind two damaged ones, and such rows are
--- `by_damaged` and `behind_two` many
-abbrev pub AreExplained : List Claim → (left : List Truth) → (by_damaged behind_two : ℕ) → Type 0
-AreExplained [] left by_damaged behind_two = (by_damaged ≡ 0) × (behind_two ≡ 0)
-AreExplained (claim ∷ claims) left by_damaged behind_two =
-    ((place : ℕ) × IsTrueByAt claim left place × AreExplained claims (drop (place + 1) left) by_damaged behind_two)
-    ⊎ ((IsByDamaged claim left × (n : ℕ) × (by_damaged ≡ n + 1) × AreExplained claims left n behind_two)
-    ⊎ (IsBehindTwo claim left × (n : ℕ) × (behind_two ≡ n + 1) × AreExplained claims left by_damaged n))
+-- `by_damaged` and `behind_two` many. Of these `in_doubt` say themselves that their values don't count
+abbrev pub AreExplained : List Claim → (left : List Truth) → (by_damaged behind_two in_doubt : ℕ) → Type 0
+AreExplained [] left by_damaged behind_two in_doubt = (by_damaged ≡ 0) × (behind_two ≡ 0) × (in_doubt ≡ 0)
+AreExplained (claim ∷ claims) left by_damaged behind_two in_doubt =
+    ((place : ℕ) × IsTrueByAt claim left place × AreExplained claims (drop (place + 1) left) by_damaged behind_two in_doubt)
+    ⊎ ((IsByDamaged claim left × (n : ℕ) × (m : ℕ) × (by_damaged ≡ n + 1) × (in_doubt ≡ m + doubt_of claim) × AreExplained claims left n behind_two m)
+    ⊎ (IsBehindTwo claim left × (n : ℕ) × (m : ℕ) × (behind_two ≡ n + 1) × (in_doubt ≡ m + doubt_of claim) × AreExplained claims left by_damaged n m))
 
 -- what a row is, where these replies came since the last true row. Nothing is said of a row that nothing explains
 abbrev pub IsVerdict : Claim → (left : List Truth) → Verdict → Type 0
@@ -68,11 +72,11 @@ IsVerdict claim left Unexplained = Unit {0}
 abbrev pub ExplainsRow : Claim → (left : List Truth) → (old : FalseRows) → (since : List Truth) → (new : FalseRows) → Type 0
 ExplainsRow claim left old since new =
     ((place : ℕ) × IsTrueByAt claim left place × (since ≡ drop (place + 1) left) × (new ≡ old))
-    ⊎ ((IsByDamaged claim left × (since ≡ left) × (new ≡ record old { by_damaged = old.by_damaged + 1 }))
-    ⊎ (IsBehindTwo claim left × (since ≡ left) × (new ≡ record old { behind_two = old.behind_two + 1 })))
+    ⊎ ((IsByDamaged claim left × (since ≡ left) × (new ≡ record old { by_damaged = old.by_damaged + 1; in_doubt = old.in_doubt + doubt_of claim }))
+    ⊎ (IsBehindTwo claim left × (since ≡ left) × (new ≡ record old { behind_two = old.behind_two + 1; in_doubt = old.in_doubt + doubt_of claim })))
 
 -- the result of explaining these claims by these truths, where `incomplete` says that some of them are missing: none is, and the rows
 -- are explained, with as many false ones; or some are, which is the fault `Memory`; or none is, and a row is named (`NamesRow`)
 abbrev pub Explains : (incomplete : Type 0) → List Claim → List Truth → (seed : ℕ) → Result FalseRows Halt → Type 0
-Explains incomplete claims truths seed (Ok rows) = (incomplete → ⊥) × AreExplained claims truths rows.by_damaged rows.behind_two
+Explains incomplete claims truths seed (Ok rows) = (incomplete → ⊥) × AreExplained claims truths rows.by_damaged rows.behind_two rows.in_doubt
 Explains incomplete claims truths seed (Err halt) = (incomplete × (halt ≡ Fault Memory)) ⊎ ((incomplete → ⊥) × NamesRow claims seed halt)

@@ -3,7 +3,7 @@
 
 ghost use Rattle.std.specs.Prelude.{◌≡◌, true};
 ghost use Rattle.gc_measuring.specs.Measuring.{text_in};
-ghost use Rattle.gc_nights.specs.Claims.{speaks_of_reply};
+ghost use Rattle.gc_nights.specs.Claims.{is_in_doubt, speaks_of_reply};
 ghost use Rattle.gc_texts.specs.Endings.{ending_seen};
 
 use crate::claim::Claim;
@@ -13,7 +13,7 @@ use gc_lines::{PortFailed, Sink, line_from};
 use gc_links::Moment;
 use gc_measuring::write_station_row;
 use gc_station::{Book, LinkHealth, Watch};
-use gc_texts::{Ending, Name, Stamp, Wish};
+use gc_texts::{Ending, Name, Quality, Stamp, Wish};
 use gc_words::Layout;
 use std::alloc::Global;
 
@@ -60,6 +60,7 @@ impl Seen {
             call: command.call,
             line: ending.line().map(|line| line_from(line.as_slice())),
             stamp,
+            is_in_doubt: is_in_doubt(ending),
             target: command.target,
             row: self.summary.rows,
         };
@@ -74,9 +75,20 @@ fn speaks_of_reply(ending: Ending<'_>) -> bool
     ensures { result ≡ speaks_of_reply (ending_seen ending.entry) }
 {
     match ending {
-        Ending::Answered(..) | Ending::Unreadable(..) | Ending::Elsewhere(_) => true,
+        Ending::Answered(..) | Ending::Unreadable(..) => true,
+        Ending::Elsewhere(_) | Ending::Disagree(_) => true,
         Ending::Late => true,
         Ending::Lost | Ending::Skipped | Ending::Missed => false,
+    }
+}
+
+// Whether the values of a row with this ending don't count, by what the row says itself: it is unconfirmed, or disagrees.
+fn is_in_doubt(ending: Ending<'_>) -> bool
+    ensures { result ≡ is_in_doubt (ending_seen ending.entry) }
+{
+    match ending {
+        Ending::Answered(Quality::Unconfirmed, ..) | Ending::Disagree(_) => true,
+        _ => false,
     }
 }
 
@@ -231,6 +243,9 @@ impl<K: Sink> Book for RunBook<K> {
 
     // Does nothing: a run that ended as stale is counted by its fault.
     fn unanswered(&mut self, _watch: Watch) {}
+
+    // Does nothing: the summary compares each row with the truth.
+    fn doubts(&mut self, _ended: usize) {}
 
     // Does nothing: the summary doesn't count overruns.
     fn overran(&mut self, _cycle: u64) {}

@@ -25,6 +25,8 @@ pub struct Claim {
     pub line: Option<Line>,
     /// The row's moments, in milliseconds since 1970, and its cycle, place and turn.
     pub stamp: Stamp,
+    /// Whether the row's values don't count, by what it says itself: it is unconfirmed, or disagrees.
+    pub is_in_doubt: bool,
     /// The row's target.
     pub target: u32,
     /// Which row it is, counted from 1 over all nights.

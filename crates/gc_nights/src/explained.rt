@@ -1,7 +1,7 @@
 //! Rows on a line that alters bytes: which are true, and why the others aren't.
 
 ghost use Rattle.std.specs.Prelude.{◌≡◌, ◌↔◌, ◌+◌, ◌<◌, ◌≤◌, ◌^◌, IsTrue, IfSome, drop, length, true};
-ghost use Rattle.gc_nights.specs.Explained.{AreExplained, ExplainsRow, IsBookedBy, IsByDamaged, IsBehindTwo, IsDamagedAt, IsTrueByAt, IsVerdict};
+ghost use Rattle.gc_nights.specs.Explained.{AreExplained, ExplainsRow, IsBookedBy, IsByDamaged, IsBehindTwo, IsDamagedAt, IsTrueByAt, IsVerdict, doubt_of};
 
 use crate::claim::{Claim, has_no_other_line, speaks_of};
 use gc_rehearsal::Truth;
@@ -13,6 +13,8 @@ pub(crate) struct FalseRows {
     pub(crate) by_damaged: u64,
     /// How many are behind two damaged replies that came since the last true row.
     pub(crate) behind_two: u64,
+    /// How many of these say themselves that their values don't count: they are unconfirmed, or disagree.
+    pub(crate) in_doubt: u64,
 }
 
 /// What a row is.
@@ -130,6 +132,14 @@ fn after_place(truths: &[Truth], place: usize) -> &[Truth]
     &truths[place + 1..]
 }
 
+// How many rows in doubt this one is: 1, if it says itself that its values don't count.
+fn doubt_of(claim: &Claim) -> u64
+    ensures is { result ≡ doubt_of claim.now }
+    ensures once { result ≤ 1 }
+{
+    if claim.is_in_doubt { 1 } else { 0 }
+}
+
 // Explains the next row, where the replies `left` came since the last true row, and so many rows before weren't true: returns the replies
 // since the last true row once this row is one of those before, and how many aren't true then. `None`: nothing explains the row.
 fn explain_row<'a>(
@@ -137,12 +147,14 @@ fn explain_row<'a>(
     left: &'a [Truth],
     falses: FalseRows,
 ) -> Option<(&'a [Truth], FalseRows)>
-    requires { falses.by_damaged + falses.behind_two + 1 < 2 ^ 64 }
+    requires few { falses.by_damaged + falses.behind_two + 1 < 2 ^ 64 }
+    requires doubts { falses.in_doubt + 1 < 2 ^ 64 }
     ensures { IfSome result (λ next. ExplainsRow claim.now left.now falses next.0.now next.1) }
 {
     let FalseRows {
         by_damaged,
         behind_two,
+        in_doubt,
     } = falses;
     match verdict_of(claim, left) {
         Verdict::True(place) => Some((after_place(left, place), falses)),
@@ -151,6 +163,7 @@ fn explain_row<'a>(
             FalseRows {
                 by_damaged: by_damaged + 1,
                 behind_two,
+                in_doubt: in_doubt + doubt_of(claim),
             },
         )),
         Verdict::BehindTwo => Some((
@@ -158,6 +171,7 @@ fn explain_row<'a>(
             FalseRows {
                 by_damaged,
                 behind_two: behind_two + 1,
+                in_doubt: in_doubt + doubt_of(claim),
             },
         )),
         Verdict::Unexplained => None,
@@ -167,12 +181,13 @@ fn explain_row<'a>(
 /// Explains the rows of replies, in their order, up to the first that nothing explains: it isn't true, no damaged reply is the one that
 /// it booked, and fewer than two damaged ones came since the last true row.
 pub(crate) fn explain(claims: &[Claim], truths: &[Truth]) -> Explained
-    ensures { length claims.now ≤ result.rows → AreExplained claims.now truths.now result.falses.by_damaged result.falses.behind_two }
+    ensures { length claims.now ≤ result.rows → AreExplained claims.now truths.now result.falses.by_damaged result.falses.behind_two result.falses.in_doubt }
 {
     let mut rows = 0;
     let mut falses = FalseRows {
         by_damaged: 0,
         behind_two: 0,
+        in_doubt: 0,
     };
     let mut left = truths;
     while let Some(claim) = claims.get(rows) {

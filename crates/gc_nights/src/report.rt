@@ -4,7 +4,7 @@ use crate::explained::FalseRows;
 use crate::nights::Programme;
 use crate::quotient::quotient;
 use crate::summary::{Summary, TargetTally};
-use gc_measuring::{write_main_counts, write_other_counts, write_target};
+use gc_measuring::{write_judged_counts, write_main_counts, write_other_counts, write_target};
 use gc_rehearsal::Counts;
 use gc_station::Tally;
 use gc_texts::{Name, name_text};
@@ -34,8 +34,8 @@ pub(crate) fn tell_summary<E: Write>(
 }
 
 // Writes how many nights there were and with which seed, how many runs were killed, gave up (with the fault of the last that did)
-// or were cut off, how many rows there were, and how many aren't true: only on a line that alters bytes there may be such rows, as any
-// other ends the rehearsal.
+// or were cut off, how many rows there were, and how many aren't true and don't say that their values don't count: only on a line that
+// alters bytes there may be rows that aren't true, as any other ends the rehearsal.
 fn tell_nights<E: Write>(
     programme: Programme<'_>,
     summary: &Summary,
@@ -60,12 +60,15 @@ fn tell_nights<E: Write>(
     )
 }
 
-// How many rows aren't true.
+// How many rows aren't true, but for those that say themselves that their values don't count.
 fn falses_of(falses: FalseRows) -> u64 {
-    falses.by_damaged.saturating_add(falses.behind_two)
+    falses
+        .by_damaged
+        .saturating_add(falses.behind_two)
+        .saturating_sub(falses.in_doubt)
 }
 
-// Writes how many lines were altered, and why rows aren't true. Writes nothing for a line that alters no bytes.
+// Writes how many lines were altered, why rows aren't true, and how many of these say that their values don't count. Writes nothing for a line that alters no bytes.
 fn tell_altered<E: Write>(
     programme: Programme<'_>,
     summary: &Summary,
@@ -78,16 +81,19 @@ fn tell_altered<E: Write>(
     let FalseRows {
         by_damaged,
         behind_two,
+        in_doubt,
     } = summary.falses;
     write!(messages, "altered lines {}: ", counts.altered)?;
     write!(messages, "false rows by damaged replies {by_damaged} ")?;
-    writeln!(messages, "behind two of them {behind_two} others 0")
+    write!(messages, "behind two of them {behind_two} others 0 ")?;
+    writeln!(messages, "unconfirmed {in_doubt}")
 }
 
 // Writes how commands ended, and the end of the line.
 fn tell_tally<E: Write>(tally: Tally, messages: &mut E) -> io::Result<()> {
     write_main_counts(tally, messages)?;
     write_other_counts(tally, messages)?;
+    write_judged_counts(tally, messages)?;
     writeln!(messages)
 }
 

@@ -130,6 +130,7 @@ impl Summary {
             falses: FalseRows {
                 by_damaged: 0,
                 behind_two: 0,
+                in_doubt: 0,
             },
             tally: Tally::new(),
             targets: Vec::new(alloc),
@@ -145,6 +146,7 @@ impl Summary {
     pub(crate) fn count_falses(&mut self, falses: FalseRows) {
         self.falses.by_damaged = self.falses.by_damaged.saturating_add(falses.by_damaged);
         self.falses.behind_two = self.falses.behind_two.saturating_add(falses.behind_two);
+        self.falses.in_doubt = self.falses.in_doubt.saturating_add(falses.in_doubt);
     }
 
     /// Counts a row. At the first row of a cycle the one before it in the run is counted, too (`finish`). A row of the setup,

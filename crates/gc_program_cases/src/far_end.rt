@@ -81,6 +81,10 @@ pub struct FarEnd<'a, 'b> {
     pub silent: u64,
     /// What the line does to what is sent over it.
     pub odd: Oddities,
+    /// Whether a reply with id 6 comes before each reply to a request for 5004.
+    pub strays: bool,
+    /// Whether the reply with id 3 to a request for 2011 is altered: its height is 1.7.
+    pub alters: bool,
 }
 
 impl<'a, 'b> FarEnd<'a, 'b> {
@@ -93,12 +97,20 @@ impl<'a, 'b> FarEnd<'a, 'b> {
         Ok(millis_of(wait))
     }
 
-    // Answers the requests of a piece, after an echo of it if the line echoes. Returns whether it sent a reply; `false` also if
-    // the echo or one of the replies can't be sent.
+    // Answers the requests of a piece, after an echo of it if the line echoes, and after a stray if it strays and the piece asks for
+    // 5004. If the line alters, the reply to 2011 with id 3 has another height. Returns whether it sent a reply; `false` also if the
+    // echo, the stray or one of the replies can't be sent.
     fn answer_piece(&self, piece: &[u8]) -> bool {
         let mut far = &self.ends.1;
         if self.odd.echoes && far.write_all(piece).is_err() {
             return false;
+        }
+        let strays = self.strays && piece.starts_with(b"%R1Q,5004,");
+        if strays && far.write_all(b"%R1P,0,6:0\r\n").is_err() {
+            return false;
+        }
+        if self.alters && piece.starts_with(b"%R1Q,2011,3:") {
+            return far.write_all(b"%R1P,0,3:0,1.7\r\n").is_ok();
         }
         self.serve_piece(piece)
     }

@@ -10,7 +10,8 @@
 //!     closed input output    these of `input`, `output` and `messages` are closed
 //!     terminal yes           the messages go to a terminal; `output`: the output does
 //!     far 20                 there is a far end, whose answers take this many milliseconds; with another word it gives none
-//!     line echoes            of a far end: what is sent comes back; with `bare` a CR comes as LF
+//!     line echoes            of a far end: what is sent comes back; with `bare` a CR comes as LF; with `strays` a reply with id 6 comes
+//!                            before each reply to a request for 5004; with `alters` the reply to 2011 with id 3 has the height 1.7
 //!     refused 2              of a far end: this many connections are refused before one is made
 //!     silent 500             of a far end: after this many milliseconds nothing is answered any more
 //!     until 9000             of a far end: after this many milliseconds its monotonic clock can't be read any more
@@ -183,6 +184,8 @@ fn far_end_of<'a, 'b>(
             refused: case.number("refused", 0),
             silent: case.number("silent", u64::MAX),
             odd: oddities_of(case),
+            strays: case.is("line", "strays"),
+            alters: case.is("line", "alters"),
         },
     }
 }

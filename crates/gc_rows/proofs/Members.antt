@@ -31,11 +31,11 @@ use Rattle.gc_values.specs.declared.value.Value.{Value}
 use Rattle.gc_values.specs.declared.value.Value.TheVariants as value
 use Rattle.gc_values.proofs.OneText.{whole_text_once, decimal_text_once}
 use Rattle.gc_texts.specs.Logs.{AreBytes}
-use Rattle.gc_texts.specs.Endings.{End, Answered, Unreadable, Elsewhere, Late, Lost, Skipped, Missed, quality_of, quality_text}
+use Rattle.gc_texts.specs.Endings.{End, Answered, Unreadable, Elsewhere, Disagree, Late, Lost, Skipped, Missed, quality_of, quality_text}
 use Rattle.gc_rows.specs.JsonLines.{Text, Number, without_zeros, sent_members, when_members, name_members, command_members, reply_members, ending_members, value_members, values_members, members_from, item_members, answer_members, quantity_members, quality_members, attempt_members, last_members}
 use Rattle.gc_rows.specs.Laws.{IsPlainName, IsPlainMember, ArePlainMembers, IsReplyOfBytes, IsAnswerOfBytes, IsEndOfBytes, FitsIn64Bits, ColumnsGiveReply, RecordsHavePlainMembers}
 use Rattle.gc_rows.specs.Quantities.{column_of, quantity_name, quantity_names}
-use Rattle.gc_texts.specs.declared.quality.Quality.TheVariants.{Fine, Warning, Refused}
+use Rattle.gc_texts.specs.declared.quality.Quality.TheVariants.{Fine, Warning, Unconfirmed, Refused}
 use Rattle.gc_texts.specs.Cuts.{before, behind}
 use Rattle.gc_rows.specs.Rows.{com_of, code_of, values_of, procedure_of}
 use Rattle.gc_texts.specs.Stamps.{stamp_text}
@@ -251,6 +251,7 @@ ending_members_plain (Unreadable line fault) is = (
   ((plain_name (codes "fault") refl, IsNumber-decimal (value_fault_number fault) (fault_fits fault)), reply_members_plain line is),
 )
 ending_members_plain (Elsewhere line) is = (word_member_plain (codes "outcome") (codes "elsewhere") refl refl, reply_members_plain line is)
+ending_members_plain (Disagree line) is = (word_member_plain (codes "outcome") (codes "disagree") refl refl, reply_members_plain line is)
 ending_members_plain Late is = (word_member_plain (codes "outcome") (codes "late") refl refl, tt)
 ending_members_plain Lost is = (word_member_plain (codes "outcome") (codes "lost") refl refl, tt)
 ending_members_plain Skipped is = (word_member_plain (codes "outcome") (codes "skipped") refl refl, tt)
@@ -343,13 +344,17 @@ answer_members_plain (Raw raw) answer line is fits = item_members_plain (values_
 
 -- the members of a command's quantities or items are plain, if its line and answer are of bytes (`IsEndOfBytes`)
 quantity_members_plain : (asked : Asked) (end : End) → IsEndOfBytes end → ArePlainMembers (quantity_members asked end)
-quantity_members_plain asked (Answered quality (Some answer) line) is = answer_members_plain asked answer line is.0 is.1
+quantity_members_plain asked (Answered Unconfirmed (Some answer) line) is = tt
+quantity_members_plain asked (Answered Fine (Some answer) line) is = answer_members_plain asked answer line is.0 is.1
+quantity_members_plain asked (Answered Warning (Some answer) line) is = answer_members_plain asked answer line is.0 is.1
+quantity_members_plain asked (Answered Refused (Some answer) line) is = answer_members_plain asked answer line is.0 is.1
 quantity_members_plain asked end is = tt
 
 -- the member of the quality of a command's answer is plain
 quality_members_plain : (end : End) → ArePlainMembers (quality_members (quality_text (quality_of end)))
 quality_members_plain (Answered Fine answer line) = (word_member_plain (codes "quality") (codes "ok") refl refl, tt)
 quality_members_plain (Answered Warning answer line) = (word_member_plain (codes "quality") (codes "warning") refl refl, tt)
+quality_members_plain (Answered Unconfirmed answer line) = (word_member_plain (codes "quality") (codes "unconfirmed") refl refl, tt)
 quality_members_plain (Answered Refused answer line) = (word_member_plain (codes "quality") (codes "refused") refl refl, tt)
 quality_members_plain end = tt
 

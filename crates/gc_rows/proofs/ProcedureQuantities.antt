@@ -9,8 +9,10 @@ use Rattle.gc_catalogue.specs.declared.asked.Asked.TheVariants.{Table, Raw}
 use Rattle.gc_catalogue.specs.declared.call.Call.{Call}
 use Rattle.gc_catalogue.specs.declared.call.Call.TheVariants.{NullProc, SetPrecision, GetPrecision, ComVersion, InstrumentNo, InstrumentName, SetDate, GetDate, IntTemp, CsvVersion, DoMeasure, GetStation, SetStation, GetHeight, SetHeight, GetFace, GetAngle, SimpleMea, QuickDist, SetPrism, GetPrism, MeasDistance, Position, ChangeFace, FineAdjust}
 use Rattle.gc_texts.specs.Endings.{End, Answered}
+use Rattle.gc_texts.specs.declared.quality.Quality.{Quality}
+use Rattle.gc_texts.specs.declared.quality.Quality.TheVariants.{Fine, Warning, Unconfirmed, Refused}
 use Rattle.gc_rows.specs.Quantities.{column_of, column_of_whole}
-use Rattle.gc_rows.specs.Rows.{spread, columns_from, value_texts, answer_columns, quantity_fields, last_fields}
+use Rattle.gc_rows.specs.Rows.{spread, columns_from, value_texts, answer_columns, counted_columns, quantity_fields, last_fields}
 use Rattle.gc_rows.specs.ProcedureQuantities.{QuantitiesHaveTheirNames, WholesHaveTheirNames, RowsFillTheirColumns}
 use Rattle.gc_rows.specs.declared.when.When.{When}
 
@@ -94,9 +96,16 @@ columns_filled : (asked : Asked) (answer : Answer) → length (answer_columns as
 columns_filled (Table call) answer = from_fills (column_of call answer) (value_texts answer) (answer_fits call answer)
 columns_filled (Raw raw) answer = refl
 
+-- the quantities of an answer of any quality have 24 fields
+counted_filled : (quality : Quality) (asked : Asked) (answer : Answer) → length (counted_columns quality asked answer) ≡ 24
+counted_filled Unconfirmed asked answer = refl
+counted_filled Fine asked answer = columns_filled asked answer
+counted_filled Warning asked answer = columns_filled asked answer
+counted_filled Refused asked answer = columns_filled asked answer
+
 -- however a command ended, its quantities have 24 fields
 pub quantities_fill : (asked : Asked) (end : End) → length (quantity_fields asked end) ≡ 24
-quantities_fill asked (Answered quality (Some answer) line) = columns_filled asked answer
+quantities_fill asked (Answered quality (Some answer) line) = counted_filled quality asked answer
 quantities_fill asked end = refl
 
 -- however a command ended, its quantities and, after them, its quality and its attempt have 26 fields

@@ -12,6 +12,8 @@ use Rattle.gc_values.specs.ValueFault.{value_fault_number}
 use Rattle.gc_values.specs.declared.fault.ValueFault.{ValueFault}
 use Rattle.gc_values.specs.declared.value.Value.{Value}
 use Rattle.gc_values.specs.declared.value.Value.TheVariants as value
+use Rattle.gc_texts.specs.declared.quality.Quality.{Quality}
+use Rattle.gc_texts.specs.declared.quality.Quality.TheVariants.{Unconfirmed}
 use Rattle.gc_texts.specs.declared.wish.Wish.{Wish}
 use Rattle.gc_rows.specs.declared.when.When.{When}
 use Rattle.gc_texts.specs.Endings.{End, Answered, word_of, fault_of, line_of, quality_of, quality_text}
@@ -162,10 +164,15 @@ abbrev pub answer_members : Asked → Answer → List ℕ → List Member
 answer_members (Table call) answer line = members_from (column_of call answer) (answer_fields answer).values (values_of line)
 answer_members (Raw raw) answer line = item_members (split_items (values_of line))
 
--- the members of the answer that an ending has: its quantities or its items; none if the ending isn't `Answered`, or has no
--- answer (`None`)
+-- the members of an answer of this quality, which came in this line: its quantities or its items; none if it is unconfirmed
+abbrev pub counted_members : Quality → Asked → Answer → List ℕ → List Member
+counted_members Unconfirmed asked answer line = []
+counted_members _ asked answer line = answer_members asked answer line
+
+-- the members of the answer that an ending has: its quantities or its items; none if the ending isn't `Answered`, has no answer
+-- (`None`), or one that is unconfirmed
 abbrev pub quantity_members : Asked → End → List Member
-quantity_members asked (Answered quality (Some answer) line) = answer_members asked answer line
+quantity_members asked (Answered quality (Some answer) line) = counted_members quality asked answer line
 quantity_members asked _ = []
 
 -- the member `quality`, which holds this word; none if the word is empty

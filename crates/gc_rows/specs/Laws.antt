@@ -7,7 +7,7 @@ use Rattle.json.specs.Json as json
 use Rattle.json.specs.Json.{document}
 use Rattle.json.specs.Print.{IsNumber}
 use Rattle.csv.specs.declared.parser.State.TheVariants.{StartRecord}
-use Rattle.gc_texts.specs.Endings.{End, Answered, Unreadable, Elsewhere}
+use Rattle.gc_texts.specs.Endings.{End, Answered, Unreadable, Elsewhere, Disagree}
 use Rattle.gc_catalogue.specs.Answers.{IsFittingAnswer}
 use Rattle.gc_catalogue.specs.declared.answer.Answer.{Answer}
 use Rattle.gc_catalogue.specs.declared.answer.Answer.TheVariants as answers
@@ -115,6 +115,7 @@ IsEndOfBytes (Answered quality (Some answer) line) = IsReplyOfBytes line × IsAn
 IsEndOfBytes (Answered quality None line) = IsReplyOfBytes line
 IsEndOfBytes (Unreadable line fault) = IsReplyOfBytes line
 IsEndOfBytes (Elsewhere line) = IsReplyOfBytes line
+IsEndOfBytes (Disagree line) = IsReplyOfBytes line
 IsEndOfBytes _ = Unit {0}
 
 -- the moments at which a record's command was sent and ended, its cycle, its place and its attempt have at most 64 bits each

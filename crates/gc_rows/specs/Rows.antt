@@ -11,6 +11,8 @@ use Rattle.gc_catalogue.specs.declared.asked.Asked.TheVariants.{Table, Raw}
 use Rattle.gc_values.specs.ValueFault.{value_fault_number}
 use Rattle.gc_values.specs.declared.fault.ValueFault.{ValueFault}
 use Rattle.gc_values.specs.declared.value.Value.{Value}
+use Rattle.gc_texts.specs.declared.quality.Quality.{Quality}
+use Rattle.gc_texts.specs.declared.quality.Quality.TheVariants.{Unconfirmed}
 use Rattle.gc_texts.specs.declared.wish.Wish.{Wish}
 use Rattle.gc_rows.specs.declared.row.ReplyTexts.{ReplyTexts}
 use Rattle.gc_rows.specs.declared.when.When.{When}
@@ -122,10 +124,15 @@ abbrev pub answer_columns : Asked → Answer → List (List ℕ)
 answer_columns (Table call) answer = columns_from (column_of call answer) (value_texts answer)
 answer_columns (Raw raw) answer = replicate 24 []
 
--- the quantities of the answer that an ending has, each in its column; all columns are empty if the ending isn't `Answered`, or
--- has no answer (`None`)
+-- the quantities of an answer of this quality, each in its column; all columns are empty if the answer is unconfirmed
+abbrev pub counted_columns : Quality → Asked → Answer → List (List ℕ)
+counted_columns Unconfirmed asked answer = replicate 24 []
+counted_columns _ asked answer = answer_columns asked answer
+
+-- the quantities of the answer that an ending has, each in its column; all columns are empty if the ending isn't `Answered`, has no
+-- answer (`None`), or one that is unconfirmed
 abbrev pub quantity_fields : Asked → End → List (List ℕ)
-quantity_fields asked (Answered quality (Some answer) line) = answer_columns asked answer
+quantity_fields asked (Answered quality (Some answer) line) = counted_columns quality asked answer
 quantity_fields asked _ = replicate 24 []
 
 -- the fields after all others: the quality of the command's answer, empty if the ending isn't `Answered`, and the attempt: of the

@@ -25,7 +25,7 @@ use crate::when::When;
 use arrayvec::ArrayVec;
 use gc_catalogue::{Answer, Asked, Call};
 use gc_lines::{Line, append};
-use gc_texts::{Ending, STAMP_ROOM, Wish, before, behind, escaped, stamp_text};
+use gc_texts::{Ending, Quality, STAMP_ROOM, Wish, before, behind, escaped, stamp_text};
 use gc_values::{Items, Value, ValueFault, split};
 use itoa::Buffer;
 
@@ -378,14 +378,16 @@ fn append_answer<const N: usize>(
     }
 }
 
-// Appends the quantities or the items of the answer that an ending has; nothing if the ending isn't `Answered`, or has no answer
-// (`None`).
+// Appends the quantities or the items of the answer that an ending has; nothing if the ending isn't `Answered`, has no answer
+// (`None`), or one that is unconfirmed.
 fn append_quantities<const N: usize>(line: &mut ArrayVec<u8, N>, asked: &Asked, ending: Ending<'_>)
     requires { array_vec_len line.old + ANSWER_ROOM ≤ N }
     ensures { Adds line.old.items line.new.items (members_text (quantity_members asked.now (ending_seen ending.entry))) ANSWER_ROOM }
 {
-    if let Ending::Answered(_, Some(answer), reply) = ending {
-        append_answer(line, asked, answer, reply);
+    match ending {
+        Ending::Answered(Quality::Unconfirmed, ..) => {}
+        Ending::Answered(_, Some(answer), reply) => append_answer(line, asked, answer, reply),
+        _ => {}
     }
 }
 

@@ -19,7 +19,7 @@ use crate::when::When;
 use arrayvec::ArrayVec;
 use gc_catalogue::{Answer, Asked, Call};
 use gc_lines::{Line, append};
-use gc_texts::{Ending, STAMP_ROOM, Wish, before, behind, escaped, stamp_text};
+use gc_texts::{Ending, Quality, STAMP_ROOM, Wish, before, behind, escaped, stamp_text};
 use gc_values::{Value, ValueFault};
 use itoa::Buffer;
 
@@ -275,12 +275,13 @@ fn append_answer<const N: usize>(row: &mut ArrayVec<u8, N>, asked: &Asked, answe
 }
 
 // Appends the quantities of the answer that an ending has, each in its column. All columns are empty if the ending isn't
-// `Answered`, or has no answer (`None`).
+// `Answered`, has no answer (`None`), or one that is unconfirmed.
 fn append_quantities<const N: usize>(row: &mut ArrayVec<u8, N>, asked: &Asked, ending: Ending<'_>)
     requires { array_vec_len row.old + QUANTITIES_ROOM ≤ N }
     ensures { Adds row.old.items row.new.items (fields_behind_commas (quantity_fields asked.now (ending_seen ending.entry))) QUANTITIES_ROOM }
 {
     match ending {
+        Ending::Answered(Quality::Unconfirmed, ..) => append_blanks(row, QUANTITIES),
         Ending::Answered(_, Some(answer), _) => append_answer(row, asked, answer),
         _ => append_blanks(row, QUANTITIES),
     }

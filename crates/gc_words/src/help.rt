@@ -75,7 +75,8 @@ Bytes after the last line feed are ignored.
 
 With --log it prints a line for each line of a log written by `station --log`: the time, the mark, and what the bytes are. `>` was
 sent and `<` received, as complete lines; `>|` and `<|` are `cleared` or `part`, since they didn't end in CR LF; `-` is the
-connection. Any other line is reported as `no log line`.
+connection. Any other line is reported as `no log line`. After a reply, `impossible` says that no outstanding request has its id, and
+that it isn't a repeat of the one that settled something last: this line was altered, or that one.
 
 Example:
   printf '%%R1Q,5003,2:\\r\\n%%R1P,0,2:0,123456\\r\\nnoise\\r\\n' | geocom check
@@ -135,19 +136,22 @@ called, and where it is:
   deadline MS   1 to 86400000: how long each command after it waits for its reply
   T 5007 now    sets the clock of T to the time at which the request is sent: `sent` in its row, UTC, cut to seconds
   chained       consecutive commands for one target form a chain: each but the first is sent once the one before it was answered
-                well: with both codes 0 and values that parse, or with an accepted return code, and not elsewhere. Otherwise, or
-                where the connection was closed meanwhile, the rest of the chain is skipped
+                well: with both codes 0 and values that parse, or with an accepted return code, and neither elsewhere nor in
+                disagreement. Otherwise, or where the connection was closed meanwhile, the rest of the chain is skipped
   unchained     each command is sent by itself
   name T TEXT   1 to 64 bytes, for all rows of target T; the first is none of = + - @
-  near T HZ V TOLERANCE
-                where target T is, in radians, for all rows of T: a direction measured further away, in either angle, is
-                reported as elsewhere
+  near T HZ V TOLERANCE [DISTANCE TOLERANCE]
+                where target T is, in radians and metres, for all rows of T: a direction measured further away, in either
+                angle, or a distance, is reported as elsewhere
   unwatched T   target T's commands don't count for --stale
   accept C C .. up to 16 return codes from 1 to 65535: an answer with one of them is a warning, and its chain goes on;
                 accept alone: none
   retry N W W ..
                 where a command of a chain after it ends with one of these return codes or outcomes (unreadable, elsewhere,
-                late, lost, skipped), the whole chain is sent again, at most N times in a cycle, 1 to 9; retry 0: never
+                disagree, late, lost, skipped), the whole chain is sent again, at most N times in a cycle, 1 to 9; retry 0: never
+  agree HZ V D  each chain after it is sent twice in a cycle: the first sending's answers are unconfirmed, and one of the second
+                is reported as disagree if a horizontal direction is further than HZ from the first's, another angle than V,
+                both in radians, a length than D metres, or anything else differs; agree alone: sent once
   at start      the commands after it are the setup: they are sent before the first cycle, and again on each new connection and
                 after each resynchronization, each once the one before it was answered well. Their rows have cycle 0
   each cycle    the commands after it are the cycle's, as without such a line
@@ -164,7 +168,8 @@ Each command is sent once in each cycle, or in each attempt of its chain, and ge
   skipped       it wasn't sent: the one before it in its chain wasn't answered well
   missed        it wasn't sent: its cycle couldn't begin before the next was due
   elsewhere     its reply came before its deadline, with both codes 0 or an accepted one, but its direction isn't near where
-                its target is
+                its target is, or its distance isn't the target's
+  disagree      the same, but its values don't agree with those of the chain's first sending (agree)
 
 A request that timed out keeps its id and doesn't hold up others. The station reconnects where the connection ends or fails, and
 where something is outstanding and no reply came for twice the longest deadline; ids continue. At the start, and once all that is
@@ -190,7 +195,7 @@ writes two lines like
   2026-11-22T23:08:27.123Z 0 7 answered %R1P,0,0:0,123456
   2026-11-22T23:08:27.124Z 1 8 answered %R1P,0,1:0,0
 and at the end, on standard error,
-  answered 2 (refused 0) late 0 lost 0 skipped 0 unreadable 0 missed 0 elsewhere 0 again 0";
+  answered 2 (refused 0) late 0 lost 0 skipped 0 unreadable 0 missed 0 elsewhere 0 disagree 0 again 0";
 
 /// What the help of `rehearse` ends with.
 pub const REHEARSAL: &str =

@@ -1,7 +1,7 @@
 use Rattle.std.proofs.Common.{◌≡◌, length, Some, refl}
 use Rattle.std.proofs.lemmas.Option.{slice_get_read}
 use Rattle.std.specs.Prelude.{slice_get}
-use Rattle.gc_nights.proofs.Explaining.{all_explained, explained_next, no_more_than_rows}
+use Rattle.gc_nights.proofs.Explaining.{all_explained, explained_next, no_more_doubts, no_more_than_rows}
 use Rattle.gc_nights.proofs.explained.explain.Goals as goal
 
 pub loop-claim-preserved : goal.loop-claim-preserved
@@ -12,6 +12,7 @@ loop-claim-preserved c =
       explained_next c.args.claims.now c.args.truths.now c.loop-claim.left.now next.since.now c.loop-claim.rows c.loop-claim.falses next.more c.in-Some.claim.now
           c.loop-claim.invariant.0 there next.ensures,
       no_more_than_rows c.loop-claim.left.now next.since.now c.loop-claim.rows c.loop-claim.falses next.more c.in-Some.claim.now c.loop-claim.invariant.1 next.ensures,
+      no_more_doubts c.loop-claim.left.now next.since.now c.loop-claim.rows c.loop-claim.falses next.more c.in-Some.claim.now c.loop-claim.invariant.2 next.ensures,
     )
 
 pub returns : goal.returns
