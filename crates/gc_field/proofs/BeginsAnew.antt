@@ -65,7 +65,7 @@ runs_anew =
 -- after the acts `acts_until_anew`, by the end of which six requests have timed out, the station resynchronizes at the next act
 resynchronizes_next : SynchronizesAnew plan commands scope acts_until_anew (Told (at 115))
 unfolding is_elsewhere header_at reply_at digits
-resynchronizes_next = record { resynchronizes = record { renews = refl; moment = at 115; told = refl; why = inl (lit≤ tt); given_up = refl }; word = refl; client = refl }
+resynchronizes_next = record { resynchronizes = record { renews = refl; moment = at 115; told = refl; why = inl (inl (lit≤ tt)); given_up = refl }; word = refl; client = refl }
 
 -- the answer was made on executing the last command's request, the new client's first one after its null procedure
 was_made : WasMadeOn WINDOW counting from moves_anew 9 (Table InstrumentNo) answer

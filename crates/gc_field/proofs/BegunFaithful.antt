@@ -83,7 +83,7 @@ abbrev course_after_nulls : Course Asked
 course_after_nulls = record { sent = map of_sent nulls; settlements = nulls_settled; client = fresh }
 
 -- `course_after_nulls` is the course `begun` of a new client, with the null procedures before it
-begun_prefixed : IsPrefixed (map of_sent nulls) nulls_settled course_after_nulls begun
+pub begun_prefixed : IsPrefixed (map of_sent nulls) nulls_settled course_after_nulls begun
 begun_prefixed = record { sent = refl; settled = refl; client = refl }
 
 -- Numbers.

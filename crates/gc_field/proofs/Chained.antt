@@ -184,12 +184,12 @@ module _ {State : Type 0} (ends : Ends State) (Good : State → Type 0) (kept : 
 -- Pairs of numbers: a cycle and a place in it, or a part of the run and a request in it.
 
 -- no place of a cycle comes before itself (`IsBefore c p d q`: place p of cycle c comes before place q of cycle d)
-not_before_itself : (c p : ℕ) → IsBefore c p c p → ⊥
+pub not_before_itself : (c p : ℕ) → IsBefore c p c p → ⊥
 not_before_itself c p (inl l) = omega (arith, l)
 not_before_itself c p (inr l) = let less : p < p = l.1 in omega (arith, less)
 
 -- if neither of the pairs i, m and j, n comes before the other, they are the same
-same_place : (i j m n : ℕ) → (IsBefore i m j n → ⊥) → (IsBefore j n i m → ⊥) → (i ≡ j) × (m ≡ n)
+pub same_place : (i j m n : ℕ) → (IsBefore i m j n → ⊥) → (IsBefore j n i m → ⊥) → (i ≡ j) × (m ≡ n)
 same_place i j m n f g =
     elim (cases_order i j) [
       | inl e ↦ elim (cases_order m n) [

@@ -38,13 +38,14 @@ use Rattle.gc_field.specs.Begun.{IsFaithful, IsSafe, WasMadeOn, world_once_begun
 use Rattle.gc_field.specs.Field.{seen}
 use Rattle.gc_field.specs.Instrument.{IsAnInstrument}
 use Rattle.gc_field.specs.Laws.{asked}
-use Rattle.gc_field.specs.Runs.{IsInField, IsOwnAnswer, Program, program_parts, LateHasExecution, RunsInFieldAreFaithful, IsFaithfulThroughout, SettlesByFirstReply, AreSentAs, own_sent, own_settled, world, written_over}
+use Rattle.gc_field.specs.Runs.{IsInField, IsOwnAnswer, Program, program_parts, LateHasExecution, RunsInFieldAreFaithful, IsFaithfulThroughout, SettlesByFirstReply, RaisesNoDoubt, AreSentAs, own_sent, own_settled, world, written_over}
 use Rattle.gc_field.specs.Shown.{AreShownAs, Stretch, shown, stretches}
 use Rattle.gc_field.proofs.BeginJoin.{begins_cleanly}
 use Rattle.gc_field.proofs.BegunFaithful.{sent_is}
 use Rattle.gc_field.proofs.BegunRising.{rising_lack_the_word, runs_leave_good, runs_leave_rising_ids}
 use Rattle.gc_field.proofs.InTime.{IsSoundStretch, in_time, clean_faithful, faithful_throughout}
 use Rattle.gc_field.proofs.Meant.{are_meant}
+use Rattle.gc_field.proofs.NoDoubt.{none_raised}
 use Rattle.gc_field.proofs.Safe.{goes_out}
 use Rattle.gc_field.proofs.Shown.{left_is}
 use Rattle.gc_field.proofs.Unbegun.{faithful_none}
@@ -292,6 +293,7 @@ module _ {State : Type 0} (ends : Ends State) (Good : State → Type 0) (kept : 
     none (end.Answered quality said l) out answered = cc
     none (end.Unreadable l fault) out answered = cc
     none (end.Elsewhere l) out answered = cc
+    none (end.Disagree l) out answered = cc
     none end.Late out answered = cc
     none end.Lost out answered = cc
     none end.Skipped out answered = cc
@@ -410,5 +412,6 @@ module _ {State : Type 0} (ends : Ends State) (Good : State → Type 0) (kept : 
         written = written;
         meant = are_meant x.plan x.commands start x.acts fine h.runs;
         in_time = each_fits (SettlesByFirstReply ends) (λ p s f. in_time ends Good kept is s f.sound) ps ss fit.0;
+        no_doubt = each_fits (RaisesNoDoubt ends) (λ p s f. none_raised ends Good kept is s f.sound) ps ss fit.0;
         each = each_fits (IsFaithfulThroughout ends Good kept) (λ p s f. faithful_throughout ends Good kept is s f.sound) ps ss fit.0;
       }

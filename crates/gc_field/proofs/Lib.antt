@@ -30,6 +30,7 @@ pub mod Unbegun
 pub mod Shown
 pub mod Meant
 pub mod InTime
+mod NoDoubt
 pub mod Safe
 pub mod Among
 pub mod Timeless

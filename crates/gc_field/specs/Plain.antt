@@ -5,6 +5,7 @@ use Rattle.gc_catalogue.specs.declared.asked.Asked.{Asked}
 use Rattle.gc_texts.specs.Again.{no_again}
 use Rattle.gc_texts.specs.Codes.{no_codes}
 use Rattle.gc_texts.specs.Endings.{End}
+use Rattle.gc_texts.specs.declared.agree.Twice.TheVariants.{Once}
 use Rattle.gc_texts.specs.declared.tasks.Task.{Task}
 use Rattle.gc_station.specs.NextCommand.{no_turn}
 use Rattle.gc_station.specs.Records.{Record}
@@ -24,6 +25,7 @@ plain_task target call deadline chained =
       turn = no_turn;
       others = 0;
       now = false;
+      twice = Once;
     }
 
 -- the record of a plain command of the first cycle, at this place in the list, which was sent at the moment `sent`, and ended at

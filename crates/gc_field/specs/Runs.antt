@@ -2,7 +2,7 @@
 -- that it records was made on executing the very request of that cycle and place. A part is what the station sees of its run
 -- from one synchronization to the next; a stretch is what happens on the line meanwhile, once it has synchronized. The word has
 -- the ids of a synchronization's null procedures.
-use Rattle.std.specs.Prelude.{◌≡◌, ℕ, ◌+◌, ◌<◌, ◌≤◌, Bool, true, false, ◌||◌, if◌then◌else◌, nat_le, List, [], ◌∷◌, ◌++◌, drop, length, map, Option, Some, slice_get}
+use Rattle.std.specs.Prelude.{◌≡◌, ◌⊎◌, ℕ, ◌+◌, ◌<◌, ◌≤◌, Bool, true, false, ◌||◌, if◌then◌else◌, nat_le, List, [], ◌∷◌, ◌++◌, drop, length, map, Option, Some, slice_get}
 use Rattle.std.specs.List.{AllByRecursion, AllZip}
 use Rattle.gc_catalogue.specs.declared.asked.Asked.{Asked}
 use Rattle.gc_client.specs.Beginning.{the_word}
@@ -20,6 +20,7 @@ use Rattle.gc_station.specs.Beginnings.{unanswered_after}
 use Rattle.gc_station.specs.Begun.{AreBegun, heard_in}
 use Rattle.gc_station.specs.Deciding.{has_begun}
 use Rattle.gc_station.specs.EachOnce.{EachOnce}
+use Rattle.gc_station.specs.Lines.{raises_doubt}
 use Rattle.gc_station.specs.Links.{parts}
 use Rattle.gc_station.specs.Marks.{records_of}
 use Rattle.gc_station.specs.Parts.{Part, MarksAsk, part_of_act, mark_of, sent_at, sent_of, timeless}
@@ -36,7 +37,7 @@ use Rattle.gc_field.specs.Asking.{MeansSyncSteps}
 use Rattle.gc_field.specs.Begin.{IsWellFormed, LacksTheWord, UnderWay}
 use Rattle.gc_field.specs.Beginnings.{AreOwn, AreRuns, Run}
 use Rattle.gc_field.specs.Begun.{IsFaithful, WasMadeOn, world_once_begun}
-use Rattle.gc_field.specs.Field.{Move, Sends, Tells, Comes}
+use Rattle.gc_field.specs.Field.{Move, Sends, Tells, Comes, Foreign}
 use Rattle.gc_field.specs.Instrument.{OfAnyInstrument}
 use Rattle.gc_field.specs.Laws.{WasExecuted, asked, kept_of}
 use Rattle.gc_field.specs.Meaning.{Means}
@@ -103,6 +104,13 @@ module _ {State : Type 0} (ends : Ends State) where
       → length (world_at s (before ++ Sends target call deadline ∷ between)).wire.settled ≤ length (world_at s before).wire.sent
       → slice_get (world s).wire.settled (length (world_at s before).wire.sent)
       ≡ Some (record { target = target; call = call; outcome = if times_out deadline between then Late else Answered line })
+
+  -- no line that comes in a stretch raises a doubt (`raises_doubt`): of each reply with an id a request is outstanding, or its id is the one
+  -- before that of the oldest. `front` are the moves before the line
+  abbrev pub RaisesNoDoubt : Stretch State → Type 0
+  RaisesNoDoubt s =
+      (front later : List (Move State)) (line : List ℕ) → (s.moves ≡ front ++ Comes line ∷ later) ⊎ (s.moves ≡ front ++ Foreign line ∷ later)
+      → raises_doubt (world_at s front).client line ≡ false
 
   -- the records that a run with these parts and stretches records, with the moment 0, where `reads` gives what a line says of its
   -- call: how each command ended in its own stretch, and as lost what is outstanding when the next stretch begins
@@ -214,6 +222,8 @@ module _ {State : Type 0} (ends : Ends State) (Good : State → Type 0) (kept : 
     -- in time: a reply that comes while its request isn't settled settles it, as answered, or as late if a moment at or past its
     -- deadline was read since it was sent
     pub in_time : AllByRecursion (SettlesByFirstReply ends) (stretches ends u x.runs)
+    -- no doubt: no line that comes raises one, so the station never resynchronizes for that
+    pub no_doubt : AllByRecursion (RaisesNoDoubt ends) (stretches ends u x.runs)
     -- each stretch is faithful after its first moves, however many. So it acts once: if the instrument keeps its reply to each
     -- request that it knows, between two of its starts each of these is executed at most once
     pub each : AllByRecursion IsFaithfulThroughout (stretches ends u x.runs)

@@ -47,9 +47,10 @@ pub fn stations_answers_are_their_own<State>()
 /// and the outstanding commands of cycles are the commands of cycles that had their turn, one for one, but for further attempts
 /// that were left out. The bytes that the station sends are the lines of its requests, and line feeds that clear the receiver.
 /// Its records of commands that were sent are how these ended on the line; the first reply to a request that isn't settled
-/// settles it. And each stretch from one synchronization to the next is faithful: its settlements and what is outstanding are its
-/// requests, one for one and in order; requests are executed in the order of sending; and if the instrument keeps its reply to
-/// each request that it knows, it executes each of these at most once between two of its restarts.
+/// settles it; and no reply raises a doubt, for which it would resynchronize. And each stretch from one synchronization to the next
+/// is faithful: its settlements and what is outstanding are its requests, one for one and in order; requests are executed in the
+/// order of sending; and if the instrument keeps its reply to each request that it knows, it executes each of these at most once
+/// between two of its restarts.
 pub fn runs_are_faithful<State>()
     ensures { RunsAreFaithful State }
 {}

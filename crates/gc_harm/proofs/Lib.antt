@@ -11,8 +11,12 @@ pub mod WellFormed
 pub mod SeenHarms
 pub mod Room
 pub mod Recorded
+mod FewRecords
 pub mod Lacking
 pub mod Undamaged
 pub mod Runs
+pub mod Agreed
+pub mod InOrder
+pub mod Chains
 pub mod UndamagedRuns
 pub mod DamagedStation

@@ -48,7 +48,7 @@ use Rattle.gc_field.proofs.BeginLists.{each_all}
 use Rattle.gc_field.proofs.Meant.{are_meant}
 use Rattle.gc_harm.specs.Harm.{AllMayHarm, AreOwnOr, IsByDamage, IsCleanBut, KeepsItsOwnAfter, IsOwn, WasMadeAmid, damaged_lines, harm_begun}
 use Rattle.gc_harm.specs.HoldingBack.{holding_begun}
-use Rattle.gc_harm.specs.Runs.{AnswerIsOwnOrDamaged, AreFewByDamagedLines, AreOfTable, AreSentInStretches, HarmedProgram, HasItsRequest, IsInHarmedField, IsLocal, IsOwnOrByDamage, IsRunLocal, LateIsOwnOrDamaged, count_in, damaged_lines_in, parts_of_program, written_in_stretches}
+use Rattle.gc_harm.specs.Runs.{AnswerIsOwnOrDamaged, AreFewByDamagedLines, AreOfTable, AreSentInStretches, HarmedProgram, HasItsRequest, IsInHarmedField, IsLocal, IsOwnOrByDamage, IsRunLocal, LateIsOwnOrDamaged, count_in, damaged_lines_in, parts_of_program, sent_until, written_in_stretches}
 use Rattle.gc_harm.specs.Stretch.{left_by_sync}
 use Rattle.gc_harm.specs.Stretches.{AreInARow, ArePossibleIfSynchronized, HarmedStretch, HasDamageApart, IsDamagedOnceSynchronized, IsPossibleStretch, IsSeenAs, IsSynchronizedUndamaged, at_its_end, client_sent, client_settled, left_by_stretch, left_if_synchronized, once_synchronized, seen_harms, synchronized}
 use Rattle.gc_harm.specs.Synchronizing.{AllMaySyncHarm, OwnEighthComes, WasStruck, sync_harmed}
@@ -56,7 +56,8 @@ use Rattle.gc_harm.proofs.HoldingBack.{fresh_if_held_back, order_if_held_back}
 use Rattle.gc_harm.proofs.Counting.{few_by_damage}
 use Rattle.gc_harm.proofs.Lacking.{order_lacks}
 use Rattle.gc_harm.proofs.Own.{own_or_broken}
-use Rattle.gc_harm.proofs.Recorded.{IsOfPart, IsOfPartIfSent, Mark, all_ask, all_of_parts, all_recorded, recorded}
+use Rattle.gc_harm.proofs.FewRecords.{few_records}
+use Rattle.gc_harm.proofs.Recorded.{IsOfPart, Mark, all_ask, all_of_parts, all_recorded, recorded}
 use Rattle.gc_harm.proofs.Room.{HoldsBackFrom, SendsOnly, all_have_room}
 use Rattle.gc_harm.proofs.SeenHarms.{IsSeenBy, seen_by_steps}
 use Rattle.gc_harm.proofs.Stretch.{left_clean}
@@ -78,6 +79,13 @@ zip_each R P f [] [] h = tt
 zip_each R P f [] (y ∷ ys) h = absurd h
 zip_each R P f (x ∷ xs) [] h = absurd h
 zip_each R P f (x ∷ xs) (y ∷ ys) h = (f x y h.0, zip_each R P f xs ys h.1)
+
+-- where R holds of the elements of two lists, place by place, they are as many
+zip_long : {A B : Type 0} (R : A → B → Type 0) (xs : List A) (ys : List B) → AllZip R xs ys → length xs ≡ length ys
+zip_long R [] [] h = refl
+zip_long R [] (y ∷ ys) h = absurd h
+zip_long R (x ∷ xs) [] h = absurd h
+zip_long R (x ∷ xs) (y ∷ ys) h = ap suc (zip_long R xs ys h.1)
 
 -- Calls of the table.
 
@@ -236,16 +244,16 @@ module _ {State : Type 0} (ends : Ends State) (Good : State → Type 0) (kept : 
   -- A record with its stretch.
 
   -- the request of record r, in its stretch; x is its settlement there
-  record IsFound (commands : List Task) (ps : List Part) (ss : List (HarmedStretch State)) (r : Record) (x : Settlement Asked) : Type 0 where
-    of : HasItsRequest commands ps ss r
+  record IsFound (commands : List Task) (ps : List Part) (ss : List (HarmedStretch State)) (number : ℕ) (r : Record) (x : Settlement Asked) : Type 0 where
+    of : HasItsRequest commands ps ss number r
     fits : FitsPart of.part of.stretch
     settled : slice_get (at_its_end ends of.stretch).world.wire.settled (8 + of.m) ≡ Some x
     asks : (request : Sent) → slice_get (at_its_end ends of.stretch).world.wire.sent (8 + of.m) ≡ Some request → request.call ≡ call_at of.task (sent_at r)
 
   -- a record of a part whose settlement isn't lost is found
-  found : (commands : List Task) (ps : List Part) (ss : List (HarmedStretch State)) (r : Record) → AllZip FitsPart ps ss
-      → AllByRecursion (λ p. MarksAsk commands p.marks (sent_by fresh p.steps)) ps → (h : IsOfPart ps r) → (h.x.outcome ≡ Lost → ⊥) → IsFound commands ps ss r h.x
-  found commands ps ss r fit asks h other =
+  found : (commands : List Task) (ps : List Part) (ss : List (HarmedStretch State)) (number : ℕ) (r : Record) → AllZip FitsPart ps ss
+      → AllByRecursion (λ p. MarksAsk commands p.marks (sent_by fresh p.steps)) ps → (h : IsOfPart ps number r) → (h.x.outcome ≡ Lost → ⊥) → IsFound commands ps ss number r h.x
+  found commands ps ss number r fit asks h other =
       let z = zip_get FitsPart ps ss h.k h.part fit h.of_parts in
       let s = z.0 in
       let w = (at_its_end ends s).world.wire in
@@ -267,6 +275,7 @@ module _ {State : Type 0} (ends : Ends State) (Good : State → Type 0) (kept : 
           m = h.m;
           expected = h.mark.expected;
           mark = h.marked ∙ ap (λ (mark : Mark). Some (Some mark)) (sym (same_mark r h.mark h.x h.is_of));
+          counted = h.counted;
           task = a.2.0;
           listed = ap (λ n. slice_get commands n) h.is_of.place ∙ a.2.1;
         };
@@ -277,12 +286,12 @@ module _ {State : Type 0} (ends : Ends State) (Good : State → Type 0) (kept : 
             ∙ ap (λ n. call_at a.2.0 n) (sym (sent_at_mark r h.mark h.x h.is_of));
       }
 
-  module _ (commands : List Task) (ps : List Part) (ss : List (HarmedStretch State)) where
+  module _ (commands : List Task) (ps : List Part) (ss : List (HarmedStretch State)) (number : ℕ) where
     -- a line that is own, or damaged, is so of the record
-    own_of_record : (r : Record) (x : Settlement Asked) (f : IsFound commands ps ss r x) (line : List ℕ)
+    own_of_record : (r : Record) (x : Settlement Asked) (f : IsFound commands ps ss number r x) (line : List ℕ)
         → IsOwn 7 ends (once_synchronized ends f.of.stretch) f.of.stretch.steps (8 + f.of.m) line
         ⊎ IsByDamage 7 ends (once_synchronized ends f.of.stretch) f.of.stretch.steps (λ made. WasStruck ends f.of.stretch.over f.of.stretch.turns made) (8 + f.of.m) line
-        → IsOwnOrByDamage ends commands ps ss r f.of line
+        → IsOwnOrByDamage ends commands ps ss number r f.of line
     own_of_record r x f line (inl own) =
         inl (subst (λ call. WasMadeAmid 7 ends (once_synchronized ends f.of.stretch) f.of.stretch.steps (8 + f.of.m) call line) (f.asks own.request own.sent) own.made)
     own_of_record r x f line (inr damaged) = inr damaged
@@ -295,10 +304,10 @@ module _ {State : Type 0} (ends : Ends State) (Good : State → Type 0) (kept : 
         ∙ ap (λ (c : Wish). Some (record { target = c.target; call = c.call; outcome = o })) (sym is.command)
 
     -- the answer of a record of a part is own or damaged
-    answer_of : (r : Record) → AllZip FitsPart ps ss → AllByRecursion (λ p. MarksAsk commands p.marks (sent_by fresh p.steps)) ps → IsOfPart ps r → AnswerIsOwnOrDamaged ends commands ps ss r
+    answer_of : (r : Record) → AllZip FitsPart ps ss → AllByRecursion (λ p. MarksAsk commands p.marks (sent_by fresh p.steps)) ps → IsOfPart ps number r → AnswerIsOwnOrDamaged ends commands ps ss number r
     answer_of r fit asks h line says =
         let answered : h.x.outcome ≡ Answered line = was_answered r h.mark h.x h.is_of line says in
-        let f = found commands ps ss r fit asks h (λ is_lost. let both : Lost ≡ Answered line = sym is_lost ∙ answered in cc) in
+        let f = found commands ps ss number r fit asks h (λ is_lost. let both : Lost ≡ Answered line = sym is_lost ∙ answered in cc) in
         record {
           of = f.of;
           settled = f.settled ∙ settled_as r h.mark h.x (Answered line) h.is_of answered;
@@ -306,10 +315,10 @@ module _ {State : Type 0} (ends : Ends State) (Good : State → Type 0) (kept : 
         }
 
     -- the late reply of a record of a part is own or damaged
-    late_of : (r : Record) → AllZip FitsPart ps ss → AllByRecursion (λ p. MarksAsk commands p.marks (sent_by fresh p.steps)) ps → IsOfPart ps r → LateIsOwnOrDamaged ends commands ps ss r
+    late_of : (r : Record) → AllZip FitsPart ps ss → AllByRecursion (λ p. MarksAsk commands p.marks (sent_by fresh p.steps)) ps → IsOfPart ps number r → LateIsOwnOrDamaged ends commands ps ss number r
     late_of r fit asks h says =
         let late : h.x.outcome ≡ Late = was_late r h.mark h.x h.is_of says in
-        let f = found commands ps ss r fit asks h (λ is_lost. let both : Lost ≡ Late = sym is_lost ∙ late in cc) in
+        let f = found commands ps ss number r fit asks h (λ is_lost. let both : Lost ≡ Late = sym is_lost ∙ late in cc) in
         record {
           of = f.of;
           settled = f.settled ∙ settled_as r h.mark h.x Late h.is_of late;
@@ -317,8 +326,8 @@ module _ {State : Type 0} (ends : Ends State) (Good : State → Type 0) (kept : 
         }
 
     -- the same of a record of a command that may not have been sent
-    answer_if_sent : (r : Record) → AllZip FitsPart ps ss → AllByRecursion (λ p. MarksAsk commands p.marks (sent_by fresh p.steps)) ps → (went_out r.end ≡ false) ⊎ IsOfPart ps r
-        → AnswerIsOwnOrDamaged ends commands ps ss r
+    answer_if_sent : (r : Record) → AllZip FitsPart ps ss → AllByRecursion (λ p. MarksAsk commands p.marks (sent_by fresh p.steps)) ps → (went_out r.end ≡ false) ⊎ IsOfPart ps number r
+        → AnswerIsOwnOrDamaged ends commands ps ss number r
     answer_if_sent r fit asks (inr h) = answer_of r fit asks h
     answer_if_sent r fit asks (inl out) = λ line answered. absurd (none r.end line out answered) where
       -- the end of a command that wasn't sent is no answer
@@ -326,14 +335,15 @@ module _ {State : Type 0} (ends : Ends State) (Good : State → Type 0) (kept : 
       none (end.Answered quality said l) line out answered = cc
       none (end.Unreadable l fault) line out answered = cc
       none (end.Elsewhere l) line out answered = cc
+      none (end.Disagree l) line out answered = cc
       none end.Late line out answered = cc
       none end.Lost line out answered = cc
       none end.Skipped line out answered = cc
       none end.Missed line out answered = cc
 
     -- the same of one that may be late
-    late_if_sent : (r : Record) → AllZip FitsPart ps ss → AllByRecursion (λ p. MarksAsk commands p.marks (sent_by fresh p.steps)) ps → (went_out r.end ≡ false) ⊎ IsOfPart ps r
-        → LateIsOwnOrDamaged ends commands ps ss r
+    late_if_sent : (r : Record) → AllZip FitsPart ps ss → AllByRecursion (λ p. MarksAsk commands p.marks (sent_by fresh p.steps)) ps → (went_out r.end ≡ false) ⊎ IsOfPart ps number r
+        → LateIsOwnOrDamaged ends commands ps ss number r
     late_if_sent r fit asks (inr h) = late_of r fit asks h
     late_if_sent r fit asks (inl out) = λ late. let both : true ≡ false = sym (ap went_out late) ∙ out in cc
 
@@ -392,10 +402,11 @@ module _ {State : Type 0} (ends : Ends State) (Good : State → Type 0) (kept : 
       let of = all_of_parts x.scope.reads x.commands ps end on in
       record {
         begun = parts_begun x.plan x.commands start x.acts h.runs;
-        answers = all_on (IsOfPartIfSent x.scope.reads x.commands ps) (AnswerIsOwnOrDamaged ends x.commands ps x.stretches) end.records (λ r o. answer_if_sent x.commands ps x.stretches r fit asks o) of;
-        late = all_on (IsOfPartIfSent x.scope.reads x.commands ps) (LateIsOwnOrDamaged ends x.commands ps x.stretches) end.records (λ r o. late_if_sent x.commands ps x.stretches r fit asks o) of;
+        answers = λ n r got. answer_if_sent x.commands ps x.stretches (sent_until end.records n) r fit asks (of n r got);
+        late = λ n r got. late_if_sent x.commands ps x.stretches (sent_until end.records n) r fit asks (of n r got);
         each = zip_each FitsPart (λ s. HasDamageApart ends s → IsLocal ends Good kept s) (λ p s f. f.local) ps x.stretches fit;
         few = all_few x.stretches;
+        few_records = few_records ends x.commands ps x.stretches end.records (zip_long FitsPart ps x.stretches fit);
         one_for_one = each_once x.plan x.commands x.scope x.acts;
         sent = all_sent x.commands ps x.stretches fit asks;
         written = all_recorded x.scope.reads x.commands ps end on ∙ all_written x.scope.reads x.commands ps x.stretches fit;

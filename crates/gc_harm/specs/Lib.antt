@@ -7,5 +7,7 @@ pub mod HoldingBack
 pub mod DamagedRun
 pub mod Stretches
 pub mod Runs
+pub mod Agreed
+pub mod Chains
 pub mod UndamagedRuns
 pub mod DamagedStation

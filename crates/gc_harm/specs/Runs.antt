@@ -4,7 +4,7 @@
 -- command is a call of the table, or the instrument keeps after each request, also a raw one, its own reply or none. For raw requests to
 -- other instruments nothing is claimed: one may keep its reply to a call of the table over these, and send it again for a later request with
 -- that reply's id, if a damaged line was taken for the reply to a call in between.
-use Rattle.std.specs.Prelude.{◌≡◌, ◌⊎◌, ℕ, ◌+◌, true, List, [], ◌∷◌, ◌++◌, length, map, ◌≤◌, Option, Some, slice_get}
+use Rattle.std.specs.Prelude.{◌≡◌, ◌⊎◌, ℕ, zero, suc, ◌+◌, true, List, [], ◌∷◌, ◌++◌, length, map, take, ◌≤◌, Option, Some, slice_get}
 use Rattle.std.specs.List.{AllByRecursion, AllZip}
 use Rattle.gc_catalogue.specs.Asked.{is_of_table}
 use Rattle.gc_client.specs.declared.window.TheConstants.{WINDOW}
@@ -21,8 +21,8 @@ use Rattle.gc_station.specs.Begun.{AreBegun}
 use Rattle.gc_station.specs.EachOnce.{EachOnce}
 use Rattle.gc_station.specs.Links.{parts}
 use Rattle.gc_station.specs.Model.{Runs, opening}
-use Rattle.gc_station.specs.Marks.{records_of}
-use Rattle.gc_station.specs.Parts.{Part, MarksAsk, mark_of, sent_at, sent_of, timeless}
+use Rattle.gc_station.specs.Marks.{commands_in, records_of}
+use Rattle.gc_station.specs.Parts.{Part, MarksAsk, mark_of, sent_at, sent_of, timeless, went_out}
 use Rattle.gc_station.specs.Records.{Record}
 use Rattle.gc_station.specs.Runs.{state_after}
 use Rattle.gc_station.specs.Scopes.{Reads, Scope}
@@ -67,9 +67,19 @@ abbrev pub damaged_lines_in : {State : Type 0} → List (HarmedStretch State) �
 damaged_lines_in [] = 0
 damaged_lines_in (s ∷ ss) = damaged_lines s.steps + damaged_lines_in ss
 
+-- how many commands were sent before request m of part k
+abbrev pub sent_before : List Part → (k m : ℕ) → ℕ
+sent_before [] k m = 0
+sent_before (p ∷ ps) zero m = commands_in (take m p.marks)
+sent_before (p ∷ ps) (suc k) m = commands_in p.marks + sent_before ps k m
+
+-- how many of the records before this one, by its number among them, are of commands that were sent
+abbrev pub sent_until : List Record → (n : ℕ) → ℕ
+sent_until records n = length (sent_of (take n records))
+
 -- the request of a record, in a run with the parts `ps` and the stretches `ss`: in stretch k, the client's request m is the command of
--- the record's cycle and place
-pub record HasItsRequest {State : Type 0} (commands : List Task) (ps : List Part) (ss : List (HarmedStretch State)) (r : Record) : Type 0 where
+-- the record's cycle and place, before which `number` commands were sent
+pub record HasItsRequest {State : Type 0} (commands : List Task) (ps : List Part) (ss : List (HarmedStretch State)) (number : ℕ) (r : Record) : Type 0 where
   pub k : ℕ
   pub part : Part
   pub stretch : HarmedStretch State
@@ -78,6 +88,7 @@ pub record HasItsRequest {State : Type 0} (commands : List Task) (ps : List Part
   pub m : ℕ
   pub expected : Expected
   pub mark : slice_get part.marks m ≡ Some (Some (mark_of expected r))
+  pub counted : sent_before ps k m ≡ number
   pub task : Task
   pub listed : slice_get commands r.place ≡ Some task
 
@@ -108,19 +119,20 @@ module _ {State : Type 0} (ends : Ends State) where
   abbrev pub AreFewByDamagedLines : List (HarmedStretch State) → Type 0
   AreFewByDamagedLines ss = (chosen : List (List ℕ)) → AllZip AreByDamagedLines ss chosen → count_in chosen ≤ damaged_lines_in ss
 
-  -- Of a run with the parts `ps` and the stretches `ss`.
-  module _ (commands : List Task) (ps : List Part) (ss : List (HarmedStretch State)) where
-    -- the line was made on executing the very request of record `r` (`h`), with what the command asks at the moment at which it was
-    -- sent; or it settled that request, and is damaged
-    abbrev pub IsOwnOrByDamage : (r : Record) → HasItsRequest commands ps ss r → (line : List ℕ) → Type 0
-    IsOwnOrByDamage r h line =
-        WasMadeAmid WINDOW ends (once_synchronized ends h.stretch) h.stretch.steps (8 + h.m) (call_at h.task (sent_at r)) line
-        ⊎ WasSettledByDamage h.stretch (8 + h.m) line
+  -- Of a run with the parts `ps` and the stretches `ss`, and of a record before which this number of commands were sent.
+  module _ (commands : List Task) (ps : List Part) (ss : List (HarmedStretch State)) (number : ℕ) where
+    -- the line was made on executing the very request of record `r` (`h`), with what the command asks at the moment at which it was sent
+    abbrev pub IsOwnLine : (r : Record) → HasItsRequest commands ps ss number r → (line : List ℕ) → Type 0
+    IsOwnLine r h line = WasMadeAmid WINDOW ends (once_synchronized ends h.stretch) h.stretch.steps (8 + h.m) (call_at h.task (sent_at r)) line
+
+    -- the line is the record's own (`IsOwnLine`); or it settled the record's request (`h`), and is damaged
+    abbrev pub IsOwnOrByDamage : (r : Record) → HasItsRequest commands ps ss number r → (line : List ℕ) → Type 0
+    IsOwnOrByDamage r h line = IsOwnLine r h line ⊎ WasSettledByDamage h.stretch (8 + h.m) line
 
     -- where the answer `line` of record `r` comes from: it settled the request of the record's cycle and place (`of`), and if damage is
     -- apart in the stretch of that request, it is own or damaged
     pub record HasItsAnswer (r : Record) (line : List ℕ) : Type 0 where
-      pub of : HasItsRequest commands ps ss r
+      pub of : HasItsRequest commands ps ss number r
       pub settled :
           slice_get (at_its_end ends of.stretch).world.wire.settled (8 + of.m)
           ≡ Some (record { target = r.command.target; call = r.command.call; outcome = Answered line })
@@ -129,7 +141,7 @@ module _ {State : Type 0} (ends : Ends State) where
     -- the line by which a late record `r` is late: it settled the request of the record's cycle and place (`of`), and if damage is
     -- apart in the stretch of that request, it is own or damaged
     pub record HasItsLateReply (r : Record) : Type 0 where
-      pub of : HasItsRequest commands ps ss r
+      pub of : HasItsRequest commands ps ss number r
       pub settled :
           slice_get (at_its_end ends of.stretch).world.wire.settled (8 + of.m)
           ≡ Some (record { target = r.command.target; call = r.command.call; outcome = Late })
@@ -142,6 +154,26 @@ module _ {State : Type 0} (ends : Ends State) where
     -- if a record is late, the line is as `HasItsLateReply` says
     abbrev pub LateIsOwnOrDamaged : Record → Type 0
     LateIsOwnOrDamaged r = r.end ≡ end.Late → HasItsLateReply r
+
+  -- the n-th of these records is of a request that was settled by a line that came damaged (`Damages`)
+  pub record IsByDamagedLine (commands : List Task) (ps : List Part) (ss : List (HarmedStretch State)) (records : List Record) (n : ℕ) : Type 0 where
+    pub r : Record
+    pub is : slice_get records n ≡ Some r
+    pub out : went_out r.end ≡ true
+    pub of : HasItsRequest commands ps ss (sent_until records n) r
+    pub line : List ℕ
+    pub damaged : WasSettledByDamage of.stretch (8 + of.m) line
+    pub came : damaged.step ≡ Damages line
+
+  -- no more of these records are of requests that were settled by lines that came damaged than such lines came: `ns` has the numbers of
+  -- any such records, in order
+  abbrev pub AreFewRecordsByDamagedLines : List Task → List Part → List (HarmedStretch State) → List Record → Type 0
+  AreFewRecordsByDamagedLines commands ps ss records =
+      (ns : List ℕ) → AreRising 0 ns → AllByRecursion (IsByDamagedLine commands ps ss records) ns → length ns ≤ damaged_lines_in ss
+
+-- this holds of each record of a run, and of how many commands were sent before its own
+abbrev pub OfEachRecord : {State : Type 0} → HarmedProgram State → (Holds : (number : ℕ) → Record → Type 0) → Type 0
+OfEachRecord x Holds = (n : ℕ) (r : Record) → slice_get (records_of_program x) n ≡ Some r → Holds (sent_until (records_of_program x) n) r
 
 module _ {State : Type 0} (ends : Ends State) (Good : State → Type 0) (kept : State → Option KeptReply) where
   -- a program is a run of its station, and its stretches are what happens on the line and to an instrument in each part of the run. In
@@ -168,12 +200,13 @@ module _ {State : Type 0} (ends : Ends State) (Good : State → Type 0) (kept : 
     pub begun : AreBegun the_word (parts_of_program x)
     -- each answer in time, and each late reply, settled the request of its record's cycle and place; and it is own or damaged, where damage
     -- is apart
-    pub answers : AllByRecursion (AnswerIsOwnOrDamaged ends x.commands (parts_of_program x) x.stretches) (records_of_program x)
-    pub late : AllByRecursion (LateIsOwnOrDamaged ends x.commands (parts_of_program x) x.stretches) (records_of_program x)
+    pub answers : OfEachRecord x (AnswerIsOwnOrDamaged ends x.commands (parts_of_program x) x.stretches)
+    pub late : OfEachRecord x (LateIsOwnOrDamaged ends x.commands (parts_of_program x) x.stretches)
     -- where damage is apart, a stretch is local
     pub each : AllByRecursion (λ s. HasDamageApart ends s → IsLocal s) x.stretches
-    -- each damaged line settles one request at most, as answered or late
+    -- each damaged line settles one request at most, as answered or late; so no more records are of such requests, either
     pub few : AreFewByDamagedLines ends x.stretches
+    pub few_records : AreFewRecordsByDamagedLines ends x.commands (parts_of_program x) x.stretches (records_of_program x)
     -- one for one: the records and what is outstanding, of cycles, are the commands of cycles that had their turn, sent or not, in order, each
     -- once, but for those of further attempts that were left out
     pub one_for_one : EachOnce x.plan x.commands x.scope x.acts

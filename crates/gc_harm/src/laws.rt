@@ -6,6 +6,8 @@
 //! have timed out: a station's is always seven wide, whatever its `--width`, which limits those that haven't. Each function does nothing:
 //! its contract is the law.
 
+ghost use Rattle.gc_harm.specs.Agreed.{AgreedRowsHaveAnOwnAnswer};
+ghost use Rattle.gc_harm.specs.Chains.{ChainsAreExecutedInOrder};
 ghost use Rattle.gc_harm.specs.DamagedRun.{IsDamagedRun, IsDamagedStretch};
 ghost use Rattle.gc_harm.specs.DamagedStation.{IsDamagedStation};
 ghost use Rattle.gc_harm.specs.Harm.{AnswersAreOwnOrDamaged};
@@ -73,6 +75,23 @@ pub fn some_stretch_is_damaged()
 /// station does its part by `requests_are_held_back` of gc_station.
 pub fn runs_with_damage_are_local<State>()
     ensures { RunsWithDamageAreLocal State }
+{}
+
+/// In such a run the answer of a second sending is by the instrument's own line, or agrees with one that is, unless both lines are damaged.
+/// A line is the instrument's own if it was made on executing the very request of its record. This is of each record of a second sending
+/// that is answered and not refused, and of the record of the first sending before it (`agreed_rows_agree` of gc_station), if damage is
+/// apart in the stretches of the two requests. If both lines are damaged, they came at two steps. So to agree with no answer that the
+/// instrument gave to one of the two requests, such an answer takes two damaged lines.
+pub fn agreed_rows_have_an_own_answer<State>()
+    ensures { AgreedRowsHaveAnOwnAnswer State }
+{}
+
+/// In such a run the commands of a chain whose answers are the instrument's own lines were executed in the order of the chain. If a command
+/// of a chain was answered, each command before it in the chain has a record that is an answer of a good quality, and the requests of both
+/// are in one stretch. If each of the two lines was made on executing the very request of its record, the request of the earlier command
+/// was executed at an earlier step. If one of the two lines is damaged, nothing follows.
+pub fn chains_are_executed_in_order<State>()
+    ensures { ChainsAreExecutedInOrder State }
 {}
 
 /// In such a run damage is apart in each stretch if the word isn't in flight at the start, nothing is damaged while the station

@@ -14,7 +14,7 @@ use Rattle.gc_catalogue.specs.declared.asked.Asked.{Asked}
 use Rattle.gc_catalogue.specs.declared.asked.Asked.TheVariants.{Table, Raw}
 use Rattle.gc_catalogue.specs.declared.call.Call.{Call}
 use Rattle.gc_catalogue.specs.declared.call.Call.TheVariants.{GetFace, GetPrism, GetPrecision, InstrumentNo}
-use Rattle.gc_texts.specs.Endings.{End, Answered, Unreadable, Elsewhere, Late, Lost, Skipped, Missed, word_of, line_of, quality_text}
+use Rattle.gc_texts.specs.Endings.{End, Answered, Unreadable, Elsewhere, Disagree, Late, Lost, Skipped, Missed, word_of, line_of, quality_text}
 use Rattle.gc_texts.specs.Logs.{escaped}
 use Rattle.gc_texts.specs.declared.wish.Wish.{Wish}
 use Rattle.gc_texts.specs.declared.quality.Quality.{Quality}
@@ -123,10 +123,14 @@ columns_apart (Raw raw) answer line = items_apart (split_items (values_of line))
 
 -- no member for a quantity or for items has one of the names of `early_or_quality`
 pub quantities_apart : (call : Asked) (end : End) → LacksAll (quantity_members call end) early_or_quality
-quantities_apart call (Answered quality (Some answer) line) = columns_apart call answer line
+quantities_apart call (Answered quality.Unconfirmed (Some answer) line) = (refl, (refl, (refl, (refl, (refl, (refl, (refl, (refl, (refl, (refl, tt))))))))))
+quantities_apart call (Answered quality.Fine (Some answer) line) = columns_apart call answer line
+quantities_apart call (Answered quality.Warning (Some answer) line) = columns_apart call answer line
+quantities_apart call (Answered quality.Refused (Some answer) line) = columns_apart call answer line
 quantities_apart call (Answered quality None line) = (refl, (refl, (refl, (refl, (refl, (refl, (refl, (refl, (refl, (refl, tt))))))))))
 quantities_apart call (Unreadable line fault) = (refl, (refl, (refl, (refl, (refl, (refl, (refl, (refl, (refl, (refl, tt))))))))))
 quantities_apart call (Elsewhere line) = (refl, (refl, (refl, (refl, (refl, (refl, (refl, (refl, (refl, (refl, tt))))))))))
+quantities_apart call (Disagree line) = (refl, (refl, (refl, (refl, (refl, (refl, (refl, (refl, (refl, (refl, tt))))))))))
 quantities_apart call Late = (refl, (refl, (refl, (refl, (refl, (refl, (refl, (refl, (refl, (refl, tt))))))))))
 quantities_apart call Lost = (refl, (refl, (refl, (refl, (refl, (refl, (refl, (refl, (refl, (refl, tt))))))))))
 quantities_apart call Skipped = (refl, (refl, (refl, (refl, (refl, (refl, (refl, (refl, (refl, (refl, tt))))))))))
@@ -171,6 +175,7 @@ items_without (Some texts) =
 pub quality_found : (o : Option Quality) → text_of (find (codes "quality") (quality_members (quality_text o))) ≡ quality_text o
 quality_found (Some quality.Fine) = refl
 quality_found (Some quality.Warning) = refl
+quality_found (Some quality.Unconfirmed) = refl
 quality_found (Some quality.Refused) = refl
 quality_found None = refl
 
@@ -188,6 +193,7 @@ pub ending_apart : (end : End) → LacksAll (ending_members end) (codes "cycle" 
 ending_apart (Answered quality answer line) = (refl, (refl, (refl, (refl, (refl, (refl, tt))))))
 ending_apart (Unreadable line fault) = (refl, (refl, (refl, (refl, (refl, (refl, tt))))))
 ending_apart (Elsewhere line) = (refl, (refl, (refl, (refl, (refl, (refl, tt))))))
+ending_apart (Disagree line) = (refl, (refl, (refl, (refl, (refl, (refl, tt))))))
 ending_apart Late = (refl, (refl, (refl, (refl, (refl, (refl, tt))))))
 ending_apart Lost = (refl, (refl, (refl, (refl, (refl, (refl, tt))))))
 ending_apart Skipped = (refl, (refl, (refl, (refl, (refl, (refl, tt))))))
@@ -200,6 +206,8 @@ ending_without (Answered quality answer line) =
 ending_without (Unreadable line fault) =
     (refl, (refl, (refl, (refl, (refl, (refl, (refl, (refl, (refl, (refl, (refl, (refl, (refl, (refl, (refl, (refl, (refl, (refl, (refl, (refl, (refl, (refl, (refl, (refl, tt))))))))))))))))))))))))
 ending_without (Elsewhere line) =
+    (refl, (refl, (refl, (refl, (refl, (refl, (refl, (refl, (refl, (refl, (refl, (refl, (refl, (refl, (refl, (refl, (refl, (refl, (refl, (refl, (refl, (refl, (refl, (refl, tt))))))))))))))))))))))))
+ending_without (Disagree line) =
     (refl, (refl, (refl, (refl, (refl, (refl, (refl, (refl, (refl, (refl, (refl, (refl, (refl, (refl, (refl, (refl, (refl, (refl, (refl, (refl, (refl, (refl, (refl, (refl, tt))))))))))))))))))))))))
 ending_without Late =
     (refl, (refl, (refl, (refl, (refl, (refl, (refl, (refl, (refl, (refl, (refl, (refl, (refl, (refl, (refl, (refl, (refl, (refl, (refl, (refl, (refl, (refl, (refl, (refl, tt))))))))))))))))))))))))
@@ -258,6 +266,7 @@ pub outcome_found : (end : End) → find (codes "outcome") (ending_members end) 
 outcome_found (Answered quality answer line) = refl
 outcome_found (Unreadable line fault) = refl
 outcome_found (Elsewhere line) = refl
+outcome_found (Disagree line) = refl
 outcome_found Late = refl
 outcome_found Lost = refl
 outcome_found Skipped = refl
@@ -275,6 +284,7 @@ pub line_found : (end : End) (line : List ℕ) → line_of end ≡ Some line →
 line_found (Answered quality answer l) line e = subst (IsFound (ending_members (Answered quality answer l))) (same_Some l line e) (record { rc_com = refl; rc = refl; values = refl })
 line_found (Unreadable l fault) line e = subst (IsFound (ending_members (Unreadable l fault))) (same_Some l line e) (record { rc_com = refl; rc = refl; values = refl })
 line_found (Elsewhere l) line e = subst (IsFound (ending_members (Elsewhere l))) (same_Some l line e) (record { rc_com = refl; rc = refl; values = refl })
+line_found (Disagree l) line e = subst (IsFound (ending_members (Disagree l))) (same_Some l line e) (record { rc_com = refl; rc = refl; values = refl })
 line_found Late line e = cc
 line_found Lost line e = cc
 line_found Skipped line e = cc

@@ -248,7 +248,7 @@ module _ (reads : Asked → List ℕ → Reading) where
   -- station resynchronize
   begins_anew : SynchronizesAnew plan commands patched_scope acts_until_anew (Told (at 365))
   unfolding is_elsewhere is_near header_at reply_at digits rounded
-  begins_anew = record { resynchronizes = record { renews = refl; moment = at 365; told = refl; why = inl (lit≤ tt); given_up = refl }; word = refl; client = refl }
+  begins_anew = record { resynchronizes = record { renews = refl; moment = at 365; told = refl; why = inl (inl (lit≤ tt)); given_up = refl }; word = refl; client = refl }
 
   -- with the patched readings the run is eventful
   patched_is_eventful : IsEventful (patched reads)

@@ -30,7 +30,8 @@ use Rattle.gc_texts.specs.Logs.{escaped}
 use Rattle.gc_texts.specs.Stamps.{stamp_text}
 use Rattle.gc_texts.specs.declared.wish.Wish.{Wish}
 use Rattle.gc_texts.specs.declared.quality.Quality.{Quality}
-use Rattle.gc_rows.specs.JsonLines.{Member, Text, ending_members, item_members, members_after_run, last_members, members_after_ending, quantity_members, attempt_members, values_members, members_from, command_members, when_members, without_zeros, quality_members}
+use Rattle.gc_texts.specs.declared.quality.Quality.TheVariants as quality
+use Rattle.gc_rows.specs.JsonLines.{Member, Text, ending_members, item_members, members_after_run, last_members, members_after_ending, answer_members, quantity_members, attempt_members, values_members, members_from, command_members, when_members, without_zeros, quality_members}
 use Rattle.gc_rows.specs.Items.{split_items}
 use Rattle.gc_rows.specs.Laws.{record_read}
 use Rattle.gc_rows.specs.Quantities.{column_of, quantity_names, quantity_text}
@@ -38,7 +39,7 @@ use Rattle.gc_rows.specs.Rows.{code_of, com_of, moment_text, procedure_of, value
 use Rattle.gc_rows.specs.ProcedureQuantities.{names_if}
 use Rattle.gc_rows.specs.declared.when.When.{When}
 use Rattle.gc_rows.proofs.ProcedureQuantities.{quantities_under_their_names}
-use Rattle.gc_promise.specs.Fields.{IsQuantity, quantity_in, under}
+use Rattle.gc_promise.specs.Fields.{IsQuantity, quantity_in, shown_as, under}
 use Rattle.gc_promise.specs.Objects.{text_of}
 use Rattle.gc_promise.proofs.Names.{IsAnswerTo, of_quantity, word_plain}
 use Rattle.gc_promise.proofs.Plain.{NeedsNoEscape, decimal_plain, digits_plain, plain_both}
@@ -210,15 +211,24 @@ module _ (call : Call) (name : List ℕ) (is : IsQuantity name) where
   each_escaped (Measured hz v distance) came = escaped_unless_name (Measured hz v distance) came (λ bytes e. cc)
   each_escaped (MeasuredMode hz v distance mode) came = escaped_unless_name (MeasuredMode hz v distance mode) came (λ bytes e. cc)
 
--- where `answer` is one to what was asked (`IsAnswerTo`), the members for quantities of a command that was answered with it
--- have, under the name of a quantity, the answer's quantity of that name, escaped
-pub member_stands : (asked : Asked) (name : List ℕ) → IsQuantity name → (quality : Quality) (answer : Answer) (line : List ℕ) → IsAnswerTo asked answer
-    → text_of (find name (quantity_members asked (Answered quality (Some answer) line))) ≡ escaped (quantity_in asked (Answers answer) name)
-member_stands (Table call) name is quality answer line of =
+-- where `answer` is one to what was asked (`IsAnswerTo`), its members have, under the name of a quantity, the answer's quantity of
+-- that name, escaped
+answer_stands : (asked : Asked) (name : List ℕ) → IsQuantity name → (answer : Answer) (line : List ℕ) → IsAnswerTo asked answer
+    → text_of (find name (answer_members asked answer line)) ≡ escaped (quantity_in asked (Answers answer) name)
+answer_stands (Table call) name is answer line of =
     each_escaped call name is answer (values_of line) ∙ ap (λ (names : List (List ℕ)). escaped (under name names (value_texts answer))) (quantities_under_their_names call answer of)
-member_stands (Raw raw) name is quality answer line of =
+answer_stands (Raw raw) name is answer line of =
     let items = item_members (split_items (values_of line)) in
     ap text_of (of_quantity (λ (n : List ℕ). find n items ≡ None) (items_without (split_items (values_of line))) name is)
+
+-- where `answer` is one to what was asked (`IsAnswerTo`), the members for quantities of a command that was answered with it
+-- have, under the name of a quantity, the answer's quantity of that name, escaped, as `shown_as` has it
+pub member_stands : (asked : Asked) (name : List ℕ) → IsQuantity name → (quality : Quality) (answer : Answer) (line : List ℕ) → IsAnswerTo asked answer
+    → text_of (find name (quantity_members asked (Answered quality (Some answer) line))) ≡ shown_as quality (escaped (quantity_in asked (Answers answer) name))
+member_stands asked name is quality.Unconfirmed answer line of = refl
+member_stands asked name is quality.Fine answer line of = answer_stands asked name is answer line of
+member_stands asked name is quality.Warning answer line of = answer_stands asked name is answer line of
+member_stands asked name is quality.Refused answer line of = answer_stands asked name is answer line of
 
 -- All members of a record.
 

@@ -63,6 +63,7 @@ module _ (reads : Asked → List ℕ → Reading) (are : AreReadings reads) (acc
       let zeroed : IsAskedReading call (record reply { rc = 0 }) told = subst (λ (k : Quality). IsAskedReading call (quantity_source k reply) told) warned is_told in
       let same : reads call (as_zero line) ≡ told = are call (as_zero line) told (zero_reads call line reply told is_reply zeroed) in
       record { quality_is = sym warned; values_are = has ∙ ap answer_in same }
+  judged quality.Unconfirmed values is = absurd is
   judged quality.Refused values (none, refusal) =
       let is : reads call line ≡ said = line_says said is_said in
       let both = refused_in accepted said (subst (IsRefusedReading accepted) is refusal) in

@@ -8,18 +8,18 @@ use Rattle.gc_catalogue.specs.declared.answer.Reading.{Reading}
 use Rattle.gc_catalogue.specs.declared.asked.Asked.{Asked}
 use Rattle.gc_files.specs.Failing.{Sides, RunEnd, MayEnd, sides_ended, doubt_ended, Event, Ran, feeds, settled, same_sides, doubt_after, ArePossibleEvents, runs_of, IsFound, IsTrusted}
 use Rattle.gc_files.specs.Files.{Step, Life, content, MayBeLeft}
-use Rattle.gc_files.specs.Rows.{whole, opened_table, OpensFile, cuts_none, appended}
+use Rattle.gc_files.specs.Rows.{whole, opened_table, OpensFile, cuts_none, appended, IsFront}
 use Rattle.gc_files.specs.Runs.{synced, Run, row_lines, IsRun, rows_of, AreRowCounts, HasRows}
 use Rattle.gc_files.specs.Sinks.{steps_in, taken_in, is_durable}
 use Rattle.gc_files.proofs.Adding.{appended_two}
 use Rattle.gc_files.proofs.Failing.{tables_outlast_failures}
 use Rattle.gc_files.proofs.Lasting.{tables_last}
+use Rattle.gc_files.proofs.Whole.{whole_more}
 use Rattle.gc_links.specs.Acts.{Act}
 use Rattle.gc_messages.specs.Following.{bytes_in}
 use Rattle.gc_station.specs.ActKinds.{ReadsClock}
 use Rattle.gc_station.specs.Keeping.{KeepsUp, close_at_output}
-use Rattle.gc_station.specs.Records.{Record}
-use Rattle.gc_station.specs.Runs as runs
+use Rattle.gc_station.specs.Records.{Record, texts_of}
 use Rattle.gc_station.specs.Runs.{state_after}
 use Rattle.gc_station.specs.Scopes.{Scope, AreReadings}
 use Rattle.gc_messages.specs.declared.following.Followed.{Followed}
@@ -33,11 +33,11 @@ use Rattle.gc_lines.specs.declared.ports.Sink.{Ghosts as Sink}
 use Rattle.gc_measuring.specs.Measuring.{PortsSeen, Measures, most_turns, survey_of, Survey, text_by, front_text, RunsAfterFront}
 use Rattle.std.proofs.lemmas.Option.{same_Some}
 use Rattle.gc_promise.specs.Lasting.{HasRunOfFile, AppendsAreRuns, RunMoment, IsRunMoment, rows_by, AreLeft, RowsOutlastCrashes, life_begun, sides_begun, RowsOutlastFailures}
-use Rattle.gc_promise.specs.Tables.{scope_of}
+use Rattle.gc_promise.specs.Tables.{acts_in, records_of_run, scope_of}
 use Rattle.gc_promise.proofs.Ended.{text_whole}
 use Rattle.gc_promise.proofs.Pieces.{all_pieces, rows_left, whole_rest}
-use Rattle.gc_promise.proofs.Seen.{IsKeptAt, kept_at, done_at, next_at, seen_at, Fronted, fronted, texts_whole}
-use Rattle.gc_promise.proofs.Taken.{appended_to_known}
+use Rattle.gc_promise.proofs.Seen.{IsKeptAt, kept_at, done_at, next_at, seen_at, texts_whole}
+use Rattle.gc_promise.proofs.Taken.{appended_to_known, run_took, written_front}
 use Rattle.gc_promise.proofs.Staying.{run_by, is_run, happen_append, life_append, splits_at_run, cuts_first, possible_events_append, sides_append, runs_of_append}
 use Rattle.std.proofs.lemmas.Bool.{not-true}
 
@@ -98,10 +98,6 @@ module _ {R : Type 0} (m : RunMoment R) (is : IsRunMoment m) (reads : Asked → 
   keeps : KeepsUp m.run.survey.plan m.run.survey.tasks scope text (Some []) (Some m.run.recorded) (Some []) m.run.old.turns m.run.new.turns (close_at_output ran.end)
   keeps = rw (← is.run.is_run.none, ← is.run.is_run.acts, ← none_between) (ran.run.keeps.0 reads are)
 
-  -- what the file and those before it took in the end is what the run wrote (`Ran`)
-  took : runs.Ran m.run.survey.plan m.run.survey.tasks scope text (Some []) (Some m.run.recorded) (Some []) (Some (bytes_in m.file)) ran.end
-  took = rw (← is.run.is_run.none, ← is.run.is_run.acts, ← is.run.took, ← none_between) (ran.run.ran.0 reads are)
-
   -- at the moment's turn, which is one of the run's, all that the acts before it settled was kept (`IsKeptAt`)
   seen : IsKeptAt m.run.survey.plan m.run.survey.tasks scope text (Some []) (Some []) [] keeps.acts m.turn
   seen =
@@ -119,9 +115,14 @@ module _ {R : Type 0} (m : RunMoment R) (is : IsRunMoment m) (reads : Asked → 
       keeps.tells seen.all (done_at m.run.survey.plan m.run.survey.tasks scope text m.turn seen.front m.done seen.act seen.kept is.seen.done) is.seen.recorded in
       subst (λ (act : Act). ReadsClock act → ⊥) is_next is.seen.is_more
 
-  -- what the file and those before it took in the end is a front of the rows of what acts of the run settled (`Fronted`)
-  end : Fronted m.run.survey.plan m.run.survey.tasks scope text m.run.recorded (bytes_in m.file)
-  end = fronted m.run.survey.plan m.run.survey.tasks scope text m.run.recorded (bytes_in m.file) ran.end took
+  -- what the file and those before it took in the end is a front of the rows of the run's records
+  end : IsFront (bytes_in m.file) (rows_by m.run.survey reads (acts_in m.run))
+  end =
+      let took = run_took reads are m.run [] is.run.is_run is.run.fresh in
+      let written = texts_of text took.are.written ++ took.torn in
+      let none : front_text m.run.survey.layout ≡ [] = rw (is.run.headed) refl in
+      let same : bytes_in m.file ≡ written = same_Some (bytes_in m.file) written (sym is.run.took ∙ took.is ∙ ap (λ (l : List ℕ). Some (l ++ written)) none) in
+      subst (λ (l : List ℕ). IsFront l (rows_by m.run.survey reads (acts_in m.run))) (sym same) (written_front text (records_of_run reads m.run) m.run.result took.torn took.are)
 
   -- the rows of what any acts settle end in a line feed, unless there is none
   rows_whole : (acts : List Act) → whole (rows_by m.run.survey reads acts) ≡ rows_by m.run.survey reads acts
@@ -143,7 +144,7 @@ module _ {R : Type 0} (m : RunMoment R) (is : IsRunMoment m) (reads : Asked → 
 
   -- all rows that the run may write after what the file had taken at the moment's act
   abbrev rest : List ℕ
-  rest = appended since ++ (appended is.reached.rest ++ end.own.rest)
+  rest = appended since ++ (appended is.reached.rest ++ end.rest)
 
   -- what the file had taken at the moment's act ends in a line feed, unless it is nothing
   taken_whole : whole taken ≡ taken
@@ -154,7 +155,7 @@ module _ {R : Type 0} (m : RunMoment R) (is : IsRunMoment m) (reads : Asked → 
   calls_are = is.reached.ends ∙ ap (λ (l : List Step). l ++ is.reached.rest) is.reached.begins
 
   -- all rows that the run may write are those of earlier files, those that the file had taken at the turn, and a rest
-  all_is : rows_by m.run.survey reads end.acts ≡ earlier_bytes ++ (taken ++ rest)
+  all_is : rows_by m.run.survey reads (acts_in m.run) ≡ earlier_bytes ++ (taken ++ rest)
   all_is =
       let file : bytes_in m.file ≡ earlier_bytes ++ (taken ++ (appended since ++ appended is.reached.rest)) =
       ap (λ (l : List Step). appended l ++ taken_in m.file.rows) is.reached.left
@@ -162,14 +163,14 @@ module _ {R : Type 0} (m : RunMoment R) (is : IsRunMoment m) (reads : Asked → 
       (ap appended calls_are ∙ appended_two (steps_in m.was.rows ++ since) is.reached.rest
       ∙ ap (λ (l : List ℕ). l ++ appended is.reached.rest) (appended_two (steps_in m.was.rows) since)
       ∙ append_assoc taken (appended since) (appended is.reached.rest)) in
-      end.own.split ∙ ap (λ (l : List ℕ). l ++ end.own.rest) file ∙ append_assoc earlier_bytes (taken ++ (appended since ++ appended is.reached.rest)) end.own.rest
+      end.split ∙ ap (λ (l : List ℕ). l ++ end.rest) file ∙ append_assoc earlier_bytes (taken ++ (appended since ++ appended is.reached.rest)) end.rest
       ∙ ap (λ (l : List ℕ). earlier_bytes ++ l)
-      (append_assoc taken (appended since ++ appended is.reached.rest) end.own.rest
-      ∙ ap (λ (l : List ℕ). taken ++ l) (append_assoc (appended since) (appended is.reached.rest) end.own.rest))
+      (append_assoc taken (appended since ++ appended is.reached.rest) end.rest
+      ∙ ap (λ (l : List ℕ). taken ++ l) (append_assoc (appended since) (appended is.reached.rest) end.rest))
 
   -- the rows that may follow (`rest`) end in a line feed, unless there are none
   rest_whole : whole rest ≡ rest
-  rest_whole = whole_rest taken rest (whole_rest earlier_bytes (taken ++ rest) (subst (λ (l : List ℕ). whole l ≡ l) all_is (rows_whole end.acts)))
+  rest_whole = whole_rest taken rest (whole_rest earlier_bytes (taken ++ rest) (subst (λ (l : List ℕ). whole l ≡ l) all_is (rows_whole (acts_in m.run))))
 
   -- what the file had taken at the turn was all synced
   kept : synced (steps_in m.was.rows) ≡ taken
@@ -186,14 +187,12 @@ module _ {R : Type 0} (m : RunMoment R) (is : IsRunMoment m) (reads : Asked → 
         settled = settled_by;
         more = l.more;
         has = l.has;
-        acts = end.acts;
-        others = end.others;
-        all = end.all;
         own = record {
           rest = l.own.rest;
           split = all_is ∙ ap (λ (xs : List ℕ). earlier_bytes ++ xs) l.own.split ∙ sym (append_assoc earlier_bytes (taken ++ l.more) l.own.rest)
               ∙ ap (λ (xs : List ℕ). xs ++ l.own.rest) (sym (append_assoc earlier_bytes taken l.more));
         };
+        lines = whole_more (bytes_in m.was) l.more (rw (settled_by) (rows_whole m.done)) ∙ ap (λ (xs : List ℕ). bytes_in m.was ++ xs) l.lines;
       }
 
   -- The run.
@@ -209,9 +208,9 @@ module _ {R : Type 0} (m : RunMoment R) (is : IsRunMoment m) (reads : Asked → 
       subst (λ (calls : List Step). IsRun head held (run_by steps calls taken (taken ++ rest))) (sym is.reached.begins)
       (is_run head held steps (steps_in m.was.rows) since rest opens kept taken_whole rest_whole (cuts_first (steps_in m.was.rows ++ since) is.reached.rest none)
       (record {
-        rest = appended is.reached.rest ++ end.own.rest;
-        split = ap (λ (l : List ℕ). taken ++ l) refl ∙ sym (append_assoc taken (appended since) (appended is.reached.rest ++ end.own.rest))
-            ∙ ap (λ (l : List ℕ). l ++ (appended is.reached.rest ++ end.own.rest)) (sym (appended_two (steps_in m.was.rows) since));
+        rest = appended is.reached.rest ++ end.rest;
+        split = ap (λ (l : List ℕ). taken ++ l) refl ∙ sym (append_assoc taken (appended since) (appended is.reached.rest ++ end.rest))
+            ∙ ap (λ (l : List ℕ). l ++ (appended is.reached.rest ++ end.rest)) (sym (appended_two (steps_in m.was.rows) since));
       }))
 
 -- the law on crashes: after one, the file's table is the one that was there at first, rows of the earlier runs, and the rows

@@ -11,6 +11,8 @@ mod Apart
 mod Finding
 mod Unbroken
 mod Objected
+mod Damaged
+mod Left
 mod TrueReadings
 mod Eventful
 mod Turned

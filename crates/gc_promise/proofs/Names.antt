@@ -18,7 +18,7 @@ use Rattle.gc_catalogue.specs.declared.call.Call.TheVariants.{GetFace, GetPrism,
 use Rattle.gc_values.specs.ValueFault.{value_fault_number}
 use Rattle.gc_values.specs.declared.value.Value.{Value as Parameter}
 use Rattle.gc_values.specs.declared.value.Value.TheVariants as value
-use Rattle.gc_texts.specs.Endings.{End, Answered, Unreadable, Elsewhere, Late, Lost, Skipped, Missed, word_of, fault_of, line_of, quality_of, quality_text}
+use Rattle.gc_texts.specs.Endings.{End, Answered, Unreadable, Elsewhere, Disagree, Late, Lost, Skipped, Missed, word_of, fault_of, line_of, quality_of, quality_text}
 use Rattle.gc_texts.specs.Logs.{escaped}
 use Rattle.gc_texts.specs.Stamps.{stamp_text}
 use Rattle.gc_texts.specs.declared.wish.Wish.{Wish}
@@ -26,12 +26,12 @@ use Rattle.gc_texts.specs.declared.quality.Quality.{Quality}
 use Rattle.gc_texts.specs.declared.quality.Quality.TheVariants as quality
 use Rattle.gc_rows.specs.Quantities.{column_of, column_of_whole, quantity_names, quantity_text}
 use Rattle.gc_rows.specs.Records.{header, last_names}
-use Rattle.gc_rows.specs.Rows.{row_fields, moment_text, when_fields, command_fields, fault_field, reply_fields, fields_after_ending, quantity_fields, last_fields, com_of, code_of, values_of, columns_from, value_texts, answer_columns, procedure_of}
+use Rattle.gc_rows.specs.Rows.{row_fields, moment_text, when_fields, command_fields, fault_field, reply_fields, fields_after_ending, counted_columns, quantity_fields, last_fields, com_of, code_of, values_of, columns_from, value_texts, answer_columns, procedure_of}
 use Rattle.gc_rows.specs.ProcedureQuantities.{names_if}
 use Rattle.gc_rows.specs.declared.when.When.{When}
 use Rattle.gc_rows.proofs.ProcedureQuantities.{quantities_under_their_names, quantities_fill}
 use Rattle.gc_station.proofs.Lists.{all_at}
-use Rattle.gc_promise.specs.Fields.{IsQuantity, under, quantity_in}
+use Rattle.gc_promise.specs.Fields.{IsQuantity, under, quantity_in, shown_as}
 use Rattle.gc_promise.proofs.Plain.{NeedsNoEscape, decimal_plain, moment_plain}
 use Rattle.std.proofs.lemmas.Bool.{not-false, or_parts}
 
@@ -42,6 +42,7 @@ pub word_plain : (end : End) → NeedsNoEscape (word_of end)
 word_plain (Answered quality answer line) = refl
 word_plain (Unreadable line fault) = refl
 word_plain (Elsewhere line) = refl
+word_plain (Disagree line) = refl
 word_plain Late = refl
 word_plain Lost = refl
 word_plain Skipped = refl
@@ -51,6 +52,7 @@ word_plain Missed = refl
 pub quality_plain : (o : Option Quality) → NeedsNoEscape (quality_text o)
 quality_plain (Some quality.Fine) = refl
 quality_plain (Some quality.Warning) = refl
+quality_plain (Some quality.Unconfirmed) = refl
 quality_plain (Some quality.Refused) = refl
 quality_plain None = refl
 
@@ -225,6 +227,7 @@ module _ (when : When) (text : List ℕ) (command : Wish) where
   behind_others (Unreadable line fault) =
       by_parts (codes "unreadable") (decimal (value_fault_number fault)) (com_of line) (code_of line) (values_of line) (replicate 24 [] ++ [] ∷ decimal when.stamp.turn.attempt ∷ [])
   behind_others (Elsewhere line) = by_parts (codes "elsewhere") [] (com_of line) (code_of line) (values_of line) (replicate 24 [] ++ [] ∷ decimal when.stamp.turn.attempt ∷ [])
+  behind_others (Disagree line) = by_parts (codes "disagree") [] (com_of line) (code_of line) (values_of line) (replicate 24 [] ++ [] ∷ decimal when.stamp.turn.attempt ∷ [])
   behind_others Late = by_parts (codes "late") [] [] [] [] (replicate 24 [] ++ [] ∷ decimal when.stamp.turn.attempt ∷ [])
   behind_others Lost = by_parts (codes "lost") [] [] [] [] (replicate 24 [] ++ [] ∷ decimal when.stamp.turn.attempt ∷ [])
   behind_others Skipped = by_parts (codes "skipped") [] [] [] [] (replicate 24 [] ++ [] ∷ decimal when.stamp.turn.attempt ∷ [])
@@ -318,11 +321,19 @@ module _ (when : When) (text : List ℕ) (command : Wish) (name : List ℕ) (is 
       ∙ under_front name quantity_names (map escaped (quantity_fields command.call end)) last_names (map escaped (last_fields when end)) (as_many_as_names command.call end)
       (of_quantity (λ key. IsAmong key quantity_names) all_among name is)
 
+  -- the columns of an answer of this quality have, under this name, the answer's quantity of that name, escaped, as `shown_as` has it
+  counted_told : (quality : Quality) (answer : Answer) → IsAnswerTo command.call answer
+      → under name quantity_names (map escaped (counted_columns quality command.call answer)) ≡ shown_as quality (escaped (quantity_in command.call (Value answer) name))
+  counted_told quality.Unconfirmed answer of = blank_under name is
+  counted_told quality.Fine answer of = columns_told command.call answer name is of
+  counted_told quality.Warning answer of = columns_told command.call answer name is of
+  counted_told quality.Refused answer of = columns_told command.call answer name is of
+
   -- where `answer` is one to what the command asks (`IsAnswerTo`), the row of the command, answered with it, has under this
-  -- name the answer's quantity of this name, escaped
+  -- name the answer's quantity of this name, escaped, as `shown_as` has it
   pub quantity_stands : (quality : Quality) (answer : Answer) (line : List ℕ) → IsAnswerTo command.call answer
-      → row_at when text command (Answered quality (Some answer) line) true name ≡ escaped (quantity_in command.call (Value answer) name)
-  quantity_stands quality answer line of = quantities_under (Answered quality (Some answer) line) ∙ columns_told command.call answer name is of
+      → row_at when text command (Answered quality (Some answer) line) true name ≡ shown_as quality (escaped (quantity_in command.call (Value answer) name))
+  quantity_stands quality answer line of = quantities_under (Answered quality (Some answer) line) ∙ counted_told quality answer of
 
   -- the row of a command that was answered without values has nothing under this name of a quantity
   pub none_answered : (quality : Quality) (line : List ℕ) → row_at when text command (Answered quality None line) true name ≡ []
@@ -333,6 +344,7 @@ module _ (when : When) (text : List ℕ) (command : Wish) (name : List ℕ) (is 
   none_unanswered (Answered quality answer line) other = absurd (other quality answer line refl)
   none_unanswered (Unreadable line fault) other = quantities_under (Unreadable line fault) ∙ blank_under name is
   none_unanswered (Elsewhere line) other = quantities_under (Elsewhere line) ∙ blank_under name is
+  none_unanswered (Disagree line) other = quantities_under (Disagree line) ∙ blank_under name is
   none_unanswered Late other = quantities_under Late ∙ blank_under name is
   none_unanswered Lost other = quantities_under Lost ∙ blank_under name is
   none_unanswered Skipped other = quantities_under Skipped ∙ blank_under name is

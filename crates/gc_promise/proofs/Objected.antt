@@ -1,5 +1,5 @@
--- Lines of JSON that a station wrote of a run in the field: their members are their own, that is, what is in the line of an
--- answer was made by the instrument on executing the very request of the line's cycle and place.
+-- Lines of JSON that a station wrote of a run: what is in the object of an answer is what a line says that may have answered its
+-- command. In the field that line is the object's own.
 use Rattle.std.proofs.Common.{◌≡◌, ℕ, ◌<◌, true, List, [], ◌∷◌, ◌++◌, map, Option, Some, None, if◌then◌else◌, refl, sym, ap, ◌∙◌, subst, append-nil}
 use Rattle.std.specs.Prelude.{codes, slice_get, Bool, false, ◌==◌}
 use Rattle.std.specs.List.{AllByRecursion, flat_map}
@@ -12,9 +12,8 @@ use Rattle.gc_catalogue.specs.declared.answer.Answer.{Answer}
 use Rattle.gc_catalogue.specs.declared.answer.Reading.{Reading}
 use Rattle.gc_catalogue.specs.declared.answer.Reading.TheVariants as reading
 use Rattle.gc_catalogue.specs.declared.asked.Asked.{Asked}
-use Rattle.gc_instrument.specs.State.{KeptReply}
 use Rattle.gc_texts.specs.Cuts.{Lacks}
-use Rattle.gc_texts.specs.Endings.{End, Answered, Unreadable, Elsewhere, Late, Lost, Skipped, Missed, word_of}
+use Rattle.gc_texts.specs.Endings.{End, Answered, Unreadable, Elsewhere, Disagree, Late, Lost, Skipped, Missed, word_of}
 use Rattle.gc_texts.specs.Logs.{AreBytes, escaped}
 use Rattle.gc_texts.specs.Names.{name_text}
 use Rattle.gc_texts.specs.Stamps.{stamp_text}
@@ -34,44 +33,46 @@ use Rattle.gc_station.specs.Qualities.{answer_in}
 use Rattle.gc_station.specs.Records.{Record, texts_of}
 use Rattle.gc_station.specs.Scopes.{AreReadings}
 use Rattle.gc_measuring.specs.Measuring.{Survey, front_text, text_by}
-use Rattle.gc_field.specs.World.{Ends}
-use Rattle.gc_field.specs.Instrument.{IsAnInstrument, AnyState}
-use Rattle.gc_promise.specs.Fields.{IsQuantity, quantity_in}
+use Rattle.gc_field.specs.Instrument.{AnyState}
+use Rattle.gc_promise.specs.Fields.{IsQuantity, quantity_in, shown_as}
 use Rattle.gc_files.specs.Runs as rows
-use Rattle.gc_promise.specs.Objects.{AreTyped, AreOwnObjects, IsOwnObject, IsTyped, ObjectsAreTheirOwn}
-use Rattle.gc_promise.specs.Tables.{FieldRun, IsFieldRun, acts_in_field, records_in}
+use Rattle.gc_promise.specs.Objects.{AreObjects, AreTyped, IsObject, IsTyped, ObjectsAreTheirOwn}
+use Rattle.gc_promise.specs.Tables.{Answers, StationRun, own_lines, records_of_run}
 use Rattle.gc_promise.proofs.Finding.{at_member, member_attempt, member_cycle, member_outcome, member_place, member_procedure, member_quality, member_quantity, member_rc, member_rc_com, member_sent, member_stands, member_target, member_values, zeros_gone}
 use Rattle.gc_promise.proofs.Judged.{no_value_if_none, value_if_some}
 use Rattle.gc_promise.proofs.Names.{answer_to}
 use Rattle.gc_values.proofs.Every.{every_front as all_front}
-use Rattle.gc_promise.proofs.Tabled.{nothing_in}
+use Rattle.gc_promise.proofs.Tabled.{nothing_in, shown_nothing}
 use Rattle.gc_promise.proofs.Taken.{run_took}
 use Rattle.gc_promise.proofs.Unbroken.{line_text, line_unbroken}
-use Rattle.gc_promise.proofs.Written.{HasItsTexts, all_written, one_for_one, target_in, when_in, written_own}
+use Rattle.gc_promise.proofs.Written.{HasItsTexts, IsAnswered, all_written, answered_in_field, one_for_one, target_in, when_in, written_by}
 
 -- Quantities.
 
 module _ (when : When) (text : List ℕ) (command : Wish) (name : List ℕ) (is : IsQuantity name) where
   module _ (fields : ReplyFields) (told : Reading) (is_told : IsAskedReading command.call fields told) where
     -- if the command is answered, with the answer of the reading `told` as its values, the object has the quantity of this name
-    -- of `told`, escaped
+    -- of `told`, escaped, as `shown_as` has it
     stands : (end : End) (quality : Quality) (values : Option Answer) (line : List ℕ) → end ≡ Answered quality values line → values ≡ answer_in told
-        → at_member when text command end name ≡ escaped (quantity_in command.call told name)
+        → at_member when text command end name ≡ shown_as quality (escaped (quantity_in command.call told name))
     stands end quality values line e has = ap (λ (x : End). at_member when text command x name) e ∙ by_values values has where
       -- the lemma above, by the values of the answer
-      by_values : (values : Option Answer) → values ≡ answer_in told → at_member when text command (Answered quality values line) name ≡ escaped (quantity_in command.call told name)
+      by_values : (values : Option Answer) → values ≡ answer_in told → at_member when text command (Answered quality values line) name ≡ shown_as quality (escaped (quantity_in command.call told name))
       by_values (Some answer) has =
           let value : told ≡ reading.Value answer = value_if_some told answer (sym has) in
           member_quantity when text command (Answered quality (Some answer) line) name is
           ∙ member_stands command.call name is quality answer line (answer_to command.call fields answer (subst (IsAskedReading command.call fields) value is_told))
-          ∙ ap (λ (x : Reading). escaped (quantity_in command.call x name)) (sym value)
-      by_values None has = member_quantity when text command (Answered quality None line) name is ∙ sym (nothing_in command.call name told (no_value_if_none told (sym has)))
+          ∙ ap (λ (x : Reading). shown_as quality (escaped (quantity_in command.call x name))) (sym value)
+      by_values None has =
+          member_quantity when text command (Answered quality None line) name is
+          ∙ sym (shown_nothing quality (escaped (quantity_in command.call told name)) (nothing_in command.call name told (no_value_if_none told (sym has))))
 
   -- if the command didn't end as `Answered`, the object has nothing under this name of a quantity
   none_stands : (end : End) → ((quality : Quality) (answer : Option Answer) (line : List ℕ) → end ≡ Answered quality answer line → ⊥) → at_member when text command end name ≡ []
   none_stands (Answered quality answer line) other = absurd (other quality answer line refl)
   none_stands (Unreadable line fault) other = member_quantity when text command (Unreadable line fault) name is
   none_stands (Elsewhere line) other = member_quantity when text command (Elsewhere line) name is
+  none_stands (Disagree line) other = member_quantity when text command (Disagree line) name is
   none_stands Late other = member_quantity when text command Late name is
   none_stands Lost other = member_quantity when text command Lost name is
   none_stands Skipped other = member_quantity when text command Skipped name is
@@ -117,7 +118,7 @@ line_ends : (when : When) (text : List ℕ) (command : Wish) (end : End) → rec
 line_ends when text command end = feed_apart (codes "{\"run\":" ++ string_text (stamp_text when.run)) (members_text (members_after_run when text command end))
 
 -- if each text is a line and a line feed, the texts joined are the lines joined, each with its line feed
-each_line : {X : Type 0} (text line : X → List ℕ) → ((x : X) → text x ≡ line x ++ 10 ∷ []) → (xs : List X) → flat_map text xs ≡ rows.row_lines (map line xs)
+pub each_line : {X : Type 0} (text line : X → List ℕ) → ((x : X) → text x ≡ line x ++ 10 ∷ []) → (xs : List X) → flat_map text xs ≡ rows.row_lines (map line xs)
 each_line says_text line one [] = refl
 each_line says_text line one (x ∷ xs) = ap (λ (l : List ℕ). l ++ flat_map says_text xs) (one x) ∙ ap (λ (l : List ℕ). (line x ++ 10 ∷ []) ++ l) (each_line says_text line one xs)
 
@@ -132,40 +133,39 @@ no_front : (headed : Bool) (form : Form) → form ≡ Json → (if headed then [
 no_front true form is = refl
 no_front false form is = ap head_text is
 
-module _ {State : Type 0} (ends : Ends State) (kept : State → Option KeptReply) (is : IsAnInstrument ends AnyState kept) (reads : Asked → List ℕ → Reading) (are : AreReadings reads)
-    (x : FieldRun State) (was : IsFieldRun ends kept reads x) (form : x.run.survey.layout.form ≡ Json) (small : AreTyped x.run.survey (records_in x.run.survey reads (acts_in_field x))) where
+module _ (CanAnswer : Answers) (reads : Asked → List ℕ → Reading) (are : AreReadings reads) (run : StationRun) (had : List ℕ) (is : IsAnswered CanAnswer reads run had)
+    (form : run.survey.layout.form ≡ Json) (small : AreTyped run.survey (records_of_run reads run)) where
   -- what the run measures
   abbrev survey : Survey
-  survey = x.run.survey
+  survey = run.survey
 
   -- the line of a record of the run, without its line feed
-  abbrev line_of_record : Record → List ℕ
+  abbrev pub line_of_record : Record → List ℕ
   line_of_record r = line_text (when_in survey r) (target_in survey r) r.command r.end
 
   -- the text of a record of the run is its line and a line feed
-  one_line : (r : Record) → text_by survey r ≡ line_of_record r ++ 10 ∷ []
+  pub one_line : (r : Record) → text_by survey r ≡ line_of_record r ++ 10 ∷ []
   one_line r =
       let when = when_in survey r in
       let text = target_in survey r in
       ap (λ (f : Form). record_text f when text r.command r.end) form ∙ line_ends when text r.command r.end
 
-  -- the line of each record that was written whole is its own object
-  each_own : (written others : List Record) → records_in survey reads (acts_in_field x) ≡ written ++ others → (n : ℕ) (r : Record) → slice_get written n ≡ Some r
-      → IsOwnObject ends AnyState kept reads x (line_of_record r) r
-  each_own written others order n r got =
+  -- the line of each record that was written whole is its object
+  pub objects_by : (written others : List Record) → records_of_run reads run ≡ written ++ others → (n : ℕ) (r : Record) → slice_get written n ≡ Some r
+      → IsObject CanAnswer survey.tasks n (line_of_record r) r
+  objects_by written others order n r got =
       let when = when_in survey r in
       let text = target_in survey r in
-      let bounds = all_written (IsTyped survey.layout.run) (records_in survey reads (acts_in_field x)) written others order
-      small.each n r got in
+      let bounds = all_written (IsTyped survey.layout.run) (records_of_run reads run) written others order small.each n r got in
       let members = each_member_plain when text r.command r.end bounds.0 (name_bytes r.command.target survey.names small.names) bounds.1 bounds.2 in
       record {
         members = record_read when.run (members_after_run when text r.command r.end);
         reads_as = object_reads_back when.run (members_after_run when text r.command r.end) small.run members;
-        own = written_own ends kept is survey reads are (acts_in_field x) x.in_flight x.happened was.in_field true (at survey r) r (object_stands survey r) written others order n got;
+        is_by = written_by CanAnswer reads are run had is true (at survey r) r (object_stands survey r) written others order n got;
       }
 
   -- the lines of records in the types of the program have no line feed
-  all_unbroken : (rs : List Record) → AllByRecursion (IsTyped survey.layout.run) rs
+  pub all_unbroken : (rs : List Record) → AllByRecursion (IsTyped survey.layout.run) rs
       → AllByRecursion (Lacks 10) (map line_of_record rs)
   all_unbroken [] bounds = tt
   all_unbroken (r ∷ rs) bounds =
@@ -174,25 +174,26 @@ module _ {State : Type 0} (ends : Ends State) (kept : State → Option KeptReply
       let members = each_member_plain when text r.command r.end bounds.0.0 (name_bytes r.command.target survey.names small.names) bounds.0.1 bounds.0.2 in
       (line_unbroken when text r.command r.end bounds.0.2 members, all_unbroken rs bounds.1)
 
-  -- what the sink took are the run's own objects
-  objected : AreOwnObjects ends AnyState kept reads x
+  -- what the sink took are lines of JSON
+  pub objected : AreObjects CanAnswer reads run had
   objected =
-      let took = run_took ends kept reads are x was in
+      let took = run_took reads are run had is.is_run is.took in
       let written = took.are.written in
-      let nothing_first : x.had ++ front_text survey.layout ≡ x.had = ap (λ (l : List ℕ). x.had ++ l) (no_front survey.layout.headed survey.layout.form form) ∙ append-nil x.had in
+      let nothing_first : had ++ front_text survey.layout ≡ had = ap (λ (l : List ℕ). had ++ l) (no_front survey.layout.headed survey.layout.form form) ∙ append-nil had in
       record {
         lines = map line_of_record written;
         torn = took.torn;
         took = took.is ∙ ap (λ (l : List ℕ). Some (l ++ (texts_of (text_by survey) written ++ took.torn))) nothing_first
-            ∙ ap (λ (l : List ℕ). Some (x.had ++ (l ++ took.torn))) (each_line (text_by survey) line_of_record one_line written);
+            ∙ ap (λ (l : List ℕ). Some (had ++ (l ++ took.torn))) (each_line (text_by survey) line_of_record one_line written);
         are = took.are;
         unbroken =
             all_unbroken written
             (all_front (IsTyped survey.layout.run) written took.are.unwritten
             (subst (AllByRecursion (IsTyped survey.layout.run)) took.are.order small.each));
-        one_for_one = one_for_one (IsOwnObject ends AnyState kept reads x) line_of_record written (each_own written took.are.unwritten took.are.order);
+        one_for_one = one_for_one (λ n line r. IsObject CanAnswer survey.tasks n line r) line_of_record written (objects_by written took.are.unwritten took.are.order);
       }
 
--- what a sink took of a run are its own objects
+-- what a sink took of a run in the field are its own objects
 pub objects_own : {State : Type 0} → ObjectsAreTheirOwn State
-objects_own ends kept is reads are x was form small = objected ends kept is reads are x was form small
+objects_own ends kept is reads are x was form small =
+    objected (own_lines ends AnyState kept reads x) reads are x.run x.had (answered_in_field ends kept is reads x was) form small

@@ -12,6 +12,7 @@ use Rattle.gc_client.specs.Rule.{heard, id_in}
 use Rattle.gc_instrument.specs.State.{KeptReply}
 use Rattle.gc_texts.specs.Endings.{End, line_of}
 use Rattle.gc_texts.specs.Names.{name_text}
+use Rattle.gc_texts.specs.declared.tasks.Task.{Task}
 use Rattle.gc_texts.specs.declared.wish.Wish.{Wish}
 use Rattle.gc_texts.specs.declared.name.Name.{Name}
 use Rattle.gc_rows.specs.Records.{record_text}
@@ -19,8 +20,11 @@ use Rattle.gc_rows.specs.Rows.{row_of, row_fields, com_of, code_of, values_of}
 use Rattle.gc_rows.specs.declared.when.When.{When}
 use Rattle.gc_rows.proofs.Columns.{reply_columns}
 use Rattle.gc_rows.proofs.Rows.{rows_read_back}
+use Rattle.gc_links.specs.Acts.{Act}
 use Rattle.gc_station.specs.Answers.{AnswerIsJustified}
 use Rattle.gc_station.specs.Records.{Record}
+use Rattle.gc_station.specs.Scopes.{Scope}
+use Rattle.gc_station.specs.declared.plan.Plan.{Plan}
 use Rattle.gc_station.proofs.Answers.{answers_true}
 use Rattle.gc_words.specs.declared.layout.Layout.{Layout}
 use Rattle.gc_measuring.specs.Measuring.{text_in, when_of}
@@ -30,7 +34,7 @@ use Rattle.gc_field.specs.Instrument.{AnyState}
 use Rattle.gc_field.specs.Runs.{IsOwnAnswer, Program, program_parts, program_records}
 use Rattle.gc_field.specs.Shown.{stretches}
 use Rattle.gc_field.proofs.Joining.{run_faithful}
-use Rattle.gc_promise.specs.Rows.{column, FieldsSay, IsOwnIfAnswered, RowsAreTheirOwn}
+use Rattle.gc_promise.specs.Rows.{column, FieldsSay, IsOwnIfAnswered, IsRowOfReply, RowsAreTheirOwn}
 use Rattle.gc_promise.specs.Tables.{table_form}
 use Rattle.gc_promise.proofs.Names.{by_line}
 
@@ -83,6 +87,22 @@ fields_say layout columns names r line answered reply =
       values = values ∙ said.values;
     }
 
+-- if a record's answer is justified, and a reply in time ended its command, its row is that of the reply's line
+pub row_of_reply : (layout : Layout) (columns : Bool) (names : List Name) → layout.form ≡ table_form columns → (plan : Plan) (commands : List Task) (scope : Scope) (acts : List Act) (r : Record)
+    → AnswerIsJustified plan commands scope acts r → (line : List ℕ) → line_of r.end ≡ Some line → IsRowOfReply layout names r line
+row_of_reply layout columns names form plan commands scope acts r came line answered =
+    let justified = came line answered in
+    let fields = record_fields layout columns names r in
+    let row : text_in layout names r ≡ row_of fields =
+    ap (λ f. record_text f (when_of layout.run r) (name_text r.command.target names) r.command r.end) form
+    ∙ in_table columns (when_of layout.run r) (name_text r.command.target names) r.command r.end in
+    record {
+      fields = fields;
+      row = row;
+      reads_back = λ behind. rw row (rows_read_back.row fields (two_fields columns (when_of layout.run r) (name_text r.command.target names) r.command r.end) behind);
+      says = fields_say layout columns names r line answered (heard_is_reply line _ justified.reply.id);
+    }
+
 module _ {State : Type 0} (ends : Ends State) (kept : State → Option KeptReply) (layout : Layout) (columns : Bool) (names : List Name) (form : layout.form ≡ table_form columns)
     (u : UnderWay State) (x : Program State) where
   -- the answer of this record of the run is its own
@@ -95,19 +115,7 @@ module _ {State : Type 0} (ends : Ends State) (kept : State → Option KeptReply
 
   -- if a record's answer is its own and justified, and a reply in time ended its command, its row is its own
   one_own : (r : Record) → AnswerIsOwn r → IsJustified r → IsOwnIfAnswered ends AnyState kept layout names u x r
-  one_own r own came line answered =
-      let justified = came line answered in
-      let fields = record_fields layout columns names r in
-      let row : text_in layout names r ≡ row_of fields =
-      ap (λ f. record_text f (when_of layout.run r) (name_text r.command.target names) r.command r.end) form
-      ∙ in_table columns (when_of layout.run r) (name_text r.command.target names) r.command r.end in
-      record {
-        fields = fields;
-        row = row;
-        reads_back = λ behind. rw row (rows_read_back.row fields (two_fields columns (when_of layout.run r) (name_text r.command.target names) r.command r.end) behind);
-        says = fields_say layout columns names r line answered (heard_is_reply line _ justified.reply.id);
-        own = own line answered;
-      }
+  one_own r own came line answered = record { is_of = row_of_reply layout columns names form x.plan x.commands x.scope x.acts r came line answered; own = own line answered }
 
   -- if the answers of these records are their own and justified, the row of each of them whose command a reply in time ended is
   -- its own

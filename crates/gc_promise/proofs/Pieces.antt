@@ -8,7 +8,7 @@ use Rattle.std.proofs.lemmas.List.{take_at, take-append-drop}
 use Rattle.gc_files.specs.Failing.{feeds}
 use Rattle.gc_files.specs.Rows.{has_feed, whole, row_line, IsFront}
 use Rattle.gc_files.specs.Runs.{row_lines, AreRows}
-use Rattle.gc_files.proofs.Whole.{whole_none}
+use Rattle.gc_files.proofs.Whole.{whole_line, whole_more, whole_none}
 use Rattle.gc_field.proofs.BeginWords.{cons_not_nil}
 
 -- the lines of bytes, without their line feeds; after the last line feed there is one more, if anything is left. (`onto_first`
@@ -31,7 +31,7 @@ pieces_rows (b ∷ bs) = elim (cases_Bool (b == 10)) [
 ]
 
 -- bytes that end in a line feed have one, and what comes after their first byte ends in one, too, or is empty
-tail_whole : (b : ℕ) (bs : List ℕ) → whole (b ∷ bs) ≡ b ∷ bs → (has_feed (b ∷ bs) ≡ true) × (whole bs ≡ bs)
+pub tail_whole : (b : ℕ) (bs : List ℕ) → whole (b ∷ bs) ≡ b ∷ bs → (has_feed (b ∷ bs) ≡ true) × (whole bs ≡ bs)
 tail_whole b bs is = elim (cases_Bool (has_feed (b ∷ bs))) [
   | inl some ↦
       let at : whole (b ∷ bs) ≡ b ∷ whole bs = rw (some) refl in
@@ -64,7 +64,7 @@ some_piece (b ∷ bs) some = elim (cases_Bool (b == 10)) [
 ]
 
 -- where bytes have a line feed, and the first byte isn't one, there is one among the bytes after it
-feed_behind_first : (b : ℕ) (bs : List ℕ) → (b == 10) ≡ false → has_feed (b ∷ bs) ≡ true → has_feed bs ≡ true
+pub feed_behind_first : (b : ℕ) (bs : List ℕ) → (b == 10) ≡ false → has_feed (b ∷ bs) ≡ true → has_feed bs ≡ true
 feed_behind_first b bs isnt some = subst (λ t. (if t then true else has_feed bs) ≡ true) isnt some
 
 -- if there is a line, the bytes of the lines with a byte put before the first one are that byte and the bytes of the lines
@@ -118,10 +118,16 @@ pub row_lines_append : (xs ys : List (List ℕ)) → row_lines (xs ++ ys) ≡ ro
 row_lines_append [] ys = refl
 row_lines_append (row ∷ xs) ys = ap (λ (l : List ℕ). row_line row ++ l) (row_lines_append xs ys) ∙ sym (append_assoc (row_line row) (row_lines xs) (row_lines ys))
 
--- `rows`, which are left of the bytes `all`, are `taken` and perhaps more, and a front of all
+-- lines, each with its line feed, end in one, unless there are none
+lines_whole : (rows : List (List ℕ)) → whole (row_lines rows) ≡ row_lines rows
+lines_whole [] = refl
+lines_whole (row ∷ rows) = whole_more (row_line row) (row_lines rows) (whole_line row) ∙ ap (λ (l : List ℕ). row_line row ++ l) (lines_whole rows)
+
+-- `rows`, which are left of the bytes `all`, are `taken` and perhaps more, which is whole, and a front of all
 pub record AreLeftOf (taken all rows : List ℕ) : Type 0 where
   pub more : List ℕ
   pub has : rows ≡ taken ++ more
+  pub lines : whole more ≡ more
   pub own : IsFront (taken ++ more) all
 
 -- where `taken` and `rest` are whole, and n is at least the count of lines of `taken`, `AreLeftOf` holds of the first n lines of
@@ -135,6 +141,7 @@ rows_left taken rest n taken_whole rest_whole least =
     record {
       more = row_lines (take m (all_pieces rest));
       has = ap row_lines cut ∙ row_lines_append (all_pieces taken) (take m (all_pieces rest)) ∙ ap (λ (l : List ℕ). l ++ row_lines (take m (all_pieces rest))) (pieces_whole taken taken_whole);
+      lines = lines_whole (take m (all_pieces rest));
       own = record {
         rest = row_lines (drop m (all_pieces rest));
         split = ap (λ (l : List ℕ). taken ++ l)

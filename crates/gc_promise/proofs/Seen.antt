@@ -1,20 +1,16 @@
--- What the contract of a run says of one of its turns (what was seen at an act), and of what the book took.
-use Rattle.std.proofs.Common.{◌≡◌, ℕ, List, [], ◌∷◌, ◌++◌, take, drop, Option, Some, Result, Ok, Err, inl, inr, refl, sym, ◌∙◌, ap, subst, append_assoc, append-nil}
-use Rattle.std.proofs.lemmas.List.{take-append-drop, append_cancel_left}
+-- What the contract of a run says of one of its turns (what was seen at an act).
+use Rattle.std.proofs.Common.{◌≡◌, ℕ, List, [], ◌∷◌, ◌++◌, Option, Some, refl, sym, ◌∙◌, ap, subst, append_assoc, append-nil}
+use Rattle.std.proofs.lemmas.List.{append_cancel_left}
 use Rattle.std.specs.Io.KnownBytes.{Appends}
-use Rattle.gc_files.specs.Rows.{whole, IsFront}
+use Rattle.gc_files.specs.Rows.{whole}
 use Rattle.gc_files.proofs.Whole.{whole_more}
-use Rattle.gc_links.specs.Acts.{Act, Closed, AddsActs}
-use Rattle.gc_texts.specs.declared.fault.RunFault.{RunFault}
-use Rattle.gc_texts.specs.declared.fault.RunFault.TheVariants.{Output}
+use Rattle.gc_links.specs.Acts.{Act, AddsActs}
 use Rattle.gc_texts.specs.declared.tasks.Task.{Task}
 use Rattle.gc_station.specs.Keeping.{Snapshot, IsKept, AreKept}
-use Rattle.gc_station.specs.Records.{Record, texts_of, WritesPart}
-use Rattle.gc_station.specs.Runs.{Ran, state_after}
+use Rattle.gc_station.specs.Records.{Record, texts_of}
+use Rattle.gc_station.specs.Runs.{state_after}
 use Rattle.gc_station.specs.Scopes.{Scope}
 use Rattle.gc_station.specs.declared.plan.Plan.{Plan}
-use Rattle.gc_station.specs.declared.tally.Tally.{Tally}
-use Rattle.std.proofs.lemmas.Grind.{flat_map-append}
 
 -- Texts.
 
@@ -23,10 +19,6 @@ use Rattle.std.proofs.lemmas.Grind.{flat_map-append}
 pub texts_whole : (text : Record → List ℕ) → ((r : Record) → whole (text r) ≡ text r) → (rs : List Record) → whole (texts_of text rs) ≡ texts_of text rs
 texts_whole text each [] = refl
 texts_whole text each (r ∷ rs) = whole_more (text r) (texts_of text rs) (each r) ∙ ap (λ (l : List ℕ). text r ++ l) (texts_whole text each rs)
-
--- bytes that are equal to `all` are a front of it
-same_front : (bytes all : List ℕ) → bytes ≡ all → IsFront bytes all
-same_front bytes all is = record { rest = []; split = sym is ∙ sym (append-nil bytes) }
 
 -- if a link recorded the acts of a run and maybe others, and `next` after those that were done before a turn, `next` is the act
 -- before which that turn was seen
@@ -75,39 +67,3 @@ module _ (plan : Plan) (commands : List Task) (scope : Scope) (text : Record →
       let took : bytes ≡ texts_of text (state_after plan commands scope front).records =
       subst (λ (t : Option (List ℕ)). Appends (Some []) t (texts_of text (state_after plan commands scope front).records)) taken kept.took in
       took ∙ ap (λ (acts : List Act). texts_of text (state_after plan commands scope acts).records) (sym is)
-
-  -- what the book took is a front of the texts of what the first ones of the acts `told` settled, maybe all of them
-  pub record Fronted (told : List Act) (bytes : List ℕ) : Type 0 where
-    pub acts : List Act
-    pub others : List Act
-    pub all : told ≡ acts ++ others
-    pub own : IsFront bytes (texts_of text (state_after plan commands scope acts).records)
-
-  -- what was written of records that were written in part is a front of all their texts
-  part_front : (before all : List Record) (bytes : List ℕ) → (w : WritesPart text before all (Some []) (Some bytes)) → IsFront bytes (texts_of text all)
-  part_front before all bytes w =
-      let front = texts_of text (before ++ w.earlier) in
-      record {
-        rest = drop w.part (text w.next) ++ texts_of text w.later;
-        split = ap (texts_of text) (w.order ∙ sym (append_assoc before w.earlier (w.next ∷ w.later))) ∙ flat_map-append text (before ++ w.earlier) (w.next ∷ w.later)
-            ∙ ap (λ (l : List ℕ). front ++ (l ++ texts_of text w.later)) (sym (take-append-drop w.part (text w.next)))
-            ∙ ap (λ (l : List ℕ). front ++ l) (append_assoc (take w.part (text w.next)) (drop w.part (text w.next)) (texts_of text w.later))
-            ∙ sym (append_assoc front (take w.part (text w.next)) (drop w.part (text w.next) ++ texts_of text w.later))
-            ∙ ap (λ (l : List ℕ). l ++ (drop w.part (text w.next) ++ texts_of text w.later)) (sym w.took);
-      }
-
-  -- a run with these acts, from none on, whose book took these bytes, and which ended with this result
-  abbrev RanFromNone : List Act → List ℕ → Result Tally RunFault → Type 0
-  RanFromNone told bytes end = Ran plan commands scope text (Some []) (Some told) (Some []) (Some bytes) end
-
-  -- what a run took, whatever its end, is `Fronted`
-  pub fronted : (told : List Act) (bytes : List ℕ) (end : Result Tally RunFault) → RanFromNone told bytes end → Fronted told bytes
-  fronted told bytes (Ok tally) ran = record { acts = ran.1.acts; others = []; all = ran.1.tells ∙ sym (append-nil ran.1.acts); own = same_front _ _ ran.1.took }
-  fronted told bytes (Err Output) (inl broke) = record {
-    acts = broke.acts ++ broke.last ∷ [];
-    others = Closed ∷ [];
-    all = broke.tells ∙ sym (append_assoc broke.acts (broke.last ∷ []) (Closed ∷ []));
-    own = part_front _ _ bytes broke.took;
-  }
-  fronted told bytes (Err Output) (inr left) = record { acts = left.acts; others = Closed ∷ []; all = left.tells; own = same_front _ _ left.took }
-  fronted told bytes (Err fault) ran = record { acts = ran.2.acts; others = []; all = ran.2.tells ∙ sym (append-nil ran.2.acts); own = same_front _ _ ran.2.took }

@@ -1,5 +1,5 @@
--- A table that a station wrote of a run in the field: its rows are their own, that is, what is in a row of an answer was
--- made by the instrument on executing the very request of the row's cycle and place.
+-- A table that a station wrote of a run: what is in a row of an answer is what a line says that may have answered its command. In the
+-- field that line is the row's own.
 use Rattle.std.proofs.Common.{◌≡◌, ℕ, Bool, true, false, List, [], ◌∷◌, ◌++◌, map, Option, Some, None, if◌then◌else◌, refl, sym, ap, ◌∙◌, subst, arith, append_assoc}
 use Rattle.std.specs.Prelude.{codes, slice_get}
 use Rattle.std.proofs.lemmas.Bool.{false≢true}
@@ -10,11 +10,11 @@ use Rattle.gc_catalogue.specs.declared.answer.Answer.{Answer}
 use Rattle.gc_catalogue.specs.declared.answer.Reading.{Reading}
 use Rattle.gc_catalogue.specs.declared.answer.Reading.TheVariants as reading
 use Rattle.gc_catalogue.specs.declared.asked.Asked.{Asked}
-use Rattle.gc_instrument.specs.State.{KeptReply}
 use Rattle.gc_texts.specs.Endings.{End, Answered, Unreadable, word_of}
 use Rattle.gc_texts.specs.Logs.{escaped}
 use Rattle.gc_texts.specs.declared.wish.Wish.{Wish}
 use Rattle.gc_texts.specs.declared.quality.Quality.{Quality}
+use Rattle.gc_texts.specs.declared.quality.Quality.TheVariants as quality
 use Rattle.gc_rows.specs.Records.{head_text, header, record_text}
 use Rattle.gc_rows.specs.Rows.{code_of, com_of, row_of}
 use Rattle.gc_rows.specs.declared.record.Form.{Form}
@@ -23,17 +23,16 @@ use Rattle.gc_station.specs.Qualities.{answer_in}
 use Rattle.gc_station.specs.Records.{Record, texts_of}
 use Rattle.gc_station.specs.Scopes.{AreReadings}
 use Rattle.gc_measuring.specs.Measuring.{Survey, front_text, text_by}
-use Rattle.gc_field.specs.World.{Ends}
-use Rattle.gc_field.specs.Instrument.{IsAnInstrument, AnyState}
-use Rattle.gc_promise.specs.Fields.{IsQuantity, quantity_in, under}
-use Rattle.gc_promise.specs.Tables.{AreReadAs, FieldRun, IsFieldRun, IsOwnIn, IsOwnTable, TablesAreTheirOwn, acts_in_field, head_rows, records_in, table_form}
+use Rattle.gc_field.specs.Instrument.{AnyState}
+use Rattle.gc_promise.specs.Fields.{IsQuantity, IsRowBy, quantity_in, shown_as, under}
+use Rattle.gc_promise.specs.Tables.{Answers, AreReadAs, IsTable, StationRun, TablesAreTheirOwn, head_rows, own_lines, records_of_run, table_form}
 use Rattle.gc_promise.proofs.Judged.{no_value_if_none, value_if_some}
 use Rattle.gc_promise.proofs.Names.{answer_to, none_answered, none_unanswered, quantity_stands, under_attempt, under_cycle, under_outcome, under_place, under_procedure, under_quality, under_rc, under_rc_com, under_sent, under_target, under_values, row_at}
 use Rattle.gc_promise.proofs.Owning.{record_fields, in_table, two_fields}
 use Rattle.gc_promise.proofs.Plain.{number_plain}
 use Rattle.gc_promise.proofs.Reading.{both_read, each_reads, none_read, row_reads}
 use Rattle.gc_promise.proofs.Taken.{run_took}
-use Rattle.gc_promise.proofs.Written.{HasItsTexts, one_for_one, target_in, when_in, written_own}
+use Rattle.gc_promise.proofs.Written.{HasItsTexts, IsAnswered, answered_in_field, one_for_one, target_in, when_in, written_by}
 
 -- Quantities.
 
@@ -44,23 +43,32 @@ nothing_in call name (reading.Refused code) none = refl
 nothing_in call name (reading.ComFault code) none = refl
 nothing_in call name (reading.Unreadable fault) none = refl
 
+-- where a quantity is empty, it is so in the row of an answer of any quality
+pub shown_nothing : (quality : Quality) (text : List ℕ) → text ≡ [] → shown_as quality text ≡ []
+shown_nothing quality.Fine text none = none
+shown_nothing quality.Warning text none = none
+shown_nothing quality.Unconfirmed text none = refl
+shown_nothing quality.Refused text none = none
+
 module _ (when : When) (text : List ℕ) (command : Wish) (name : List ℕ) (is : IsQuantity name) (fields : ReplyFields) (told : Reading)
     (is_told : IsAskedReading command.call fields told) where
   -- if the command is answered, with the answer of the reading `told` as its values, the row has the quantity of this name of
-  -- `told`, escaped
+  -- `told`, escaped, as `shown_as` has it
   stands : (quality : Quality) (values : Option Answer) (line : List ℕ) → values ≡ answer_in told
-      → row_at when text command (Answered quality values line) true name ≡ escaped (quantity_in command.call told name)
+      → row_at when text command (Answered quality values line) true name ≡ shown_as quality (escaped (quantity_in command.call told name))
   stands quality (Some answer) line has =
       let value : told ≡ reading.Value answer = value_if_some told answer (sym has) in
       quantity_stands when text command name is quality answer line (answer_to command.call fields answer (subst (IsAskedReading command.call fields) value is_told))
-      ∙ ap (λ (x : Reading). escaped (quantity_in command.call x name)) (sym value)
-  stands quality None line has = none_answered when text command name is quality line ∙ sym (nothing_in command.call name told (no_value_if_none told (sym has)))
+      ∙ ap (λ (x : Reading). shown_as quality (escaped (quantity_in command.call x name))) (sym value)
+  stands quality None line has =
+      none_answered when text command name is quality line
+      ∙ sym (shown_nothing quality (escaped (quantity_in command.call told name)) (nothing_in command.call name told (no_value_if_none told (sym has))))
 
 -- A row.
 
 module _ (survey : Survey) (columns : Bool) (r : Record) where
   -- the row of the record, as a reader gives it
-  abbrev row : List (List ℕ)
+  abbrev pub row : List (List ℕ)
   row = map escaped (record_fields survey.layout columns survey.names r)
 
   -- the field of the record's row under a name
@@ -68,10 +76,10 @@ module _ (survey : Survey) (columns : Bool) (r : Record) where
   at name = under name (header columns) row
 
   -- if the command is answered, with the answer of the reading `told` as its values, a row with columns of quantities (`b`) has
-  -- the quantity of `told`, escaped, under each name of one
+  -- the quantity of `told`, escaped, under each name of one, as `shown_as` has it
   quantity_at : (b : Bool) → b ≡ true → (fields : ReplyFields) (told : Reading) → IsAskedReading r.command.call fields told → (quality : Quality) (values : Option Answer) (line : List ℕ)
       → r.end ≡ Answered quality values line → values ≡ answer_in told → (name : List ℕ) → IsQuantity name
-      → row_at (when_in survey r) (target_in survey r) r.command r.end b name ≡ escaped (quantity_in r.command.call told name)
+      → row_at (when_in survey r) (target_in survey r) r.command r.end b name ≡ shown_as quality (escaped (quantity_in r.command.call told name))
   quantity_at true shows fields told is_told quality values line is has name quantity =
       ap (λ (end : End). row_at (when_in survey r) (target_in survey r) r.command end true name) is
       ∙ stands (when_in survey r) (target_in survey r) r.command name quantity fields told is_told quality values line has
@@ -121,14 +129,14 @@ head_reads false columns form is = subst (λ (f : Form). AreReadAs (head_text f)
   names_read false = row_reads (header false) (omega arith)
   names_read true = row_reads (header true) (omega arith)
 
-module _ {State : Type 0} (ends : Ends State) (kept : State → Option KeptReply) (is : IsAnInstrument ends AnyState kept) (reads : Asked → List ℕ → Reading) (are : AreReadings reads)
-    (x : FieldRun State) (was : IsFieldRun ends kept reads x) (columns : Bool) (form : x.run.survey.layout.form ≡ table_form columns) where
+module _ (CanAnswer : Answers) (reads : Asked → List ℕ → Reading) (are : AreReadings reads) (run : StationRun) (had : List ℕ) (is : IsAnswered CanAnswer reads run had)
+    (columns : Bool) (form : run.survey.layout.form ≡ table_form columns) where
   -- what the run measures
   abbrev survey : Survey
-  survey = x.run.survey
+  survey = run.survey
 
   -- the text of a record is read as its row
-  one_reads : (r : Record) → AreReadAs (text_by survey r) (row survey columns r ∷ [])
+  pub one_reads : (r : Record) → AreReadAs (text_by survey r) (row survey columns r ∷ [])
   one_reads r =
       let when = when_in survey r in
       let text = target_in survey r in
@@ -136,16 +144,15 @@ module _ {State : Type 0} (ends : Ends State) (kept : State → Option KeptReply
       ap (λ (f : Form). record_text f when text r.command r.end) form ∙ in_table columns when text r.command r.end in
       subst (λ (t : List ℕ). AreReadAs t (row survey columns r ∷ [])) (sym is_row) (row_reads (record_fields survey.layout columns survey.names r) (two_fields columns when text r.command r.end))
 
-  -- the row of each record that was written whole is its own
-  each_own : (written others : List Record) → records_in survey reads (acts_in_field x) ≡ written ++ others → (n : ℕ) (r : Record) → slice_get written n ≡ Some r
-      → IsOwnIn ends AnyState kept columns (at survey columns r) reads x r
-  each_own written others order n r got =
-      written_own ends kept is survey reads are (acts_in_field x) x.in_flight x.happened was.in_field columns (at survey columns r) r (row_stands survey columns r) written others order n got
+  -- the row of each record that was written whole is by a line that may have answered it
+  pub rows_by : (written others : List Record) → records_of_run reads run ≡ written ++ others → (n : ℕ) (r : Record) → slice_get written n ≡ Some r
+      → IsRowBy (CanAnswer n r) columns (at survey columns r) survey.tasks r
+  rows_by written others order n r got = written_by CanAnswer reads are run had is columns (at survey columns r) r (row_stands survey columns r) written others order n got
 
-  -- what the sink took is the run's own table
-  tabled : IsOwnTable ends AnyState kept columns reads x
+  -- what the sink took is a table
+  pub tabled : IsTable CanAnswer columns reads run had
   tabled =
-      let took = run_took ends kept reads are x was in
+      let took = run_took reads are run had is.is_run is.took in
       let front = front_text survey.layout in
       let written = took.are.written in
       let texts = texts_of (text_by survey) written in
@@ -155,16 +162,17 @@ module _ {State : Type 0} (ends : Ends State) (kept : State → Option KeptReply
       record {
         bytes = front ++ texts;
         torn = took.torn;
-        took = took.is ∙ ap Some (append_assoc x.had front (texts ++ took.torn) ∙ ap (λ (l : List ℕ). x.had ++ l) (sym (append_assoc front texts took.torn)));
+        took = took.is ∙ ap Some (append_assoc had front (texts ++ took.torn) ∙ ap (λ (l : List ℕ). had ++ l) (sym (append_assoc front texts took.torn)));
         are = took.are;
         rows = map (row survey columns) written;
         reads_as = whole;
         behind = λ held earlier first. both_read held (front ++ texts) earlier (head_rows survey.layout columns ++ map (row survey columns) written) first whole;
         one_for_one =
-            one_for_one (λ fields r. IsOwnIn ends AnyState kept columns (λ name. under name (header columns) fields) reads x r) (row survey columns) written
-            (each_own written took.are.unwritten took.are.order);
+            one_for_one (λ n fields r. IsRowBy (CanAnswer n r) columns (λ name. under name (header columns) fields) survey.tasks r) (row survey columns) written
+            (rows_by written took.are.unwritten took.are.order);
       }
 
--- what a sink took of a run is its own table
+-- what a sink took of a run in the field is its own table
 pub tables_own : {State : Type 0} → TablesAreTheirOwn State
-tables_own ends kept is reads are x was columns form = tabled ends kept is reads are x was columns form
+tables_own ends kept is reads are x was columns form =
+    tabled (own_lines ends AnyState kept reads x) reads are x.run x.had (answered_in_field ends kept is reads x was) columns form

@@ -7,6 +7,7 @@ use Rattle.gc_catalogue.specs.declared.asked.Asked.{Asked}
 use Rattle.gc_texts.specs.declared.fault.RunFault.{RunFault}
 use Rattle.gc_texts.specs.declared.fault.RunFault.TheVariants.{Output}
 use Rattle.gc_texts.specs.declared.tasks.Task.{Task}
+use Rattle.gc_files.specs.Rows.{IsFront}
 use Rattle.gc_links.specs.Acts.{Act, Closed}
 use Rattle.gc_station.specs.Records.{Record, texts_of, WritesPart}
 use Rattle.gc_station.specs.Runs.{Ran, state_after}
@@ -17,10 +18,9 @@ use Rattle.gc_measuring.specs.Measuring.{front_text, text_by}
 use Rattle.gc_measuring.specs.Stops.{end_of_run}
 use Rattle.gc_measuring.specs.declared.stop.Stop.{Stop}
 use Rattle.gc_measuring.specs.declared.stop.Stop.TheVariants.{Run}
-use Rattle.gc_instrument.specs.State.{KeptReply}
-use Rattle.gc_field.specs.World.{Ends}
-use Rattle.gc_promise.specs.Tables.{AreWritten, FieldRun, IsFieldRun, acts_in_field, acts_measured, records_in, scope_of}
+use Rattle.gc_promise.specs.Tables.{AreWritten, IsPartOfNext, IsStationRun, StationRun, acts_measured, records_in, records_of_run, scope_of}
 use Rattle.gc_catalogue.proofs.Joining.{without_last}
+use Rattle.std.proofs.lemmas.Grind.{flat_map-append}
 
 -- what is appended to known bytes comes after them
 pub appended_to_known : (start bytes : List ℕ) (has : Option (List ℕ)) → Appends (Some start) has bytes → has ≡ Some (start ++ bytes)
@@ -77,23 +77,37 @@ module _ (text : Record → List ℕ) where
         took_records r.acts (acts_measured (Err (Run Output)) told) (Err (Run Output)) (ap (acts_measured (Err (Run Output))) r.tells ∙ without_last r.acts Closed) r.took
     ran_took (Err fault) r = took_records r.2.acts told (Err (Run fault)) r.2.tells r.2.took
 
--- what a sink took of a run in the field is what was written of its records, after what the sink had and what comes before the
--- records
-pub run_took : {State : Type 0} (ends : Ends State) (kept : State → Option KeptReply) (reads : Asked → List ℕ → Reading) → AreReadings reads
-    → (x : FieldRun State) → IsFieldRun ends kept reads x
-    → Took (text_by x.run.survey) (records_in x.run.survey reads (acts_in_field x)) x.run.result (x.had ++ front_text x.run.survey.layout) x.run.new.taken
-run_took ends kept reads are x was =
-    let run = x.run in
+-- a part of the next one of these records is a front of their texts
+part_front : (text : Record → List ℕ) (records : List Record) (torn : List ℕ) → IsPartOfNext text records torn → IsFront torn (texts_of text records)
+part_front text [] torn is = record { rest = []; split = sym (append-nil torn ∙ is) }
+part_front text (next ∷ later) torn part =
+    record { rest = part.0 ++ texts_of text later; split = ap (λ (l : List ℕ). l ++ texts_of text later) part.1 ∙ append_assoc torn part.0 (texts_of text later) }
+
+-- what was written of records is a front of their texts
+pub written_front : (text : Record → List ℕ) (records : List Record) (result : Result Tally Stop) (torn : List ℕ) (are : AreWritten text records result torn)
+    → IsFront (texts_of text are.written ++ torn) (texts_of text records)
+written_front text records result torn are =
+    let part = part_front text are.unwritten torn are.part in
+    record {
+      rest = part.rest;
+      split = ap (texts_of text) are.order ∙ flat_map-append text are.written are.unwritten ∙ ap (λ (l : List ℕ). texts_of text are.written ++ l) part.split
+          ∙ sym (append_assoc (texts_of text are.written) torn part.rest);
+    }
+
+-- what a sink took of a run is what was written of its records, after what the sink had and what comes before the records
+pub run_took : (reads : Asked → List ℕ → Reading) → AreReadings reads → (run : StationRun) (had : List ℕ) → IsStationRun run → run.old.taken ≡ Some had
+    → Took (text_by run.survey) (records_of_run reads run) run.result (had ++ front_text run.survey.layout) run.new.taken
+run_took reads are run had is took =
     let survey = run.survey in
-    let b = was.is_run.ran in
+    let b = is.ran in
     let text = text_by survey in
     let scope = scope_of survey reads in
-    let start = x.had ++ front_text survey.layout in
+    let start = had ++ front_text survey.layout in
     let between : b.between ≡ Some start =
-    appended_to_known x.had (front_text survey.layout) b.between (subst (λ (t : Option (List ℕ)). Appends t b.between (front_text survey.layout)) was.took b.front) in
+    appended_to_known had (front_text survey.layout) b.between (subst (λ (t : Option (List ℕ)). Appends t b.between (front_text survey.layout)) took b.front) in
     let ran : Ran survey.plan survey.tasks scope text (Some []) (Some run.recorded) (Some start) run.new.taken b.end =
     subst (λ (t : Option (List ℕ)). Ran survey.plan survey.tasks scope text (Some []) (Some run.recorded) t run.new.taken b.end) between
-    (subst (λ (t : Option (List Act)). Ran survey.plan survey.tasks scope text (Some []) t b.between run.new.taken b.end) was.is_run.acts
-    (subst (λ (t : Option (List Act)). Ran survey.plan survey.tasks scope text t run.new.acts b.between run.new.taken b.end) was.is_run.none (b.run.ran.0 reads are))) in
+    (subst (λ (t : Option (List Act)). Ran survey.plan survey.tasks scope text (Some []) t b.between run.new.taken b.end) is.acts
+    (subst (λ (t : Option (List Act)). Ran survey.plan survey.tasks scope text t run.new.acts b.between run.new.taken b.end) is.none (b.run.ran.0 reads are))) in
     subst (λ (r : Result Tally Stop). Took text (records_in survey reads (acts_measured r run.recorded)) r start run.new.taken) (sym b.is)
     (ran_took text survey.plan survey.tasks scope run.recorded start run.new.taken b.end ran)

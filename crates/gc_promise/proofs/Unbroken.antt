@@ -11,7 +11,8 @@ use Rattle.gc_catalogue.specs.declared.answer.Answer.{Answer}
 use Rattle.gc_catalogue.specs.declared.asked.Asked.{Asked}
 use Rattle.gc_catalogue.specs.declared.asked.Asked.TheVariants.{Table, Raw}
 use Rattle.gc_texts.specs.Cuts.{Lacks}
-use Rattle.gc_texts.specs.Endings.{End, Answered, Unreadable, Elsewhere, Late, Lost, Skipped, Missed, quality_of, quality_text}
+use Rattle.gc_texts.specs.declared.quality.Quality.TheVariants.{Fine, Warning, Unconfirmed, Refused}
+use Rattle.gc_texts.specs.Endings.{End, Answered, Unreadable, Elsewhere, Disagree, Late, Lost, Skipped, Missed, quality_of, quality_text}
 use Rattle.gc_texts.specs.Logs.{escape, escaped, hex_digit, is_unescaped}
 use Rattle.gc_texts.specs.Stamps.{stamp_text}
 use Rattle.gc_texts.specs.declared.wish.Wish.{Wish}
@@ -44,7 +45,7 @@ byte_lacks b =
     (λ _. ((λ e. omega (arith, e)), ((λ e. omega (arith, e)), (digit_lacks (b / 16), (digit_lacks (b % 16), tt)))))
 
 -- escaped bytes have no line feed
-escaped_lacks : (bytes : List ℕ) → Lacks 10 (escaped bytes)
+pub escaped_lacks : (bytes : List ℕ) → Lacks 10 (escaped bytes)
 escaped_lacks [] = tt
 escaped_lacks (b ∷ bs) = lacks_both 10 (escape b) (escaped bs) (byte_lacks b) (escaped_lacks bs)
 
@@ -60,7 +61,7 @@ mark_lacks (b ∷ bs) no_feed =
     (cond_both ((b == 34) || (b == 92)) (92 ∷ b ∷ []) (b ∷ []) (Lacks 10) (λ _. ((λ e. omega (arith, e)), (no_feed.0, tt))) (λ _. (no_feed.0, tt))) (mark_lacks bs no_feed.1)
 
 -- a quotation mark isn't a line feed
-quote_lacks : Lacks 10 (codes "\"")
+pub quote_lacks : Lacks 10 (codes "\"")
 quote_lacks = ((λ e. omega (arith, e)), tt)
 
 -- a string of JSON has no line feed
@@ -147,6 +148,7 @@ ending_plain (Answered quality (Some answer) line) is = (tt, reply_plain line is
 ending_plain (Answered quality None line) is = (tt, reply_plain line is)
 ending_plain (Unreadable line fault) is = (tt, (decimal_plain (value_fault_number fault), reply_plain line is))
 ending_plain (Elsewhere line) is = (tt, reply_plain line is)
+ending_plain (Disagree line) is = (tt, reply_plain line is)
 ending_plain Late is = (tt, tt)
 ending_plain Lost is = (tt, tt)
 ending_plain Skipped is = (tt, tt)
@@ -190,7 +192,10 @@ columns_plain (Raw raw) answer line = items_plain (split_items (values_of line))
 
 -- the members for quantities or items have plain digits
 quantities_plain : (call : Asked) (end : End) → AllByRecursion HasPlainDigits (quantity_members call end)
-quantities_plain call (Answered quality (Some answer) line) = columns_plain call answer line
+quantities_plain call (Answered Unconfirmed (Some answer) line) = tt
+quantities_plain call (Answered Fine (Some answer) line) = columns_plain call answer line
+quantities_plain call (Answered Warning (Some answer) line) = columns_plain call answer line
+quantities_plain call (Answered Refused (Some answer) line) = columns_plain call answer line
 quantities_plain call end = tt
 
 -- a member for a quality has no digits

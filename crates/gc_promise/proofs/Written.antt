@@ -4,6 +4,7 @@ use Rattle.std.specs.Prelude.{codes, slice_get}
 use Rattle.std.specs.List.{AllByRecursion}
 use Rattle.gc_lines.specs.Numbers.{IsSmallNumber}
 use Rattle.gc_lines.specs.Replies.{ReplyFields, IsReply}
+use Rattle.gc_lines.proofs.Lists.{get_more}
 use Rattle.gc_values.proofs.Every.{every_front as all_front}
 use Rattle.gc_catalogue.specs.Asked.{IsAskedReading}
 use Rattle.gc_catalogue.specs.declared.answer.Answer.{Answer}
@@ -11,7 +12,7 @@ use Rattle.gc_catalogue.specs.declared.answer.Reading.{Reading}
 use Rattle.gc_catalogue.specs.declared.asked.Asked.{Asked}
 use Rattle.gc_catalogue.proofs.AskedRules.{each_asked_reply}
 use Rattle.gc_instrument.specs.State.{KeptReply}
-use Rattle.gc_texts.specs.Endings.{End, Answered, Unreadable, Elsewhere, Late, Lost, Skipped, Missed, word_of, quality_of, quality_text, line_of}
+use Rattle.gc_texts.specs.Endings.{End, Answered, Unreadable, Elsewhere, Disagree, Late, Lost, Skipped, Missed, word_of, quality_of, quality_text, line_of}
 use Rattle.gc_texts.specs.Logs.{escaped}
 use Rattle.gc_texts.specs.Names.{name_text}
 use Rattle.gc_texts.specs.Qualities.{quality_word}
@@ -21,8 +22,8 @@ use Rattle.gc_rows.specs.declared.when.When.{When}
 use Rattle.gc_rows.proofs.Columns.{reply_columns}
 use Rattle.gc_links.specs.Acts.{Act}
 use Rattle.gc_station.specs.Answers.{AnswerIsJustified}
-use Rattle.gc_station.specs.Parts.{Part}
-use Rattle.gc_station.specs.Qualities.{IsAsListed, IsOfQuality, accepted_at, answer_in}
+use Rattle.gc_station.specs.Model.{Runs, opening}
+use Rattle.gc_station.specs.Qualities.{IsAsListed, IsOfQuality, accepted_at, answer_in, quality_as, twice_at}
 use Rattle.gc_station.specs.Records.{Record}
 use Rattle.gc_station.specs.Scopes.{AreReadings}
 use Rattle.gc_station.specs.Tasked.{IsOfItsTask}
@@ -32,17 +33,15 @@ use Rattle.gc_station.proofs.Lists.{all_at}
 use Rattle.gc_station.proofs.Nearly.{qualities_as_listed}
 use Rattle.gc_measuring.specs.Measuring.{Survey, when_of}
 use Rattle.gc_field.specs.World.{Ends}
-use Rattle.gc_field.specs.Begin.{UnderWay}
-use Rattle.gc_field.specs.Beginnings as field
 use Rattle.gc_field.specs.Instrument.{IsAnInstrument, AnyState}
-use Rattle.gc_field.specs.Runs.{IsInField, IsOwnAnswer}
-use Rattle.gc_field.specs.Shown.{Stretch, stretches}
+use Rattle.gc_field.specs.Runs.{IsOwnAnswer}
+use Rattle.gc_field.specs.Shown.{stretches}
 use Rattle.gc_field.proofs.Joining.{run_faithful}
 use Rattle.gc_world.proofs.Places.{get_seen}
 use Rattle.std.proofs.lemmas.List.{length-map}
 use Rattle.std.proofs.lemmas.Option.{same_Some}
-use Rattle.gc_promise.specs.Fields.{IsOwn, IsQuantity, IsRowOf, IsOutcomeOfReply, HasReply, quality_in, quantity_in, quantity_source}
-use Rattle.gc_promise.specs.Tables.{AreOneForOne, parts_in, program_of, records_in, scope_of}
+use Rattle.gc_promise.specs.Fields.{IsQuantity, IsRowBy, IsRowOf, IsOutcomeOfReply, HasReply, quality_in, quantity_in, quantity_source, shown_as}
+use Rattle.gc_promise.specs.Tables.{Answers, AreOneForOne, FieldRun, IsFieldRun, IsStationRun, StationRun, acts_in, own_lines, parts_of_run, program_of, records_of_run, scope_of}
 use Rattle.gc_promise.proofs.Judged.{IsJudged, judged}
 use Rattle.gc_promise.proofs.Owning.{heard_is_reply}
 use Rattle.gc_promise.proofs.Setting.{never_sent, set_to}
@@ -61,22 +60,24 @@ target_in survey r = name_text r.command.target survey.names
 abbrev pub first_letter : List ℕ → ℕ
 first_letter word = get_or word 0 0
 
--- a word with the first letter of none of a reply's three outcomes is no outcome of a reply
+-- a word with the first letter of none of a reply's four outcomes is no outcome of a reply
 pub no_outcome_of_reply : (word : List ℕ) → (first_letter word ≡ first_letter (codes "answered") → ⊥) → (first_letter word ≡ first_letter (codes "unreadable") → ⊥)
-    → (first_letter word ≡ first_letter (codes "elsewhere") → ⊥) → IsOutcomeOfReply word → ⊥
-no_outcome_of_reply word a u e (inl is) = a (ap first_letter is)
-no_outcome_of_reply word a u e (inr (inl is)) = u (ap first_letter is)
-no_outcome_of_reply word a u e (inr (inr is)) = e (ap first_letter is)
+    → (first_letter word ≡ first_letter (codes "elsewhere") → ⊥) → (first_letter word ≡ first_letter (codes "disagree") → ⊥) → IsOutcomeOfReply word → ⊥
+no_outcome_of_reply word a u e d (inl is) = a (ap first_letter is)
+no_outcome_of_reply word a u e d (inr (inl is)) = u (ap first_letter is)
+no_outcome_of_reply word a u e d (inr (inr (inl is))) = e (ap first_letter is)
+no_outcome_of_reply word a u e d (inr (inr (inr is))) = d (ap first_letter is)
 
 -- if the outcome is that of a reply, a reply in time ended the command
 pub reply_ended : (end : End) → IsOutcomeOfReply (word_of end) → (line : List ℕ) × (line_of end ≡ Some line)
 reply_ended (Answered quality answer line) is = (line, refl)
 reply_ended (Unreadable line fault) is = (line, refl)
 reply_ended (Elsewhere line) is = (line, refl)
-reply_ended Late is = absurd (no_outcome_of_reply (codes "late") (λ e. omega (arith, e)) (λ e. omega (arith, e)) (λ e. omega (arith, e)) is)
-reply_ended Lost is = absurd (no_outcome_of_reply (codes "lost") (λ e. omega (arith, e)) (λ e. omega (arith, e)) (λ e. omega (arith, e)) is)
-reply_ended Skipped is = absurd (no_outcome_of_reply (codes "skipped") (λ e. omega (arith, e)) (λ e. omega (arith, e)) (λ e. omega (arith, e)) is)
-reply_ended Missed is = absurd (no_outcome_of_reply (codes "missed") (λ e. omega (arith, e)) (λ e. omega (arith, e)) (λ e. omega (arith, e)) is)
+reply_ended (Disagree line) is = (line, refl)
+reply_ended Late is = absurd (no_outcome_of_reply (codes "late") (λ e. omega (arith, e)) (λ e. omega (arith, e)) (λ e. omega (arith, e)) (λ e. omega (arith, e)) is)
+reply_ended Lost is = absurd (no_outcome_of_reply (codes "lost") (λ e. omega (arith, e)) (λ e. omega (arith, e)) (λ e. omega (arith, e)) (λ e. omega (arith, e)) is)
+reply_ended Skipped is = absurd (no_outcome_of_reply (codes "skipped") (λ e. omega (arith, e)) (λ e. omega (arith, e)) (λ e. omega (arith, e)) (λ e. omega (arith, e)) is)
+reply_ended Missed is = absurd (no_outcome_of_reply (codes "missed") (λ e. omega (arith, e)) (λ e. omega (arith, e)) (λ e. omega (arith, e)) (λ e. omega (arith, e)) is)
 
 -- a word with another first letter than `answered` isn't `answered`
 pub not_answered : (word : List ℕ) → (first_letter word ≡ first_letter (codes "answered") → ⊥) → word ≡ codes "answered" → ⊥
@@ -87,6 +88,7 @@ pub is_answered : (end : End) → word_of end ≡ codes "answered" → (quality 
 is_answered (Answered quality values line) word = (quality, values, line, refl)
 is_answered (Unreadable l fault) word = absurd (not_answered (codes "unreadable") (λ e. omega (arith, e)) word)
 is_answered (Elsewhere l) word = absurd (not_answered (codes "elsewhere") (λ e. omega (arith, e)) word)
+is_answered (Disagree l) word = absurd (not_answered (codes "disagree") (λ e. omega (arith, e)) word)
 is_answered Late word = absurd (not_answered (codes "late") (λ e. omega (arith, e)) word)
 is_answered Lost word = absurd (not_answered (codes "lost") (λ e. omega (arith, e)) word)
 is_answered Skipped word = absurd (not_answered (codes "skipped") (λ e. omega (arith, e)) word)
@@ -97,6 +99,7 @@ pub without_quality : (end : End) → (word_of end ≡ codes "answered" → ⊥)
 without_quality (Answered quality values line) other = absurd (other refl)
 without_quality (Unreadable l fault) other = refl
 without_quality (Elsewhere l) other = refl
+without_quality (Disagree l) other = refl
 without_quality Late other = refl
 without_quality Lost other = refl
 without_quality Skipped other = refl
@@ -108,20 +111,20 @@ all_written P xs written others order all n x is = all_at P written n x (all_fro
 
 -- where each of these records has the relation to what `f` makes of it, what `f` makes of all of them are these records, one for
 -- one
-pub one_for_one : {X : Type 0} (Is : X → Record → Type 0) (f : Record → X) (rs : List Record) → ((n : ℕ) (r : Record) → slice_get rs n ≡ Some r → Is (f r) r) → AreOneForOne Is (map f rs) rs
+pub one_for_one : {X : Type 0} (Is : ℕ → X → Record → Type 0) (f : Record → X) (rs : List Record) → ((n : ℕ) (r : Record) → slice_get rs n ≡ Some r → Is n (f r) r) → AreOneForOne Is (map f rs) rs
 one_for_one Is f rs own =
     record {
       as_many = length-map rs f;
       each = λ n x e.
           let seen = get_seen f rs n x e in
-          (seen.0, seen.1, subst (λ y. Is y seen.0) seen.2 (own n seen.0 seen.1));
+          (seen.0, seen.1, subst (λ y. Is n y seen.0) seen.2 (own n seen.0 seen.1));
     }
 
 -- A row or an object.
 
 -- a row or an object of the record, in which `at` gives the text under each name, has what the record says, however the command
 -- ended; the quality; of a line that ended the command, its codes, as numbers, and its values; and, where it has quantities
--- (`has_quantities`), those of an answer, and none if the command isn't answered
+-- (`has_quantities`), those of an answer as `shown_as` has them, and none if the command isn't answered
 pub record HasItsTexts (has_quantities : Bool) (at : List ℕ → List ℕ) (r : Record) : Type 0 where
   pub is_of : IsRowOf at r
   pub quality : at (codes "quality") ≡ quality_text (quality_of r.end)
@@ -130,23 +133,27 @@ pub record HasItsTexts (has_quantities : Bool) (at : List ℕ → List ℕ) (r :
   pub values : (line : List ℕ) → line_of r.end ≡ Some line → at (codes "values") ≡ escaped (values_of line)
   pub quantities :
       has_quantities ≡ true → (fields : ReplyFields) (told : Reading) → IsAskedReading r.command.call fields told → (q : Quality) (answer : Option Answer) (line : List ℕ)
-      → r.end ≡ Answered q answer line → answer ≡ answer_in told → (name : List ℕ) → IsQuantity name → at name ≡ escaped (quantity_in r.command.call told name)
+      → r.end ≡ Answered q answer line → answer ≡ answer_in told → (name : List ℕ) → IsQuantity name → at name ≡ shown_as q (escaped (quantity_in r.command.call told name))
   pub none : has_quantities ≡ true → (word_of r.end ≡ codes "answered" → ⊥) → (name : List ℕ) → IsQuantity name → at name ≡ []
 
 module _ (survey : Survey) (reads : Asked → List ℕ → Reading) (are : AreReadings reads) (has_quantities : Bool) (at : List ℕ → List ℕ) (r : Record) (has : HasItsTexts has_quantities at r) where
   -- if a line with the fields of a reply ended the command in time, and the record's quality and values are as listed
   -- (`IsAsListed`), the row says what the line says (`HasReply`)
   says : (line : List ℕ) → line_of r.end ≡ Some line → (x : ReplyFields) × IsReply line x → IsAsListed reads survey.tasks r
-      → HasReply has_quantities at (accepted_at survey.tasks r.place) r.command.call line
+      → HasReply has_quantities at (twice_at survey.tasks r.place) (accepted_at survey.tasks r.place) r.command.call line
   says line answered reply listed =
       let said = reply_columns line reply.0 reply.1 in
       let accepted = accepted_at survey.tasks r.place in
+      let twice = twice_at survey.tasks r.place in
       let reading = each_asked_reply r.command.call reply.0 in
       let told = each_asked_reply r.command.call (quantity_source (quality_in accepted reading.0) reply.0) in
       let by = judged reads are accepted r.command.call line reply.0 reply.1 reading.0 told.0 reading.1 told.1 in
       let judges : (quality : Quality) (values : Option Answer) (l : List ℕ) → r.end ≡ Answered quality values l
-      → IsJudged reads are accepted r.command.call line reply.0 reply.1 reading.0 told.0 reading.1 told.1 quality values =
-      λ quality values l is. by quality values (subst (IsOfQuality reads accepted r.command.call quality values) (same_Some l line (ap line_of (sym is) ∙ answered)) (listed quality values l is)) in
+      → (quality ≡ quality_as twice (quality_in accepted reading.0)) × (values ≡ answer_in told.0) =
+      λ quality values l is.
+      let judged_as = listed quality values l is in
+      let same = by judged_as.0 values (subst (IsOfQuality reads accepted r.command.call judged_as.0 values) (same_Some l line (ap line_of (sym is) ∙ answered)) judged_as.2) in
+      (judged_as.1 ∙ ap (quality_as twice) same.quality_is, same.values_are) in
       record {
         says = record {
           reply = reply.0;
@@ -159,21 +166,21 @@ module _ (survey : Survey) (reads : Asked → List ℕ → Reading) (are : AreRe
         is_answer_reading = reading.1;
         quality = λ answers.
             let e = is_answered r.end (sym has.is_of.command.outcome ∙ answers) in
-            has.quality ∙ ap (λ (end : End). quality_text (quality_of end)) e.3 ∙ ap quality_word (judges e.0 e.1 e.2 e.3).quality_is;
+            has.quality ∙ ap (λ (end : End). quality_text (quality_of end)) e.3 ∙ ap quality_word (judges e.0 e.1 e.2 e.3).0;
         quantity_reading = told.0;
         is_quantity_reading = told.1;
         quantities = λ shows answers name quantity.
             let e = is_answered r.end (sym has.is_of.command.outcome ∙ answers) in
-            has.quantities shows (quantity_source (quality_in accepted reading.0) reply.0) told.0 told.1 e.0 e.1 e.2 e.3 (judges e.0 e.1 e.2 e.3).values_are name quantity;
+            has.quantities shows (quantity_source (quality_in accepted reading.0) reply.0) told.0 told.1 e.0 e.1 e.2 e.3 (judges e.0 e.1 e.2 e.3).1 name quantity
+            ∙ ap (λ (q : Quality). shown_as q (escaped (quantity_in r.command.call told.0 name))) (judges e.0 e.1 e.2 e.3).0;
       }
 
-  -- the row of a record is its own (`IsOwn`), if the record's answer is its own (`IsOwnAnswer`) and justified, the record's
-  -- quality is as listed, and the record is of its task
-  own_if : {State : Type 0} (ends : Ends State) (kept : State → Option KeptReply) (acts : List Act) (ps : List Part) (ss : List (Stretch State))
-      → IsOwnAnswer ends AnyState kept survey.tasks ps ss r → AnswerIsJustified survey.plan survey.tasks (scope_of survey reads) acts r → IsAsListed reads survey.tasks r
-      → IsOfItsTask survey.tasks r
-      → IsOwn ends AnyState kept has_quantities at survey.tasks ps ss r
-  own_if ends kept acts ps ss own came listed of =
+  -- the row of a record is by a line that may have answered it (`IsRowBy`), if the line of its reply is one, the record's answer is
+  -- justified, its quality is as listed, and it is of its task
+  row_by_if : (CanAnswer : List ℕ → Type 0) (acts : List Act) → ((line : List ℕ) → line_of r.end ≡ Some line → CanAnswer line)
+      → AnswerIsJustified survey.plan survey.tasks (scope_of survey reads) acts r → IsAsListed reads survey.tasks r → IsOfItsTask survey.tasks r
+      → IsRowBy CanAnswer has_quantities at survey.tasks r
+  row_by_if CanAnswer acts can came listed of =
       record {
         is_of = has.is_of;
         clock = set_to at survey.tasks r of has.is_of.command.sent;
@@ -181,24 +188,43 @@ module _ (survey : Survey) (reads : Asked → List ℕ → Reading) (are : AreRe
         replied = λ is.
             let replied = reply_ended r.end (subst IsOutcomeOfReply has.is_of.command.outcome is) in
             let justified = came replied.0 replied.1 in
-            (replied.0, says replied.0 replied.1 (heard_is_reply replied.0 _ justified.reply.id) listed, own replied.0 replied.1);
+            (replied.0, says replied.0 replied.1 (heard_is_reply replied.0 _ justified.reply.id) listed, can replied.0 replied.1);
         without = λ shows other name quantity. has.none shows (λ answers. other (has.is_of.command.outcome ∙ answers)) name quantity;
         unqualified = λ other. has.quality ∙ without_quality r.end (λ answers. other (has.is_of.command.outcome ∙ answers));
       }
 
-module _ {State : Type 0} (ends : Ends State) (kept : State → Option KeptReply) (is : IsAnInstrument ends AnyState kept) (survey : Survey)
-    (reads : Asked → List ℕ → Reading) (are : AreReadings reads) (acts : List Act) (u : UnderWay State) (rs : List (field.Run State))
-    (there : IsInField ends AnyState kept u (program_of survey reads acts rs)) where
-  -- a row or an object that has its texts (`HasItsTexts`) is its own, if its record is among the first of the run's records
-  -- (`written`)
-  pub written_own : (has_quantities : Bool) (at : List ℕ → List ℕ) (r : Record) → HasItsTexts has_quantities at r → (written others : List Record) → records_in survey reads acts ≡ written ++ others
-      → (n : ℕ) → slice_get written n ≡ Some r → IsOwn ends AnyState kept has_quantities at survey.tasks (parts_in survey reads acts) (stretches ends u rs) r
-  written_own has_quantities at r has written others order n got =
-      let faithful = run_faithful ends AnyState kept is u (program_of survey reads acts rs) there in
-      own_if survey reads are has_quantities at r has ends kept acts (parts_in survey reads acts) (stretches ends u rs)
-      (all_written (IsOwnAnswer ends AnyState kept survey.tasks (parts_in survey reads acts) (stretches ends u rs)) (records_in survey reads acts) written others order faithful.own n r got)
-      (all_written (AnswerIsJustified survey.plan survey.tasks (scope_of survey reads) acts) (records_in survey reads acts) written others order
-      (answers_true survey.plan survey.tasks (scope_of survey reads) acts there.runs) n r got)
-      (all_written (λ (x : Record). IsAsListed reads survey.tasks x) (records_in survey reads acts) written others order
-      (qualities_as_listed survey.plan survey.tasks (scope_of survey reads) acts) n r got)
-      (all_written (IsOfItsTask survey.tasks) (records_in survey reads acts) written others order (of_tasks survey.plan survey.tasks (scope_of survey reads) acts) n r got)
+-- a run of a station whose sink had taken the bytes `had`; and the line of each of its replies may have answered the command of the
+-- record that it ended, where `reads` gives what replies say of their calls
+pub record IsAnswered (CanAnswer : Answers) (reads : Asked → List ℕ → Reading) (run : StationRun) (had : List ℕ) : Type 0 where
+  pub is_run : IsStationRun run
+  pub took : run.old.taken ≡ Some had
+  pub runs : Runs run.survey.plan run.survey.tasks (opening run.survey.plan (scope_of run.survey reads)) (acts_in run)
+  pub answers : (n : ℕ) (r : Record) → slice_get (records_of_run reads run) n ≡ Some r → (line : List ℕ) → line_of r.end ≡ Some line → CanAnswer n r line
+
+module _ (CanAnswer : Answers) (reads : Asked → List ℕ → Reading) (are : AreReadings reads) (run : StationRun) (had : List ℕ) (is : IsAnswered CanAnswer reads run had) where
+  -- a row or an object that has its texts (`HasItsTexts`) is by a line that may have answered its record, if that is among the first
+  -- of the run's records (`written`)
+  pub written_by : (has_quantities : Bool) (at : List ℕ → List ℕ) (r : Record) → HasItsTexts has_quantities at r → (written others : List Record)
+      → records_of_run reads run ≡ written ++ others → (n : ℕ) → slice_get written n ≡ Some r → IsRowBy (CanAnswer n r) has_quantities at run.survey.tasks r
+  written_by has_quantities at r has written others order n got =
+      let survey = run.survey in
+      let acts = acts_in run in
+      let records = records_of_run reads run in
+      row_by_if survey reads are has_quantities at r has (CanAnswer n r) acts (is.answers n r (ap (λ l. slice_get l n) order ∙ get_more written others n r got))
+      (all_written (AnswerIsJustified survey.plan survey.tasks (scope_of survey reads) acts) records written others order
+      (answers_true survey.plan survey.tasks (scope_of survey reads) acts is.runs) n r got)
+      (all_written (λ (x : Record). IsAsListed reads survey.tasks x) records written others order (qualities_as_listed survey.plan survey.tasks (scope_of survey reads) acts) n r got)
+      (all_written (IsOfItsTask survey.tasks) records written others order (of_tasks survey.plan survey.tasks (scope_of survey reads) acts) n r got)
+
+-- a run in the field is answered by lines that are its records' own
+pub answered_in_field : {State : Type 0} (ends : Ends State) (kept : State → Option KeptReply) → IsAnInstrument ends AnyState kept → (reads : Asked → List ℕ → Reading) (x : FieldRun State)
+    → IsFieldRun ends kept reads x → IsAnswered (own_lines ends AnyState kept reads x) reads x.run x.had
+answered_in_field ends kept is reads x was =
+    let faithful = run_faithful ends AnyState kept is x.in_flight (program_of x.run.survey reads (acts_in x.run) x.happened) was.in_field in
+    record {
+      is_run = was.is_run;
+      took = was.took;
+      runs = was.in_field.runs;
+      answers = λ n r got.
+          all_at (IsOwnAnswer ends AnyState kept x.run.survey.tasks (parts_of_run reads x.run) (stretches ends x.in_flight x.happened)) (records_of_run reads x.run) n r faithful.own got;
+    }

@@ -69,9 +69,9 @@ turn_of_place place chained = record { place = place; attempt = 1; link = if cha
 abbrev pub task : (place target : ℕ) → Asked → Bool → Option Near → Task
 task place target call chained near = record (plain_task target call 50 chained) { near = near; turn = turn_of_place place chained }
 
--- where a target is: in this direction, within a hundredth of a radian
+-- where a target is: in this direction, within a hundredth of a radian, at whatever distance
 abbrev pub near_place : ℕ → (hz v : Decimal) → Option Near
-near_place target hz v = Some (record { target = target; place = record { hz = hz; v = v }; tolerance = decimal (pos 1) 2 refl })
+near_place target hz v = Some (record { target = target; place = record { hz = hz; v = v }; tolerance = decimal (pos 1) 2 refl; range = None })
 
 -- the seven commands, numbered from 0: to point the telescope at target 7; chained to that, to read angles and distance there; to
 -- read them at target 8; and for each of four targets, to read the instrument's number
@@ -462,7 +462,7 @@ records =
 
 -- how many commands ended in each of the seven ways; no chain is sent again
 abbrev pub tally : Tally
-tally = record { answered = 3; refused = 0; late = 2; lost = 6; skipped = 1; unreadable = 1; missed = 7; elsewhere = 1; again = 0 }
+tally = record { answered = 3; refused = 0; late = 2; lost = 6; skipped = 1; unreadable = 1; missed = 7; elsewhere = 1; disagree = 0; again = 0 }
 
 -- What the run shows.
 

@@ -1,7 +1,6 @@
 -- What is in a row of a table, or in an object, under each name: this project's own. Both are given by the function from a name
--- to the text under it, so that one definition serves both. A part is what a station sees of its run from one synchronization
--- to the next, and a stretch what happens on the line meanwhile, once it has synchronized.
-use Rattle.std.specs.Prelude.{◌≡◌, ◌⊎◌, ℕ, Bool, true, false, List, [], ◌∷◌, Some, nat_eq, if◌then◌else◌, slice_get, codes, Option}
+-- to the text under it, so that one definition serves both. Where the line of a row's reply comes from is left to a parameter.
+use Rattle.std.specs.Prelude.{◌≡◌, ◌⊎◌, ℕ, Bool, true, false, List, [], ◌∷◌, Some, nat_eq, if◌then◌else◌, slice_get, codes}
 use Rattle.std.specs.Cmp.Lexicographic.{pointwise}
 use Rattle.std.specs.Fmt.{decimal}
 use Rattle.gc_lines.specs.Numbers.{IsSmallNumber}
@@ -14,25 +13,22 @@ use Rattle.gc_catalogue.specs.declared.asked.Asked.{Asked}
 use Rattle.gc_catalogue.specs.declared.asked.Asked.TheVariants.{Table, Raw}
 use Rattle.gc_catalogue.specs.declared.call.Call.TheVariants.{SetDate}
 use Rattle.gc_catalogue.specs.declared.answer.Answer.{Answer}
-use Rattle.gc_instrument.specs.State.{KeptReply}
 use Rattle.gc_texts.specs.Codes.{lists_code}
 use Rattle.gc_texts.specs.Endings.{word_of}
 use Rattle.gc_texts.specs.Logs.{escaped}
 use Rattle.gc_texts.specs.Qualities.{quality_word}
 use Rattle.gc_texts.specs.Stamps.{date_time, stamp_text}
+use Rattle.gc_texts.specs.declared.agree.Twice.{Twice}
 use Rattle.gc_texts.specs.declared.codes.Codes.{Codes}
 use Rattle.gc_texts.specs.declared.quality.Quality.{Quality}
-use Rattle.gc_texts.specs.declared.quality.Quality.TheVariants.{Fine, Warning, Refused}
+use Rattle.gc_texts.specs.declared.quality.Quality.TheVariants.{Fine, Warning, Unconfirmed, Refused}
 use Rattle.gc_texts.specs.declared.tasks.Task.{Task}
 use Rattle.gc_rows.specs.Rows.{moment_text, procedure_of, value_texts}
 use Rattle.gc_rows.specs.Quantities.{quantity_names}
 use Rattle.gc_rows.specs.ProcedureQuantities.{quantities_returned}
-use Rattle.gc_station.specs.Parts.{Part, went_out}
-use Rattle.gc_station.specs.Qualities.{accepted_at}
+use Rattle.gc_station.specs.Parts.{went_out}
+use Rattle.gc_station.specs.Qualities.{accepted_at, quality_as, twice_at}
 use Rattle.gc_station.specs.Records.{Record}
-use Rattle.gc_field.specs.World.{Ends}
-use Rattle.gc_field.specs.Runs.{IsItsOwn}
-use Rattle.gc_field.specs.Shown.{Stretch}
 
 -- the field that is under a name, in a row whose fields are under these names; an empty one if there is no such name or
 -- no field for it
@@ -72,7 +68,7 @@ pub record IsSetTo (at : List ℕ → List ℕ) (r : Record) : Type 0 where
 
 -- the outcome, as it is written in a row, is that of a command that a reply in time has ended
 abbrev pub IsOutcomeOfReply : List ℕ → Type 0
-IsOutcomeOfReply outcome = (outcome ≡ codes "answered") ⊎ (outcome ≡ codes "unreadable") ⊎ (outcome ≡ codes "elsewhere")
+IsOutcomeOfReply outcome = (outcome ≡ codes "answered") ⊎ (outcome ≡ codes "unreadable") ⊎ (outcome ≡ codes "elsewhere") ⊎ (outcome ≡ codes "disagree")
 
 -- the name is that of a quantity's column
 abbrev pub IsQuantity : List ℕ → Type 0
@@ -89,7 +85,7 @@ abbrev pub quantity_in : Asked → Reading → List ℕ → List ℕ
 quantity_in asked (reading.Value answer) name = quantity_of asked answer name
 quantity_in asked _ name = []
 
--- the quality of an answer whose reply says this, if these return codes are accepted: fine if it says values, a warning if its
+-- the quality of an answer whose reply says this, if its chain is sent once and these return codes are accepted: fine if it says values, a warning if its
 -- communication code is 0 and its return code an accepted one, otherwise refused. (Where the values don't read, the command isn't
 -- answered, and its row has no quality.)
 abbrev pub quality_in : Codes → Reading → Quality
@@ -103,38 +99,46 @@ quality_in accepted (reading.Unreadable fault) = Refused
 abbrev pub quantity_source : Quality → ReplyFields → ReplyFields
 quantity_source Fine reply = reply
 quantity_source Warning reply = record reply { rc = 0 }
+quantity_source Unconfirmed reply = reply
 quantity_source Refused reply = reply
+
+-- a quantity as it is in the row of an answer of this quality: none, if the answer is unconfirmed
+abbrev pub shown_as : Quality → List ℕ → List ℕ
+shown_as Fine text = text
+shown_as Warning text = text
+shown_as Unconfirmed text = []
+shown_as Refused text = text
 
 -- the row of a command that this line ended, in which `at` gives the text under each name, has the line's codes, and its
 -- parameters, `escaped`. If the command is answered, the row has the quality of the answer, by the return codes that are
--- accepted of the command; and, if rows have quantities, it has those of the line, `escaped`
-pub record HasReply (has_quantities : Bool) (at : List ℕ → List ℕ) (accepted : Codes) (call : Asked) (line : List ℕ) : Type 0 where
+-- accepted of the command, and by which sending of its chain it is in; and, if rows have quantities, it has those of the line,
+-- `escaped`, unless the answer is unconfirmed
+pub record HasReply (has_quantities : Bool) (at : List ℕ → List ℕ) (twice : Twice) (accepted : Codes) (call : Asked) (line : List ℕ) : Type 0 where
   pub says : SaysCodes at line
   pub values : at (codes "values") ≡ escaped says.reply.params
   -- what the reply says of the call, and so which quality the answer has
   pub answer_reading : Reading
   pub is_answer_reading : IsAskedReading call says.reply answer_reading
-  pub quality : at (codes "outcome") ≡ codes "answered" → at (codes "quality") ≡ quality_word (quality_in accepted answer_reading)
+  pub quality : at (codes "outcome") ≡ codes "answered" → at (codes "quality") ≡ quality_word (quality_as twice (quality_in accepted answer_reading))
   -- what the reply says of the call where its quantities are read, as `quantity_source` has it
   pub quantity_reading : Reading
   pub is_quantity_reading : IsAskedReading call (quantity_source (quality_in accepted answer_reading) says.reply) quantity_reading
   pub quantities :
       has_quantities ≡ true → at (codes "outcome") ≡ codes "answered" →
-      (name : List ℕ) → IsQuantity name → at name ≡ escaped (quantity_in call quantity_reading name)
+      (name : List ℕ) → IsQuantity name → at name ≡ shown_as (quality_as twice (quality_in accepted answer_reading)) (escaped (quantity_in call quantity_reading name))
 
-module _ {State : Type 0} (ends : Ends State) (Good : State → Type 0) (kept : State → Option KeptReply) where
-  -- the row of record `r`, in which `at` gives the text under each name, is its own, in a run of these commands with the parts
-  -- `ps` and the stretches `ss`
-  pub record IsOwn (has_quantities : Bool) (at : List ℕ → List ℕ) (commands : List Task) (ps : List Part) (ss : List (Stretch State)) (r : Record) : Type 0 where
-    pub is_of : IsRowOf at r
-    -- if the command sets the clock and its request was sent, that asked for the moment under `sent`, cut to seconds
-    pub clock : (task : Task) → slice_get commands r.place ≡ Some task → task.now ≡ true → went_out r.end ≡ true → IsSetTo at r
-    -- if no request was sent, nothing is under `sent`
-    pub unsent : went_out r.end ≡ false → at (codes "sent") ≡ []
-    -- if the outcome is that of a reply, the row says what a line says that the instrument made on executing the request of that
-    -- very cycle and place
-    pub replied :
-        IsOutcomeOfReply (at (codes "outcome")) → (line : List ℕ) × HasReply has_quantities at (accepted_at commands r.place) r.command.call line × IsItsOwn ends Good kept commands ps ss r line
-    -- if the outcome isn't `answered`, the row has no quantity, where rows have quantities, and no quality
-    pub without : has_quantities ≡ true → (at (codes "outcome") ≡ codes "answered" → ⊥) → (name : List ℕ) → IsQuantity name → at name ≡ []
-    pub unqualified : (at (codes "outcome") ≡ codes "answered" → ⊥) → at (codes "quality") ≡ []
+-- the row of record `r`, in which `at` gives the text under each name, in a run of these commands. What it has of a reply is what a
+-- line says for which `IsAnswer` holds: it says which lines may have answered the record's command
+pub record IsRowBy (IsAnswer : List ℕ → Type 0) (has_quantities : Bool) (at : List ℕ → List ℕ) (commands : List Task) (r : Record) : Type 0 where
+  pub is_of : IsRowOf at r
+  -- if the command sets the clock and its request was sent, that asked for the moment under `sent`, cut to seconds
+  pub clock : (task : Task) → slice_get commands r.place ≡ Some task → task.now ≡ true → went_out r.end ≡ true → IsSetTo at r
+  -- if no request was sent, nothing is under `sent`
+  pub unsent : went_out r.end ≡ false → at (codes "sent") ≡ []
+  -- if the outcome is that of a reply, the row says what a line says that may have answered the command
+  pub replied :
+      IsOutcomeOfReply (at (codes "outcome")) →
+      (line : List ℕ) × HasReply has_quantities at (twice_at commands r.place) (accepted_at commands r.place) r.command.call line × IsAnswer line
+  -- if the outcome isn't `answered`, the row has no quantity, where rows have quantities, and no quality
+  pub without : has_quantities ≡ true → (at (codes "outcome") ≡ codes "answered" → ⊥) → (name : List ℕ) → IsQuantity name → at name ≡ []
+  pub unqualified : (at (codes "outcome") ≡ codes "answered" → ⊥) → at (codes "quality") ≡ []

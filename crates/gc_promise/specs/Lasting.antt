@@ -5,7 +5,7 @@ use Rattle.gc_catalogue.specs.declared.answer.Reading.{Reading}
 use Rattle.gc_catalogue.specs.declared.asked.Asked.{Asked}
 use Rattle.gc_files.specs.Failing.{Sides, RunEnd, MayEnd, sides_ended, doubt_ended, Event, settled, same_sides, sides_after, doubt_after, ArePossibleEvents, runs_of, IsFound, IsTrusted}
 use Rattle.gc_files.specs.Files.{Step, Life, content, later_by, MayBeLeft}
-use Rattle.gc_files.specs.Rows.{opened_table, OpensFile, IsFront}
+use Rattle.gc_files.specs.Rows.{opened_table, OpensFile, IsFront, whole}
 use Rattle.gc_files.specs.Runs.{Run, IsHead, Happen, life_after, rows_of, AreRowCounts}
 use Rattle.gc_files.specs.Sinks.{steps_in, taken_in, is_durable, asks_sync}
 use Rattle.gc_links.specs.Acts.{Act}
@@ -20,7 +20,7 @@ use Rattle.gc_station.specs.Scopes.{ForEachReadings}
 use Rattle.gc_measuring.specs.Measuring.{Survey, text_by}
 use Rattle.gc_measuring.specs.Telling.{AppendingRun, ReportsAppended, views_by}
 use Rattle.gc_words.specs.declared.settings.Settings.{Settings}
-use Rattle.gc_promise.specs.Tables.{IsStationRun, StationRun, records_in}
+use Rattle.gc_promise.specs.Tables.{IsStationRun, StationRun, acts_in, records_in}
 
 -- a run of a file, as clause `told` of `append_at` says it of the file that it hands back: a run of a station (`IsStationRun`),
 -- whose output has its header already, and took what was appended to the file since it was opened
@@ -102,11 +102,9 @@ pub record AreLeft {R : Type 0} (m : RunMoment R) (reads : Asked → List ℕ �
   -- all that this file had taken by then is left, and perhaps more
   pub more : List ℕ
   pub has : left ≡ taken_in m.was.rows ++ more
-  -- no other rows are left than of records that acts of the run settled
-  pub acts : List Act
-  pub others : List Act
-  pub all : m.run.recorded ≡ acts ++ others
-  pub own : IsFront (bytes_in m.was ++ more) (rows_by m.run.survey reads acts)
+  -- no other rows are left than of the run's records; and none is left in part, as all bytes end in a line feed, if there are any
+  pub own : IsFront (bytes_in m.was ++ more) (rows_by m.run.survey reads (acts_in m.run))
+  pub lines : whole (bytes_in m.was ++ more) ≡ bytes_in m.was ++ more
 
 -- what happened to a file until a run was killed, or the machine crashed: the head of its table; what the file held at first, all
 -- of it on the disk; the earlier runs; the calls by which the run opened the file; and what was found at last

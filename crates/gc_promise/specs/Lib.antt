@@ -2,6 +2,8 @@ pub mod Fields
 pub mod Tables
 pub mod Objects
 pub mod Rows
+pub mod Damaged
 pub mod Eventful
 pub mod Witness
 pub mod Lasting
+pub mod Left

@@ -1,4 +1,4 @@
--- What a station wrote of a run in the field as lines of JSON, as they are read: this project's own. Texts are taken to be
+-- What a station wrote of a run as lines of JSON, as they are read: this project's own. Texts are taken to be
 -- bytes, and numbers to have 64 bits, as those of the program do.
 use Rattle.std.specs.Prelude.{◌≡◌, ℕ, ◌<◌, ◌^◌, true, List, [], ◌++◌, Option, Some}
 use Rattle.std.specs.List.{AllByRecursion}
@@ -12,13 +12,15 @@ use Rattle.gc_files.specs.Runs as rows
 use Rattle.gc_texts.specs.Cuts.{Lacks}
 use Rattle.gc_texts.specs.Logs.{AreBytes}
 use Rattle.gc_texts.specs.declared.name.Name.{Name}
+use Rattle.gc_texts.specs.declared.tasks.Task.{Task}
 use Rattle.gc_rows.specs.Laws.{IsEndOfBytes, FitsIn64Bits}
 use Rattle.gc_rows.specs.declared.record.Form.TheVariants.{Json}
 use Rattle.gc_station.specs.Records.{Record}
 use Rattle.gc_measuring.specs.Measuring.{Survey, when_of}
 use Rattle.gc_field.specs.World.{Ends}
 use Rattle.gc_field.specs.Instrument.{AnyState}
-use Rattle.gc_promise.specs.Tables.{AreOneForOne, AreWrittenIn, FieldRun, IsOwnIn, OfEachFieldRun, acts_in_field, records_in}
+use Rattle.gc_promise.specs.Fields.{IsRowBy}
+use Rattle.gc_promise.specs.Tables.{Answers, AreOneForOne, AreWrittenIn, FieldRun, OfEachFieldRun, StationRun, own_lines, records_of_run}
 
 -- the record, of a run that began at the moment `run`, is in the types of the program: the numbers that are written of it have 64
 -- bits, and its texts are bytes
@@ -37,28 +39,30 @@ text_of (Some (json.number digits)) = digits
 text_of (Some (json.string bytes)) = bytes
 text_of _ = []
 
-module _ {State : Type 0} (ends : Ends State) (Good : State → Type 0) (kept : State → Option KeptReply) where
-  module _ (reads : Asked → List ℕ → Reading) (x : FieldRun State) where
-    -- a line is the own object of a record of run `x`: the toolchain's reader of JSON takes it for an object, whose members are
-    -- the record's own
-    pub record IsOwnObject (line : List ℕ) (r : Record) : Type 0 where
-      pub members : json.Members
-      pub reads_as : document line ≡ Some (json.object members)
-      pub own : IsOwnIn ends Good kept true (λ name. text_of (get_member name members)) reads x r
+-- a line is the object of the record at a place among those of a run with these commands: the toolchain's reader of JSON takes it for
+-- an object, whose members are the record's, by a line that may have answered it
+pub record IsObject (CanAnswer : Answers) (commands : List Task) (place : ℕ) (line : List ℕ) (r : Record) : Type 0 where
+  pub members : json.Members
+  pub reads_as : document line ≡ Some (json.object members)
+  pub is_by : IsRowBy (CanAnswer place r) true (λ name. text_of (get_member name members)) commands r
 
-    -- what the sink of run `x` took, after what it had: lines, in none of which is a line feed, and which are the run's records
-    -- as far as these were written (`AreWrittenIn`), one for one and in order, each its own
-    pub record AreOwnObjects : Type 0 where
-      pub lines : List (List ℕ)
-      pub torn : List ℕ
-      pub took : x.run.new.taken ≡ Some (x.had ++ (rows.row_lines lines ++ torn))
-      pub are : AreWrittenIn reads x torn
-      pub unbroken : AllByRecursion (Lacks 10) lines
-      pub one_for_one : AreOneForOne IsOwnObject lines are.written
+-- what the sink of a run took, after what it had: lines, in none of which is a line feed, and which are the run's records as far as
+-- these were written (`AreWrittenIn`), one for one and in order, each by a line that may have answered it
+pub record AreObjects (CanAnswer : Answers) (reads : Asked → List ℕ → Reading) (run : StationRun) (had : List ℕ) : Type 0 where
+  pub lines : List (List ℕ)
+  pub torn : List ℕ
+  pub took : run.new.taken ≡ Some (had ++ (rows.row_lines lines ++ torn))
+  pub are : AreWrittenIn reads run torn
+  pub unbroken : AllByRecursion (Lacks 10) lines
+  pub one_for_one : AreOneForOne (λ n line r. IsObject CanAnswer run.survey.tasks n line r) lines are.written
+
+-- what the sink of run `x` took are lines of JSON, each of which is its own
+abbrev pub AreOwnObjects : {State : Type 0} → Ends State → (Good : State → Type 0) → (kept : State → Option KeptReply) → (reads : Asked → List ℕ → Reading) → FieldRun State → Type 0
+AreOwnObjects ends Good kept reads x = AreObjects (own_lines ends Good kept reads x) reads x.run x.had
 
 -- what a sink took of a run in the field are the run's own objects, of each run that is written as lines of JSON
 -- (`OfEachFieldRun`), if its records are in the types of the program (`AreTyped`)
 abbrev pub ObjectsAreTheirOwn : Type 0 → Type 0
 ObjectsAreTheirOwn State =
     OfEachFieldRun {State = State} (λ ends kept reads x.
-    x.run.survey.layout.form ≡ Json → AreTyped x.run.survey (records_in x.run.survey reads (acts_in_field x)) → AreOwnObjects ends AnyState kept reads x)
+    x.run.survey.layout.form ≡ Json → AreTyped x.run.survey (records_of_run reads x.run) → AreOwnObjects ends AnyState kept reads x)

@@ -31,17 +31,22 @@ pub record FieldsSay (fields : List (List ℕ)) (r : Record) (line : List ℕ) :
   pub says : SaysCodes (λ name. column name fields) line
   pub values : column (codes "values") fields ≡ says.reply.params
 
+-- the row of a record that is written in this layout, with these names of targets, is by the line of its reply: a reader of
+-- comma-separated values gives the row back as its fields, `escaped` as the row has them, whatever stands after it; and the fields
+-- say what the line says
+pub record IsRowOfReply (layout : Layout) (names : List Name) (r : Record) (line : List ℕ) : Type 0 where
+  pub fields : List (List ℕ)
+  pub row : text_in layout names r ≡ row_of fields
+  pub reads_back : ReadsBackAs (text_in layout names r) fields
+  pub says : FieldsSay fields r line
+
 module _ {State : Type 0} (ends : Ends State) (Good : State → Type 0) (kept : State → Option KeptReply) where
   -- Of the run `x`, with `u` in flight at its start, whose records are written in a layout, with these names of targets.
   module _ (layout : Layout) (names : List Name) (u : UnderWay State) (x : Program State) where
-    -- the row of a record in a table is its own: a reader of comma-separated values gives it back as its fields, `escaped` as the
-    -- row has them, whatever stands after it; the fields say what the line of the record's reply says; and that line was made by
-    -- the instrument on executing the request of the record's cycle and place
+    -- the row of a record in a table is its own: it is that of this line (`IsRowOfReply`), which was made by the instrument on executing the
+    -- request of the record's cycle and place
     pub record IsRowOfLine (r : Record) (line : List ℕ) : Type 0 where
-      pub fields : List (List ℕ)
-      pub row : text_in layout names r ≡ row_of fields
-      pub reads_back : ReadsBackAs (text_in layout names r) fields
-      pub says : FieldsSay fields r line
+      pub is_of : IsRowOfReply layout names r line
       pub own : IsItsOwn ends Good kept x.commands (program_parts x) (stretches ends u x.runs) r line
 
     -- if a reply in time ended the record's command (`line_of`), its row is its own

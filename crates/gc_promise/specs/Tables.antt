@@ -1,7 +1,6 @@
--- What a station wrote of a run in the field, as it is read: this project's own. The bytes are those that a sink took of a run,
--- as the clauses of `measure_at` and `append_at` have it: what comes before the records, and their texts in order. A part is
--- what a station sees of its run from one synchronization to the next, and a stretch what happens on the line meanwhile, once
--- it has synchronized.
+-- What a station wrote of a run, as it is read: this project's own. The bytes are those that a sink took of a run, as the clauses
+-- of `measure_at` and `append_at` have it: what comes before the records, and their texts in order. A part is what a station sees
+-- of its run from one synchronization to the next, and a stretch what happens on the line meanwhile, once it has synchronized.
 use Rattle.std.specs.Prelude.{◌≡◌, ℕ, ◌-◌, ◌<◌, Bool, true, false, List, [], ◌∷◌, ◌++◌, length, take, Option, Some, Result, Err, if◌then◌else◌, slice_get}
 use Rattle.csv.specs.Reading.{default_config, records}
 use Rattle.gc_catalogue.specs.declared.answer.Reading.{Reading}
@@ -27,9 +26,9 @@ use Rattle.gc_field.specs.World.{Ends}
 use Rattle.gc_field.specs.Begin.{UnderWay}
 use Rattle.gc_field.specs.Beginnings as field
 use Rattle.gc_field.specs.Instrument.{AnyState, OfAnyInstrument}
-use Rattle.gc_field.specs.Runs.{IsInField, Program}
+use Rattle.gc_field.specs.Runs.{IsInField, IsItsOwn, Program}
 use Rattle.gc_field.specs.Shown.{stretches}
-use Rattle.gc_promise.specs.Fields.{under, IsOwn}
+use Rattle.gc_promise.specs.Fields.{under, IsRowBy}
 
 -- A run.
 
@@ -69,6 +68,18 @@ pub record IsStationRun (run : StationRun) : Type 0 where
   pub acts : run.new.acts ≡ Some run.recorded
   pub ran : RunsAfterFront run.survey run.old run.new run.result
 
+-- the acts of a run, but for the close after an output that failed (`acts_measured`)
+abbrev pub acts_in : StationRun → List Act
+acts_in run = acts_measured run.result run.recorded
+
+-- the records of a run, where `reads` gives what replies say of their calls
+abbrev pub records_of_run : (Asked → List ℕ → Reading) → StationRun → List Record
+records_of_run reads run = records_in run.survey reads (acts_in run)
+
+-- the parts of a run
+abbrev pub parts_of_run : (Asked → List ℕ → Reading) → StationRun → List Part
+parts_of_run reads run = parts_in run.survey reads (acts_in run)
+
 -- a run of a station in the field, with the bytes that its sink had before, what was in flight at its start, and what happened
 -- from there on, from one synchronization to the next
 pub record FieldRun (State : Type 0) : Type 0 where
@@ -77,16 +88,12 @@ pub record FieldRun (State : Type 0) : Type 0 where
   pub in_flight : UnderWay State
   pub happened : List (field.Run State)
 
--- the acts of a run in the field (`acts_measured`)
-abbrev pub acts_in_field : {State : Type 0} → FieldRun State → List Act
-acts_in_field x = acts_measured x.run.result x.run.recorded
-
 -- where `reads` gives what replies say of their calls, the run is one of a station (`IsStationRun`), and one in the field
 -- (`IsInField`). Its sink had taken the bytes `had` before
 pub record IsFieldRun {State : Type 0} (ends : Ends State) (kept : State → Option KeptReply) (reads : Asked → List ℕ → Reading) (x : FieldRun State) : Type 0 where
   pub is_run : IsStationRun x.run
   pub took : x.run.old.taken ≡ Some x.had
-  pub in_field : IsInField ends AnyState kept x.in_flight (program_of x.run.survey reads (acts_in_field x) x.happened)
+  pub in_field : IsInField ends AnyState kept x.in_flight (program_of x.run.survey reads (acts_in x.run) x.happened)
 
 -- `Holds` is true of each run of a station in the field (`IsFieldRun`): for any instrument, where `reads` gives what replies say
 -- of their calls (`AreReadings`), all that a station measures and writes, and all that the line and the instrument may do
@@ -112,20 +119,22 @@ pub record AreWritten (text : Record → List ℕ) (records : List Record) (resu
   pub all : (result ≡ Err (Run Output) → ⊥) → unwritten ≡ []
   pub part : IsPartOfNext text unwritten torn
 
--- `AreWritten` holds of the records of run `x`, where `reads` gives what replies say of their calls
-abbrev pub AreWrittenIn : {State : Type 0} → (reads : Asked → List ℕ → Reading) → (x : FieldRun State) → (torn : List ℕ) → Type 0
-AreWrittenIn reads x torn = AreWritten (text_by x.run.survey) (records_in x.run.survey reads (acts_in_field x)) x.run.result torn
+-- `AreWritten` holds of the records of a run, where `reads` gives what replies say of their calls
+abbrev pub AreWrittenIn : (reads : Asked → List ℕ → Reading) → StationRun → (torn : List ℕ) → Type 0
+AreWrittenIn reads run torn = AreWritten (text_by run.survey) (records_of_run reads run) run.result torn
 
 -- these are records, one for one and in order: each of `xs` has the relation `Is` to the record at its place
-pub record AreOneForOne {X : Type 0} (Is : X → Record → Type 0) (xs : List X) (records : List Record) : Type 0 where
+pub record AreOneForOne {X : Type 0} (Is : (place : ℕ) → X → Record → Type 0) (xs : List X) (records : List Record) : Type 0 where
   pub as_many : length xs ≡ length records
-  pub each : (n : ℕ) (x : X) → slice_get xs n ≡ Some x → (r : Record) × (slice_get records n ≡ Some r) × Is x r
+  pub each : (n : ℕ) (x : X) → slice_get xs n ≡ Some x → (r : Record) × (slice_get records n ≡ Some r) × Is n x r
 
--- a row or an object of run `x`, in which `at` gives the text under each name, is this record's own (`IsOwn`)
-abbrev pub IsOwnIn : {State : Type 0} → (ends : Ends State) → (Good : State → Type 0) → (kept : State → Option KeptReply) → (has_quantities : Bool) → (at : List ℕ → List ℕ)
-    → (reads : Asked → List ℕ → Reading) → (x : FieldRun State) → Record → Type 0
-IsOwnIn ends Good kept has_quantities at reads x r =
-    IsOwn ends Good kept has_quantities at x.run.survey.tasks (parts_in x.run.survey reads (acts_in_field x)) (stretches ends x.in_flight x.happened) r
+-- which lines may have answered the command of the record at a place among those of a run
+abbrev pub Answers : Type 1
+Answers = (place : ℕ) → Record → (line : List ℕ) → Type 0
+
+-- in a run in the field: those that are the record's own (`IsItsOwn`)
+abbrev pub own_lines : {State : Type 0} → Ends State → (Good : State → Type 0) → (kept : State → Option KeptReply) → (reads : Asked → List ℕ → Reading) → FieldRun State → Answers
+own_lines ends Good kept reads x place r line = IsItsOwn ends Good kept x.run.survey.tasks (parts_of_run reads x.run) (stretches ends x.in_flight x.happened) r line
 
 -- Tables.
 
@@ -143,19 +152,22 @@ head_rows layout columns = if layout.headed then [] else header columns ∷ []
 abbrev pub AreReadAs : List ℕ → List (List (List ℕ)) → Type 0
 AreReadAs bytes rows = (behind : List ℕ) → records default_config (bytes ++ behind) ≡ rows ++ records default_config behind
 
-module _ {State : Type 0} (ends : Ends State) (Good : State → Type 0) (kept : State → Option KeptReply) where
-  -- what the sink of run `x` took, after what it had: a table, whose rows after the header are the run's records as far as these
-  -- were written (`AreWrittenIn`), one for one and in order, each its own
-  pub record IsOwnTable (columns : Bool) (reads : Asked → List ℕ → Reading) (x : FieldRun State) : Type 0 where
-    pub bytes : List ℕ
-    pub torn : List ℕ
-    pub took : x.run.new.taken ≡ Some (x.had ++ (bytes ++ torn))
-    pub are : AreWrittenIn reads x torn
-    pub rows : List (List (List ℕ))
-    pub reads_as : AreReadAs bytes (head_rows x.run.survey.layout columns ++ rows)
-    -- also in a file of --append: after earlier bytes, which a reader takes for `earlier`, it goes on with the table's rows
-    pub behind : (held : List ℕ) (earlier : List (List (List ℕ))) → AreReadAs held earlier → AreReadAs (held ++ bytes) (earlier ++ (head_rows x.run.survey.layout columns ++ rows))
-    pub one_for_one : AreOneForOne (λ row r. IsOwnIn ends Good kept columns (λ name. under name (header columns) row) reads x r) rows are.written
+-- what the sink of a run took, after what it had: a table, whose rows after the header are the run's records as far as these were
+-- written (`AreWrittenIn`), one for one and in order, each by a line that may have answered it
+pub record IsTable (CanAnswer : Answers) (columns : Bool) (reads : Asked → List ℕ → Reading) (run : StationRun) (had : List ℕ) : Type 0 where
+  pub bytes : List ℕ
+  pub torn : List ℕ
+  pub took : run.new.taken ≡ Some (had ++ (bytes ++ torn))
+  pub are : AreWrittenIn reads run torn
+  pub rows : List (List (List ℕ))
+  pub reads_as : AreReadAs bytes (head_rows run.survey.layout columns ++ rows)
+  -- also in a file of --append: after earlier bytes, which a reader takes for `earlier`, it goes on with the table's rows
+  pub behind : (held : List ℕ) (earlier : List (List (List ℕ))) → AreReadAs held earlier → AreReadAs (held ++ bytes) (earlier ++ (head_rows run.survey.layout columns ++ rows))
+  pub one_for_one : AreOneForOne (λ n row r. IsRowBy (CanAnswer n r) columns (λ name. under name (header columns) row) run.survey.tasks r) rows are.written
+
+-- what the sink of run `x` took is a table, each row of which is its own
+abbrev pub IsOwnTable : {State : Type 0} → Ends State → (Good : State → Type 0) → (kept : State → Option KeptReply) → (columns : Bool) → (reads : Asked → List ℕ → Reading) → FieldRun State → Type 0
+IsOwnTable ends Good kept columns reads x = IsTable (own_lines ends Good kept reads x) columns reads x.run x.had
 
 -- what a sink took of a run in the field is the run's own table, of each run that is written as a table (`OfEachFieldRun`)
 abbrev pub TablesAreTheirOwn : Type 0 → Type 0

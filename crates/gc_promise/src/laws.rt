@@ -1,6 +1,8 @@
 //! What is proved of the rows of a station in the field. The functions have no effect: their contracts are the laws.
 
+ghost use Rattle.gc_promise.specs.Damaged.{ObjectsAreOwnOrDamaged, RowsAreOwnOrDamaged, RowsByDamagedLinesAreFew, RunsInFieldAreInstances, TablesAreOwnOrDamaged};
 ghost use Rattle.gc_promise.specs.Lasting.{AppendsAreRuns, RowsOutlastCrashes, RowsOutlastFailures};
+ghost use Rattle.gc_promise.specs.Left.{LeftObjectsAreOwnOrDamaged, LeftObjectsAreTheirOwn, LeftTablesAreOwnOrDamaged, LeftTablesAreTheirOwn};
 ghost use Rattle.gc_promise.specs.Rows.{RowsAreTheirOwn};
 ghost use Rattle.gc_promise.specs.Tables.{TablesAreTheirOwn};
 ghost use Rattle.gc_promise.specs.Objects.{ObjectsAreTheirOwn};
@@ -35,8 +37,8 @@ pub fn rows_are_their_own<State>()
     ensures records { RowsAreTheirOwn State }
 {}
 
-/// Some run meets all premises of `rows_are_their_own`, with every function that gives what replies say, and its rows are its
-/// own. Its synchronization goes on over a second connection, among earlier lines. In one cycle the reply to the first command
+/// Some run meets all premises of `rows_are_their_own`. It does so with every function that gives what replies say, and its rows
+/// are its own. Its synchronization goes on over a second connection, among earlier lines. In one cycle the reply to the first command
 /// of a chain is lost and its request times out, so the second command is skipped; then six requests time out, a dead line is
 /// connected again, and the station resynchronizes, with earlier requests and an earlier reply in flight. One cycle is missed.
 /// In another both commands of the chain are answered, the instrument, which changes by itself, restarts, a request is cut, and
@@ -46,25 +48,63 @@ pub fn some_row_is_its_own()
     ensures { SomeRowIsItsOwn }
 {}
 
-/// What clause `told` of `append_at` says of the file that it returns comes to this: either no act was made, or the file, the
-/// acts and what was seen at each of them are a run of a file (`IsRunOfFile`), of which `rows_outlast_crashes` and
-/// `rows_outlast_failures` speak.
+/// Over a line that damages, each row or object is by a line that is its own, or damaged. This is of any instrument, in each stretch in
+/// which damage is apart (`runs_with_damage_are_local` of gc_harm): what the station writes reads back as its records, one row or object
+/// each, in order, and the row of a command that a reply in time ended has in its columns what the line says that settled the request of
+/// that row's very cycle and place. And no more rows are of requests that were settled by lines that came damaged than such lines came.
+pub fn rows_are_own_or_damaged<State>()
+    // Of the bytes that a sink took of a run, as `rows_are_their_own` has it.
+    ensures tables { TablesAreOwnOrDamaged State }
+
+    // Of lines of JSON.
+    ensures objects { ObjectsAreOwnOrDamaged State }
+
+    // Of each record of a run whose command a reply in time ended, however much of it was written: also of those that
+    // `rows_outlast_crashes` and `rows_outlast_failures` find.
+    ensures records { RowsAreOwnOrDamaged State }
+
+    // Of a run's records, and so of its rows: how many are of requests that were settled by lines that came damaged.
+    ensures few { RowsByDamagedLinesAreFew State }
+{}
+
+/// Each run of `rows_are_their_own` is one of `rows_are_own_or_damaged`. Damage is apart in each of its stretches. This is so if the
+/// station asks only for calls of the table, or the instrument keeps after each request its own reply or none; that of
+/// `some_row_is_its_own` never keeps one.
+pub fn runs_in_the_field_are_instances<State>()
+    ensures { RunsInFieldAreInstances State }
+{}
+
+/// By clause `told` of `append_at`, what it did is a run of the file that it returns (`IsRunOfFile`), unless no act was made. Of such
+/// a run `rows_outlast_crashes` and `rows_outlast_failures` speak.
 pub fn appends_are_runs_of_files<'a, S: Source, K, E, R: Files<File = File> + 'a>()
     ensures { AppendsAreRuns S.Source ⟦<Followed<'a, R> as Sink>⟧ K E }
 {}
 
 /// If a run that appends to a file with `sync` is killed at any time, or the machine crashes, the next start makes of the file
-/// the table that was there before, rows of earlier runs, and after them each row that was settled before this run last sent,
-/// read, opened or closed something, but for those that went into files before this one. Further rows may follow, but none that
-/// isn't the run's.
+/// the table that was there before, rows of earlier runs, and each row that was settled before this run last sent, read, opened or
+/// closed something. Those that went into files before this one are excepted. Further rows may follow, but none that isn't the run's.
 pub fn rows_outlast_crashes<R>()
     ensures { RowsOutlastCrashes R }
 {}
 
 /// What `rows_outlast_crashes` says also holds if a sync of the run fails, and whatever happens to the file before and after the
-/// run, if the file wasn't in doubt when the run began, and as long as no run goes on in a file in doubt. Rows of later runs then
+/// run. The file wasn't in doubt when the run began, and no run goes on in a file in doubt. Rows of later runs then
 /// follow this run's. A failed sync puts a file in doubt, and so does a copy whose name isn't on the disk; a copy whose name is
 /// there, or a crash of the machine, ends the doubt.
 pub fn rows_outlast_failures<R>()
     ensures { RowsOutlastFailures R }
+{}
+
+/// What is left after a crash or a failed sync are whole rows, each its own. With those that went into files before this one, what
+/// `rows_outlast_crashes` and `rows_outlast_failures` find of a run in the field reads as the first ones of its records, one row or
+/// object each, in order, and each is its own as `rows_are_their_own` has it.
+pub fn rows_left_are_their_own<R, State>()
+    ensures tables { LeftTablesAreTheirOwn R State }
+    ensures objects { LeftObjectsAreTheirOwn R State }
+{}
+
+/// So it is over a line that damages. Each row is by a line that is own or damaged, as `rows_are_own_or_damaged` has it.
+pub fn rows_left_are_own_or_damaged<R, State>()
+    ensures tables { LeftTablesAreOwnOrDamaged R State }
+    ensures objects { LeftObjectsAreOwnOrDamaged R State }
 {}

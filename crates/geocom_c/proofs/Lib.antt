@@ -12,6 +12,7 @@ mod Lines
 mod Sendings
 mod Owning
 mod Parting
+mod Damage
 mod Safely
 mod Killed
 mod FieldWitness

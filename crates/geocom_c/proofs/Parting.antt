@@ -36,7 +36,7 @@ use Rattle.geocom_c.proofs.Owning.{later_own, none_answered, own_here}
 -- Steps among events.
 
 -- the steps among events that begin with `steps` are these, and then those among the other events
-steps_in_front : (steps : List (Step Asked)) (es : List ClientEvent) → steps_among (map Stepped steps ++ es) ≡ steps ++ steps_among es
+pub steps_in_front : (steps : List (Step Asked)) (es : List ClientEvent) → steps_among (map Stepped steps ++ es) ≡ steps ++ steps_among es
 steps_in_front [] es = refl
 steps_in_front (step ∷ steps) es = ap (λ l. step ∷ l) (steps_in_front steps es)
 

@@ -11,4 +11,5 @@ pub mod Following
 pub mod Steps
 pub mod Runs
 pub mod Laws
+pub mod Damage
 pub mod FieldWitness

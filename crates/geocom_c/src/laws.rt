@@ -1,5 +1,6 @@
 //! What is proved of any calls on a state. Each function does nothing: its contract is the law.
 
+ghost use Rattle.geocom_c.specs.Damage.{HeldBackAnswersAreOwnOrDamaged};
 ghost use Rattle.geocom_c.specs.FieldWitness.{SomeCallsAreInField};
 ghost use Rattle.geocom_c.specs.Laws.{AnswersAreTheirOwn, CallsAreEvents, CallsAreSafe, FewKilledMayBegin, SimulatorsAnswersAreTheirOwn, SimulatorsCallsAreSafe};
 
@@ -35,6 +36,16 @@ pub fn calls_are_safe<State>()
 /// refuses each raw request, and retains the reply that it retained before.
 pub fn simulators_calls_are_safe()
     ensures { SimulatorsCallsAreSafe }
+{}
+
+/// Over a line that damages, each answer is its own request's, or its line is damaged, if the caller holds back. This is of any
+/// instrument, whatever is in flight when the client is made, until the client's restart; and no more requests are settled by lines that
+/// came damaged than such lines came. The eighth null procedure is answered by its own reply, and of the lines that settle something
+/// after that no two in a row are damaged. The caller holds back if it sends only while the outstanding requests, and those that the last
+/// line settled, are together fewer than seven. Each request that it sends is a call of the table, or the instrument keeps after each
+/// request its own reply or none.
+pub fn held_back_answers_are_own_or_damaged<State>()
+    ensures { HeldBackAnswersAreOwnOrDamaged State }
 {}
 
 /// Clients follow each other over one line, and each may end at any time. If the first finds nothing in flight, or what a

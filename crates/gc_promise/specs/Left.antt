@@ -1,0 +1,72 @@
+-- What is left of a run's rows after a crash or a failed sync, as it is read: this project's own. `AreLeft` says which bytes are left. If
+-- the run wrote into files before this one, a reader reads those first; else the bytes that are left are read as they are.
+use Rattle.std.specs.Prelude.{◌≡◌, ℕ, Bool, List, ◌++◌}
+use Rattle.std.specs.List.{AllByRecursion}
+use Rattle.gc_catalogue.specs.declared.answer.Reading.{Reading}
+use Rattle.gc_catalogue.specs.declared.asked.Asked.{Asked}
+use Rattle.gc_files.specs.Runs as rows
+use Rattle.gc_files.specs.Sinks.{taken_in}
+use Rattle.gc_messages.specs.Following.{bytes_in}
+use Rattle.gc_rows.specs.Records.{header}
+use Rattle.gc_rows.specs.declared.record.Form.TheVariants.{Json}
+use Rattle.gc_station.specs.Records.{Record, texts_of}
+use Rattle.gc_texts.specs.Cuts.{Lacks}
+use Rattle.gc_measuring.specs.Measuring.{text_by}
+use Rattle.gc_field.specs.Instrument.{AnyState}
+use Rattle.gc_promise.specs.Damaged.{OfEachHarmedRun, own_or_damaged_lines}
+use Rattle.gc_promise.specs.Fields.{IsRowBy, under}
+use Rattle.gc_promise.specs.Lasting.{AreLeft, RunMoment}
+use Rattle.gc_promise.specs.Objects.{AreTyped, IsObject}
+use Rattle.gc_promise.specs.Tables.{Answers, AreOneForOne, AreReadAs, OfEachFieldRun, own_lines, records_of_run, table_form}
+
+-- `left` is what is left of a run after a moment: with what went into files before this one, it is the texts of the first ones of the
+-- run's records, each whole
+pub record IsLeftOf {R : Type 0} (reads : Asked → List ℕ → Reading) (m : RunMoment R) (left : List ℕ) (records : List Record) : Type 0 where
+  pub more : List ℕ
+  pub has : left ≡ taken_in m.was.rows ++ more
+  pub others : List Record
+  pub order : records_of_run reads m.run ≡ records ++ others
+  pub texts : bytes_in m.was ++ more ≡ texts_of (text_by m.run.survey) records
+
+-- of a run that is written as a table: with what went into files before this one, what is left reads as rows, which are the first ones of
+-- the run's records, one for one and in order, each by a line that may have answered it
+pub record IsLeftTable {R : Type 0} (CanAnswer : Answers) (columns : Bool) (reads : Asked → List ℕ → Reading) (m : RunMoment R) (left : List ℕ) : Type 0 where
+  pub records : List Record
+  pub is_of : IsLeftOf reads m left records
+  pub rows : List (List (List ℕ))
+  pub reads_as : AreReadAs (bytes_in m.was ++ is_of.more) rows
+  pub one_for_one : AreOneForOne (λ n row r. IsRowBy (CanAnswer n r) columns (λ name. under name (header columns) row) m.run.survey.tasks r) rows records
+
+-- of a run that is written as lines of JSON: with what went into files before this one, what is left are lines, which are the objects of
+-- the first ones of the run's records, one for one and in order, each by a line that may have answered it
+pub record AreLeftObjects {R : Type 0} (CanAnswer : Answers) (reads : Asked → List ℕ → Reading) (m : RunMoment R) (left : List ℕ) : Type 0 where
+  pub records : List Record
+  pub is_of : IsLeftOf reads m left records
+  pub lines : List (List ℕ)
+  pub split : bytes_in m.was ++ is_of.more ≡ rows.row_lines lines
+  pub unbroken : AllByRecursion (Lacks 10) lines
+  pub one_for_one : AreOneForOne (λ n line r. IsObject CanAnswer m.run.survey.tasks n line r) lines records
+
+-- of each run in the field: what is left of it after any moment (`AreLeft`) are rows, and each is its own
+abbrev pub LeftTablesAreTheirOwn : (R State : Type 0) → Type 0
+LeftTablesAreTheirOwn R State =
+    OfEachFieldRun {State = State} (λ ends kept reads x. (columns : Bool) → x.run.survey.layout.form ≡ table_form columns →
+    (m : RunMoment R) (left : List ℕ) → m.run ≡ x.run → AreLeft m reads left → IsLeftTable (own_lines ends AnyState kept reads x) columns reads m left)
+
+-- the same of lines of JSON, if the run's records are in the types of the program (`AreTyped`)
+abbrev pub LeftObjectsAreTheirOwn : (R State : Type 0) → Type 0
+LeftObjectsAreTheirOwn R State =
+    OfEachFieldRun {State = State} (λ ends kept reads x. x.run.survey.layout.form ≡ Json → AreTyped x.run.survey (records_of_run reads x.run) →
+    (m : RunMoment R) (left : List ℕ) → m.run ≡ x.run → AreLeft m reads left → AreLeftObjects (own_lines ends AnyState kept reads x) reads m left)
+
+-- of each run over a line that damages: what is left of it after any moment (`AreLeft`) are rows by lines that are own or damaged
+abbrev pub LeftTablesAreOwnOrDamaged : (R State : Type 0) → Type 0
+LeftTablesAreOwnOrDamaged R State =
+    OfEachHarmedRun {State = State} (λ ends kept reads x. (columns : Bool) → x.run.survey.layout.form ≡ table_form columns →
+    (m : RunMoment R) (left : List ℕ) → m.run ≡ x.run → AreLeft m reads left → IsLeftTable (own_or_damaged_lines ends reads x) columns reads m left)
+
+-- the same of lines of JSON, if the run's records are in the types of the program (`AreTyped`)
+abbrev pub LeftObjectsAreOwnOrDamaged : (R State : Type 0) → Type 0
+LeftObjectsAreOwnOrDamaged R State =
+    OfEachHarmedRun {State = State} (λ ends kept reads x. x.run.survey.layout.form ≡ Json → AreTyped x.run.survey (records_of_run reads x.run) →
+    (m : RunMoment R) (left : List ℕ) → m.run ≡ x.run → AreLeft m reads left → AreLeftObjects (own_or_damaged_lines ends reads x) reads m left)

@@ -1,0 +1,136 @@
+-- Calls on a state over a line that damages: the library settles what the client of the field settles, and each answer is own or damaged.
+use Rattle.std.proofs.Common.{◌≡◌, ℕ, List, [], ◌∷◌, ◌++◌, drop, map, Option, Some, None, refl, sym, ◌∙◌, ap, subst, append_assoc, append-nil}
+use Rattle.gc_catalogue.specs.declared.asked.Asked.{Asked}
+use Rattle.gc_client.specs.Beginning.{asks as line_asked}
+use Rattle.gc_client.specs.OneForOne.{Course, begun, course}
+use Rattle.gc_instrument.specs.State.{KeptReply}
+use Rattle.gc_world.specs.Worlds.{of_sent}
+use Rattle.gc_field.specs.World.{Ends}
+use Rattle.gc_field.specs.Begin.{InFlight, Asks, Comes, Foreign, Reaches, Up_lose, Up_repeat, Down_lose, Down_repeat, Anew, Changes, SyncModel, SyncTurn, begins}
+use Rattle.gc_field.specs.Begun.{nulls, nulls_settled}
+use Rattle.gc_field.specs.Field as field
+use Rattle.gc_field.specs.Instrument.{AnyState, IsAnInstrument}
+use Rattle.gc_field.proofs.BegunFaithful.{begun_prefixed, prefixed_all}
+use Rattle.gc_harm.specs.Harm.{Harm, Does, Damages, Strikes, harmed, harms}
+use Rattle.gc_harm.specs.HoldingBack.{Holding, AllMayHarmApart, MayHarmApart, holding_begun, holding_harms}
+use Rattle.gc_harm.specs.Stretch.{left_by_sync}
+use Rattle.gc_harm.specs.Stretches.{IsPossibleHarm, seen_at, seen_harms}
+use Rattle.gc_harm.specs.Synchronizing as sync
+use Rattle.gc_harm.specs.Synchronizing.{SyncHarm, WasStruck, sync_harms}
+use Rattle.gc_harm.proofs.HoldingBack.{fresh_if_held_back}
+use Rattle.gc_harm.proofs.Own.{own_or_broken}
+use Rattle.gc_harm.proofs.SeenHarms.{Same, after_nulls, course_append, same_harm}
+use Rattle.gc_harm.proofs.Stretch.{left_clean}
+use Rattle.geocom_c.specs.Damage.{AreCallsOver, AreHeldBack, HarmedCalls, HeldBackAnswersAreOwnOrDamaged, begun_over, harm_event, harm_events}
+use Rattle.geocom_c.specs.Following.{CallsReach, CallStage, first_stage}
+use Rattle.geocom_c.specs.Runs.{came_of, event_of}
+use Rattle.geocom_c.specs.Steps.{ClientEvent, Stepped, ask_events, steps_among}
+use Rattle.geocom_c.specs.declared.following.StateCall.{StateCall}
+use Rattle.geocom_c.proofs.Courses.{over_events}
+use Rattle.geocom_c.proofs.Parting.{steps_in_front}
+
+-- Events.
+
+-- a null procedure that is asked for, or none, is no step of the client
+none_of_asked : (o : Option (List ℕ)) (es : List ClientEvent) → steps_among (ask_events o ++ es) ≡ steps_among es
+none_of_asked None es = refl
+none_of_asked (Some line) es = refl
+
+-- nor is a reply that comes, or none
+none_of_came : (down : List (InFlight (List ℕ))) (es : List ClientEvent) → steps_among (came_of down ++ es) ≡ steps_among es
+none_of_came [] es = refl
+none_of_came (x ∷ rest) es = refl
+
+module _ {State : Type 0} (ends : Ends State) where
+  -- a turn of a synchronization is no step of the client
+  none_of_turn : (s : SyncModel State) (t : SyncTurn State) (es : List ClientEvent) → steps_among (event_of s t ++ es) ≡ steps_among es
+  none_of_turn s Asks es = none_of_asked (line_asked s.left) es
+  none_of_turn s Comes es = none_of_came s.down es
+  none_of_turn s (Foreign line) es = refl
+  none_of_turn s Reaches es = refl
+  none_of_turn s (Up_lose k) es = refl
+  none_of_turn s (Up_repeat k) es = refl
+  none_of_turn s (Down_lose k) es = refl
+  none_of_turn s (Down_repeat k) es = refl
+  none_of_turn s Anew es = refl
+  none_of_turn s (Changes state) es = refl
+
+  -- nor is a step of one, with damage
+  none_of_harm : (s : SyncModel State) (t : SyncHarm State) (es : List ClientEvent) → steps_among (harm_event s t ++ es) ≡ steps_among es
+  none_of_harm s (sync.Does turn) es = none_of_turn s turn es
+  none_of_harm s (sync.Damages line) es = refl
+  none_of_harm s (sync.Strikes id call) es = refl
+
+  -- among the events of a synchronization with damage, and others, are only the steps of the others
+  none_of_harms : (ts : List (SyncHarm State)) (s : SyncModel State) (es : List ClientEvent) → steps_among (harm_events ends ts s ++ es) ≡ steps_among es
+  none_of_harms [] s es = refl
+  none_of_harms (t ∷ ts) s es =
+      ap steps_among (append_assoc (harm_event s t) (harm_events ends ts (sync_harms ends s t)) es)
+      ∙ none_of_harm s t (harm_events ends ts (sync_harms ends s t) ++ es) ∙ none_of_harms ts (sync_harms ends s t) es
+
+-- Steps.
+
+module _ {State : Type 0} (width : ℕ) (ends : Ends State) (Good : State → Type 0) (kept : State → Option KeptReply) (is : IsAnInstrument ends Good kept) where
+  -- a step that may be made by a client that holds back is possible
+  possible_apart : (g : Holding State) (m : Harm State) → MayHarmApart width ends Good kept g m → IsPossibleHarm ends Good kept g.harmed m
+  possible_apart g (Does (field.Sends target call deadline)) p = tt
+  possible_apart g (Does (field.Tells now)) p = p
+  possible_apart g (Does (field.Comes line)) p = p
+  possible_apart g (Does (field.Foreign line)) p = p
+  possible_apart g (Does (field.OnLine step)) p = p
+  possible_apart g (Does field.Anew) p = p
+  possible_apart g (Does (field.Changes state)) p = p
+  possible_apart g (Does (field.Joins line)) p = p
+  possible_apart g (Damages line) p = tt
+  possible_apart g (Strikes id call) p = p
+
+  -- what is known of the world after a step doesn't depend on what the client stores
+  same_world : (g : Holding State) (m : Harm State) → (holding_harms width ends g m).harmed ≡ harms width ends g.harmed m
+  same_world g (Does (field.Sends target call deadline)) = refl
+  same_world g (Does (field.Tells now)) = refl
+  same_world g (Does (field.Comes line)) = refl
+  same_world g (Does (field.Foreign line)) = refl
+  same_world g (Does (field.OnLine step)) = refl
+  same_world g (Does field.Anew) = refl
+  same_world g (Does (field.Changes state)) = refl
+  same_world g (Does (field.Joins line)) = refl
+  same_world g (Damages line) = refl
+  same_world g (Strikes id call) = refl
+
+  -- the course of a client that holds back has the requests, the settlements and the client of the world
+  same_apart : (ms : List (Harm State)) (x : Course Asked) (g : Holding State) → AllMayHarmApart width ends Good kept ms g → Same width ends Good kept is x g.harmed.world
+      → Same width ends Good kept is (course width x (seen_harms ms)) (harmed width ends ms g.harmed).world
+  same_apart [] x g p s = s
+  same_apart (m ∷ ms) x g p s =
+      let next = same_harm width ends Good kept is m x g.harmed (possible_apart g m p.0) s in
+      let e = same_world g m in
+      subst (λ h. Same width ends Good kept is (course width x (seen_at m ++ seen_harms ms)) (harmed width ends ms h).world) e
+      (subst (λ y. Same width ends Good kept is y (harmed width ends ms (holding_harms width ends g m).harmed).world) (sym (course_append width x (seen_at m) (seen_harms ms)))
+      (same_apart ms (course width x (seen_at m)) (holding_harms width ends g m) p.1
+      (subst (λ h. Same width ends Good kept is (course width x (seen_at m)) h.world) (sym e) next)))
+
+  -- calls that are held back settle what the client of the world settles
+  settled_same : (calls : List StateCall) (t : CallStage) → CallsReach width first_stage calls t → (x : HarmedCalls State) → AreCallsOver width ends calls x
+      → AreHeldBack width ends Good kept x → t.reached.settlements ≡ drop 8 (harmed width ends x.steps (begun_over width ends x)).world.wire.settled
+  settled_same calls t reach x are held =
+      let over = over_events width calls t reach in
+      let steps = seen_harms x.steps in
+      let same : steps_among over.events ≡ steps =
+      ap steps_among (sym (over.only (harm_events ends x.turns (begins x.over) ++ map Stepped steps) are))
+      ∙ none_of_harms ends x.turns (begins x.over) (map Stepped steps)
+      ∙ ap steps_among (sym (append-nil (map Stepped steps))) ∙ steps_in_front steps [] ∙ append-nil steps in
+      let one = same_apart x.steps after_nulls (holding_begun width ends (left_by_sync ends x.over x.turns)) held.steps (record { sent = refl; settled = refl; client = refl }) in
+      let from = prefixed_all width (map of_sent nulls) nulls_settled steps after_nulls begun begun_prefixed in
+      ap (λ (c : Course Asked). c.settlements) over.reached ∙ ap (λ l. (course width begun l).settlements) same
+      ∙ ap (drop 8) (sym from.settled ∙ one.settled)
+
+-- each answer of calls that are held back is own or damaged
+pub held_back_own_or_damaged : {State : Type 0} → HeldBackAnswersAreOwnOrDamaged State
+held_back_own_or_damaged ends kept is width ok calls t reach x are held =
+    let clean = left_clean width ok.1 ends AnyState kept is x.over x.turns held.lines held.turns held.begun in
+    let old : List ℕ → Type 0 = λ line. WasStruck ends x.over x.turns line in
+    let may = fresh_if_held_back width ok.1 ends AnyState kept is old (left_by_sync ends x.over x.turns) clean x.steps held.steps in
+    record {
+      settled = settled_same width ends AnyState kept is calls t reach x are held;
+      own = own_or_broken width ok.1 ends AnyState kept is old (left_by_sync ends x.over x.turns) x.steps clean may;
+    }
