@@ -98,9 +98,11 @@ def finite(text):
 
 
 def outcome_of(fields):
-    """What is marked: the outcome, a warning, a refusal, or nothing where both codes are 0."""
+    """What is marked: the outcome, a warning, a refusal, what is unconfirmed, or nothing where both codes are 0."""
     if fields["outcome"] != "answered":
         return fields["outcome"]
+    if fields.get("quality") == records.UNCONFIRMED:
+        return records.UNCONFIRMED
     if not quantities.has_values(fields):
         return "refused"
     return "warning" if fields.get("quality") == "warning" else None

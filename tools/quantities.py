@@ -1,7 +1,7 @@
 """What the values of a row are, by the table of procedures in `docs/PROTOCOL.md`: the names of its quantities, with their units.
 
-They are there where a row's answer is `ok` or a `warning` and its values read, and nowhere else. Rows of earlier versions say no quality:
-there they are where both codes are 0.
+They are there where a row's answer is `ok` or a `warning` and its values read, and nowhere else: what is `unconfirmed` counts only once its
+command was sent once more, by the row of that. Rows of earlier versions say no quality: there they are where both codes are 0.
 """
 
 import re
@@ -28,7 +28,7 @@ MEASURING = [procedure for procedure, names in QUANTITIES.items() if "hz_rad" in
 
 
 def has_values(fields):
-    """Whether a row was answered well, so that its values read."""
+    """Whether a row was answered well, so that its values read, and isn't unconfirmed."""
     if fields.get("quality"):
         return fields["quality"] in GOOD
     return fields["outcome"] == "answered" and fields["rc_com"] == "0" and fields["rc"] == "0"

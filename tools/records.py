@@ -28,11 +28,12 @@ def with_columns(columns):
 
 COLUMNS_HEAD = ",".join(with_columns(ANSWER_COLUMNS)).encode() + b"\n"
 # In the order of the counts; those of a reply that came in time, and those of a command that wasn't sent.
-OUTCOMES = ["answered", "late", "lost", "skipped", "unreadable", "missed", "elsewhere"]
-REPLIED = ["answered", "unreadable", "elsewhere"]
+OUTCOMES = ["answered", "late", "lost", "skipped", "unreadable", "missed", "elsewhere", "disagree"]
+REPLIED = ["answered", "unreadable", "elsewhere", "disagree"]
 UNSENT = ["skipped", "missed"]
-# The qualities of an answer whose values read.
+# The qualities of an answer whose values read and count; and that of one whose command is sent once more, which counts only then.
 GOOD = ["ok", "warning"]
+UNCONFIRMED = "unconfirmed"
 MOMENTS = ["run", "sent", "time"]
 NUMBERS = ["cycle", "place", "target", "procedure", "fault", "rc_com", "rc", "attempt"]
 # The columns that a table of an earlier version may not have, and what every reader needs: the others.

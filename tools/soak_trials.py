@@ -18,7 +18,7 @@ CHAIN = """{target} 9027 {hz},{v},0,0,0
 {target} 2108 5000,1
 """
 PLACES = [("0.5", "1.5"), ("2.25", "1.625"), ("4.0", "1.5")]
-COUNTS = ("rows", "killed", "closes", "holds", "restarts", "repeated", "lost", "refusals", "requests", "late")
+COUNTS = ("rows", "killed", "closes", "holds", "restarts", "repeated", "lost", "refusals", "requests", "late", "altered", "false")
 
 
 class Trial(NamedTuple):
@@ -42,6 +42,12 @@ def line_of(by: random.Random) -> str:
     return "".join(f"{word}\n" for word in words)
 
 
+def alter_of(seed: int) -> str:
+    """What a third of the lines have, too: bytes that are altered. Its draws are its own, so that the others of a seed stay."""
+    by = random.Random(f"alter {seed}")
+    return f"alter {by.choice(['0.01', '0.05', '0.2', '1'])}\n" if by.random() < 1 / 3 else ""
+
+
 def commands_of(by: random.Random) -> str:
     """A station's text."""
     lines = [by.choice(["", "at start\n1 5003\neach cycle\n"]), by.choice(["", "retry 2 1285 late lost\n"])]
@@ -59,7 +65,7 @@ def trial_of(seed: int, nights: int) -> Trial:
     options += ["--width", str(by.choice([1, 1, 2, 7])), "--deadline", str(by.choice([1000, 3000, 10000]))]
     options += ["--quiet", str(by.choice([100, 2000])), "--retries", str(by.choice([0, 3, 10]))]
     options += by.choice([[], ["--unchained"], ["--json"], ["--columns"]])
-    return Trial(seed, line_of(by), SCENE.format(seed=seed % 1000), commands_of(by), options)
+    return Trial(seed, line_of(by) + alter_of(seed), SCENE.format(seed=seed % 1000), commands_of(by), options)
 
 
 def harsh_line_of(by: random.Random) -> str:
@@ -125,10 +131,13 @@ def play(trial: Trial, program: list[str], seconds: float | None = None) -> tupl
 
 
 def counted(said: str) -> collections.Counter[str]:
-    """The counts of a summary: those of its first two lines and of the line's own."""
+    """The counts of a summary: those of its first two lines, of the line's own and of altered lines."""
     counts: collections.Counter[str] = collections.Counter()
     for line in said.splitlines():
         if line.startswith("target "):
+            continue
+        if altered := re.match(r"altered lines ([0-9]+):", line):
+            counts["altered"] += int(altered[1])
             continue
         for word, number in re.findall(r"([a-z]+) ([0-9]+)\b", line):
             if word in COUNTS and (word != "lost" or line.startswith("line:")):

@@ -26,8 +26,8 @@ DAY = 86_400
 MOST_BYTES = 1 << 27
 # What a command came to, from good to worst, and of which outcomes.
 SORTS = {
-    "ok": ["ok"], "warning": ["warning"], "refused": ["refused"], "unanswered": ["late", "lost", "unreadable", "elsewhere"],
-    "unsent": ["skipped", "missed"],
+    "ok": ["ok"], "warning": ["warning"], "unconfirmed": ["unconfirmed"], "disagree": ["disagree"], "refused": ["refused"],
+    "unanswered": ["late", "lost", "unreadable", "elsewhere"], "unsent": ["skipped", "missed"],
 }
 SORT_OF = {outcome: sort for sort, outcomes in SORTS.items() for outcome in outcomes}
 # The columns of a table of reductions that are shown where no limit names one.

@@ -10,7 +10,7 @@ import os
 import random
 import threading
 
-from records import ANSWER_COLUMNS, COLUMNS, GOOD, HEAD, LAST, NUMBERS, UNSENT, moment_text
+from records import ANSWER_COLUMNS, COLUMNS, GOOD, HEAD, LAST, NUMBERS, UNCONFIRMED, UNSENT, moment_text
 
 TARGETS = [(7, b"pier 4", 2.25, 1.625, 110.0625), (8, b"", 0.5, 1.5, 25.125), (9, b"a/b+c #1", 4.0, 1.5, 48.5)]
 COMMANDS = [b"9027", b"2008", b"2108", b"2107", b"5004"]
@@ -29,7 +29,7 @@ def row(chance, number):
     target, name, hz, v, distance = TARGETS[number // len(COMMANDS) % len(TARGETS)]
     place = number % (len(COMMANDS) * len(TARGETS))
     procedure = COMMANDS[number % len(COMMANDS)]
-    outcome = chance.choices([b"answered", b"late", b"lost", b"skipped", b"unreadable", b"missed", b"elsewhere"], [80, 3, 3, 6, 1, 2, 1])[0]
+    outcome = chance.choices([b"answered", b"late", b"lost", b"skipped", b"unreadable", b"missed", b"elsewhere", b"disagree"], [80, 3, 3, 6, 1, 2, 1, 1])[0]
     fault = codes = values = quality = b""
     if outcome == b"answered":
         codes, quality = b"0,0", b"ok"
@@ -44,9 +44,11 @@ def row(chance, number):
             values = b'"%.9f,%.9f"' % (hz + sway * 4e-6, v + chance.gauss(0, 3e-6))
         elif procedure == b"5004":
             values = b'"""SIM %d"""' % number
+        if quality == b"ok" and number % 11 == 5:
+            quality = b"unconfirmed"
     elif outcome == b"unreadable":
         fault, codes, values = b"11", b"0,0", rb'"x,\xff\x00%d"' % number
-    elif outcome == b"elsewhere":
+    elif outcome in (b"elsewhere", b"disagree"):
         codes, values = b"0,0", b'"%.9f,%.9f"' % (hz + 0.5, v)
     sent = b"" if outcome.decode() in UNSENT else stamp(moment - datetime.timedelta(milliseconds=1_234))
     cycle = number // (len(COMMANDS) * len(TARGETS)) + 1
@@ -59,7 +61,7 @@ def parted(line):
     """The fields of a row by the names of their columns, and the items of its answer by those of their quantities."""
     fields = dict(zip(COLUMNS, next(csv.reader([line.decode("latin-1")[:-1]]))))
     names = {"2107": ANSWER_COLUMNS[:2], "2108": ANSWER_COLUMNS[:3], "5004": ["instrument"]}.get(fields["procedure"], [])
-    return fields, dict(zip(names, fields["values"].split(","))) if fields["quality"] in GOOD else {}
+    return fields, dict(zip(names, fields["values"].split(","))) if fields["quality"] in (*GOOD, UNCONFIRMED) else {}
 
 
 def plain(name, item):

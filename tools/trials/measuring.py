@@ -21,14 +21,14 @@ def measuring(program, place, words, commands, **options):
     return Run([program, "station", place, "--csv", *words.split()], commands, **options)
 
 
-def finished(run, status=0, patience=PATIENCE):
+def finished(run, status=0, patience=PATIENCE, sendings=1):
     """Its rows, and its messages beside its counts and the line of its start, once it has ended with this status. The counts rest on
-    the last line."""
+    the last line. Its chains have so many sendings in an attempt."""
     assert run.status(patience) == status, f"its messages are {run.messages()!r}"
     rows = rows_of(run.output())
     messages = [line for line in run.messages().splitlines() if not START.fullmatch(line)]
     if status == 0:
-        assert messages[-1:] == [counts_of(rows)], "the line of the counts"
+        assert messages[-1:] == [counts_of(rows, sendings)], "the line of the counts"
         del messages[-1]
     return rows, messages
 
@@ -52,14 +52,15 @@ def rows_of(written):
     return rows
 
 
-def counts_of(rows):
+def counts_of(rows, sendings=1):
     """The last line of a run with these rows: how the commands of cycles ended, each in the last attempt of its chain, and how many times
-    a chain was sent again. The rows of an attempt directly follow those of the one before, and begin with the chain's first place."""
+    a chain was sent again. The rows of an attempt directly follow those of the one before, and begin with the chain's first place. Under
+    `agree` an attempt has two sendings, which the rows have as attempts."""
     kept, again, last = [], 0, None
     for row in rows:
         if row["cycle"] == "0":
             continue
-        if last and int(row["attempt"]) == int(last["attempt"]) + 1:
+        if last and int(row["attempt"]) == int(last["attempt"]) + 1 and int(row["attempt"]) % sendings == 1 % sendings:
             again += 1
             while kept and kept[-1]["cycle"] == row["cycle"] and int(kept[-1]["place"]) >= int(row["place"]):
                 kept.pop()

@@ -2,6 +2,7 @@
 known, and a target that moves from a day on. Each target's chain is a positioning, a measurement and a reading in each face.
 """
 
+import csv
 import datetime
 import math
 import random
@@ -96,6 +97,26 @@ class Month:
                 both += [*first[begin : begin + 5], behind[begin + 5], self.row(0, 0, 9, "", 2107, '"0.5,1.5"', "answered", begin + 1), *chain]
                 last += chain
         return b"".join(both), b"".join(last)
+
+    def tables_of_agreeing(self):
+        """Two files that come to the same: in one each chain is sent twice, so that the rows of its first sending are unconfirmed. The other
+        has the second sendings alone."""
+        both, last = [HEAD], [HEAD]
+        for rows in self.rows():
+            for begin in range(0, len(rows), 6):
+                first = [self.unconfirmed(row) for row in rows[begin : begin + 6]]
+                second = [row.rsplit(b",", 1)[0] + b",2\n" for row in rows[begin : begin + 6]]
+                both += first + second
+                last += second
+        return b"".join(both), b"".join(last)
+
+    @staticmethod
+    def unconfirmed(row):
+        """The row of a first sending, which measured something far from what its second one did."""
+        fields = next(csv.reader([row.decode()[:-1]]))
+        values = ",".join(f"{float(each) + 0.25:.9f}" for each in fields[12].split(",") if each) or "9,1.5,77" * (fields[7] == "2108")
+        said = ["answered", "", "0", "0", f'"{values}"' if values else "", "unconfirmed", "1"]
+        return ",".join([*fields[:8], *said]).encode() + b"\n"
 
     def first_outside(self, tolerance, outside=1):
         """The cycle in which the moving target was further than this for so many rows, without noise."""

@@ -26,11 +26,13 @@ class Reached:
 
 @dataclass
 class Arrived:
-    """A line that arrived at the station, over which connection, and which line was altered, if one was: it, or the request that it answers."""
+    """A line that arrived at the station, over which connection, and which line was altered, if one was: it, or the request that it
+    answers. It was made on executing the request of the station with this number."""
 
     connection: int
     text: bytes
     altered: Place | None
+    made_on: int | None
 
 
 class Passing(Notes):
@@ -91,11 +93,16 @@ class AlteringLine(Relay):
             number = numbers[0] if len(numbers) == 1 else None
             self.reached += [Reached(number, altered) for _ in filter(REQUEST.match, parts)]
         else:
-            self.arrived += [Arrived(self.counts["connections"], part, altered or self.altered_before(numbers[0])) for part in parts]
+            connection, made_on = self.counts["connections"], self.made_on(numbers[0])
+            self.arrived += [Arrived(connection, part, altered or self.altered_before(numbers[0]), made_on.number) for part in parts]
 
     def altered_before(self, number):
         """Which request was altered, where the reply with this number is to one, or is one's that was stored."""
-        return self.reached[number - 1].altered or self.reached[self.heard[number - 1].made].altered
+        return self.reached[number - 1].altered or self.made_on(number).altered
+
+    def made_on(self, number):
+        """The request on whose execution the reply with this number was made."""
+        return self.reached[self.heard[number - 1].made]
 
     def run(self):
         while True:

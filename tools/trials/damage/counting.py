@@ -70,10 +70,14 @@ class Counting:
         rpc, number = found[1].decode(), found[2]
         if not self.has_store or self.kept[0] != number:
             self.executions += 1
-            behind = b"0,%d" % self.executions if rpc == NUMBER else b"0" if rpc == "0" else UNKNOWN
-            self.kept = number, len(self.heard), b"%%R1P,0,%s:%s\r\n" % (number, behind)
+            self.kept = number, len(self.heard), b"%%R1P,0,%s:%s\r\n" % (number, self.executed(rpc, found[3]))
         self.heard.append(Heard(rpc, self.kept[1]))
         return self.kept[2]
+
+    def executed(self, rpc, parameters):
+        """It executes a request: the return code and the values of its reply."""
+        del parameters
+        return b"0,%d" % self.executions if rpc == NUMBER else b"0" if rpc == "0" else UNKNOWN
 
     def close(self):
         self.listener.close()

@@ -22,12 +22,14 @@ SYNCHRONIZING = [6, 5, 4, 3, 2, 1, 0, 7]
 
 @dataclass
 class Entry:
-    """An entry of the station's log, of a connection: a request that was sent, with its number, or a line that arrived."""
+    """An entry of the station's log, of a connection: a request that was sent, with its number, or a line that arrived, with the number of
+    the request that it was made on."""
 
     connection: int
     text: str
     number: int | None = None
     altered: Place | None = None
+    made_on: int | None = None
 
 
 @dataclass
@@ -64,7 +66,8 @@ def entries_of(log):
 
 
 def note_altered(entries, arrived):
-    """Notes of each line that arrived which one was altered. Of a connection the station heard all that arrived but, at its end, the last."""
+    """Notes of each line that arrived which one was altered, and what it was made on. Of a connection the station heard all that arrived
+    but, at its end, the last."""
     lines = collections.defaultdict(collections.deque)
     for one in arrived:
         if one.text.endswith(b"\r"):
@@ -73,7 +76,7 @@ def note_altered(entries, arrived):
         if entry.number is None:
             one = lines[entry.connection].popleft()
             assert shown(one.text[:-1]).decode("ascii") == entry.text, f"{entry}, and {one} arrived"
-            entry.altered = one.altered
+            entry.altered, entry.made_on = one.altered, one.made_on
 
 
 def beginnings_in(sent):
@@ -126,21 +129,31 @@ def numbers_made(line, instrument):
     return made
 
 
-def judge(rows, log, line, instrument):
-    """The verdict over these rows, of a station of 5003 alone."""
-    entries, verdict = entries_of(log), Verdict()
+def settled(rows, log, line):
+    """Each row of a command that was sent, with the number of its request and what ended it; and how many damaged lines ended anything."""
+    entries = entries_of(log)
     note_altered(entries, line.arrived)
-    ended, verdict.damaged = ends_of(entries)
-    made = numbers_made(line, instrument)
+    ended, damaged = ends_of(entries)
     commands = [entry.number for entry in entries if entry.number and not entry.text.startswith("%R1Q,0,")]
     sent = [row for row in rows if row["sent"]]
     assert len(commands) == len(sent), f"{len(commands)} commands were sent, and {len(sent)} rows say so"
-    for row, number in zip(sent, commands):
+    return [(row, number, ended.get(number)) for row, number in zip(sent, commands)], damaged
+
+
+def has_said(row, end):
+    """Whether a row of a reply has what the line has that ended its command."""
+    found = end and REPLY.match(end.entry.text)
+    return bool(found) and (row["rc_com"], row["rc"], row["values"]) == (found[1], found[3], found[4] or "")
+
+
+def judge(rows, log, line, instrument):
+    """The verdict over these rows, of a station of 5003 alone."""
+    verdict, made = Verdict(), numbers_made(line, instrument)
+    ends, verdict.damaged = settled(rows, log, line)
+    for row, number, end in ends:
         if row["outcome"] not in REPLIED:
             continue
-        end = ended.get(number)
-        found = end and REPLY.match(end.entry.text)
-        if not found or (row["rc_com"], row["rc"], row["values"]) != (found[1], found[3], found[4] or ""):
+        if not has_said(row, end):
             verdict.faults.append(f"{row}: ended by {end}")
         elif int(row["rc_com"]) == int(row["rc"]) == 0 and row["values"] in made[number]:
             continue

@@ -1,14 +1,18 @@
-"""The judge of false rows, over logs that are made up: no program is wanted."""
+"""The judges of false rows and of values, over logs that are made up: no program is wanted."""
 
+from decimal import Decimal
 from types import SimpleNamespace
 
 import pytest
 
 from altering import Arrived, Reached
+from confirming import judge_values
 from counting import Heard
 from judging import SYNCHRONIZING, judge
+from surveying import Target
 
 ANSWERED, LOST = "answered", "lost"
+TRUE, FALSE = "0.5,1.5,25.125", "0.5,1.5,26.125"
 
 
 class Made:
@@ -28,14 +32,26 @@ class Made:
         self.line.reached.append(Reached(self.sent, None))
         self.instrument.heard.append(Heard(str(rpc), self.sent - 1))
 
-    def hear(self, number, values, altered=None):
+    def hear(self, number, values, altered=None, made_on=None):
         text = f"%R1P,0,{number}:{values}"
         self.log.append(f"M < {text}")
-        self.line.arrived.append(Arrived(1, text.encode() + b"\r", altered and ("down", altered)))
+        self.line.arrived.append(Arrived(1, text.encode() + b"\r", altered and ("down", altered), made_on or self.sent))
 
-    def row(self, outcome, values=""):
+    def row(self, outcome, values="", **others):
         code = "0" if outcome == ANSWERED else ""
-        self.rows.append({"sent": "M", "outcome": outcome, "rc_com": code, "rc": code, "values": values})
+        self.rows.append({"sent": "M", "outcome": outcome, "rc_com": code, "rc": code, "values": values, **others})
+
+    def measure(self, first, second, *altered):
+        """A target is measured by two sendings, in which these values arrive. `altered` are the sendings whose reply was altered."""
+        for attempt, values in enumerate((first, second), 1):
+            self.send(2108, self.sent % 8)
+            self.hear((self.sent - 1) % 8, f"0,{values}", altered=self.sent if attempt in altered else None)
+            quality = "unconfirmed" if attempt == 1 else "ok"
+            self.row(ANSWERED, values, cycle="1", target="1", attempt=str(attempt), procedure="2108", quality=quality)
+        targets, log = {1: Target(Decimal("0.5"), Decimal("1.5"), Decimal("25.125"))}, "\n".join(self.log)
+        verdict = judge_values(self.rows, log, self.line, targets, [Decimal("0.001")] * 3)
+        assert not verdict.faults and verdict.good == 1
+        return verdict
 
     def verdict(self):
         return judge(self.rows, "\n".join(self.log), self.line, self.instrument)
@@ -103,3 +119,11 @@ def test_synchronized():
     run.row(ANSWERED, "10")
     verdict = run.verdict()
     assert verdict.displaced == 1 and len(verdict.faults) == 1
+
+
+@pytest.mark.title("judge: a false value that two sendings confirm has two damaged lines behind it, or is by fewer")
+def test_values():
+    assert Made().measure(TRUE, TRUE).false == Made().measure(TRUE, "0.5,1.5,25.126", 2).false == 0
+    by_two, by_one, by_none = Made().measure(FALSE, FALSE, 1, 2), Made().measure(TRUE, FALSE, 2), Made().measure(FALSE, FALSE)
+    assert by_two.false == 1 and not by_two.by_fewer
+    assert by_one.false == len(by_one.by_fewer) == by_none.false == len(by_none.by_fewer) == 1

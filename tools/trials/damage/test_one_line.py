@@ -6,6 +6,7 @@ import pytest
 
 from counting import Counting
 from measuring import finished, measuring
+from programs import ended
 
 COMMANDS = 40
 # Where the id is in a reply.
@@ -17,8 +18,10 @@ WIDTHS, MOST = range(1, 8), 6
 @pytest.mark.title("one reply's id altered, width {width}, {place}")
 @pytest.mark.parametrize("place", [1, 12])
 @pytest.mark.parametrize("width", WIDTHS)
-def test_one_reply(program, width, place, note):
-    """The reply at a place gets the id of the last request that waits. Nothing else is altered, lost or repeated; one row is false at most."""
+def test_one_reply(program, folder, width, place, note):
+    """The reply at a place gets the id of the last request that waits. Nothing else is altered, lost or repeated; one row is false at most. The
+    log shows it, if replies to requests before that one follow: they are impossible."""
+    log = folder / "log"
     made, others_then = [], []
 
     def change(reply, others):
@@ -32,12 +35,15 @@ def test_one_reply(program, width, place, note):
 
     text = b"unchained\n" + b"".join(b"%d 5003\n" % target for target in range(1, COMMANDS + 1))
     with closing(Counting(min(width, MOST), changed=change, pause=0.3)) as instrument:
-        with measuring(program, instrument.port, f"--width {width} --deadline 1500 --quiet 100", text) as station:
+        with measuring(program, instrument.port, f"--width {width} --deadline 1500 --quiet 100 --log {log}", text) as station:
             rows, _ = finished(station, patience=60)
     assert len(rows) == COMMANDS and len(others_then) == 1
     # Commands are asked, executed and answered in order.
     own = dict(zip((row["place"] for row in rows), made))
     false = [row for row in rows if row["outcome"] == "answered" and row["values"] != own.get(row["place"])]
     kinds = [row["outcome"] for row in rows]
-    note(f"{others_then[0] + 1} in flight; {len(false)} false of {kinds.count('answered')} answered")
+    _, verdicts, _ = ended([program, "check", "--log"], log.read_bytes())
+    impossible = verdicts.count(b" impossible\n")
+    note(f"{others_then[0] + 1} in flight; {len(false)} false of {kinds.count('answered')} answered; {impossible} impossible replies")
+    assert (impossible > 0) == (others_then[0] > 1)
     assert len(false) <= 1, "\n".join(f"{row['place']}: {row['values']}" for row in false)

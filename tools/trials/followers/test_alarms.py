@@ -24,9 +24,9 @@ def laid(folder, limits, rows=b""):
     return [folder / "values.csv", folder / "limits", folder / "state"]
 
 
-def row(cycle, target, values, quality="ok", procedure=2108, rc=0, attempt=1):
+def row(cycle, target, values, quality="ok", procedure=2108, rc=0, attempt=1, outcome="answered"):
     """A row of this cycle, answered so."""
-    fields = ["2026-11-24T00:00:00.000Z", "", f"2026-11-24T{cycle // 60:02}:{cycle % 60:02}:00.000Z", cycle, target, target, "", procedure, "answered",
+    fields = ["2026-11-24T00:00:00.000Z", "", f"2026-11-24T{cycle // 60:02}:{cycle % 60:02}:00.000Z", cycle, target, target, "", procedure, outcome,
               "", 0, rc, values, quality, attempt]
     text = io.StringIO()
     csv.writer(text, lineterminator="\n").writerow(fields)

@@ -246,11 +246,14 @@ def test_outcomes_of_a_day(folder):
             rows.append(line(80_000 - 1000 * cycle, 7, f"{outcome},,,,,", cycle=cycle))
             cycle += 1
     rows += [line(40_000, 7, "answered,,0,1285,,refused", cycle=cycle), line(39_000, 7, 'answered,,0,1283,"2,1.5,50",warning', cycle=cycle + 1)]
+    first, apart = 'answered,,0,0,"2,1.5,50",unconfirmed', 'disagree,,0,0,"2,1.5,51",'
+    rows += [line(38_000, 7, first, cycle=cycle + 2), line(37_000, 7, apart, cycle=cycle + 2, attempt=2), line(36_000, 7, first, cycle=cycle + 3)]
     (folder / "rows/north.csv").write_bytes(HEAD + b"".join(rows))
     station = station_of(folder)
     text = Seen(text_of(station, time.time())).text()
-    assert counts(station, "7") == {"warning": 1, "refused": 1, "unanswered": 7, "unsent": 6}, counts(station, "7")
-    assert "7 1 with a warning, 1 refused, 7 not answered in time, 6 not sent, good 10 h 50 min ago" in text, text
+    assert counts(station, "7") == {"warning": 1, "unconfirmed": 1, "disagree": 1, "refused": 1, "unanswered": 7, "unsent": 6}, counts(station, "7")
+    said = "1 with a warning, 1 unconfirmed, 1 in disagreement (disagree), 1 refused, 7 not answered in time, 6 not sent"
+    assert f"7 {said}, good 10 h 50 min ago" in text, text
 
 
 def test_looks_back_for_the_last_good_row(folder):

@@ -86,7 +86,7 @@ def test_a_unit_names_its_file(folder):
 def test_draws_each_target(folder, note):
     """The pictures of each target, as PNG and SVG; half a row at the end is left out."""
     path, drawn = folder / "drawn.csv", folder / "drawn"
-    path.write_bytes(HEAD + b"".join(first_rows(300)) + b"2026-11-24T2")
+    path.write_bytes(HEAD + b"".join(first_rows(450)) + b"2026-11-24T2")
     status, output, messages = ended(tool("plot", path, drawn), patience=600)
     assert status == 0, messages
     assert sorted(output.decode().splitlines()) == sorted(map(str, drawn.iterdir())), "the files that it tells"

@@ -126,10 +126,10 @@ def test_quiet_time(program, what, words, least):
 @pytest.mark.parametrize("what, width", [("", 1), (", width 7", 7)])
 def test_begins_anew(program, what, width):
     """Where six requests have timed out they are lost at once, and null procedures are sent on the same connection, without a line feed.
-    A reply that fits none keeps the line alive."""
+    The reply that settled last, again, keeps the line alive."""
 
     def answers(request):
-        return b"%R1P,0,7:0\r\n" if request.rpc and len(far.commands()) <= 6 else good(request)
+        return b"%R1P,0,0:0\r\n" if request.rpc and len(far.commands()) <= 6 else good(request)
 
     text = b"".join(b"%d 5003\n" % target for target in range(9))
     with standing(answers) as far:

@@ -215,6 +215,45 @@ def test_accepted_elsewhere(program):
             assert [(row["outcome"], row["quality"]) for row in rows] == [("elsewhere", ""), ("answered", "warning")], "the rows"
 
 
+# What 17017 answers in both sendings of a chain, and in further ones; and the outcome, quality and distance of the rows of these answers.
+ONE = b"0,0.5,1.5,25.0,2"
+UNCONFIRMED = ("answered", "unconfirmed", "")
+TWICE = {
+    "a scatter": ([ONE, b"0,0.50001,1.49999,25.001,2"], [UNCONFIRMED, ("answered", "ok", "25.001")]),
+    "the tolerances themselves": ([ONE, b"0,0.50002,1.49998,25.002,2"], [UNCONFIRMED, ("answered", "ok", "25.002")]),
+    "over the circle's end": ([b"0,6.28318,1.5,25.0,2", b"0,0.00001,1.5,25.0,2"], [UNCONFIRMED, ("answered", "ok", "25.0")]),
+    "a direction that is altered": ([b"0,0.9,1.5,25.0,2", ONE], [UNCONFIRMED, ("disagree", "", "")]),
+    "an angle that is altered": ([ONE, b"0,0.5,1.50003,25.0,2"], [UNCONFIRMED, ("disagree", "", "")]),
+    "a distance that is altered": ([ONE, b"0,0.5,1.5,26.0,2"], [UNCONFIRMED, ("disagree", "", "")]),
+    "a mode that is altered": ([ONE, b"0,0.5,1.5,25.0,3"], [UNCONFIRMED, ("disagree", "", "")]),
+    "a refusal at first": ([b"1285"], [("answered", "refused", "")]),
+    "a refusal in the second sending": ([ONE, b"1285"], [UNCONFIRMED, ("answered", "refused", "")]),
+    "a warning in the second sending": ([ONE, b"1284,0.5,1.5,25.0,2"], [UNCONFIRMED, ("answered", "warning", "25.0")]),
+    "sent again": ([b"0,0.9,1.5,25.0,2", ONE, ONE, ONE], [UNCONFIRMED, ("disagree", "", ""), UNCONFIRMED, ("answered", "ok", "25.0")]),
+}
+
+
+@pytest.mark.title("a chain that is sent twice, {what}")
+@pytest.mark.parametrize("what", TWICE)
+def test_sent_twice(program, what):
+    """The rows of the first sending are unconfirmed, and one of the second that is apart by more than the tolerances disagrees. No row that counts
+    has a value that one altered reply made."""
+    answers, wanted = TWICE[what]
+    given = iter(answers)
+    again = b"retry 1 disagree\n" if len(answers) > 2 else b""
+    text = b"accept 1284\nagree 0.00002 0.00002 0.002\n" + again + b"7 9027 0.5,1.5,0,1,0\n7 17017 2\nagree\n8 5003\n"
+    with standing(lambda request: request.reply(next(given)) if request.rpc == 17017 else good(request)) as far:
+        with Run([program, "station", far.port, "--columns", *SHORT.split()], text) as run:
+            assert run.status(PATIENCE) == 0, run.messages()
+            rows = list(csv.DictReader(run.output().decode().splitlines()))
+            disagree = sum(outcome == "disagree" for outcome, _, _ in wanted[-2:])
+            assert f" disagree {disagree} again {int(bool(again))}" in run.messages().splitlines()[-1]
+    measured = [row for row in rows if row["procedure"] == "17017" and row["sent"]]
+    assert [(row["outcome"], row["quality"], row["distance_m"]) for row in measured] == wanted, "the rows"
+    assert [row["attempt"] for row in measured] == [str(attempt) for attempt in range(1, len(wanted) + 1)], "the attempts"
+    assert (rows[-1]["procedure"], rows[-1]["quality"], rows[-1]["attempt"]) == ("5003", "ok", "1"), "the command after it"
+
+
 @pytest.mark.title("the counts, one of each outcome")
 def test_counts(program):
     """The last line counts the rows: one of each outcome but missed."""

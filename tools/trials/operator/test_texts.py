@@ -42,6 +42,8 @@ FAULTY = [
     (b"near 7 2.25,1.6,0.01\n", 1, "near: HZ is no decimal from 0 to a turn, in radians"),
     (b"near 7 2.25 3.2 0.01\n", 1, "near: V is no decimal from 0 to half a turn, in radians"),
     (b"near 7 2.25 1.6 \n", 1, "near: TOLERANCE is no decimal from 0 to half a turn, in radians"),
+    (b"near 7 2.25 1.6 0.01 12,5 0.1\n", 1, "near: DISTANCE is no decimal from 0 to 100000, in metres"),
+    (b"near 7 2.25 1.6 0.01 12.5\n", 1, "near: the TOLERANCE after DISTANCE is no decimal from 0 to 100000, in metres"),
     (b"near 7 2.25 1.6 0.01\n7 5003\nnear 7 2.25 1.6 0.02\n", 3, "near: a second place of the target, or a 65th"),
     ("\ufeff# one\r\n7 5003\r\n".encode(), 1, "begins with a byte order mark: save the text without it"),
     ("7 5003\n".encode("utf-16"), 1, "is UTF-16: save the text as UTF-8"),
