@@ -6,12 +6,13 @@ use Rattle.gc_catalogue.specs.declared.call.Call.TheVariants.{NullProc}
 use Rattle.gc_catalogue.specs.declared.asked.Asked.{Asked}
 use Rattle.gc_client.specs.declared.window.TheConstants.{WINDOW}
 use Rattle.gc_client.specs.Rule.{ById, hears}
+use Rattle.gc_instrument.proofs.Answering.{handed_again}
 use Rattle.gc_instrument.specs.Replying.{Handed, kept_line}
 use Rattle.gc_instrument.specs.State.{State, IsFittingState}
 use Rattle.gc_world.specs.Clients.{by_ids, ids_open}
 use Rattle.gc_field.specs.Simulator.{simulator_ends}
 use Rattle.gc_field.specs.World.{Numbered, Request, World, Up_deliver, Up_lose, on_wire, replied, with_settled, down_delivered}
-use Rattle.gc_world.proofs.Handing.{exchange, kept_of, keeper}
+use Rattle.gc_world.proofs.Handing.{exchange, kept_of}
 use Rattle.gc_field.specs.Field.{Move, Sends, OnLine, moved}
 use Rattle.gc_field.specs.Alone.{SecondIsBookedUnexecuted, two_at_once}
 use Rattle.gc_field.specs.Made.{WasMadeFrom, wire_behind}
@@ -39,7 +40,7 @@ module _ (s : State) (line : List ℕ) where
 
   -- if the instrument keeps a reply with id 1, it sends that reply again for a request with that id
   handed_is : kept_line (kept_of s) (Some 1) ≡ Some line → simulator_ends.handed s 1 (Table NullProc) ≡ again
-  handed_is k = keeper.again s 1 NullProc line k
+  handed_is k = handed_again s 1 NullProc line k
 
   -- if the instrument, in a state that fits (`IsFittingState`), keeps the line with id 1, the client reads id 1 in that line
   heard_is : IsFittingState s → kept_line (kept_of s) (Some 1) ≡ Some line → simulator_ends.heard line ≡ Some 1

@@ -86,7 +86,7 @@ exchange = record {
 -- Executions.
 
 -- a call, whether a fault answers it or not, leaves as it is whether the instrument repeats
-same_repeats : (s : SceneState) (rpc : ℕ) (call : Call) (o : Option ℕ) → (unless_faulted (counting rpc s) call o).state.repeats ≡ s.repeats
+pub same_repeats : (s : SceneState) (rpc : ℕ) (call : Call) (o : Option ℕ) → (unless_faulted (counting rpc s) call o).state.repeats ≡ s.repeats
 unfolding plays
 same_repeats s rpc call (Some code) = refl
 same_repeats s rpc call None = refl

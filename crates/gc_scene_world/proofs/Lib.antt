@@ -3,3 +3,5 @@ pub mod Lanes
 pub mod Shown
 pub mod Handed
 pub mod Turns
+mod Booking
+mod Keeping

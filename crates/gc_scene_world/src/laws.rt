@@ -4,8 +4,9 @@
 //! A request's number is its place among the requests sent, counted from 0. In the run by ids the client knows requests by ids of one
 //! digit; in the run by numbers it is told each reply's number. The client's window is at most seven wide.
 
-ghost use Rattle.gc_scene_world.specs.SceneLaws.{BooksOwnLines};
+ghost use Rattle.gc_scene_world.specs.SceneLaws.{BooksExecutions, BooksOwnLines, ExecutesEachTime};
 ghost use Rattle.gc_scene_world.specs.SceneRuns.{scene_ends};
+ghost use Rattle.gc_world.specs.FirstReply.{BooksFirstReply, FirstReplyIsLate, IsInTimeOrTooLate, IsNeverInTimeAndTooLate, NoSecondReply};
 ghost use Rattle.gc_world.specs.Laws.{KeepsOrder, RunsAgree, SettlesInOrder};
 
 /// Settlement m has the target and the call of request m, and there are no more settlements than requests sent.
@@ -19,9 +20,29 @@ pub fn runs_agree()
 {}
 
 /// Where a settlement is an answer, its line is one that the instrument sent when it was given the very request that is settled:
-/// a reply made then, or a stored reply that it sent again. Which of the two isn't said.
+/// a reply made then, or a stored reply that it sent again. Which of the two [`answers_are_made_on_executing`] says.
 pub fn answers_are_booked()
     ensures { BooksOwnLines }
+{}
+
+/// Where a scene's instrument stores its last reply, as it does unless the scene has `repeats no`: each answer that is booked was
+/// made on executing that very request, each line that the instrument sent is the reply of an execution, and it executes each
+/// request at most once, in order. Where it stores none, each line that it sent was made on executing its request, each time that
+/// the request came.
+pub fn answers_are_made_on_executing()
+    ensures stores { BooksExecutions }
+    ensures stores_none { ExecutesEachTime }
+{}
+
+/// When the last byte of a reply to an unsettled request is delivered, the unsettled requests before that request are settled as
+/// lost. The request itself is settled as answered with that very line if the client was given no time at or past the request's
+/// deadline since its send, and else as late. A further reply settles nothing.
+pub fn first_reply_is_booked()
+    ensures in_time { BooksFirstReply scene_ends }
+    ensures late { FirstReplyIsLate scene_ends }
+    ensures one_or_other { IsInTimeOrTooLate scene_ends }
+    ensures never_both { IsNeverInTimeAndTooLate scene_ends }
+    ensures first_alone { NoSecondReply scene_ends }
 {}
 
 /// In each queue the numbers never fall from front to back, and no reply in flight has a higher number than a request in flight.

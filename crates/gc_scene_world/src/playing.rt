@@ -15,14 +15,14 @@ use std::alloc::{AllocError, Global};
 /// settlements and the counts of the run by ids ([`laws`](crate::laws)).
 ///
 /// Whatever the scene's rules say: the settlements correspond one for one and in order to the requests sent, as far as they go;
-/// each answer that the client booked is a line that the instrument sent when it was given the very request that the answer
-/// settles; and the run is that of a client which is told the request of each reply.
+/// each answer that the client booked was made on executing the very request that the answer settles; a first reply that comes while
+/// its request isn't settled settles it, as answered or as late; and the run is that of a client which is told the request of each
+/// reply. Unless the scene has `repeats no`, each request is executed at most once, in order.
 ///
-/// What `play_width` of `gc_world` promises beyond that isn't promised here: such a line may be a stored reply that was sent again,
-/// and no law speaks of first replies. If the instrument doesn't repeat (`repeats no` in a scene), a request whose line is repeated
-/// acts as often as it comes, and each time the reply may be another. A request that a fault answers isn't executed, though it
-/// counts as executed. No record of executions is kept, and nothing is said of what an answer reads as: a scene may answer with any
-/// code.
+/// What `play_width` of `gc_world` promises beyond that isn't promised here. If the instrument doesn't repeat (`repeats no` in a
+/// scene), a request whose line is repeated acts as often as it comes, and each time the reply may be another. A request that a fault
+/// answers isn't carried out, though it counts as executed. No record of executions is kept, and nothing is said of what an answer
+/// reads as: a scene may answer with any code.
 ///
 /// A run has no clock: the moment of each request is the one to which `instrument` is set when it is passed.
 ///

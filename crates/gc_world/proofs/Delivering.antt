@@ -4,7 +4,6 @@ use Rattle.std.proofs.lemmas.Bool.{lt-ltb}
 use Rattle.gc_lines.specs.Lines.{with_end}
 use Rattle.gc_catalogue.specs.declared.call.Call.{Call}
 use Rattle.gc_client.specs.Rule.{ById}
-use Rattle.gc_instrument.specs.State.{State}
 use Rattle.gc_world.specs.declared.direction.Direction.TheVariants.{Down}
 use Rattle.gc_world.specs.declared.event.Event.{Event}
 use Rattle.gc_world.specs.declared.event.Event.TheVariants.{DownDeliver, DownBytes}
@@ -23,7 +22,7 @@ cut_zero (text ∷ texts) =
     ap (λ b. cond {A = Cut} b (record { lines = 0; gone = 0 }) (one_line_more (cut (map with_end texts) (0 - length (with_end text)))))
     (lt-ltb 0 (length (with_end text)) (omega (arith, end_length text)))
 
-module _ (ends : Ends State) (rule : Rule (ById Call)) (v : Streams (ById Call) State) where
+module _ {State : Type 0} (ends : Ends State) (rule : Rule (ById Call)) (v : Streams (ById Call) State) where
   -- an event of exactly the bytes that remain of the reply in front does what the delivery of that reply does
   exact_bytes : (n : ℕ) → remaining v.down_gone (down_lines v.world.wire) ≡ n + 1 → flows ends rule v (DownBytes (n + 1)) ≡ flows ends rule v DownDeliver
   exact_bytes n e =

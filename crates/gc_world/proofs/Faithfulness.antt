@@ -33,8 +33,8 @@ module _ (width : ℕ) (narrow : width ≤ 7) (opening : State) (events : List E
       let one = one_for_one r w h (one_for_one_at width ends es (restarted opening)) in
       record {
         one_for_one = one;
-        booked = books_answers r w h shows.calls (booked_at width narrow ends IsFittingState exchange kept_of keeper refl es opening good) one;
-        executed = records_execution r w h opening (execution_at width narrow ends IsFittingState exchange kept_of keeper refl es opening good);
+        booked = books_answers r w h shows.calls (booked_at width narrow ends IsFittingState exchange kept_of (keeper IsFittingState) refl es opening good) one;
+        executed = records_execution r w h opening (execution_at width narrow ends IsFittingState exchange kept_of (keeper IsFittingState) refl es opening good);
         agrees =
             agrees_with r (played width opening events).wire shows.reports (played_by_numbers width opening events).wire
             (level_wire width narrow ends KeptFits kept_exchange (restarted opening) tt (streams_by_ids width ends events (restarted opening))
@@ -48,7 +48,7 @@ module _ (width : ℕ) (narrow : width ≤ 7) (opening : State) (events : List E
       let es = level.steps in
       let w = (run_by_ids width ends es (restarted opening)).wire in
       let h : IsReport r w = subst (λ (v : World (ById Call) State). IsReport r v.wire) level.ids shows.reports in
-      acts_once r w h opening (execution_at width narrow ends IsFittingState exchange kept_of keeper refl es opening good)
+      acts_once r w h opening (execution_at width narrow ends IsFittingState exchange kept_of (keeper IsFittingState) refl es opening good)
 
   -- no list of a report of the run by ids is longer than the list of events
   pub no_longer_than : (r : Report) (up down : List ℕ) (client : Windowed Call) → AreOfWorld width r up down client (played width opening events)

@@ -13,19 +13,18 @@ use Rattle.gc_client.specs.Rule.{ById, Settlement, Outcome, Answered, Late, Lost
 use Rattle.gc_client.specs.OneForOne.{Wanted, of_settled, of_pending}
 use Rattle.gc_client.proofs.Ends.{settle_is}
 use Rattle.gc_client.proofs.Lists.{drop_next}
-use Rattle.gc_instrument.specs.State.{State, restarted}
 use Rattle.gc_world.specs.declared.event.Event.{Event}
 use Rattle.gc_world.specs.declared.event.Event.TheVariants.{DownDeliver}
 use Rattle.gc_world.specs.declared.event.Event.TheVariants as event
 use Rattle.gc_world.specs.Clients.{ByNumber, number_send, number_reply, by_ids, by_numbers, ids_open, numbers_open, run_by_ids, streams_by_ids, streams_by_numbers}
 use Rattle.gc_world.specs.FirstReply.{IsDelivery, HasSend, IsInTime, IsTooLate, IsSettledAs, settled_as, between, DeliverySettles}
 use Rattle.gc_world.specs.Streams.{Streams, untouched, flows}
-use Rattle.gc_world.specs.Clients.{ends, left_by_ids}
-use Rattle.gc_world.specs.World.{Sent, Numbered, Wire, World, Send, Down_deliver, requested, down_delivered, happens, run, call_line}
+use Rattle.gc_world.specs.Clients.{left_between}
+use Rattle.gc_world.specs.Exchange.{IsExchange}
+use Rattle.gc_world.specs.World.{Ends, Sent, Numbered, Wire, World, Send, Down_deliver, requested, down_delivered, happens, run, call_line}
 use Rattle.gc_world.proofs.Agree.{Agree, agree_at, sound_at}
 use Rattle.gc_world.proofs.Flow.{taken, flow_run, flow_append, AreLevel, level_at, level_wire}
 use Rattle.gc_world.proofs.Delivering.{delivery_is}
-use Rattle.gc_world.proofs.Handing.{KeptFits, kept_exchange}
 use Rattle.gc_world.proofs.Marks.{entry_all}
 use Rattle.gc_world.proofs.Moments.{marked_all, in_time, too_late}
 use Rattle.gc_world.proofs.Places.{get_map, get_push, get_seen, slice_drop}
@@ -95,7 +94,7 @@ settles_through settled waiting sent n line p whole le h =
 
 -- The run by numbers.
 
-module _ (width : ℕ) where
+module _ {State : Type 0} (ends : Ends State) (width : ℕ) where
   -- delivering the front reply x, while the client counts x's request as unsettled, adds the settlements that `settle` makes by
   -- x's line: it goes through the unsettled requests up to that of x
   delivered : (w : World (ByNumber Call) State) (x : Numbered (List ℕ)) (rest : List (Numbered (List ℕ))) → w.wire.down ≡ x ∷ rest → w.client.count ≤ x.number
@@ -122,30 +121,33 @@ module _ (width : ℕ) where
   sent_entry w target call deadline false counted more =
       ap (λ k. slice_get (w.client.requests ++ pending_of target call deadline ∷ []) k) (sym counted) ∙ get_push w.client.requests (pending_of target call deadline)
 
-module _ (width : ℕ) (narrow : width ≤ WINDOW) (opening : State) where
+-- the replies of the instrument `ends` have their requests' ids in good states (`Good`, `IsExchange`), and the restarted opening
+-- state is one
+module _ {State : Type 0} (ends : Ends State) (Good : State → Type 0) (ex : IsExchange ends Good) (width : ℕ) (narrow : width ≤ WINDOW)
+    (opening : State) (good : Good (ends.restarted opening)) where
   -- the streams that the run by ids of these events leaves
   abbrev ids_after : List Event → Streams (ById Call) State
-  ids_after events = streams_by_ids width ends events (restarted opening)
+  ids_after events = streams_by_ids width ends events (ends.restarted opening)
 
   -- the streams that the run by numbers of these events leaves
   abbrev numbers_after : List Event → Streams (ByNumber Call) State
-  numbers_after events = streams_by_numbers width ends events (restarted opening)
+  numbers_after events = streams_by_numbers width ends events (ends.restarted opening)
 
   -- the two runs of these events are level
-  level : (events : List Event) → AreLevel width narrow ends KeptFits kept_exchange (restarted opening) tt (ids_after events) (numbers_after events)
-  level events = level_at width narrow ends KeptFits kept_exchange (restarted opening) tt events
+  level : (events : List Event) → AreLevel width narrow ends Good ex (ends.restarted opening) good (ids_after events) (numbers_after events)
+  level events = level_at width narrow ends Good ex (ends.restarted opening) good events
 
   -- the run by numbers of these events ends in a sound world
-  sound_in : (events : List Event) → Sound width ends KeptFits (numbers_after events).world
-  sound_in events = subst (Sound width ends KeptFits) (sym (level events).numbers) (sound_at width narrow ends KeptFits kept_exchange (level events).steps (restarted opening) tt)
+  sound_in : (events : List Event) → Sound width ends Good (numbers_after events).world
+  sound_in events = subst (Sound width ends Good) (sym (level events).numbers) (sound_at width narrow ends Good ex (level events).steps (ends.restarted opening) good)
 
   -- the two runs of these events leave the same wire
-  wire_in : (events : List Event) → left_by_ids width opening events ≡ (numbers_after events).world.wire
-  wire_in events = level_wire width narrow ends KeptFits kept_exchange (restarted opening) tt (ids_after events) (numbers_after events) (level events)
+  wire_in : (events : List Event) → left_between ends width opening events ≡ (numbers_after events).world.wire
+  wire_in events = level_wire width narrow ends Good ex (ends.restarted opening) good (ids_after events) (numbers_after events) (level events)
 
   -- the run by numbers of one more event is the run of the others, and then that event
   numbers_more : (events : List Event) (e : Event) → numbers_after (events ++ e ∷ []) ≡ flows ends (by_numbers width) (numbers_after events) e
-  numbers_more events e = flow_append ends (by_numbers width) events (e ∷ []) (untouched (numbers_open (restarted opening)))
+  numbers_more events e = flow_append ends (by_numbers width) events (e ∷ []) (untouched (numbers_open (ends.restarted opening)))
 
   -- the streams after the earlier events and then the send of a request, in the run by numbers
   abbrev after_send : (earlier : List Event) (target : ℕ) (call : Call) (deadline : ℕ) → Streams (ByNumber Call) State
@@ -156,8 +158,8 @@ module _ (width : ℕ) (narrow : width ≤ WINDOW) (opening : State) where
   mark_of earlier target call deadline later = marked_all ends (by_numbers width) later (after_send earlier target call deadline) (pending_of target call deadline)
 
   -- where the events have the send of request n, and n isn't settled, the oracle client has it at place n as `mark_of` says
-  entry : (events : List Event) (n : ℕ) (s : HasSend width opening events n)
-      → length (left_by_ids width opening events).settled ≤ n → slice_get (numbers_after events).world.client.requests n ≡ Some
+  entry : (events : List Event) (n : ℕ) (s : HasSend ends width opening events n)
+      → length (left_between ends width opening events).settled ≤ n → slice_get (numbers_after events).world.client.requests n ≡ Some
       (mark_of s.earlier s.target s.call s.deadline s.later)
   entry events n s le =
       let e : Event = event.Send s.target s.call s.deadline in
@@ -171,39 +173,39 @@ module _ (width : ℕ) (narrow : width ≤ WINDOW) (opening : State) where
       ∙ s.taken ∙ ap (λ m. m + 1) (sym here) in
       let full = eqb (length v.client.requests - v.client.count) width in
       let at : slice_get w.client.requests n ≡ Some (pending_of s.target s.call s.deadline) =
-      ap (slice_get w.client.requests) (sym here) ∙ sent_entry width v s.target s.call s.deadline full (sound_in s.earlier).counted more in
+      ap (slice_get w.client.requests) (sym here) ∙ sent_entry ends width v s.target s.call s.deadline full (sound_in s.earlier).counted more in
       let whole : (numbers_after events).world ≡ run ends (by_numbers width) steps w =
       ap (λ es. (numbers_after es).world) s.order
-      ∙ ap (λ (u : Streams (ByNumber Call) State). u.world) (flow_append ends (by_numbers width) s.earlier (e ∷ s.later) (untouched (numbers_open (restarted opening))))
+      ∙ ap (λ (u : Streams (ByNumber Call) State). u.world) (flow_append ends (by_numbers width) s.earlier (e ∷ s.later) (untouched (numbers_open (ends.restarted opening))))
       ∙ flow_run ends (by_numbers width) s.later b in
       let unsettled : (numbers_after events).world.client.count ≤ n = omega (arith, (sound_in events).booked, ap (λ (u : Wire State). length u.settled) (wire_in events), le) in
       subst (λ (u : World (ByNumber Call) State). slice_get u.client.requests n ≡ Some (mark_of s.earlier s.target s.call s.deadline s.later)) (sym whole)
-      (entry_all width ends KeptFits kept_exchange steps w n (pending_of s.target s.call s.deadline)
-      (sound_step width ends KeptFits call_line kept_exchange v (Send s.target s.call s.deadline) (sound_in s.earlier)) at
+      (entry_all width ends Good ex steps w n (pending_of s.target s.call s.deadline)
+      (sound_step width ends Good call_line ex v (Send s.target s.call s.deadline) (sound_in s.earlier)) at
       (subst (λ (u : World (ByNumber Call) State). u.client.count ≤ n) whole unsettled))
 
   -- an event that delivers the front reply, if there is one, leaves in the run by ids the settlements that the step
   -- `Down_deliver` leaves in the run by numbers
   delivered_by : (events : List Event) (delivery : Event) → IsDelivery (ids_after events) delivery
-      → (left_by_ids width opening (events ++ delivery ∷ [])).settled ≡ (happens ends (by_numbers width) (numbers_after events).world Down_deliver).wire.settled
+      → (left_between ends width opening (events ++ delivery ∷ [])).settled ≡ (happens ends (by_numbers width) (numbers_after events).world Down_deliver).wire.settled
   delivered_by events delivery is =
-      let one : left_by_ids width opening (events ++ delivery ∷ []) ≡ left_by_ids width opening (events ++ DownDeliver ∷ []) =
+      let one : left_between ends width opening (events ++ delivery ∷ []) ≡ left_between ends width opening (events ++ DownDeliver ∷ []) =
       ap (λ (v : Streams (ById Call) State). v.world.wire)
-      (flow_append ends (by_ids width ends) events (delivery ∷ []) (untouched (ids_open (restarted opening)))
+      (flow_append ends (by_ids width ends) events (delivery ∷ []) (untouched (ids_open (ends.restarted opening)))
       ∙ delivery_is ends (by_ids width ends) (ids_after events) delivery is
-      ∙ sym (flow_append ends (by_ids width ends) events (DownDeliver ∷ []) (untouched (ids_open (restarted opening))))) in
+      ∙ sym (flow_append ends (by_ids width ends) events (DownDeliver ∷ []) (untouched (ids_open (ends.restarted opening))))) in
       ap (λ (u : Wire State). u.settled) (one ∙ wire_in (events ++ DownDeliver ∷ [])) ∙ ap (λ (u : Streams (ByNumber Call) State). u.world.wire.settled) (numbers_more events DownDeliver)
 
   -- where the oracle client has p as request n, the delivery of a reply to request n, while this isn't settled, settles it: as
   -- late where p had timed out, else as answered
   settled_at : (events : List Event) (n : ℕ) (line : List ℕ) (p : Pending Call) → slice_get (numbers_after events).world.client.requests n ≡ Some p
-      → DeliverySettles width opening events n line (outcome_of p line)
+      → DeliverySettles ends width opening events n line (outcome_of p line)
   settled_at events n line p h delivery is next =
       let l = level events in
-      let a = run_by_ids width ends l.steps (restarted opening) in
+      let a = run_by_ids width ends l.steps (ends.restarted opening) in
       let same : (ids_after events).world ≡ a = l.ids in
       let b = (numbers_after events).world in
-      let agree = subst (Agree width narrow ends KeptFits a) (sym l.numbers) (agree_at width narrow ends KeptFits kept_exchange l.steps (restarted opening) tt) in
+      let agree = subst (Agree width narrow ends Good a) (sym l.numbers) (agree_at width narrow ends Good ex l.steps (ends.restarted opening) good) in
       let front : a.wire.down ≡ record { number = n; line = line } ∷ next.behind = ap (λ (u : World (ById Call) State). u.wire.down) (sym same) ∙ next.front in
       let unsettled : length a.wire.settled ≤ n = subst (λ (u : World (ById Call) State). length u.wire.settled ≤ n) same next.unsettled in
       let count : b.client.count ≡ length a.wire.settled = sym (sound_in events).booked ∙ ap (λ (u : Wire State). length u.settled) (sym agree.wire) in
@@ -211,13 +213,13 @@ module _ (width : ℕ) (narrow : width ≤ WINDOW) (opening : State) where
       let place : slice_get a.client.waiting (n - length a.wire.settled) ≡ Some p =
       ap (λ m. slice_get a.client.waiting (n - m)) (sym count) ∙ ap (λ ps. slice_get ps (n - b.client.count)) window
       ∙ slice_drop b.client.count b.client.requests n (omega (arith, count, unsettled)) ∙ h in
-      let does = settles_through a.wire.settled a.client.waiting a.wire.sent n line p (whole_at width ends call_line l.steps (restarted opening)) unsettled place in
+      let does = settles_through a.wire.settled a.client.waiting a.wire.sent n line p (whole_at width ends call_line l.steps (ends.restarted opening)) unsettled place in
       let x : Numbered (List ℕ) = record { number = n; line = line } in
       let down : b.wire.down ≡ x ∷ next.behind = ap (λ (u : Wire State). u.down) (sym agree.wire) ∙ front in
-      let after : (left_by_ids width opening (events ++ delivery ∷ [])).settled ≡ b.wire.settled ++ settle (n - b.client.count) line (drop b.client.count b.client.requests) =
+      let after : (left_between ends width opening (events ++ delivery ∷ [])).settled ≡ b.wire.settled ++ settle (n - b.client.count) line (drop b.client.count b.client.requests) =
       delivered_by events delivery is
-      ∙ delivered width b x next.behind down (omega (arith, count, unsettled)) in
-      subst (λ (u : World (ById Call) State). IsSettledAs u.wire (left_by_ids width opening (events ++ delivery ∷ [])) n (outcome_of p line)) (sym same)
+      ∙ delivered ends width b x next.behind down (omega (arith, count, unsettled)) in
+      subst (λ (u : World (ById Call) State). IsSettledAs u.wire (left_between ends width opening (events ++ delivery ∷ [])) n (outcome_of p line)) (sym same)
       (record {
         request = does.request;
         found = does.found;
@@ -229,32 +231,32 @@ module _ (width : ℕ) (narrow : width ≤ WINDOW) (opening : State) where
 
   -- where request n is in time after these events, the delivery of a first reply to it settles it as answered with the reply's
   -- line, and the unsettled requests before it as lost (`DeliverySettles`)
-  pub in_time_is_answered : (events : List Event) (n : ℕ) (line : List ℕ) → IsInTime width opening events n → DeliverySettles width opening events n line (Answered line)
+  pub in_time_is_answered : (events : List Event) (n : ℕ) (line : List ℕ) → IsInTime ends width opening events n → DeliverySettles ends width opening events n line (Answered line)
   in_time_is_answered events n line t delivery is next =
       let s = t.sent in
       let p = mark_of s.earlier s.target s.call s.deadline s.later in
-      subst (λ b. IsSettledAs (left_by_ids width opening events) (left_by_ids width opening (events ++ delivery ∷ [])) n (cond b Late (Answered line)))
+      subst (λ b. IsSettledAs (left_between ends width opening events) (left_between ends width opening (events ++ delivery ∷ [])) n (cond b Late (Answered line)))
       (in_time ends (by_numbers width) s.later (after_send s.earlier s.target s.call s.deadline) (pending_of s.target s.call s.deadline) refl t.early)
       (settled_at events n line p (entry events n s next.unsettled) delivery is next)
 
   -- where request n is too late after these events, the delivery of a first reply to it settles it as late, and the unsettled
   -- requests before it as lost (`DeliverySettles`)
-  pub too_late_is_late : (events : List Event) (n : ℕ) (line : List ℕ) → IsTooLate width opening events n → DeliverySettles width opening events n line Late
+  pub too_late_is_late : (events : List Event) (n : ℕ) (line : List ℕ) → IsTooLate ends width opening events n → DeliverySettles ends width opening events n line Late
   too_late_is_late events n line t delivery is next =
       let s = t.sent in
       let p = mark_of s.earlier s.target s.call s.deadline s.later in
-      subst (λ b. IsSettledAs (left_by_ids width opening events) (left_by_ids width opening (events ++ delivery ∷ [])) n (cond b Late (Answered line)))
+      subst (λ b. IsSettledAs (left_between ends width opening events) (left_between ends width opening (events ++ delivery ∷ [])) n (cond b Late (Answered line)))
       (too_late ends (by_numbers width) s.later (after_send s.earlier s.target s.call s.deadline) (pending_of s.target s.call s.deadline) t.now t.given t.reached)
       (settled_at events n line p (entry events n s next.unsettled) delivery is next)
 
   -- the delivery of the front reply settles nothing where it belongs to a request n that is settled already
   pub no_second : (events : List Event) (n : ℕ) (line : List ℕ) (rest : List (Numbered (List ℕ))) (delivery : Event) → IsDelivery (ids_after events) delivery
-      → (left_by_ids width opening events).down ≡ record { number = n; line = line } ∷ rest → n < length (left_by_ids width opening events).settled
-      → (left_by_ids width opening (events ++ delivery ∷ [])).settled ≡ (left_by_ids width opening events).settled
+      → (left_between ends width opening events).down ≡ record { number = n; line = line } ∷ rest → n < length (left_between ends width opening events).settled
+      → (left_between ends width opening (events ++ delivery ∷ [])).settled ≡ (left_between ends width opening events).settled
   no_second events n line rest delivery is front lt =
       let b = (numbers_after events).world in
       let same = sym (wire_in events) in
       let x : Numbered (List ℕ) = record { number = n; line = line } in
       let old : n < b.client.count = omega (arith, (sound_in events).booked, ap (λ (u : Wire State). length u.settled) same, lt) in
       delivered_by events delivery is
-      ∙ delivered_again width b x rest (ap (λ (u : Wire State). u.down) same ∙ front) old ∙ ap (λ (u : Wire State). u.settled) same
+      ∙ delivered_again ends width b x rest (ap (λ (u : Wire State). u.down) same ∙ front) old ∙ ap (λ (u : Wire State). u.settled) same

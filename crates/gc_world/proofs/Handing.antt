@@ -82,16 +82,16 @@ exchange =
       restart_good = restarted_fits;
     }
 
--- the instrument keeps its last reply as `IsKeeper` asks: a request with the kept id gets the kept line, and any other is
--- executed
-pub keeper : IsKeeper ends kept_of
-keeper =
+-- the instrument keeps its last reply as `IsKeeper` asks, in whatever states: a request with the kept id gets the kept line, and
+-- any other is executed
+pub keeper : (Good : State → Type 0) → IsKeeper ends Good kept_of
+keeper Good =
     record {
       twice = λ s. refl;
       forgets = λ s. refl;
-      again = λ s id call line e. handed_again s id call line e;
-      executes = λ s id call e. ap (λ (x : Handed State). x.executed) (handed_new s id call e);
-      keeps = λ s id call e. subst (λ (x : Handed State). x.state.kept ≡ Some (record { id = id; line = x.reply })) (sym (handed_new s id call e)) refl;
+      again = λ s id call line good e. handed_again s id call line e;
+      executes = λ s id call good e. ap (λ (x : Handed State). x.executed) (handed_new s id call e);
+      keeps = λ s id call good e. subst (λ (x : Handed State). x.state.kept ≡ Some (record { id = id; line = x.reply })) (sym (handed_new s id call e)) refl;
     }
 
 -- a request that was executed didn't have the kept id

@@ -126,7 +126,7 @@ recent_of width since count top total (Some k) executed up above last few going 
     both (x ∷ xs) a g = ((omega (arith, a.0), omega (arith, g.0.sent, above.0, above.2, few)), both xs a.1 g.1)
 
 module _ {State : Type 0} (width : ℕ) (narrow : width ≤ 7) (ends : Ends State) (Good : State → Type 0) (ex : IsExchange ends Good)
-    (kept : State → Option KeptReply) (keeper : IsKeeper ends kept) (opening : State) where
+    (kept : State → Option KeptReply) (keeper : IsKeeper ends Good kept) (opening : State) where
   -- the wire's executions are a replay (`Replays`) with these replies. The replies that were made are these and no others
   -- (`among`, `each`); no start counts more executions than there were; the kept reply is that of the request executed last
   -- (`held`); and each request in flight is the one that was sent with its number (`lines`)
@@ -158,15 +158,15 @@ module _ {State : Type 0} (width : ℕ) (narrow : width ≤ 7) (ends : Ends Stat
 
   -- `IsReplayed` holds also once the front request, whose id isn't the kept one, was executed: its number + 1 is then the top
   replayed_new : (w : Wire State) (x : Numbered Request) (rest : List (Numbered Request)) (top : ℕ) (front : w.up ≡ x ∷ rest) (hd : Handed State)
-      (handed_is : ends.handed w.state x.line.id x.line.call ≡ hd) (none : kept_line (kept w.state) (Some x.line.id) ≡ None) (replayed : IsReplayed w top)
+      (handed_is : ends.handed w.state x.line.id x.line.call ≡ hd) (none : kept_line (kept w.state) (Some x.line.id) ≡ None) (good : Good w.state) (replayed : IsReplayed w top)
       (executed_is : hd.executed ≡ true) → IsReplayed (replied w x.number rest (record hd { executed = true })) (x.number + 1)
-  replayed_new w x rest top q hd is none h exe =
+  replayed_new w x rest top q hd is none good h exe =
       let of = subst (λ l. AllByRecursion (IsAsSent call_line w.sent) l) q h.lines in
       let y : Numbered (List ℕ) = record { number = x.number; line = hd.reply } in
       let same_call = of.0.call in
       let m : x.number ≡ x.number + 1 - 1 = omega arith in
       let keeps_it : kept hd.state ≡ Some (record { id = x.line.id; line = hd.reply }) =
-      subst (λ (k : Handed State). kept k.state ≡ Some (record { id = x.line.id; line = k.reply })) is (keeper.keeps w.state x.line.id x.line.call none) in
+      subst (λ (k : Handed State). kept k.state ≡ Some (record { id = x.line.id; line = k.reply })) is (keeper.keeps w.state x.line.id x.line.call good none) in
       record {
         replies = h.replies ++ y ∷ [];
         replays =
@@ -205,7 +205,7 @@ module _ {State : Type 0} (width : ℕ) (narrow : width ≤ 7) (ends : Ends Stat
       let new = front_is_new (kept w.wire.state) c.since c.count h.top x rest (subst (λ i. kept_line (kept w.wire.state) (Some i) ≡ None) g.0.id none) a in
       let order = rising_tail c.count x.number (numbers w.wire.down) (numbers rest) (subst (λ l. Rising c.count (numbers w.wire.down ++ numbers l)) q s.order) in
       let keeps_it : kept hd.state ≡ Some (record { id = x.line.id; line = hd.reply }) =
-      subst (λ (k : Handed State). kept k.state ≡ Some (record { id = x.line.id; line = k.reply })) is (keeper.keeps w.wire.state x.line.id x.line.call none) in
+      subst (λ (k : Handed State). kept k.state ≡ Some (record { id = x.line.id; line = k.reply })) is (keeper.keeps w.wire.state x.line.id x.line.call s.good none) in
       let m : x.number ≡ x.number + 1 - 1 = omega arith in
       record {
         top = x.number + 1;
@@ -216,7 +216,7 @@ module _ {State : Type 0} (width : ℕ) (narrow : width ≤ 7) (ends : Ends Stat
         above = subst (λ k. IsAboveExecuted k c.since c.count (x.number + 1) rest) (sym keeps_it)
             (omega (arith, g.0.recent), g.0.id ∙ ap (λ n. (n - c.since) % 8) m, order.0, rising_each (x.number + 1) rest order.1);
         last = subst (λ k. IsLast k (x.number + 1) (w.wire.executed ++ x.number ∷ [])) (sym keeps_it) (w.wire.executed, ap (λ n. w.wire.executed ++ n ∷ []) m);
-        replayed = replayed_new w.wire x rest h.top q hd is none h.replayed exe;
+        replayed = replayed_new w.wire x rest h.top q hd is none s.good h.replayed exe;
       }
 
   -- `IsOnce` holds also once the front request, whose id is the kept one, got the kept line again
@@ -255,9 +255,9 @@ module _ {State : Type 0} (width : ℕ) (narrow : width ≤ 7) (ends : Ends Stat
       (kept_is : kept_line (kept w.wire.state) (Some x.line.id) ≡ o) (sound : Sound width ends Good w) (once : IsOnce w.client w.wire)
       → IsOnce w.client (replied w.wire x.number rest hd)
   once_handed w x rest hd (Some line) q is o s h =
-      subst (λ (k : Handed State). IsOnce w.client (replied w.wire x.number rest k)) (sym (keeper.again w.wire.state x.line.id x.line.call line o) ∙ is) (once_again w x rest line q o s h)
+      subst (λ (k : Handed State). IsOnce w.client (replied w.wire x.number rest k)) (sym (keeper.again w.wire.state x.line.id x.line.call line s.good o) ∙ is) (once_again w x rest line q o s h)
   once_handed w x rest hd None q is o s h =
-      let exe : hd.executed ≡ true = sym (ap (λ (k : Handed State). k.executed) is) ∙ keeper.executes w.wire.state x.line.id x.line.call o in
+      let exe : hd.executed ≡ true = sym (ap (λ (k : Handed State). k.executed) is) ∙ keeper.executes w.wire.state x.line.id x.line.call s.good o in
       subst (λ v. IsOnce w.client (replied w.wire x.number rest (record hd { executed = v }))) (sym exe) (once_new w x rest hd q is o exe s h)
 
   -- `IsOnce` holds also once a client sent one more request, and its counts `since` and `count` are as before

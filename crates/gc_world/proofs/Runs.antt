@@ -25,7 +25,7 @@ module _ {State : Type 0} (width : ℕ) (ends : Ends State) (es : List Step) whe
       one_for_one w.wire.settled w.client.waiting w.wire.sent (whole_at width ends call_line es state)
 
 module _ {State : Type 0} (width : ℕ) (narrow : width ≤ 7) (ends : Ends State) (Good : State → Type 0) (ex : IsExchange ends Good)
-    (kept : State → Option KeptReply) (keeper : IsKeeper ends kept) (joint : ends.joint ≡ true) (es : List Step) (opening : State)
+    (kept : State → Option KeptReply) (keeper : IsKeeper ends Good kept) (joint : ends.joint ≡ true) (es : List Step) (opening : State)
     (good : Good (ends.restarted opening)) where
   -- the world that the run by numbers leaves
   abbrev by_number : World (ByNumber Call) State

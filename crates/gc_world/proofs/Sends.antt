@@ -7,14 +7,13 @@ use Rattle.gc_lines.proofs.Lists.{cons_tail}
 use Rattle.gc_catalogue.specs.declared.call.Call.{Call}
 use Rattle.gc_catalogue.specs.Texts.{request_line}
 use Rattle.gc_client.specs.Rule.{ById, Sending}
-use Rattle.gc_instrument.specs.State.{State, restarted}
 use Rattle.gc_world.specs.declared.event.Event.{Event}
 use Rattle.gc_world.specs.declared.event.Event.TheVariants.{Send, UpDeliver, UpBytes, UpLose, UpRepeat, DownDeliver, DownBytes, DownLose, DownRepeat, Expire, RestartClient, RestartInstrument}
 use Rattle.gc_world.specs.Clients.{by_ids, ids_open, streams_by_ids}
 use Rattle.gc_world.specs.Streams.{Streams, untouched, cut, passed, is_begun, up_lines, down_lines, flows, flow}
 use Rattle.gc_world.specs.World
 use Rattle.gc_world.specs.FirstReply.{HasSend, IsInTime, IsTooLate, IsInTimeOrTooLate, IsNeverInTimeAndTooLate}
-use Rattle.gc_world.specs.Clients.{ends, left_by_ids}
+use Rattle.gc_world.specs.Clients.{left_between}
 use Rattle.gc_world.specs.World.{Request, Numbered, Ends, Rule, Wire, World, Step, Up_deliver, Down_deliver, up_delivered, with_up, with_down, started, instrument_restarted, requested, down_delivered, client_restarted, happens, run}
 use Rattle.gc_world.proofs.Flow.{flow_append}
 use Rattle.gc_world.proofs.Moments.{AllEarly, OneReaches, early_or_reached}
@@ -109,21 +108,21 @@ module _ {Client S : Type 0} (ends : Ends S) (rule : Rule Client) where
   sends_one v RestartClient = inl (ap length (at_restart v.world v.world.wire.up v.world.wire.down))
   sends_one v RestartInstrument = inl (ap length (at_instrument v.world.wire v.world.wire.up v.world.wire.down))
 
-module _ (width : ℕ) (opening : State) (n : ℕ) where
+module _ {State : Type 0} (ends : Ends State) (width : ℕ) (opening : State) (n : ℕ) where
   -- how many requests the run by ids of these events sent
   abbrev sent_in : List Event → ℕ
-  sent_in events = length (left_by_ids width opening events).sent
+  sent_in events = length (left_between ends width opening events).sent
 
   -- the wire that the run by ids of one more event leaves is that of the streams after the others and then this event
-  left_more : (events : List Event) (e : Event) → left_by_ids width opening (events ++ e ∷ [])
-      ≡ (flows ends (by_ids width ends) (streams_by_ids width ends events (restarted opening)) e).world.wire
-  left_more events e = ap (λ (v : Streams (ById Call) State). v.world.wire) (flow_append ends (by_ids width ends) events (e ∷ []) (untouched (ids_open (restarted opening))))
+  left_more : (events : List Event) (e : Event) → left_between ends width opening (events ++ e ∷ [])
+      ≡ (flows ends (by_ids width ends) (streams_by_ids width ends events (ends.restarted opening)) e).world.wire
+  left_more events e = ap (λ (v : Streams (ById Call) State). v.world.wire) (flow_append ends (by_ids width ends) events (e ∷ []) (untouched (ids_open (ends.restarted opening))))
 
   -- the list has the send of request n, where the event e sends a request, and at most n were sent before it: if n were (b true),
   -- that send is e; if fewer were (b false), the last premise gives it
   found_at : (earlier : List Event) (e : Event) (rest : List Event) (b : Bool) (test : eqb (sent_in earlier) n ≡ b) (few : sent_in earlier ≤ n) (send : IsSend e)
-      (more : sent_in (earlier ++ e ∷ []) ≡ sent_in earlier + 1) (again : (sent_in (earlier ++ e ∷ []) ≤ n → HasSend width opening (earlier ++ e ∷ rest) n))
-      → HasSend width opening (earlier ++ e ∷ rest) n
+      (more : sent_in (earlier ++ e ∷ []) ≡ sent_in earlier + 1) (again : (sent_in (earlier ++ e ∷ []) ≤ n → HasSend ends width opening (earlier ++ e ∷ rest) n))
+      → HasSend ends width opening (earlier ++ e ∷ rest) n
   found_at earlier e rest true t le (target, call, deadline, is) more again =
       let here : sent_in earlier ≡ n = eqb-true _ _ t in
       record {
@@ -142,7 +141,7 @@ module _ (width : ℕ) (opening : State) (n : ℕ) where
   -- last premise gives it
   found_by : (earlier : List Event) (e : Event) (rest : List Event) → sent_in earlier ≤ n
       → SendsAtMostOne e (sent_in earlier) (sent_in (earlier ++ e ∷ []))
-      → (sent_in (earlier ++ e ∷ []) ≤ n → HasSend width opening (earlier ++ e ∷ rest) n) → HasSend width opening (earlier ++ e ∷ rest) n
+      → (sent_in (earlier ++ e ∷ []) ≤ n → HasSend ends width opening (earlier ++ e ∷ rest) n) → HasSend ends width opening (earlier ++ e ∷ rest) n
   found_by earlier e rest le (inl same) again = again (omega (arith, same, le))
   found_by earlier e rest le (inr (send, more)) again = found_at earlier e rest (eqb (sent_in earlier) n) refl le send more again
 
@@ -150,37 +149,37 @@ module _ (width : ℕ) (opening : State) (n : ℕ) where
   sends_one_in : (earlier : List Event) (e : Event) → SendsAtMostOne e (sent_in earlier) (sent_in (earlier ++ e ∷ []))
   sends_one_in earlier e =
       subst (λ (w : Wire State). SendsAtMostOne e (sent_in earlier) (length w.sent)) (sym (left_more earlier e))
-      (sends_one ends (by_ids width ends) (streams_by_ids width ends earlier (restarted opening)) e)
+      (sends_one ends (by_ids width ends) (streams_by_ids width ends earlier (ends.restarted opening)) e)
 
   -- where the events `earlier` send at most n requests, and `earlier` and `later` together more than n, the send of request n
   -- is in the list
-  found : (earlier later : List Event) → sent_in earlier ≤ n → n < sent_in (earlier ++ later) → HasSend width opening (earlier ++ later) n
+  found : (earlier later : List Event) → sent_in earlier ≤ n → n < sent_in (earlier ++ later) → HasSend ends width opening (earlier ++ later) n
   found earlier [] le lt = absurd (omega (arith, le, lt, ap sent_in (append-nil earlier)))
   found earlier (e ∷ rest) le lt =
       let same : (earlier ++ e ∷ []) ++ rest ≡ earlier ++ e ∷ rest = append_assoc earlier (e ∷ []) rest in
       found_by earlier e rest le (sends_one_in earlier e)
-      (λ le1. subst (λ es. HasSend width opening es n) same (found (earlier ++ e ∷ []) rest le1 (subst (λ es. n < sent_in es) (sym same) lt)))
+      (λ le1. subst (λ es. HasSend ends width opening es n) same (found (earlier ++ e ∷ []) rest le1 (subst (λ es. n < sent_in es) (sym same) lt)))
 
   -- a request that was sent has its send in the list
-  pub is_sent : (events : List Event) → n < sent_in events → HasSend width opening events n
+  pub is_sent : (events : List Event) → n < sent_in events → HasSend ends width opening events n
   is_sent events lt = found [] events (omega arith) lt
 
 -- a request whose send is in the list is in time where each moment after the send lies before its deadline, and too late where
 -- one reaches it
-in_time_or_too_late : (width : ℕ) (opening : State) (events : List Event) (n : ℕ) (s : HasSend width opening events n)
-    → AllEarly s.deadline s.later ⊎ OneReaches s.deadline s.later → IsInTime width opening events n ⊎ IsTooLate width opening events n
-in_time_or_too_late width opening events n s (inl early) = inl (record { sent = s; early = early })
-in_time_or_too_late width opening events n s (inr (now, has, reached)) = inr (record { sent = s; now = now; given = has; reached = reached })
+in_time_or_too_late : {State : Type 0} (ends : Ends State) (width : ℕ) (opening : State) (events : List Event) (n : ℕ) (s : HasSend ends width opening events n)
+    → AllEarly s.deadline s.later ⊎ OneReaches s.deadline s.later → IsInTime ends width opening events n ⊎ IsTooLate ends width opening events n
+in_time_or_too_late ends width opening events n s (inl early) = inl (record { sent = s; early = early })
+in_time_or_too_late ends width opening events n s (inr (now, has, reached)) = inr (record { sent = s; now = now; given = has; reached = reached })
 
 -- a request that was sent is in time or too late
-pub one_or_other : IsInTimeOrTooLate
-one_or_other width opening events n lt =
-    let s = is_sent width opening n events lt in
-    in_time_or_too_late width opening events n s (early_or_reached s.deadline s.later)
+pub one_or_other : {State : Type 0} (ends : Ends State) → IsInTimeOrTooLate ends
+one_or_other ends width opening events n lt =
+    let s = is_sent ends width opening n events lt in
+    in_time_or_too_late ends width opening events n s (early_or_reached s.deadline s.later)
 
 -- The send of a request is in the list once.
 
-module _ (rule : Rule (ById Call)) (n : ℕ) where
+module _ {State : Type 0} (ends : Ends State) (rule : Rule (ById Call)) (n : ℕ) where
   -- the streams after these events, by this rule
   abbrev runs : List Event → Streams (ById Call) State → Streams (ById Call) State
   runs es v = flow ends rule es v
@@ -225,12 +224,12 @@ same_deadline : (t u : ℕ) (c d : Call) (k m : ℕ) (later rest : List Event) �
 same_deadline t u c d k m later rest e = cc
 
 -- no request is both in time and too late
-pub never_both : IsNeverInTimeAndTooLate
-never_both width opening events n a b =
+pub never_both : {State : Type 0} (ends : Ends State) → IsNeverInTimeAndTooLate ends
+never_both ends width opening events n a b =
     let s = a.sent in
     let t = b.sent in
     let x : Event = Send s.target s.call s.deadline in
     let y : Event = Send t.target t.call t.deadline in
-    let one = one_split (by_ids width ends) n s.earlier t.earlier x y s.later t.later (untouched (ids_open (restarted opening))) (sym s.order ∙ t.order) s.number t.number s.taken t.taken in
+    let one = one_split ends (by_ids width ends) n s.earlier t.earlier x y s.later t.later (untouched (ids_open (ends.restarted opening))) (sym s.order ∙ t.order) s.number t.number s.taken t.taken in
     let lt : b.now < s.deadline = a.early b.now (subst (λ es. Contains es (Expire b.now)) (sym (cons_tail x y s.later t.later one)) b.given) in
     absurd (omega (arith, lt, b.reached, same_deadline s.target t.target s.call t.call s.deadline t.deadline s.later t.later one))

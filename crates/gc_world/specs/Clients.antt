@@ -118,6 +118,11 @@ module _ {State : Type 0} where
   abbrev pub played_between : Ends State → ℕ → State → List Event → World (ById Call) State
   played_between ends width opening events = (streamed_between ends width opening events).world
 
+  -- the wire that the run by ids of these events leaves between two ends, from the restarted opening state, with a window of this
+  -- width: the world but its client
+  abbrev pub left_between : Ends State → ℕ → State → List Event → Wire State
+  left_between ends width opening events = (played_between ends width opening events).wire
+
   -- the world that the run by numbers of these events leaves between two ends, from the restarted opening state, with a window of
   -- this width
   abbrev pub played_by_numbers_between : Ends State → ℕ → State → List Event → World (ByNumber Call) State

@@ -17,14 +17,14 @@ pub record IsExchange {Q State : Type 0} (ends : Ends Q State) (Good : State →
   pub stays_good : (state : State) (id : ℕ) (call : Q) → Good state → id < IDS → Good (ends.handed state id call).state
   pub restart_good : (state : State) → Good state → Good (ends.restarted state)
 
--- the instrument keeps its last reply, with the reply's id: `kept` gives what a state keeps. A request with the kept id gets the
--- kept line, isn't executed, and leaves the state as it is; any other request is executed, and its reply is kept. Restarting
--- twice is restarting once, and leaves nothing kept
-pub record IsKeeper {Q State : Type 0} (ends : Ends Q State) (kept : State → Option KeptReply) : Type 0 where
+-- the instrument keeps its last reply, with the reply's id: `kept` gives what a state keeps. In a good state (`Good`) a request with
+-- the kept id gets the kept line, isn't executed, and leaves the state as it is; any other request is executed, and its reply is
+-- kept. Restarting twice is restarting once, and leaves nothing kept
+pub record IsKeeper {Q State : Type 0} (ends : Ends Q State) (Good : State → Type 0) (kept : State → Option KeptReply) : Type 0 where
   pub twice : (state : State) → ends.restarted (ends.restarted state) ≡ ends.restarted state
   pub forgets : (state : State) → kept (ends.restarted state) ≡ None
-  pub again : (state : State) (id : ℕ) (call : Q) (line : List ℕ) → kept_line (kept state) (Some id) ≡ Some line
+  pub again : (state : State) (id : ℕ) (call : Q) (line : List ℕ) → Good state → kept_line (kept state) (Some id) ≡ Some line
       → ends.handed state id call ≡ record { state = state; reply = line; executed = false }
-  pub executes : (state : State) (id : ℕ) (call : Q) → kept_line (kept state) (Some id) ≡ None → (ends.handed state id call).executed ≡ true
-  pub keeps : (state : State) (id : ℕ) (call : Q) → kept_line (kept state) (Some id) ≡ None
+  pub executes : (state : State) (id : ℕ) (call : Q) → Good state → kept_line (kept state) (Some id) ≡ None → (ends.handed state id call).executed ≡ true
+  pub keeps : (state : State) (id : ℕ) (call : Q) → Good state → kept_line (kept state) (Some id) ≡ None
       → kept (ends.handed state id call).state ≡ Some (record { id = id; line = (ends.handed state id call).reply })

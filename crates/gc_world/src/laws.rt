@@ -53,11 +53,11 @@ pub fn executions_are_recorded()
 /// deadline since its send, and else as late. A further reply settles nothing. If the bytes of one event complete several
 /// replies, each is delivered in turn, by [`bytes_go_over_in_turn`].
 pub fn first_reply_is_booked()
-    ensures in_time { BooksFirstReply }
-    ensures late { FirstReplyIsLate }
-    ensures one_or_other { IsInTimeOrTooLate }
-    ensures never_both { IsNeverInTimeAndTooLate }
-    ensures first_alone { NoSecondReply }
+    ensures in_time { BooksFirstReply ends }
+    ensures late { FirstReplyIsLate ends }
+    ensures one_or_other { IsInTimeOrTooLate ends }
+    ensures never_both { IsNeverInTimeAndTooLate ends }
+    ensures first_alone { NoSecondReply ends }
 {}
 
 /// Whether bytes that are in flight are delivered in one event or in two, of one byte at least, and so in any number of events, they

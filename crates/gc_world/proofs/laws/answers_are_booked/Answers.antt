@@ -15,7 +15,7 @@ pub returns-clause-own : goal.returns-clause-own
 returns-clause-own c = λ width narrow opening good events.
     let at = level_at width narrow ends IsFittingState exchange (restarted opening) good events in
     subst (λ (w : World (ById Call) State). (m : ℕ) (s : Settlement Call) → slice_get w.wire.settled m ≡ Some s → IsBooked ends IsFittingState w.wire.made m s) (sym at.ids)
-    (booked_at width narrow ends IsFittingState exchange kept_of keeper refl at.steps opening good)
+    (booked_at width narrow ends IsFittingState exchange kept_of (keeper IsFittingState) refl at.steps opening good)
 
 pub returns-clause-fine : goal.returns-clause-fine
 returns-clause-fine c = fine

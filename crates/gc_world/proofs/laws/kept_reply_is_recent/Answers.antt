@@ -14,4 +14,4 @@ pub returns : goal.returns
 returns c = λ width narrow opening events.
     let at = level_at width narrow ends KeptFits kept_exchange (restarted opening) tt events in
     subst (λ (w : World (ById Call) State). IsRecent width w.wire.state.kept w.wire.executed (numbers w.wire.up)) (sym at.ids)
-    (recent_at width narrow ends KeptFits kept_exchange kept_of keeper refl at.steps opening tt)
+    (recent_at width narrow ends KeptFits kept_exchange kept_of (keeper KeptFits) refl at.steps opening tt)
