@@ -1,7 +1,12 @@
-//! The making of connections, which is done here and nowhere else.
+//! The making of connections over TCP, which is done here and nowhere else.
 
+ghost use Rattle.gc_links.specs.Calls.{Makes};
+ghost use Rattle.gc_links.specs.Connecting.{Connects, ConnectsFirst, IsHere};
+ghost use Rattle.std.specs.Net.ToAddrs.{host_addrs};
+
+use crate::system::{System, Wired};
 use std::io::{self, ErrorKind};
-use std::net::{Net, SocketAddr, TcpListener, TcpStream, ToSocketAddrs};
+use std::net::{HostAddrs, Net, SocketAddr, TcpListener, TcpStream};
 use std::time::Duration;
 
 /// How long the making of a connection (at each address of a name), or one write, may wait for the other end, in milliseconds. A
@@ -24,54 +29,42 @@ pub(crate) enum Peer<'a> {
 /// It fails where the name can't be looked up, and where none of its addresses can be connected to. A connection to itself
 /// counts as failed: the system can make one at a port where nobody listens.
 pub(crate) fn connect<R: Net<Listener = TcpListener, Stream = TcpStream>>(
-    rt: &R,
+    system: &mut System<'_, R>,
     peer: Peer<'_>,
     patience: Duration,
-) -> io::Result<TcpStream> {
+) -> io::Result<Wired>
+    ensures { Makes system.old.calls.made system.new.calls.made (Connects peer.entry result) }
+{
     match peer {
-        Peer::Port(port) => connect_to(rt, &here(port), patience),
-        Peer::Host(name) => {
-            let mut ended = Err(io::Error::from(ErrorKind::NotFound));
-            for address in name.to_socket_addrs(rt)? {
-                ended = connect_to(rt, &address, patience);
-                if ended.is_ok() {
-                    break;
-                }
-            }
-            ended
+        Peer::Port(port) => system.connect(here(port), patience),
+        Peer::Host(name) => match system.look_up(name) {
+            Ok(addresses) => connect_first(system, addresses, patience),
+            Err(error) => Err(error),
+        },
+    }
+}
+
+// Connects to the first of these addresses where that can be done.
+fn connect_first<R: Net<Listener = TcpListener, Stream = TcpStream>>(
+    system: &mut System<'_, R>,
+    addresses: HostAddrs,
+    patience: Duration,
+) -> io::Result<Wired>
+    ensures { Makes system.old.calls.made system.new.calls.made (ConnectsFirst (host_addrs addresses) result) }
+{
+    let mut failed = io::Error::from(ErrorKind::NotFound);
+    for address in addresses {
+        match system.connect(address, patience) {
+            Ok(wired) => return Ok(wired),
+            Err(error) => failed = error,
         }
     }
-}
-
-// Connects to one address, and waits for it no longer than `patience`. A connection to itself is refused.
-fn connect_to<R: Net<Listener = TcpListener, Stream = TcpStream>>(
-    rt: &R,
-    address: &SocketAddr,
-    patience: Duration,
-) -> io::Result<TcpStream> {
-    let stream = TcpStream::connect_timeout(rt, address, patience)?;
-    if is_to_itself(&stream) {
-        return Err(io::Error::from(ErrorKind::ConnectionRefused));
-    }
-    send_at_once(&stream);
-    Ok(stream)
-}
-
-// Whether a connection is one to itself: both of its ends have one address. `false` where the system doesn't say them.
-fn is_to_itself(stream: &TcpStream) -> bool {
-    match (stream.local_addr(), stream.peer_addr()) {
-        (Ok(near), Ok(far)) => near == far,
-        _ => false,
-    }
+    Err(failed)
 }
 
 /// The address of a port of 127.0.0.1.
-pub(crate) fn here(port: u16) -> SocketAddr {
+pub(crate) fn here(port: u16) -> SocketAddr
+    ensures { IsHere port result }
+{
     SocketAddr::from(([127, 0, 0, 1], port))
-}
-
-/// Makes a connection send each line as soon as it is written (no delay by Nagle's algorithm). Where the system can't do that,
-/// lines only arrive later, so there is no error.
-pub(crate) fn send_at_once(stream: &TcpStream) {
-    let _ = stream.set_nodelay(true);
 }

@@ -1,7 +1,8 @@
 //! Ports of this machine: listening at one, accepting its connections, and connecting to one. Where no address is named they are
 //! those of 127.0.0.1.
 
-use crate::connection::{PATIENCE, Peer, connect, here, send_at_once};
+use crate::connection::{PATIENCE, Peer, connect, here};
+use crate::system::{System, send_at_once};
 use std::io;
 use std::net::{Net, TcpListener, TcpStream};
 use std::time::Duration;
@@ -37,7 +38,13 @@ pub fn connect_here<R: Net<Listener = TcpListener, Stream = TcpStream>>(
     rt: &R,
     port: u16,
 ) -> io::Result<TcpStream> {
-    connect(rt, Peer::Port(port), Duration::from_millis(PATIENCE))
+    let mut system = System::new(rt);
+    let wired = connect(
+        &mut system,
+        Peer::Port(port),
+        Duration::from_millis(PATIENCE),
+    )?;
+    Ok(wired.into_stream())
 }
 
 /// Both ends of one connection of this machine to itself: the one that connected, and the one that was accepted. If another

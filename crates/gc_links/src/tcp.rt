@@ -1,194 +1,156 @@
 //! A link over a real connection, to a port of 127.0.0.1 or to a host. None of its calls waits for ever, but for what the system
 //! takes to look up a name.
 
-ghost use Rattle.std.specs.Prelude.{◌≤◌, None};
-ghost use Rattle.gc_links.specs.Acts.{CameWithin, GivesAtMost};
+ghost use Rattle.std.specs.Prelude.{◌∷◌, [], Some, None};
+ghost use Rattle.std.specs.Time.{instant_nanos};
+ghost use Rattle.gc_links.specs.Calls.{Monotonic};
+ghost use Rattle.gc_links.specs.Answered.{open_end};
+ghost use Rattle.gc_links.specs.DoesOnTcp.{DoesOnTcp};
+ghost use Rattle.gc_links.specs.Meant.{AreMeant};
 
-use crate::connection::{PATIENCE, Peer, connect};
+use crate::calls::Calls;
+use crate::connection::{PATIENCE, Peer};
+use crate::history::{History, Note};
 use crate::link::{Came, Link, Moment};
+use crate::noting::{note_of_clock, note_of_open, note_of_put, note_of_read};
+use crate::place::Place;
+use crate::system::{System, Wired};
 use crate::timer::Timer;
+use crate::wiring::{hang_up, read_wired, renew, send};
 use gc_lines::PortFailed;
-use std::io::{self, ErrorKind, Read, Write};
+use std::io;
 use std::net::{Net, TcpListener, TcpStream};
 use std::time::{Clock, Duration};
 
-// The system may end a wait this many milliseconds too late. A read that may wait no longer than this therefore only rests for a
-// millisecond and reads briefly. The caller then reads again, and isn't late for what it waits for.
-const SHORT: u64 = 40;
-
-// How many interrupted writes of one put are made again at most.
-const MOST_INTERRUPTIONS: u32 = 1000;
-
-/// A connection to a port of this machine or to a host, and the time since the link was made. No clause says what a socket
-/// carried, so its acts are not known.
+/// A connection to a port of this machine or to a host, and the time since the link was made. Its acts are known, and are what
+/// the system's calls did.
 #[derive(Drop)]
 pub struct TcpLink<'a, R> {
-    rt: &'a R,
-    timer: Timer<'a, R>,
+    system: System<'a, R>,
+    timer: Timer,
     peer: Peer<'a>,
     // How long one write, and the making of a connection at one address, may wait, in milliseconds: at least one.
     patience: u64,
-    stream: Option<TcpStream>,
+    stream: Option<Wired>,
+    history: History,
+    pub ghost meant: { ∥ AreMeant (DoesOnTcp peer (instant_nanos timer.start)) (Monotonic (instant_nanos timer.start) ∷ []) None
+        history.acts system.calls.made (open_end stream) ∥₁ },
 }
 
 impl<'a, R: Net<Listener = TcpListener, Stream = TcpStream> + Clock> TcpLink<'a, R> {
+    ghost use Rattle.gc_links.specs.declared.place.Place.TheVariants.{Port, Host};
+    ghost use Rattle.gc_links.specs.TcpLinks.{MakesTcpLink, peer_place};
+
     /// A link to a port of 127.0.0.1 that is not connected yet. It fails where the clock can't be read.
-    pub fn new(rt: &'a R, port: u16) -> io::Result<TcpLink<'a, R>> {
+    pub fn new(rt: &'a R, port: u16) -> io::Result<TcpLink<'a, R>>
+        ensures { MakesTcpLink (Port port) result }
+    {
         TcpLink::with_patience(rt, port, PATIENCE)
     }
 
     /// A link to a port of 127.0.0.1 that is not connected yet. One write, and the making of a connection, waits no longer than
     /// `patience` milliseconds, where 0 counts as 1. It fails where the clock can't be read.
-    pub fn with_patience(rt: &'a R, port: u16, patience: u64) -> io::Result<TcpLink<'a, R>> {
+    pub fn with_patience(rt: &'a R, port: u16, patience: u64) -> io::Result<TcpLink<'a, R>>
+        ensures { MakesTcpLink (Port port) result }
+    {
         TcpLink::to_peer(rt, Peer::Port(port), patience)
     }
 
     /// A link to `HOST:PORT` that is not connected yet. The name is looked up at each open, for as long as the system takes for
     /// that, and its addresses are tried in turn until one can be connected to, each for ten seconds at most. It fails where the
     /// clock can't be read.
-    pub fn to_host(rt: &'a R, host: &'a str) -> io::Result<TcpLink<'a, R>> {
+    pub fn to_host(rt: &'a R, host: &'a str) -> io::Result<TcpLink<'a, R>>
+        ensures { MakesTcpLink (Host host.entry) result }
+    {
         TcpLink::to_peer(rt, Peer::Host(host), PATIENCE)
     }
 
     // A link to a peer that is not connected yet.
-    fn to_peer(rt: &'a R, peer: Peer<'a>, patience: u64) -> io::Result<TcpLink<'a, R>> {
-        Ok(TcpLink {
-            rt,
-            timer: Timer::new(rt)?,
-            peer,
-            patience: patience.max(1),
-            stream: None,
-        })
-    }
-
-    // Reads the connection as `read_timed` does. `None`: as there, or there is no connection.
-    fn read_for(&self, buf: &mut [u8], millis: u64) -> io::Result<Option<usize>>
-        ensures { GivesAtMost result buf.new }
+    fn to_peer(rt: &'a R, peer: Peer<'a>, patience: u64) -> io::Result<TcpLink<'a, R>>
+        ensures { MakesTcpLink (peer_place peer.entry) result }
     {
-        match &self.stream {
-            Some(stream) => read_timed(stream, buf, millis),
-            None => Ok(None),
-        }
-    }
-
-    // Reads with the shortest timeout, a millisecond. The moment of a silence is taken before the read: since the read gave
-    // nothing, nothing had come by that moment, even if this program was stopped for a while before it.
-    fn read_briefly(&self, buf: &mut [u8]) -> Came
-        ensures { CameWithin result buf.new }
-    {
-        let Ok(moment) = self.timer.moment() else {
-            return Came::NoMoment;
-        };
-        match self.read_for(buf, 1) {
-            Ok(Some(n)) => self.timer.came(n),
-            Ok(None) => Came::Silence(moment),
-            Err(_) => Came::Failure,
+        let mut system = System::new(rt);
+        match Timer::new(&mut system) {
+            Ok(timer) => Ok(TcpLink {
+                system,
+                timer,
+                peer,
+                patience: patience.max(1),
+                stream: None,
+                history: History::new(),
+            }),
+            Err(error) => Err(error),
         }
     }
 }
 
-// The timeout in milliseconds for a read that is to end within `millis` milliseconds: 0 if that is 20 or less. The system may end
-// a wait too late: one of more than a quarter of a second by an eighth of it, and a shorter one by two of the system's ticks. The
-// caller repeats a read that ended early.
-fn timeout_within(millis: u64) -> u64
-    ensures { result ≤ millis }
-{
-    millis.saturating_sub((millis / 8).max(20))
-}
+impl<'a, R> TcpLink<'a, R> {
+    ghost use Rattle.std.specs.Prelude.{◌≡◌, true};
+    ghost use Rattle.gc_links.specs.Placed.{place_seen};
+    ghost use Rattle.gc_links.specs.TcpLinks.{tcp_place};
 
-// Whether an error says that a call was interrupted, and did nothing.
-fn is_interrupted(error: &io::Error) -> bool {
-    error.kind() == ErrorKind::Interrupted
-}
+    /// Closes the link, and returns its calls of the system.
+    pub(crate) fn into_calls(self) -> Calls
+        ensures { result.made ≡ self.entry.system.calls.made }
+    {
+        let TcpLink {
+            system,
+            timer: _,
+            peer: _,
+            patience: _,
+            stream: _,
+            history: _,
+        } = self;
+        system.into_calls()
+    }
 
-/// Reads a connection, and returns how many bytes came, 0 at the end of the stream. It waits for them `millis` milliseconds at
-/// most, where 0 counts as 1, but the system may end the wait too late. `None`: nothing came in that time, or the read was
-/// interrupted. It also fails where the system can't set how long a read may wait. Later reads wait no longer than this one.
-pub(crate) fn read_timed(
-    stream: &TcpStream,
-    buf: &mut [u8],
-    millis: u64,
-) -> io::Result<Option<usize>>
-    ensures { GivesAtMost result buf.new }
-{
-    let mut stream = stream;
-    // A timeout of zero would be an error, and without one the read would wait for ever.
-    stream.set_read_timeout(Some(Duration::from_millis(millis.max(1))))?;
-    match stream.read(buf) {
-        Ok(n) => Ok(Some(n)),
-        Err(error) if is_silence(error.kind()) => Ok(None),
-        Err(error) => Err(error),
+    /// Whether the link leads to this place.
+    pub(crate) fn leads_to(&self, place: Place<'_>) -> bool
+        ensures { result ≡ true → place_seen (tcp_place self.now) ≡ place_seen place.entry }
+    {
+        match (self.peer, place) {
+            (Peer::Port(own), Place::Port(port)) => own == port,
+            (Peer::Host(own), Place::Host(host)) => own == host,
+            _ => false,
+        }
     }
 }
 
-// Whether an error of a read counts as silence: nothing came in its time, the read was interrupted, or the system gave the
-// connection up because the other end answered nothing (`TimedOut`).
-fn is_silence(kind: ErrorKind) -> bool {
-    matches!(
-        kind,
-        ErrorKind::WouldBlock | ErrorKind::TimedOut | ErrorKind::Interrupted
-    )
-}
-
+// Each call does its act by the system's calls, and notes it.
 impl<'a, R: Net<Listener = TcpListener, Stream = TcpStream> + Clock> Link for TcpLink<'a, R> {
-    ghost acts = { λ _. None };
+    ghost acts = { λ t. Some t.history.acts };
 
     fn now(&mut self) -> Result<Moment, PortFailed> {
-        self.timer.moment().map_err(|_| PortFailed)
+        let told = self.timer.moment(&mut self.system);
+        self.history = self.history.then(&note_of_clock(&told));
+        told
     }
 
     // Reads some bytes, or waits until about `millis` milliseconds have gone by. It ends early rather than late: the moment of
     // its silence says how early, and the caller reads again. Where there is no connection, it only waits.
     fn read(&mut self, buf: &mut [u8], millis: u64) -> Came {
-        if self.stream.is_none() {
-            return self.timer.wait(millis);
-        }
-        if millis <= SHORT {
-            self.timer.rest(1);
-            return self.read_briefly(buf);
-        }
-        match self.read_for(buf, timeout_within(millis)) {
-            Ok(Some(n)) => self.timer.came(n),
-            Ok(None) => self.read_briefly(buf),
-            Err(_) => Came::Failure,
-        }
+        let came = read_wired(&mut self.system, &self.timer, &self.stream, buf, millis);
+        self.history = self.history.then(&note_of_read(came, buf));
+        came
     }
 
-    // Writes all bytes, as many at once as the system takes. A write that was interrupted is made again, at most
-    // `MOST_INTERRUPTIONS` times in one put. A write that succeeds and takes nothing counts as failed.
+    // Writes all bytes, as many at once as the system takes.
     fn put(&mut self, bytes: &[u8]) -> Result<(), usize> {
-        let Some(stream) = &mut self.stream else {
-            return Err(0);
-        };
-        let mut at = 0;
-        let mut interruptions = 0;
-        while at < bytes.len() {
-            match stream.write(&bytes[at..]) {
-                Ok(0) => return Err(at),
-                Ok(n) => at += n,
-                Err(error) if is_interrupted(&error) && interruptions < MOST_INTERRUPTIONS => {
-                    interruptions += 1;
-                }
-                Err(_) => return Err(at),
-            }
-        }
-        Ok(())
+        let put = send(&mut self.system, &self.stream, bytes);
+        self.history = self.history.then(&note_of_put(put, bytes));
+        put
     }
 
     fn close(&mut self) {
-        self.stream = None;
+        hang_up(&mut self.system, &mut self.stream);
+        self.history = self.history.then(&Note::Closed);
     }
 
     // Connects to the peer, and sets how long a write may wait. Where either fails, the old connection stays.
     fn open(&mut self) -> Result<(), PortFailed> {
         let patience = Duration::from_millis(self.patience);
-        let stream = connect(self.rt, self.peer, patience).map_err(|_| PortFailed)?;
-        // Without this a peer that takes nothing would hold a write for ever. So a connection that refuses it counts
-        // as failed.
-        stream
-            .set_write_timeout(Some(patience))
-            .map_err(|_| PortFailed)?;
-        self.stream = Some(stream);
-        Ok(())
+        let opened = renew(&mut self.system, self.peer, patience, &mut self.stream);
+        self.history = self.history.then(&note_of_open(&opened));
+        opened
     }
 }

@@ -2,11 +2,10 @@
 //! noted in a history that exists in proofs alone.
 
 ghost use Rattle.std.specs.Prelude.{◌≡◌, []};
-ghost use Rattle.gc_links.specs.Acts.{CameWithin, read_act};
-ghost use Rattle.gc_links.specs.Noted.{act_of};
 
 use crate::history::{History, Note};
 use crate::link::{Came, Link, Moment};
+use crate::noting::note_of_read;
 use gc_lines::PortFailed;
 
 /// A link that notes the acts of the link inside.
@@ -27,20 +26,6 @@ impl<L: Link> Telling<L> {
             link,
             history: History::new(),
         }
-    }
-}
-
-// The note of a read, by its outcome and the buffer after it.
-fn note_of_read<'a>(came: Came, buf: &'a [u8]) -> Note<'a>
-    requires { CameWithin came buf.now }
-    ensures { act_of result ≡ read_act came buf.now }
-{
-    match came {
-        Came::Bytes(n, moment) => Note::Gave(&buf[..n], moment),
-        Came::Silence(moment) => Note::Silent(moment),
-        Came::End => Note::Ended,
-        Came::Failure => Note::Broke,
-        Came::NoMoment => Note::Untold,
     }
 }
 

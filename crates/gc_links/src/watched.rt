@@ -1,76 +1,224 @@
-//! A link that looks for a file: where the file is there, the end of the run is asked for.
+//! A link to a place that looks for a file: where the file is there, the end of the run is asked for.
 
-ghost use Rattle.std.specs.Prelude.{None};
+ghost use Rattle.std.specs.Prelude.{◌≡◌, ℕ, List, [], true, IfOk};
+ghost use Rattle.gc_links.specs.Acts.{CameWithin, clock_act, read_act};
+ghost use Rattle.gc_links.specs.Calls.{Makes};
+ghost use Rattle.gc_links.specs.Placed.{acts_in, place_in, place_seen};
+ghost use Rattle.gc_links.specs.Seeing.{AreSeen, IsLook, IsSeen, IsSeenAt, path_at};
 
+use crate::calls::Calls;
+use crate::device::Unusable;
+use crate::history::{History, Note};
 use crate::link::{Came, Link, Moment};
+use crate::noting::{note_of_clock, note_of_open, note_of_put, note_of_read};
+use crate::place::Place;
+use crate::placed::PlacedLink;
+use crate::system::System;
 use gc_lines::PortFailed;
-use std::fs;
+use std::fs::File;
+use std::net::{Net, TcpListener, TcpStream};
 use std::rt::Files;
+use std::time::Clock;
 
-/// A link over another, whose moments say whether a file is there by which somebody asks for the run's end.
+/// A link to a place, whose moments say whether a file is there by which somebody asks for the run's end.
 ///
-/// It looks for the file each time that the link inside reports a moment, unless the moment says already that the run's end
-/// was asked for. A file that can't be looked at, for any error, counts as not there: a run doesn't end for a directory that
-/// can't be read. Without a file (`None`) it makes no system call of its own.
+/// It looks for the file each time that the link inside reports a moment. A file that can't be looked at, for any error, counts as
+/// not there: a run doesn't end for a directory that can't be read. Without a file (`None`) it makes no system call of its own.
 #[derive(Drop)]
-pub struct Watched<'a, R, L> {
-    rt: &'a R,
-    link: L,
+pub struct Watched<'a, R> {
+    link: PlacedLink<'a, R>,
     // The path of the file.
     until: Option<&'a str>,
+    // The moment at which the link was made.
+    began: Moment,
+    // The system, for the looks for the file.
+    system: System<'a, R>,
+    /// The acts of the link since it was made, which proofs alone can read.
+    pub history: History,
+    ghost seen: { ∥ AreSeen (path_at until) began (acts_in link) system.calls.made history.acts ∥₁ },
 }
 
-impl<'a, R: Files, L> Watched<'a, R, L> {
-    /// A link over this one that looks for the file at the path `until`. `None`: it looks for no file.
-    pub fn new(rt: &'a R, link: L, until: Option<&'a str>) -> Watched<'a, R, L> {
-        Watched { rt, link, until }
+/// What is left of a link once it is closed, for proofs alone: the moment at which it was made, its acts since then, the system's
+/// calls that did them, and the looks for the file.
+#[derive(Drop)]
+pub struct LinkRecord {
+    pub began: Moment,
+    pub history: History,
+    pub calls: Calls,
+    pub looks: Calls,
+}
+
+impl<'a, R> Watched<'a, R> {
+    ghost use Rattle.gc_links.specs.LinksMeant.{IsMeantAt};
+    ghost use Rattle.gc_links.specs.Placed.{calls_in};
+
+    // Whether the link leads to this place, and looks for the file at the path `until`.
+    fn leads_to(&self, place: Place<'_>, until: Option<&str>) -> bool
+        ensures { result ≡ true → (place_in self.now.link ≡ place_seen place.entry) × (path_at self.now.until ≡ path_at until.entry) }
+    {
+        self.link.leads_to(place) && is_same_path(self.until, until)
     }
 
-    // Whether the file is there: `false` without a path, and where the system doesn't say.
-    fn is_there(&self) -> bool {
-        match self.until {
-            Some(path) => fs::exists(self.rt, path).unwrap_or(false),
-            None => false,
-        }
+    /// Whether the link leads to this place, and looks for the file at the path `until`. Then its acts are what the system's calls
+    /// did at this place, and what the looks for this file found.
+    pub fn is_for(&self, place: Place<'_>, until: Option<&str>) -> bool
+        ensures { result ≡ true → ∥ IsMeantAt (place_seen place.entry) (path_at until.entry) self.now ∥₁ }
+    {
+        self.leads_to(place, until)
     }
 
-    // A moment that the link inside reported. Its `stops` is `true` also where the file is there.
-    fn seen(&self, moment: Moment) -> Moment {
-        Moment {
-            stops: moment.stops || self.is_there(),
-            ..moment
+    /// The moment at which the link was made.
+    pub fn began(&self) -> Moment
+        ensures { result ≡ self.now.began }
+    {
+        self.began
+    }
+
+    /// Closes the link, and returns what is left of it.
+    pub fn into_record(self) -> LinkRecord
+        ensures { (result.began ≡ self.entry.began) × (result.history.acts ≡ self.entry.history.acts)
+            × (result.calls.made ≡ calls_in self.entry.link) × (result.looks.made ≡ self.entry.system.calls.made) }
+    {
+        let Watched {
+            link,
+            until: _,
+            began,
+            system,
+            history,
+        } = self;
+        LinkRecord {
+            began,
+            history,
+            calls: link.into_calls(),
+            looks: system.into_calls(),
         }
     }
 }
 
-// Each call is that of the link inside; the moments that it reports pass through `seen`.
-impl<'a, R: Files, L: Link> Link for Watched<'a, R, L> {
-    ghost acts = { λ _. None };
+impl<'a, R: Net<Listener = TcpListener, Stream = TcpStream> + Files<File = File> + Clock> Watched<
+    'a,
+    R,
+> {
+    /// A link to a place, as [`PlacedLink::new`] makes it, that looks for the file at the path `until`. `None`: it looks for no
+    /// file. Its clock is read once. `None` as the reason: the clock can't be read.
+    pub fn new(
+        rt: &'a R,
+        place: Place<'a>,
+        until: Option<&'a str>,
+    ) -> Result<Watched<'a, R>, Option<Unusable>>
+        ensures fresh { IfOk result (λ link. link.history.acts ≡ []) }
+    {
+        let mut link = PlacedLink::new(rt, place)?;
+        let Ok(began) = link.now() else {
+            return Err(None);
+        };
+        Ok(Watched {
+            link,
+            until,
+            began,
+            system: System::new(rt),
+            history: History::new(),
+        })
+    }
+}
+
+// Whether these are one path, or both none.
+fn is_same_path(a: Option<&str>, b: Option<&str>) -> bool
+    ensures { result ≡ true → path_at a.entry ≡ path_at b.entry }
+{
+    match (a, b) {
+        (Some(a), Some(b)) => a == b,
+        (None, None) => true,
+        _ => false,
+    }
+}
+
+// Looks for the file at `until`. Returns whether it is there: `false` without a path.
+fn look<R: Files>(system: &mut System<'_, R>, until: Option<&str>) -> bool
+    ensures { Makes system.old.calls.made system.new.calls.made (λ look. IsLook (path_at until.entry) look result) }
+{
+    match until {
+        Some(path) => system.look_for(path),
+        None => false,
+    }
+}
+
+// The moment that the link inside reported, as a look for the file at `until` makes it.
+fn see<R: Files>(system: &mut System<'_, R>, until: Option<&str>, moment: Moment) -> Moment
+    ensures { Makes system.old.calls.made system.new.calls.made (λ look. IsSeenAt (path_at until.entry) look moment result) }
+{
+    let here = look(system, until);
+    Moment {
+        elapsed: moment.elapsed,
+        utc: moment.utc,
+        stops: moment.stops || here,
+    }
+}
+
+// The result of a reading of the clock, as a look for the file at `until` makes it.
+fn see_clock<R: Files>(
+    system: &mut System<'_, R>,
+    until: Option<&str>,
+    told: Result<Moment, PortFailed>,
+) -> Result<Moment, PortFailed>
+    ensures { Makes system.old.calls.made system.new.calls.made (λ look. IsSeen (path_at until.entry) (clock_act told) look (clock_act result)) }
+{
+    match told {
+        Ok(moment) => Ok(see(system, until, moment)),
+        Err(failed) => Err(failed),
+    }
+}
+
+// The outcome of a read, as a look for the file at `until` makes it.
+fn see_read<R: Files>(system: &mut System<'_, R>, until: Option<&str>, came: Came) -> Came
+    ensures seen { Makes system.old.calls.made system.new.calls.made
+        (λ look. (buf : List ℕ) → IsSeen (path_at until.entry) (read_act came buf) look (read_act result buf)) }
+    ensures within { (buf : List ℕ) → CameWithin came buf → CameWithin result buf }
+{
+    match came {
+        Came::Bytes(n, moment) => Came::Bytes(n, see(system, until, moment)),
+        Came::Silence(moment) => Came::Silence(see(system, until, moment)),
+        Came::End => Came::End,
+        Came::Failure => Came::Failure,
+        Came::NoMoment => Came::NoMoment,
+    }
+}
+
+// Each call is that of the link inside; the moments that it reports pass through `see`.
+impl<'a, R: Net<Listener = TcpListener, Stream = TcpStream> + Files<File = File> + Clock> Link
+    for Watched<'a, R> {
+    ghost use Rattle.std.specs.Prelude.{Some};
+
+    ghost acts = { λ w. Some w.history.acts };
 
     fn now(&mut self) -> Result<Moment, PortFailed> {
-        let moment = self.link.now()?;
-        Ok(self.seen(moment))
+        let told = self.link.now();
+        let told = see_clock(&mut self.system, self.until, told);
+        self.history = self.history.then(&note_of_clock(&told));
+        told
     }
 
     fn read(&mut self, buf: &mut [u8], millis: u64) -> Came {
-        match self.link.read(buf, millis) {
-            Came::Bytes(n, moment) => Came::Bytes(n, self.seen(moment)),
-            Came::Silence(moment) => Came::Silence(self.seen(moment)),
-            Came::End => Came::End,
-            Came::Failure => Came::Failure,
-            Came::NoMoment => Came::NoMoment,
-        }
+        let came = self.link.read(buf, millis);
+        let came = see_read(&mut self.system, self.until, came);
+        self.history = self.history.then(&note_of_read(came, buf));
+        came
     }
 
     fn put(&mut self, bytes: &[u8]) -> Result<(), usize> {
-        self.link.put(bytes)
+        let put = self.link.put(bytes);
+        self.history = self.history.then(&note_of_put(put, bytes));
+        put
     }
 
     fn close(&mut self) {
         self.link.close();
+        self.history = self.history.then(&Note::Closed);
     }
 
     fn open(&mut self) -> Result<(), PortFailed> {
-        self.link.open()
+        let opened = self.link.open();
+        self.history = self.history.then(&note_of_open(&opened));
+        opened
     }
 }

@@ -6,7 +6,7 @@ ghost use Rattle.gc_links.specs.Acts.{GivesAtMost};
 use crate::connection::{PATIENCE, Peer, connect};
 use crate::device::{REST, Unusable, open_device, read_some, rest, write_some};
 use crate::place::Place;
-use crate::tcp::read_timed;
+use crate::system::{System, read_timed};
 use std::fs::File;
 use std::io::{self, ErrorKind, Read, Write};
 use std::net::{Net, TcpListener, TcpStream};
@@ -38,8 +38,9 @@ pub fn wire_to<'a, R: Net<Listener = TcpListener, Stream = TcpStream> + Files<Fi
         Place::Host(host) => Peer::Host(host),
         Place::Device(path) => return wire_on(rt, path),
     };
-    match connect(rt, peer, Duration::from_millis(PATIENCE)) {
-        Ok(stream) => Ok(Wire::Tcp(stream)),
+    let mut system = System::new(rt);
+    match connect(&mut system, peer, Duration::from_millis(PATIENCE)) {
+        Ok(wired) => Ok(Wire::Tcp(wired.into_stream())),
         Err(_) => Err(None),
     }
 }
@@ -84,7 +85,7 @@ impl<'a, R: Clock> Write for &Wire<'a, R> {
     fn write(&mut self, buf: &[u8]) -> io::Result<usize> {
         match *self {
             Wire::Tcp(stream) => write_stream(stream, buf),
-            Wire::Device(rt, file) => write_some(*rt, file, buf, &mut 0),
+            Wire::Device(rt, file) => write_some(*rt, file, buf),
         }
     }
 

@@ -1,0 +1,19 @@
+use Rattle.std.proofs.Common.{refl}
+use Rattle.std.specs.Time.{instant_nanos}
+use Rattle.gc_links.specs.Acts.{Closed, clock_act, read_act, put_act, open_act}
+use Rattle.gc_links.specs.Noted.{act_of}
+use Rattle.gc_links.specs.Slots.{hold_of}
+use Rattle.gc_links.proofs.DeviceActs.{clock_on_device, close_on_device}
+use Rattle.gc_links.proofs.DeviceMeaning.{device_then}
+use Rattle.gc_links.proofs.device_link.DeviceLinkLink.close.Goals as goal
+
+pub invariant_of-self : goal.invariant_of-self
+invariant_of-self g c =
+    let link = c.args.self.now in
+    let path = link.path.now in
+    let start = instant_nanos link.timer.start in
+    record {
+      meant =
+          device_then path start Closed Closed (hold_of c.close_slot.new.slot) link.meant c.then-self.ensures refl
+          (close_on_device path start (hold_of link.slot) (hold_of c.close_slot.new.slot) c.close_slot.ensures);
+    }

@@ -1,0 +1,11 @@
+use Rattle.std.proofs.Common.{rules}
+use Rattle.std.specs.Time.{instant_nanos}
+use Rattle.gc_links.specs.Clocks.{MissesClocks, ClocksAfter}
+use Rattle.gc_links.specs.declared.link.Came.TheVariants.{NoMoment}
+use Rattle.gc_links.proofs.Making.{makes_as}
+use Rattle.gc_links.proofs.moments.came.Goals as goal
+
+pub returns-in-Err-clause-does : goal.returns-in-Err-clause-does
+returns-in-Err-clause-does g c =
+    makes_as MissesClocks (ClocksAfter (instant_nanos c.args.timer.now.start) c.args.n NoMoment) (λ xs misses. (search rules, misses))
+    c.in-Err.ensures

@@ -1,0 +1,20 @@
+use Rattle.std.specs.Time.{instant_nanos}
+use Rattle.gc_links.specs.Devices.{device_end}
+use Rattle.gc_links.proofs.Reading.{came_then, clocks_then, clocks_missed, quiet_after}
+use Rattle.gc_links.proofs.serial.read_once.Goals as goal
+
+pub returns-in_default-clause-does : goal.returns-in_default-clause-does
+returns-in_default-clause-does g c =
+    clocks_missed (instant_nanos c.args.timer.now.start) (device_end c.args.device.now) c.in_default.ensures
+
+pub returns-in-Came-clause-does : goal.returns-in-Came-clause-does
+returns-in-Came-clause-does g c =
+    let start = instant_nanos c.args.timer.now.start in
+    let end = device_end c.args.device.now in
+    clocks_then start end c.in-Ok.moment c.read_device.new.buf c.came.result c.in-Ok.ensures
+    (came_then start end c.in-Came.n c.read_device.new.buf c.came.result c.in-Came.ensures.within c.in-Came.ensures.tells c.came.ensures.does)
+
+pub returns-in-CameNone-clause-does : goal.returns-in-CameNone-clause-does
+returns-in-CameNone-clause-does g c =
+    quiet_after (instant_nanos c.args.timer.now.start) (device_end c.args.device.now) c.in-Ok.moment c.in-Ok.ensures
+    c.in-CameNone.ensures.tells

@@ -1,0 +1,11 @@
+use Rattle.std.specs.Time.{instant_nanos}
+use Rattle.gc_links.specs.Acts.{Silent}
+use Rattle.gc_links.specs.Calls.{Makes}
+use Rattle.gc_links.specs.Devices.{device_end}
+use Rattle.gc_links.specs.Does.{DoesConnected}
+use Rattle.gc_links.proofs.serial.read_until.Given as goal
+
+abbrev pub invariant-loop : goal.invariant-loop
+invariant-loop g l = record {
+  silent : Makes l.fn.system.calls.made l.system.calls.made (DoesConnected (instant_nanos l.fn.timer.start) (device_end l.fn.device) (Silent l.quiet));
+}
