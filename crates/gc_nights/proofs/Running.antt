@@ -77,7 +77,8 @@ module _ (plan : Plan) (commands : List Task) (scope : Scope) (text : Record →
 pub faithful_runs : (commands : List Task) (acts : List Act) → RehearsalsInARowAreFaithful → IsOfLine acts → AreRuns commands [] acts → AreFaithfulRuns commands acts
 faithful_runs commands acts law line runs = record {
   runs = runs;
-  faithful = λ few. law runs.stations (subst IsOfLine runs.told line) (all_on (IsRunOf commands) RunsAndStops runs.stations (λ x run. run.1) runs.each) few;
+  line = line;
+  faithful = λ lines happened few. law runs.stations lines happened (all_on (IsRunOf commands) RunsAndStops runs.stations (λ x run. run.1) runs.each) few;
 }
 
 -- runs over the link of a rehearsal, new before them, are as `AreFaithfulUnlessAltered` says, by that law

@@ -1,7 +1,7 @@
 -- What it means that rows are true: this project's own. A claim is what a row says of a reply, and a truth is a reply that came, with the
 -- request on whose execution the instrument made it.
-use Rattle.std.specs.Prelude.{◌≡◌, ◌↔◌, ℕ, ◌+◌, ◌<◌, ◌⊎◌, Bool, true, false, List, [], ◌∷◌, slice_get, Some, IfSome, is_some, Result, Ok, Err}
-use Rattle.gc_catalogue.specs.Asked.{asked_line}
+use Rattle.std.specs.Prelude.{◌≡◌, ◌↔◌, ℕ, ◌+◌, ◌<◌, ◌⊎◌, Bool, true, false, List, [], ◌∷◌, slice_get, Some, IfSome, is_some, Result, Ok, Err, if◌then◌else◌, nat_eq}
+use Rattle.gc_catalogue.specs.Asked.{asked_line, procedure_of}
 use Rattle.gc_catalogue.specs.declared.asked.Asked.{Asked}
 use Rattle.gc_nights.specs.declared.book.Seen.{Seen}
 use Rattle.gc_nights.specs.declared.claim.Claim.{Claim}
@@ -12,6 +12,7 @@ use Rattle.gc_rehearsal.specs.declared.truth.Truth.{Truth}
 use Rattle.gc_texts.specs.Endings.{End, Answered, Unreadable, Elsewhere, Disagree, Late}
 use Rattle.gc_texts.specs.declared.fault.RunFault.TheVariants.{Memory}
 use Rattle.gc_texts.specs.declared.quality.Quality.TheVariants.{Unconfirmed}
+use Rattle.gc_texts.specs.declared.wish.Wish.{Wish}
 
 -- whether a row with this ending says that a reply came, in time or late. Such a row makes a claim
 abbrev pub speaks_of_reply : End → Bool
@@ -29,6 +30,10 @@ is_in_doubt (Answered Unconfirmed answer line) = true
 is_in_doubt (Disagree line) = true
 is_in_doubt _ = false
 
+-- how many requests were sent once this command was too, before which `requests` ones were sent: null procedures aren't counted
+abbrev pub requests_after : (requests : ℕ) → (command : Wish) → ℕ
+requests_after requests command = if nat_eq (procedure_of command.call) 0 then requests else requests + 1
+
 -- these bytes are the request line of what is asked, with one of the ids 0 to 7
 abbrev pub IsRequestFor : Asked → (line : List ℕ) → Type 0
 IsRequestFor asked line = (id : ℕ) × (id < 8) × (line ≡ asked_line (Some id) asked)
@@ -37,11 +42,13 @@ IsRequestFor asked line = (id : ℕ) × (id < 8) × (line ≡ asked_line (Some i
 pub record SpeaksOf (claim : Claim) (truth : Truth) : Type 0 where
   -- the reply came when the claim says, which may be before its request was sent, as the clock may go back
   pub at : claim.at ≡ truth.given
+  -- its request is the claim's: as many were put before it on the line as were sent before the row's, null procedures apart
+  pub request : claim.request ≡ truth.request
   -- its request was sent when the claim says
   pub sent : claim.sent ≡ truth.sent
   -- the claim has a line exactly if the reply came in time: before the moment `deadline` after `sent`
   pub timed : is_some claim.line ≡ true ↔ claim.at < claim.sent + claim.deadline
-  -- the request asked for the claim's command
+  -- its request asked for the claim's call
   pub asked : IsRequestFor claim.call truth.asked.items
   -- the claim's line, if it has one, is the reply
   pub line : IfSome claim.line (λ l. l.items ≡ truth.reply.items)

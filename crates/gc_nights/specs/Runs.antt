@@ -3,6 +3,7 @@
 use Rattle.std.specs.Prelude.{◌≡◌, Bool, false, List, [], ◌++◌, Option, None, Some}
 use Rattle.std.specs.List.{AllByRecursion}
 use Rattle.gc_links.specs.Acts.{Act}
+use Rattle.gc_rehearsal.specs.Carrying.{HasComeTo, IsOfLine, Lines}
 use Rattle.gc_rehearsed.specs.Rehearsals.{RehearsedStation, RunsAndStops, AreRehearsed, FewEndUnbegun, acts_of_all}
 use Rattle.gc_texts.specs.declared.tasks.Task.{Task}
 
@@ -24,12 +25,16 @@ AddRuns commands None new = Unit {0}
 AddRuns commands (Some xs) None = ⊥
 AddRuns commands (Some xs) (Some ys) = AreRuns commands xs ys
 
--- runs of a station with these commands, one after the other, made these acts; and as long as fewer than six runs in a row end
--- while they synchronize (`FewEndUnbegun`), there are runs in the field that show all of them what they saw, and in which they are
--- faithful (`AreRehearsed`): each recorded answer was made on executing the very request of its cycle and place
+-- runs of a station with these commands, one after the other, made these acts, which are those of a line that keeps order. And
+-- whatever happened on that line: as long as fewer than six runs in a row end while they synchronize (`FewEndUnbegun`), the runs
+-- are faithful in it (`AreRehearsed`): each recorded answer was made, on that line, on executing the very request of its cycle and
+-- place
 pub record AreFaithfulRuns (commands : List Task) (acts : List Act) : Type 0 where
   pub runs : AreRuns commands [] acts
-  pub faithful : FewEndUnbegun 0 runs.stations → AreRehearsed runs.stations
+  pub line : IsOfLine acts
+  pub faithful :
+      (lines : Lines) (happened : HasComeTo (acts_of_all runs.stations) lines) → FewEndUnbegun 0 runs.stations
+      → AreRehearsed runs.stations lines happened
 
 -- unless the link alters bytes, its acts are seen at the end, and are those of faithful runs (`AreFaithfulRuns`)
 abbrev pub AreFaithfulUnlessAltered : (alters : Bool) → List Task → Option (List Act) → Type 0

@@ -1,9 +1,9 @@
 //! The book of a rehearsed station: it writes the rows, keeps what they claim, and ends a run where the station is killed or the night
 //! is over.
 
-ghost use Rattle.std.specs.Prelude.{◌≡◌, true};
+ghost use Rattle.std.specs.Prelude.{◌≡◌, ◌+◌, ◌<◌, ◌^◌, true};
 ghost use Rattle.gc_measuring.specs.Measuring.{text_in};
-ghost use Rattle.gc_nights.specs.Claims.{is_in_doubt, speaks_of_reply};
+ghost use Rattle.gc_nights.specs.Claims.{is_in_doubt, requests_after, speaks_of_reply};
 ghost use Rattle.gc_texts.specs.Endings.{ending_seen};
 
 use crate::claim::Claim;
@@ -17,12 +17,17 @@ use gc_texts::{Ending, Name, Quality, Stamp, Wish};
 use gc_words::Layout;
 use std::alloc::Global;
 
+// The number of the null procedure.
+const NULL_PROCEDURE: u16 = 0;
+
 /// What was seen of the rows: what those of the present run claim, and the counts of all runs.
 #[derive(Drop)]
 pub(crate) struct Seen {
     // When the line was made, in milliseconds since 1970.
     start: u64,
     deadlines: Deadlines,
+    // How many requests were sent before that of the next row of a command that was sent, null procedures apart.
+    requests: u64,
     pub(crate) claims: Vec<Claim>,
     pub(crate) summary: Summary,
     // Whether memory was refused, so that the claims or the counts aren't complete.
@@ -35,6 +40,7 @@ impl Seen {
         Seen {
             start,
             deadlines,
+            requests: 0,
             claims: Vec::new(alloc),
             summary,
             lacks_memory: false,
@@ -50,6 +56,8 @@ impl Seen {
         let Some(sent) = stamp.sent else {
             return;
         };
+        let request = self.requests;
+        self.requests = requests_after(request, command);
         if !speaks_of_reply(ending) {
             return;
         }
@@ -57,6 +65,7 @@ impl Seen {
             sent: sent.saturating_sub(self.start),
             at: stamp.utc.saturating_sub(self.start),
             deadline: self.deadlines.of(stamp),
+            request,
             call: command.call,
             line: ending.line().map(|line| line_from(line.as_slice())),
             stamp,
@@ -68,6 +77,16 @@ impl Seen {
             self.lacks_memory = true;
         }
     }
+}
+
+// How many requests were sent once this command was, which was sent next after so many: a null procedure isn't counted.
+fn requests_after(requests: u64, command: &Wish) -> u64
+    ensures { requests + 1 < 2 ^ 64 → result ≡ requests_after requests command.now }
+{
+    if command.call.number() == NULL_PROCEDURE {
+        return requests;
+    }
+    requests.saturating_add(1)
 }
 
 // Whether a row with this ending says that a reply came, in time or late.
@@ -147,16 +166,18 @@ impl<K> RunBook<K> {
         }
     }
 
-    /// Begins a run of the station at the moment `run`, in milliseconds since 1970. The run is killed after as many acts as the limits
+    /// Begins a run of the station at the moment `run`, in milliseconds since 1970, before which `requests` requests were put on the
+    /// line, null procedures apart. The run is killed after as many acts as the limits
     /// say, and cut off once the station has read the moment at which its night is over, or a later one. The claims of the run before
     /// are dropped.
-    pub(crate) fn begin(&mut self, run: u64, limits: RunLimits) {
+    pub(crate) fn begin(&mut self, run: u64, requests: u64, limits: RunLimits) {
         self.layout.run = run;
         self.left = limits.acts;
         self.until = limits.until;
         self.is_over = false;
         self.interruption = None;
         self.has_failed = false;
+        self.seen.requests = requests;
         self.seen.claims.clear();
     }
 

@@ -19,6 +19,8 @@ pub struct Claim {
     pub at: u64,
     /// How long after `sent` a reply is in time, in milliseconds.
     pub deadline: u64,
+    /// Which request it was: how many were sent before it since the line was made, null procedures apart, by the rows.
+    pub request: u64,
     /// What was asked.
     pub call: Asked,
     /// The reply's line that the row has. `None`: the row has none, because the reply came late.
@@ -73,11 +75,12 @@ fn is_in_time(claim: &Claim) -> bool
 }
 
 // Whether a reply (`truth`) is the one that a claim speaks of: it came at the claim's moment, in time exactly if the claim has a line,
-// which then is the reply's; and its request asked for the claim's call, and was sent when the claim says.
+// which then is the reply's; and its request is the claim's, asked for the claim's call, and was sent when the claim says.
 pub(crate) fn speaks_of(claim: &Claim, truth: &Truth) -> bool
     ensures { IsTrue result ↔ SpeaksOf claim.now truth.now }
 {
     claim.at == truth.given
+        && claim.request == truth.request
         && claim.sent == truth.sent
         && is_in_time(claim) == claim.line.is_some()
         && has_no_other_line(claim, &truth.reply)

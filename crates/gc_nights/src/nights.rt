@@ -79,12 +79,11 @@ pub(crate) struct Rehearsing<K> {
 
 impl<K: Sink> Rehearsing<K> {
     /// Rehearses all nights over a link that is new. However they end, the acts that the link recorded are those of a station, run after
-    /// run. As long as fewer than six runs in a row ended while they synchronized, there are runs in the field that show each of them
-    /// what it saw, whatever the line lost, repeated, held or closed: in these each answer that it recorded was made on executing the
-    /// very request of its cycle and place. That they are what happened on the rehearsed line isn't said. A run isn't
-    /// one of those six if no null procedure of its last synchronization was answered. Nothing of this is said of a line that alters
-    /// bytes. Runs that end before they are done are counted
-    /// in the book's summary, but not a run at which the rehearsal fails.
+    /// run, and of a line that keeps order. As long as fewer than six runs in a row ended while they synchronized, each answer that
+    /// they recorded was made, on that line, on executing the very request of its cycle and place, whatever the line lost, repeated,
+    /// held or closed. A run isn't one of those six if no null procedure of its last synchronization was answered. Nothing of this is
+    /// said of a line that alters bytes. Runs that end before they are done are counted in the book's summary, but not a run at
+    /// which the rehearsal fails.
     ///
     /// It fails with `Untrue` after the first run with a false row, with the fault `Memory` if memory was refused for a claim, a
     /// count or a truth, and with the fault `Output` if a row couldn't be written. The nights that are left aren't rehearsed then. A
@@ -178,7 +177,7 @@ impl<K: Sink> Rehearsing<K> {
         };
         self.link.begin();
         let begins = programme.start.saturating_add(self.link.elapsed());
-        self.book.begin(begins, limits);
+        self.book.begin(begins, self.link.requests(), limits);
         let fault = self.run_by_plan(programme, &plan, watches);
         check_run(&self.link, &mut self.book, programme)?;
         judge_end(&mut self.book, fault)

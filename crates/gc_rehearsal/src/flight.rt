@@ -10,7 +10,7 @@ use std::collections::VecDeque;
 /// The request that a line in flight comes from: of a request in flight that request itself, and of a reply the request that it answers.
 #[derive(Drop)]
 pub(crate) struct Origin {
-    // Its number among the requests that were written whole, from 0.
+    // How many requests were put before it, null procedures apart (`LineState::number`).
     pub request: u64,
     // When it was written, in milliseconds since the link was made.
     pub sent: u64,
@@ -29,10 +29,11 @@ impl Origin {
     }
 }
 
-/// A request that is written: its number, when it is written and when it arrives. Times are in milliseconds since the link was made.
+/// A request that is written: how many were put before it, when it is written and when it arrives. Times are in milliseconds since
+/// the link was made.
 #[derive(Clone, Copy)]
 pub(crate) struct Written {
-    // Its number among the requests that were written whole, from 0.
+    // How many requests were put before it, null procedures apart (`LineState::number`).
     pub request: u64,
     pub sent: u64,
     pub arrives: u64,

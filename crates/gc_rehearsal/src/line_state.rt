@@ -7,6 +7,12 @@ use crate::truth::Truth;
 use gc_links::Moment;
 use std::alloc::Global;
 
+// The front of each request with an id.
+const REQUEST: &[u8] = b"%R1Q,";
+
+// The front of each null procedure with an id.
+const NULL_PROCEDURE: &[u8] = b"%R1Q,0,";
+
 /// The next event on a line.
 #[derive(Clone, Copy)]
 pub(crate) enum Next {
@@ -41,6 +47,8 @@ pub(crate) struct LineState {
     last_request: u64,
     // For when the last reply was scheduled that its fate didn't lose, also if the instrument made none; 0 before the first.
     last_reply: u64,
+    // How many requests were put, null procedures apart: also those that were cut, or that found no connection.
+    pub requests: u64,
     // How often each event happened.
     pub counts: Counts,
     // The truths of the replies that reads gave in the present run, but for those that are missing.
@@ -62,6 +70,7 @@ impl LineState {
             held: 0,
             last_request: 0,
             last_reply: 0,
+            requests: 0,
             counts: Counts::new(),
             truths: Vec::new(alloc),
             missing_truths: 0,
@@ -120,6 +129,16 @@ impl LineState {
             (None, None, Some(moment)) => Next::Reply(moment),
             (None, None, None) => Next::Nothing,
         }
+    }
+
+    /// Numbers what is put: returns how many requests were put before it, null procedures apart. It counts from now on if it is a
+    /// request, and no null procedure.
+    pub fn number(&mut self, bytes: &[u8]) -> u64 {
+        let number = self.requests;
+        if bytes.starts_with(REQUEST) && !bytes.starts_with(NULL_PROCEDURE) {
+            self.requests = number.saturating_add(1);
+        }
+        number
     }
 
     // Schedules a line that is sent now with this fate: returns the moment at which it arrives, unless it is lost. The moment

@@ -72,6 +72,11 @@ impl<C> Rehearsed<C> {
         self.state.counts
     }
 
+    /// How many requests were put since the start, null procedures apart: also those that were cut, or that found no connection.
+    pub fn requests(&self) -> u64 {
+        self.state.requests
+    }
+
     /// The truth of each reply that reads gave since the present run began, in their order, but for those that are missing.
     pub fn truths(&self) -> &[Truth]
         ensures { result.now ≡ self.now.state.truths.items }
@@ -230,11 +235,12 @@ impl<C: Chance> Rehearsed<C> {
         }
     }
 
-    // Sends a whole request with this fate, and counts it. If the fate loses it, nothing arrives. Otherwise it arrives once, and if
-    // the fate repeats it, a second time directly after that, unless memory is refused for the second one. Bytes that aren't a
-    // line with its CR LF don't arrive, nor does a line of more than 512 bytes without that, or one for which memory is refused;
-    // the fate then repeats the last request that is in flight, if there is one. A link that alters bytes sends it by `alter_request`.
-    fn send(&mut self, bytes: &[u8], fate: Fate)
+    // Sends a whole request with this fate, before which `request` ones were put (`LineState::number`), and counts it. If the fate
+    // loses it, nothing arrives. Otherwise it arrives once, and if the fate repeats it, a second time directly after that, unless
+    // memory is refused for the second one. Bytes that aren't a line with its CR LF don't arrive, nor does a line of more than 512
+    // bytes without that, or one for which memory is refused; the fate then repeats the last request that is in flight, if there is
+    // one. A link that alters bytes sends it by `alter_request`.
+    fn send(&mut self, bytes: &[u8], request: u64, fate: Fate)
         ensures { AddsActs self.old.carried self.new.carried (Put bytes.now ∷ []) }
     {
         let Some(arrives) = self.state.schedule_request(fate) else {
@@ -242,7 +248,7 @@ impl<C: Chance> Rehearsed<C> {
             return;
         };
         let written = Written {
-            request: self.state.counts.requests.saturating_sub(1),
+            request,
             sent: self.state.now,
             arrives,
         };
@@ -301,9 +307,9 @@ impl<C: Chance> Rehearsed<C> {
         n
     }
 
-    // Sends a request with a fate of the chance. `Err(n)`: the other end closed the connection, and of the request only the first n bytes
-    // were sent, which aren't all.
-    fn put_request(&mut self, bytes: &[u8]) -> Result<(), usize>
+    // Sends a request with a fate of the chance, before which `request` ones were put (`LineState::number`). `Err(n)`: the other end
+    // closed the connection, and of the request only the first n bytes were sent, which aren't all.
+    fn put_request(&mut self, bytes: &[u8], request: u64) -> Result<(), usize>
         requires { 0 < length bytes.now }
         ensures tells { AddsActs self.old.carried self.new.carried (put_act result bytes.now ∷ []) }
         ensures part { IsPartIfErr result bytes.now }
@@ -312,7 +318,7 @@ impl<C: Chance> Rehearsed<C> {
         if fate.closes {
             return Err(self.cut(bytes));
         }
-        self.send(bytes, fate);
+        self.send(bytes, request, fate);
         Ok(())
     }
 
@@ -371,6 +377,7 @@ impl<C: Chance> Link for Rehearsed<C> {
     // Sends a request, which a close may cut. Nothing is sent without a connection, or once the other end has closed it. A line
     // feed alone clears the instrument's receiver, and is no request.
     fn put(&mut self, bytes: &[u8]) -> Result<(), usize> {
+        let request = self.state.number(bytes);
         if !self.state.is_up() {
             self.carried.note(&Note::Cut(bytes, 0));
             return Err(0);
@@ -379,7 +386,7 @@ impl<C: Chance> Link for Rehearsed<C> {
             self.carried.put_nothing(bytes);
             return Ok(());
         }
-        self.put_request(bytes)
+        self.put_request(bytes, request)
     }
 
     // Closes the connection. The lines in flight are lost, or arrive later, as the chance decides for each direction.

@@ -6,7 +6,8 @@ use gc_lines::Line;
 /// request is the one on which it first sent that reply. Times are in milliseconds since the line was made.
 #[derive(Drop)]
 pub struct Truth {
-    /// Which request it was: its number among all that were written whole, from 0.
+    /// Which request it was: how many the station had put before it since the line was made, null procedures apart. Also those count
+    /// that were cut, or that found no connection.
     pub request: u64,
     /// When that request was written.
     pub sent: u64,

@@ -106,7 +106,7 @@ once_asked b id = record b { up = b.up ++ record { old = false; line = asked_nex
 turns_asks : (b : SyncModel SceneState) (asked : ℕ) (rest : List ℕ) (line : List ℕ) (l n : Lines) → BeginIsAt b (asked ∷ rest) l → AreSmall (asked ∷ rest)
     → line ≡ request_line (Some asked) NullProc → MayArrive l line n → TurnsTo b (part.Asks ∷ []) (asked ∷ rest) n
 turns_asks b asked rest line l n at ids is came show steps coming on =
-    turn_first b begin.Asks show steps coming tt (subst (λ (x : SyncModel SceneState). FromBegin x show steps coming) (sym out) (by_came came)) where
+    turn_first b begin.Asks show steps coming tt refl (subst (λ (x : SyncModel SceneState). FromBegin x show steps coming) (sym out) (by_came came)) where
       -- what the turn `Asks` leads to
       out : turns scene_ends b begin.Asks ≡ once_asked b asked
       out = ap (λ word. begin.asks b word) at.0
@@ -158,7 +158,7 @@ turns_comes b word [] line l n is at takes show steps coming on =
     absurd (cons_not_nil line n.down (sym none))
 turns_comes b word (x ∷ q) line l n is at takes show steps coming on =
     subst (λ (t : List part.SyncStep). FromBegin b (t ++ show) steps coming) (shows_is ∙ ap (λ z. part.Hears z ∷ []) lines_are.0)
-    (turn_first b begin.Comes show steps coming tt (subst (λ (c : SyncModel SceneState). FromBegin c show steps coming) (sym came) (on (once_came b x q) (left_next, holds_next)))) where
+    (turn_first b begin.Comes show steps coming tt refl (subst (λ (c : SyncModel SceneState). FromBegin c show steps coming) (sym came) (on (once_came b x q) (left_next, holds_next)))) where
       -- the front reply in flight in the field is that on the line, and so are those after it
       lines_are : (x.line ≡ line) × (map (λ (y : InFlight (List ℕ)). y.line) q ≡ n.down)
       lines_are = first_and_rest (λ (y : InFlight (List ℕ)). y.line) b.down x q line n.down is (at.1.down ∙ takes.front)
@@ -245,7 +245,7 @@ moves_told : (w : SceneWorld) (c : ById Asked) (now : ℕ) (ss : List (client.St
     → ((v : SceneWorld) → WorldIsAt v (client_after c (client.Expire now ∷ [])) l → MovesTo v ss (client_after (client_after c (client.Expire now ∷ [])) ss) n)
     → MovesTo w (client.Expire now ∷ ss) (client_after c (client.Expire now ∷ ss)) n
 moves_told w c now ss l n at later steps coming on =
-    move_first w (field.Tells now) (ss ++ steps) coming tt
+    move_first w (field.Tells now) (ss ++ steps) coming tt refl
     (later (after_move w (field.Tells now)) (ap (λ x. (by_ids WINDOW scene_ends).expire x now) at.0, at.1) steps coming on)
 
 -- an act that only reads a moment comes to the step that reads it
@@ -264,7 +264,7 @@ moves_comes w c [] line l n is at takes steps coming on =
     let none : [] ≡ line ∷ n.down = sym (ap (λ (d : List (Numbered (List ℕ))). map (λ x. x.line) d) is) ∙ at.1.down ∙ takes.front in
     absurd (cons_not_nil line n.down (sym none))
 moves_comes w c (x ∷ q) line l n is at takes steps coming on =
-    move_first w (field.Comes line) steps coming (x.number, q, is ∙ front_is)
+    move_first w (field.Comes line) steps coming (x.number, q, is ∙ front_is) refl
     (subst (λ (v : SceneWorld). FromClient v steps coming) (sym came) (on (once_heard w x q) (client_next, holds_next))) where
       -- the front reply in flight in the field is that on the line, and so are those after it
       lines_are : (x.line ≡ line) × (map (λ (y : Numbered (List ℕ)). y.line) q ≡ n.down)
@@ -327,7 +327,7 @@ pub moves_sends : (w : SceneWorld) (c : ById Asked) (target : ℕ) (call : Asked
     → (digit : c.next < 8) → IsAskedFitting call → line ≡ asked_line (Some c.next) call → MayArrive l line n
     → MovesTo w (client.Send target call deadline ∷ []) (client_after c (client.Send target call deadline ∷ [])) n
 moves_sends w c target call deadline line l n at room digit fits text came steps coming on =
-    move_first w (field.Sends target call deadline) steps coming tt (subst (λ (v : SceneWorld). FromClient v steps coming) (sym out) (by_came came)) where
+    move_first w (field.Sends target call deadline) steps coming tt refl (subst (λ (v : SceneWorld). FromClient v steps coming) (sym out) (by_came came)) where
       -- what the move `Sends` leads to
       out : after_move w (field.Sends target call deadline) ≡ once_sent w c target call deadline
       out = ap (λ o. requested w target call o) (ap (λ x. sends 7 x target call deadline) at.0 ∙ sends_with_room c target call deadline room)

@@ -1,6 +1,6 @@
 -- What happens on the line from a synchronization, or from a client that has synchronized, on; and the same with one thing more
 -- before it.
-use Rattle.std.proofs.Common.{◌≡◌, ◌⊎◌, inl, inr, ℕ, ◌+◌, ◌≤◌, Bool, true, false, if◌then◌else◌, List, [], ◌∷◌, ◌++◌, map, map-id, nat_eq, refl, sym, ◌∙◌, ap, subst, arith}
+use Rattle.std.proofs.Common.{◌≡◌, ◌⊎◌, inl, inr, ℕ, ◌+◌, ◌≤◌, Bool, true, false, if◌then◌else◌, List, [], ◌∷◌, ◌++◌, map, map-id, nat_eq, refl, sym, ◌∙◌, ap, subst, arith, append_assoc}
 use mathlib.Core.List.{map-map}
 use Rattle.gc_catalogue.specs.declared.asked.Asked.{Asked}
 use Rattle.gc_client.specs.OneForOne as client
@@ -15,13 +15,14 @@ use Rattle.gc_field.specs.Begin.{AreTurns, IsTurn, SyncModel, UnderWay, begins, 
 use Rattle.gc_field.specs.Beginnings.{AreFewKilled, ArePossibleIfBegun, AreRuns, Run, after_turns, killed_by, killed_unless_begun, left_by_run, left_by_runs, left_if_begun, under_way_on}
 use Rattle.gc_field.specs.Begun.{ids_begun}
 use Rattle.gc_field.specs.Field.{Move, ArePossible, IsPossible, moved, moves, seen}
+use Rattle.gc_rehearsed.specs.Exchanges.{Exchange, exchange_of_move, exchange_of_turn, exchanges_if_begun, exchanges_of_moves, exchanges_of_runs, exchanges_of_turns}
 use Rattle.gc_field.specs.InARow.{killed_over}
 use Rattle.gc_field.specs.SceneField.{KeptReplyReads, scene_ends, scene_kept}
 use Rattle.gc_field.specs.Shown.{AreShownAs, shown, shows}
 use Rattle.gc_field.specs.World.{Numbered}
 use Rattle.gc_rehearsal.specs.Carrying.{Lines}
-use Rattle.gc_rehearsed.proofs.Sides.{SceneWorld, client_move, is_move, is_turn, leaves_turn, turn_answers_none, line_move, move_of, seen_none, shows_none, turn_of}
-use Rattle.gc_rehearsed.proofs.Steps.{AreSteps, Holds, Step, all_stepped, under_way}
+use Rattle.gc_rehearsed.proofs.Sides.{SceneWorld, client_move, is_move, is_turn, leaves_turn, turn_answers_none, line_move, move_exchange, move_of, seen_none, shows_none, turn_exchange, turn_of}
+use Rattle.gc_rehearsed.proofs.Steps.{AreSteps, Holds, Step, all_stepped, exchange_of_step, exchanges_of_steps, stepped, under_way}
 use Rattle.gc_field.proofs.InARow.{same_lines, run}
 use Rattle.gc_field.proofs.InTime.{seen_append}
 
@@ -41,16 +42,21 @@ after_move w m = moves scene_ends (by_ids WINDOW scene_ends) w m
 abbrev pub after_moves : List (Move SceneState) → SceneWorld → SceneWorld
 after_moves ms w = moved scene_ends (by_ids WINDOW scene_ends) ms w
 
--- what comes after the part that is going on: the other parts, the lines in flight at the end, and the ids that the station's last
--- synchronization leaves unanswered then, none if it has synchronized
+-- what comes: after the part that is going on the other parts, the lines in flight at the end, and the ids that the station's last
+-- synchronization leaves unanswered then, none if it has synchronized; and all exchanges of the instrument from now on
 pub record Sequel : Type 0 where
   pub parts : List Part
   pub lines : Lines
   pub left : List ℕ
+  pub exchanges : List Exchange
 
--- these parts, then these lines in flight, and these ids unanswered
-abbrev pub sequel : List Part → Lines → (left : List ℕ) → Sequel
-sequel ps m left = record { parts = ps; lines = m; left = left }
+-- these parts, then these lines in flight, and these ids unanswered; and these exchanges
+abbrev pub sequel : List Part → Lines → (left : List ℕ) → List Exchange → Sequel
+sequel ps m left es = record { parts = ps; lines = m; left = left; exchanges = es }
+
+-- what comes, with these exchanges before those that come
+abbrev pub after_exchanges : List Exchange → Sequel → Sequel
+after_exchanges es coming = record coming { exchanges = es ++ coming.exchanges }
 
 -- runs over what is in flight show the parts of the sequel, are possible, and lead to its lines; at most five in a row are killed
 -- while they synchronize. At their end no more count as killed in a row than the ids that the station leaves unanswered say
@@ -68,7 +74,7 @@ IsLastUnlessBegun [] left rs = Unit {0}
 IsLastUnlessBegun (asked ∷ word) left rs = (rs ≡ []) × (left ≡ asked ∷ word)
 
 -- from the state b of a synchronization on: possible turns show `turns`, and possible moves after them `steps`; later runs show
--- the sequel (`Later`), and there are none if the turns leave ids unanswered
+-- the sequel (`Later`), and there are none if the turns leave ids unanswered. All of them have the sequel's exchanges
 pub record FromBegin (b : SyncModel SceneState) (turns : List part.SyncStep) (steps : List (client.Step Asked)) (coming : Sequel) : Type 0 where
   pub ts : List (begin.SyncTurn SceneState)
   pub ms : List (Move SceneState)
@@ -79,63 +85,105 @@ pub record FromBegin (b : SyncModel SceneState) (turns : List part.SyncStep) (st
   pub may : ArePossibleIfBegun WINDOW scene_ends KeptReplyReads scene_kept (turned scene_ends ts b).left (turned scene_ends ts b) ms
   pub later : Later (left_if_begun WINDOW scene_ends (turned scene_ends ts b).left (turned scene_ends ts b) ms) rs coming
   pub rest : IsLastUnlessBegun (turned scene_ends ts b).left coming.left rs
+  pub same :
+      exchanges_of_turns ts b ++ (exchanges_if_begun (turned scene_ends ts b).left (turned scene_ends ts b) ms
+      ++ exchanges_of_runs (left_if_begun WINDOW scene_ends (turned scene_ends ts b).left (turned scene_ends ts b) ms) rs) ≡ coming.exchanges
 
--- from the world w of a client on: possible moves show `steps`, and later runs show the sequel (`Later`)
+-- from the world w of a client on: possible moves show `steps`, and later runs show the sequel (`Later`). All of them have the
+-- sequel's exchanges
 pub record FromClient (w : SceneWorld) (steps : List (client.Step Asked)) (coming : Sequel) : Type 0 where
   pub ms : List (Move SceneState)
   pub rs : List (Run SceneState)
   pub see : seen ms ≡ steps
   pub may : ArePossible scene_ends KeptReplyReads scene_kept (by_ids WINDOW scene_ends) ms w
   pub later : Later (under_way_on (after_moves ms w).wire) rs coming
+  pub same : exchanges_of_moves ms w ++ exchanges_of_runs (under_way_on (after_moves ms w).wire) rs ≡ coming.exchanges
 
 -- One thing more before what follows.
 
--- if t is a possible turn in the state b, and `FromBegin` holds from the state after t, it holds from b, with what t shows
--- before the turns `xs`
-pub turn_first : (b : SyncModel SceneState) (t : begin.SyncTurn SceneState) (xs : List part.SyncStep) (steps : List (client.Step Asked)) (coming : Sequel)
-    → IsTurn KeptReplyReads scene_kept b t → FromBegin (turns scene_ends b t) xs steps coming → FromBegin b (shows b t ++ xs) steps coming
-turn_first b t xs steps coming is f = record {
+-- what comes later doesn't depend on the exchanges
+later_with : (u : UnderWay SceneState) (rs : List (Run SceneState)) (coming : Sequel) (es : List Exchange) → Later u rs coming → Later u rs (record coming { exchanges = es })
+later_with u rs coming es l = record { show = l.show; may = l.may; holds = l.holds; few = l.few; ends = l.ends }
+
+-- if t is a possible turn in the state b, and `FromBegin` holds from the state after t, it holds from b, with what t shows before
+-- the turns `xs`, and with t's exchange
+turn_before : (b : SyncModel SceneState) (t : begin.SyncTurn SceneState) (xs : List part.SyncStep) (steps : List (client.Step Asked)) (coming : Sequel)
+    → IsTurn KeptReplyReads scene_kept b t → FromBegin (turns scene_ends b t) xs steps coming
+    → FromBegin b (shows b t ++ xs) steps (after_exchanges (exchange_of_turn b t) coming)
+turn_before b t xs steps coming is f = record {
   ts = t ∷ f.ts;
   ms = f.ms;
   rs = f.rs;
   show = ap (λ l. shows b t ++ l) f.show;
   see = f.see;
-  are =
-      (is, f.are);
+  are = (is, f.are);
   may = f.may;
-  later = f.later;
+  later = later_with (left_if_begun WINDOW scene_ends (turned scene_ends f.ts (turns scene_ends b t)).left (turned scene_ends f.ts (turns scene_ends b t)) f.ms) f.rs coming
+      (exchange_of_turn b t ++ coming.exchanges) f.later;
   rest = f.rest;
+  same = append_assoc (exchange_of_turn b t) (exchanges_of_turns f.ts (turns scene_ends b t)) _ ∙ ap (λ l. exchange_of_turn b t ++ l) f.same;
 }
 
+-- if t is a possible turn without an exchange in the state b, and `FromBegin` holds from the state after t, it holds from b, with
+-- what t shows before the turns `xs`
+pub turn_first : (b : SyncModel SceneState) (t : begin.SyncTurn SceneState) (xs : List part.SyncStep) (steps : List (client.Step Asked)) (coming : Sequel)
+    → IsTurn KeptReplyReads scene_kept b t → exchange_of_turn b t ≡ [] → FromBegin (turns scene_ends b t) xs steps coming → FromBegin b (shows b t ++ xs) steps coming
+turn_first b t xs steps coming is none f =
+    subst (λ es. FromBegin b (shows b t ++ xs) steps (after_exchanges es coming)) none (turn_before b t xs steps coming is f)
+
 -- if `xs` are possible steps from what b has in flight, and `FromBegin` holds from each state with what they leave in flight
--- and with the unanswered ids of b, it holds from b: the steps show nothing
+-- and with the unanswered ids of b, it holds from b, with the exchanges of the steps: they show nothing
 pub steps_turn : (xs : List Step) (b : SyncModel SceneState) (show : List part.SyncStep) (steps : List (client.Step Asked)) (coming : Sequel) → AreSteps xs (leaves b)
-    → ((c : SyncModel SceneState) → leaves c ≡ all_stepped xs (leaves b) → c.left ≡ b.left → FromBegin c show steps coming) → FromBegin b show steps coming
+    → ((c : SyncModel SceneState) → leaves c ≡ all_stepped xs (leaves b) → c.left ≡ b.left → FromBegin c show steps coming)
+    → FromBegin b show steps (after_exchanges (exchanges_of_steps xs (leaves b)) coming)
 steps_turn [] b show steps coming are on = on b refl refl
 steps_turn (x ∷ xs) b show steps coming are on =
     let one = leaves_turn b x in
-    subst (λ l. FromBegin b (l ++ show) steps coming) (shows_none b x)
-    (turn_first b (turn_of x) show steps coming (is_turn b x are.0)
+    let others = exchanges_of_steps xs (stepped (leaves b) x) in
+    let rest = subst (λ u. FromBegin (turns scene_ends b (turn_of x)) show steps (after_exchanges (exchanges_of_steps xs u) coming)) one
     (steps_turn xs (turns scene_ends b (turn_of x)) show steps coming (subst (AreSteps xs) (sym one) are.1)
-    (λ c e l. on c (e ∙ ap (all_stepped xs) one) (l ∙ turn_answers_none b x))))
+    (λ c e l. on c (e ∙ ap (all_stepped xs) one) (l ∙ turn_answers_none b x))) in
+    let both = turn_before b (turn_of x) show steps (after_exchanges others coming) (is_turn b x are.0) rest in
+    let named = subst (λ es. FromBegin b (shows b (turn_of x) ++ show) steps (after_exchanges es (after_exchanges others coming))) (turn_exchange b x) both in
+    let joined = subst (λ es. FromBegin b (shows b (turn_of x) ++ show) steps (record coming { exchanges = es })) (sym (append_assoc (exchange_of_step (leaves b) x) others coming.exchanges)) named in
+    subst (λ l. FromBegin b (l ++ show) steps (after_exchanges (exchanges_of_steps (x ∷ xs) (leaves b)) coming)) (shows_none b x) joined
 
 -- if x is a possible move in the world w, and `FromClient` holds from the world after x, it holds from w, with what the client
--- sees of x before the other steps
+-- sees of x before the other steps, and with the exchange of x
+move_before : (w : SceneWorld) (x : Move SceneState) (steps : List (client.Step Asked)) (coming : Sequel) → IsPossible KeptReplyReads scene_kept w x
+    → FromClient (after_move w x) steps coming → FromClient w (seen (x ∷ []) ++ steps) (after_exchanges (exchange_of_move w x) coming)
+move_before w x steps coming is f = record {
+  ms = x ∷ f.ms;
+  rs = f.rs;
+  see = seen_append (x ∷ []) f.ms ∙ ap (λ l. seen (x ∷ []) ++ l) f.see;
+  may = (is, f.may);
+  later = later_with (under_way_on (after_moves f.ms (after_move w x)).wire) f.rs coming (exchange_of_move w x ++ coming.exchanges) f.later;
+  same = append_assoc (exchange_of_move w x) (exchanges_of_moves f.ms (after_move w x)) _ ∙ ap (λ l. exchange_of_move w x ++ l) f.same;
+}
+
+-- if x is a possible move without an exchange in the world w, and `FromClient` holds from the world after x, it holds from w, with
+-- what the client sees of x before the other steps
 pub move_first : (w : SceneWorld) (x : Move SceneState) (steps : List (client.Step Asked)) (coming : Sequel) → IsPossible KeptReplyReads scene_kept w x
-    → FromClient (after_move w x) steps coming → FromClient w (seen (x ∷ []) ++ steps) coming
-move_first w x steps coming is f = record { ms = x ∷ f.ms; rs = f.rs; see = seen_append (x ∷ []) f.ms ∙ ap (λ l. seen (x ∷ []) ++ l) f.see; may = (is, f.may); later = f.later }
+    → exchange_of_move w x ≡ [] → FromClient (after_move w x) steps coming → FromClient w (seen (x ∷ []) ++ steps) coming
+move_first w x steps coming is none f =
+    subst (λ es. FromClient w (seen (x ∷ []) ++ steps) (after_exchanges es coming)) none (move_before w x steps coming is f)
 
 -- if `xs` are possible steps from what w has in flight, and `FromClient` holds from each world with what they leave in flight
--- and with the client of w, it holds from w: the client sees nothing of the steps
+-- and with the client of w, it holds from w, with the exchanges of the steps: the client sees nothing of them
 pub steps_move : (xs : List Step) (w : SceneWorld) (steps : List (client.Step Asked)) (coming : Sequel) → AreSteps xs (under_way_on w.wire)
-    → ((v : SceneWorld) → under_way_on v.wire ≡ all_stepped xs (under_way_on w.wire) → v.client ≡ w.client → FromClient v steps coming) → FromClient w steps coming
+    → ((v : SceneWorld) → under_way_on v.wire ≡ all_stepped xs (under_way_on w.wire) → v.client ≡ w.client → FromClient v steps coming)
+    → FromClient w steps (after_exchanges (exchanges_of_steps xs (under_way_on w.wire)) coming)
 steps_move [] w steps coming are on = on w refl refl
 steps_move (x ∷ xs) w steps coming are on =
     let one = line_move w x in
-    subst (λ l. FromClient w (l ++ steps) coming) (seen_none x)
-    (move_first w (move_of x) steps coming (is_move w x are.0)
+    let others = exchanges_of_steps xs (stepped (under_way_on w.wire) x) in
+    let rest = subst (λ u. FromClient (after_move w (move_of x)) steps (after_exchanges (exchanges_of_steps xs u) coming)) one
     (steps_move xs (after_move w (move_of x)) steps coming (subst (AreSteps xs) (sym one) are.1)
-    (λ v e c. on v (e ∙ ap (all_stepped xs) one) (c ∙ client_move w x))))
+    (λ v e c. on v (e ∙ ap (all_stepped xs) one) (c ∙ client_move w x))) in
+    let both = move_before w (move_of x) steps (after_exchanges others coming) (is_move w x are.0) rest in
+    let named = subst (λ es. FromClient w (seen (move_of x ∷ []) ++ steps) (after_exchanges es (after_exchanges others coming))) (move_exchange w x) both in
+    let joined = subst (λ es. FromClient w (seen (move_of x ∷ []) ++ steps) (record coming { exchanges = es })) (sym (append_assoc (exchange_of_step (under_way_on w.wire) x) others coming.exchanges)) named in
+    subst (λ l. FromClient w (l ++ steps) (after_exchanges (exchanges_of_steps (x ∷ xs) (under_way_on w.wire)) coming)) (seen_none x) joined
 
 -- From one side to the other.
 
@@ -164,6 +212,8 @@ begun_from b show steps coming none quiet f = record {
   may = subst (λ left. ArePossibleIfBegun WINDOW scene_ends KeptReplyReads scene_kept left b f.ms) (sym none) f.may;
   later = subst (λ left. Later (left_if_begun WINDOW scene_ends left b f.ms) f.rs coming) (sym none) f.later;
   rest = subst (λ left. IsLastUnlessBegun left coming.left f.rs) (sym none) tt;
+  same =
+      subst (λ left. exchanges_if_begun left b f.ms ++ exchanges_of_runs (left_if_begun WINDOW scene_ends left b f.ms) f.rs ≡ coming.exchanges) (sym none) f.same;
 }
 
 -- where k runs counted as killed before, and not n, no more do after one run more, if k is at most n
@@ -227,7 +277,7 @@ one_station_is_few (asked ∷ rest) = by_first (nat_eq asked 6) where
 -- `FromBegin` of a synchronization over what is in flight in the world w, which shows the part p and then a sequel, gives
 -- `FromClient` from w, with no steps, and with p in front of the sequel's parts
 pub ended_from : (w : SceneWorld) (p : Part) (coming : Sequel) → FromBegin (begins (under_way_on w.wire)) p.sync_steps p.steps coming
-    → FromClient w [] (sequel (p ∷ coming.parts) coming.lines coming.left)
+    → FromClient w [] (sequel (p ∷ coming.parts) coming.lines coming.left coming.exchanges)
 ended_from w p coming f =
     let few = few_from 0 (under_way_on w.wire) p.sync_steps p.steps coming f (one_station_is_few coming.left) in
     record {
@@ -236,10 +286,11 @@ ended_from w p coming f =
       see = refl;
       may = tt;
       later = record { show = (f.show, f.see, f.later.show); may = ((f.are, f.may), f.later.may); holds = f.later.holds; few = few.0; ends = few.1 };
+      same = f.same;
     }
 
 -- where the lines m are in flight, `FromClient` holds with no steps and one further part, in which nothing happens
-pub ends_client_idly : (w : SceneWorld) (m : Lines) (left : List ℕ) → Holds (under_way_on w.wire) m → FromClient w [] (sequel (idle_part ∷ []) m left)
+pub ends_client_idly : (w : SceneWorld) (m : Lines) (left : List ℕ) → Holds (under_way_on w.wire) m → FromClient w [] (sequel (idle_part ∷ []) m left [])
 ends_client_idly w m left holds =
     record {
       ms = [];
@@ -253,18 +304,19 @@ ends_client_idly w m left holds =
         few = (omega arith, tt);
         ends = omega arith;
       };
+      same = refl;
     }
 
 -- where the lines m are in flight, `FromClient` holds with no steps and no further parts
-pub ends_client : (w : SceneWorld) (m : Lines) (left : List ℕ) → Holds (under_way_on w.wire) m → FromClient w [] (sequel [] m left)
-ends_client w m left holds = record { ms = []; rs = []; see = refl; may = tt; later = record { show = tt; may = tt; holds = holds; few = tt; ends = omega arith } }
+pub ends_client : (w : SceneWorld) (m : Lines) (left : List ℕ) → Holds (under_way_on w.wire) m → FromClient w [] (sequel [] m left [])
+ends_client w m left holds = record { ms = []; rs = []; see = refl; may = tt; later = record { show = tt; may = tt; holds = holds; few = tt; ends = omega arith }; same = refl }
 
 -- where some ids aren't answered, and the lines m are in flight, `FromBegin` holds with no turns, no steps and no further parts,
 -- and with these ids unanswered at the end
-pub ends_begin : (b : SyncModel SceneState) (m : Lines) → (b.left ≡ [] → ⊥) → Holds (leaves b) m → FromBegin b [] [] (sequel [] m b.left)
+pub ends_begin : (b : SyncModel SceneState) (m : Lines) → (b.left ≡ [] → ⊥) → Holds (leaves b) m → FromBegin b [] [] (sequel [] m b.left [])
 ends_begin b m some holds = by_left b.left refl where
   -- the lemma above, by the ids that are left
-  by_left : (left : List ℕ) → b.left ≡ left → FromBegin b [] [] (sequel [] m b.left)
+  by_left : (left : List ℕ) → b.left ≡ left → FromBegin b [] [] (sequel [] m b.left [])
   by_left [] e = absurd (some e)
   by_left (asked ∷ rest) e = record {
     ts = [];
@@ -274,6 +326,7 @@ ends_begin b m some holds = by_left b.left refl where
     see = refl;
     are = tt;
     may = subst (λ left. ArePossibleIfBegun WINDOW scene_ends KeptReplyReads scene_kept left b []) (sym e) refl;
-    later = subst (λ left. Later (left_if_begun WINDOW scene_ends left b []) [] (sequel [] m b.left)) (sym e) (record { show = tt; may = tt; holds = holds; few = tt; ends = omega arith });
+    later = subst (λ left. Later (left_if_begun WINDOW scene_ends left b []) [] (sequel [] m b.left [])) (sym e) (record { show = tt; may = tt; holds = holds; few = tt; ends = omega arith });
     rest = subst (λ left. IsLastUnlessBegun left b.left []) (sym e) (refl, e);
+    same = subst (λ left. exchanges_if_begun left b [] ++ exchanges_of_runs (left_if_begun WINDOW scene_ends left b []) [] ≡ []) (sym e) refl;
   }

@@ -5,3 +5,4 @@ pub mod Courses
 pub mod Acted
 pub mod Rehearsed
 pub mod InARow
+mod OnLine

@@ -1,5 +1,5 @@
 -- A run of a station over a rehearsed line is one in the field: what happens on the line are turns and moves that show it.
-use Rattle.std.proofs.Common.{◌≡◌, ◌⊎◌, inl, inr, ℕ, ◌<◌, ◌&&◌, ◌||◌, not, Bool, true, false, if◌then◌else◌, List, [], ◌∷◌, ◌++◌, length, Option, Some, None, refl, sym, ◌∙◌, ap, subst, append-nil}
+use Rattle.std.proofs.Common.{◌≡◌, ◌⊎◌, inl, inr, ℕ, ◌<◌, ◌&&◌, ◌||◌, not, Bool, true, false, if◌then◌else◌, List, [], ◌∷◌, ◌++◌, length, Option, Some, None, refl, sym, ◌∙◌, ap, subst, append-nil, append_assoc}
 use Rattle.gc_catalogue.specs.Asked.{IsAskedFitting, asked_line}
 use Rattle.gc_catalogue.specs.declared.asked.Asked.{Asked}
 use Rattle.gc_client.specs.OneForOne as client
@@ -13,6 +13,7 @@ use Rattle.gc_station.specs.Beginnings.{unanswered_after}
 use Rattle.gc_station.specs.Begun.{heard_in}
 use Rattle.gc_station.specs.Deciding.{has_begun, is_none_left}
 use Rattle.gc_station.specs.Model.{Model, Performs, Runs, action_at, after, after_all, losing, moved, opening, waiting_of, with_progress}
+use Rattle.gc_station.specs.Parts as part
 use Rattle.gc_station.specs.Parts.{MarksAsk, MarkAsks, Part, sync_part, client_part, in_front, idle_part, parts_of, put_part, client_after, course_at}
 use Rattle.gc_station.specs.Progressing.{is_over, loses_all, turned}
 use Rattle.gc_station.proofs.Asked.{FirstHasNoSyncSteps, begun_if_nothing_lost, first_part_no_sync_steps, word_empty}
@@ -41,11 +42,14 @@ use Rattle.gc_field.proofs.Meant.{is_meant}
 use Rattle.gc_field.proofs.SceneField.{scene_is_an_instrument}
 use Rattle.gc_field.proofs.BeginJoin.{AreSmall, word_small}
 use Rattle.gc_field.proofs.BeginWords.{cons_not_nil}
-use Rattle.gc_rehearsal.specs.Carrying.{Lines, Happening, Acts, ActLeads, PutLeads, LeadAll, acts_of}
-use Rattle.gc_rehearsed.specs.Rehearsals.{AreAskable, IsAskable, RehearsalsAreFaithful, as_program}
+use Rattle.gc_rehearsal.specs.Carrying.{Lines, Happening, Acts, ActLeads, Leads, PutLeads, LeadAll, acts_of}
+use Rattle.gc_rehearsed.specs.Exchanges.{Exchange, exchange_at, exchanges_of}
+use Rattle.gc_rehearsed.specs.Rehearsals.{AreAskable, IsAskable, RehearsalsAreFaithful, as_program, exchanges_happened, none_in_flight}
 use Rattle.gc_rehearsed.proofs.Acted.{MovesTo, TurnsTo, feed_no_line, left_ids_are_small, moves_gave, moves_moment, moves_none, moves_sends, same_line, turns_act}
-use Rattle.gc_rehearsed.proofs.Courses.{BeginIsAt, FromBegin, FromClient, Sequel, WorldIsAt, begins_in_flight, begun_from, begun_in_flight, ended_from, ends_client_idly, ends_begin, ends_client, sequel, steps_move, steps_turn}
+use Rattle.gc_rehearsed.proofs.Courses.{BeginIsAt, FromBegin, FromClient, Sequel, WorldIsAt, after_exchanges, begins_in_flight, begun_from, begun_in_flight, ended_from, ends_client_idly, ends_begin, ends_client, sequel, steps_move, steps_turn}
+use Rattle.gc_rehearsed.proofs.OnLine.{answers_on_line}
 use Rattle.gc_rehearsed.proofs.Sides.{SceneWorld}
+use Rattle.gc_world.proofs.Booked.{Has}
 use Rattle.gc_rehearsed.proofs.Steps.{Holds, happens_by_steps}
 use Rattle.gc_field.proofs.InARow.{run}
 
@@ -67,41 +71,66 @@ first_and_others [] some = absurd some
 first_and_others (p ∷ ps) some = refl
 
 -- `FromBegin` by parts: from the state b of a synchronization on, its run shows the first part, and later runs the others
-abbrev pub OnBegin : begin.SyncModel SceneState → Lines → List Part → List ℕ → Type 0
-OnBegin b m ps left = FromBegin b (first_part ps).sync_steps (first_part ps).steps (sequel (other_parts ps) m left)
+abbrev pub OnBegin : begin.SyncModel SceneState → Lines → List Part → List ℕ → List Exchange → Type 0
+OnBegin b m ps left es = FromBegin b (first_part ps).sync_steps (first_part ps).steps (sequel (other_parts ps) m left es)
 
 -- `FromClient` by parts: from the world w on, its client's run shows the steps of the first part, and later runs the others
-abbrev pub OnClient : SceneWorld → Lines → List Part → List ℕ → Type 0
-OnClient w m ps left = FromClient w (first_part ps).steps (sequel (other_parts ps) m left)
+abbrev pub OnClient : SceneWorld → Lines → List Part → List ℕ → List Exchange → Type 0
+OnClient w m ps left es = FromClient w (first_part ps).steps (sequel (other_parts ps) m left es)
 
 -- if an act comes to the steps of the synchronization in its part p (`TurnsTo`), which has no steps of the client, and `OnBegin`
 -- holds of the later parts from each state that these steps may lead to, it holds from b of the later parts with p as the front
 -- of the first one (`in_front`)
-begin_first : (b : begin.SyncModel SceneState) (p : Part) (word : List ℕ) (n m : Lines) (ps : List Part) (left : List ℕ) → HasSome ps → p.steps ≡ [] → TurnsTo b p.sync_steps word n
-    → ((c : begin.SyncModel SceneState) → BeginIsAt c word n → OnBegin c m ps left) → OnBegin b m (in_front p false ps) left
-begin_first b p word n m [] left some none to on = absurd some
-begin_first b p word n m (q ∷ ps) left some none to on =
-    subst (λ (ss : List (client.Step Asked)). FromBegin b (p.sync_steps ++ q.sync_steps) (ss ++ q.steps) (sequel ps m left)) (sym none) (to q.sync_steps q.steps (sequel ps m left) on)
+begin_first : (b : begin.SyncModel SceneState) (p : Part) (word : List ℕ) (n m : Lines) (ps : List Part) (left : List ℕ) (es : List Exchange) → HasSome ps → p.steps ≡ [] → TurnsTo b p.sync_steps word n
+    → ((c : begin.SyncModel SceneState) → BeginIsAt c word n → OnBegin c m ps left es) → OnBegin b m (in_front p false ps) left es
+begin_first b p word n m [] left es some none to on = absurd some
+begin_first b p word n m (q ∷ ps) left es some none to on =
+    subst (λ (ss : List (client.Step Asked)). FromBegin b (p.sync_steps ++ q.sync_steps) (ss ++ q.steps) (sequel ps m left es)) (sym none) (to q.sync_steps q.steps (sequel ps m left es) on)
 
 -- if an act comes to the steps of its part p (`MovesTo`), and `OnClient` holds of the later parts from each world that these
 -- steps may lead to, it holds from w of the later parts with p as the front of the first one (`in_front`)
-client_first : (w : SceneWorld) (p : Part) (c : ById Asked) (n m : Lines) (ps : List Part) (left : List ℕ) → HasSome ps → MovesTo w p.steps c n
-    → ((v : SceneWorld) → WorldIsAt v c n → OnClient v m ps left) → OnClient w m (in_front p false ps) left
-client_first w p c n m [] left some to on = absurd some
-client_first w p c n m (q ∷ ps) left some to on = to q.steps (sequel ps m left) on
+client_first : (w : SceneWorld) (p : Part) (c : ById Asked) (n m : Lines) (ps : List Part) (left : List ℕ) (es : List Exchange) → HasSome ps → MovesTo w p.steps c n
+    → ((v : SceneWorld) → WorldIsAt v c n → OnClient v m ps left es) → OnClient w m (in_front p false ps) left es
+client_first w p c n m [] left es some to on = absurd some
+client_first w p c n m (q ∷ ps) left es some to on = to q.steps (sequel ps m left es) on
 
 -- if an act comes to the steps of its part p (`MovesTo`), which ends with the act, and `FromClient` holds from each world that
 -- these steps may lead to, with no steps and with the later parts, `OnClient` holds from w of p and then the later parts
-client_last : (w : SceneWorld) (p : Part) (c : ById Asked) (n m : Lines) (ps : List Part) (left : List ℕ) → MovesTo w p.steps c n
-    → ((v : SceneWorld) → Holds (under_way_on v.wire) n → FromClient v [] (sequel ps m left)) → OnClient w m (in_front p true ps) left
-client_last w p c n m ps left to on =
-    subst (λ (ss : List (client.Step Asked)). FromClient w ss (sequel ps m left)) (append-nil p.steps) (to [] (sequel ps m left) (λ v at. on v at.1))
+client_last : (w : SceneWorld) (p : Part) (c : ById Asked) (n m : Lines) (ps : List Part) (left : List ℕ) (es : List Exchange) → MovesTo w p.steps c n
+    → ((v : SceneWorld) → Holds (under_way_on v.wire) n → FromClient v [] (sequel ps m left es)) → OnClient w m (in_front p true ps) left es
+client_last w p c n m ps left es to on =
+    subst (λ (ss : List (client.Step Asked)). FromClient w ss (sequel ps m left es)) (append-nil p.steps) (to [] (sequel ps m left es) (λ v at. on v at.1))
 
 -- where a part has ended with the world v, and `OnBegin` holds of the later parts from a synchronization over what is in flight
 -- in v, `FromClient` holds from v with no steps and with the later parts
-client_anew : (v : SceneWorld) (m : Lines) (ps : List Part) (left : List ℕ) → HasSome ps → OnBegin (begins (under_way_on v.wire)) m ps left → FromClient v [] (sequel ps m left)
-client_anew v m [] left some f = absurd some
-client_anew v m (q ∷ ps) left some f = ended_from v q (sequel ps m left) f
+client_anew : (v : SceneWorld) (m : Lines) (ps : List Part) (left : List ℕ) (es : List Exchange) → HasSome ps → OnBegin (begins (under_way_on v.wire)) m ps left es
+    → FromClient v [] (sequel ps m left es)
+client_anew v m [] left es some f = absurd some
+client_anew v m (q ∷ ps) left es some f = ended_from v q (sequel ps m left es) f
+
+-- What happens on the line, and is no act.
+
+-- if this leads from the lines l to n, and `FromBegin` holds from each state with the lines n in flight and with the unanswered ids
+-- of b, it holds from b, with the exchange of what happened
+pub begin_happens : (h : Happening) → ((act : Act) → h ≡ Acts act → ⊥) → (b : begin.SyncModel SceneState) (l n : Lines) (show : List part.SyncStep) (steps : List (client.Step Asked)) (coming : Sequel)
+    → Holds (leaves b) l → (does : Leads l h n)
+    → ((c : begin.SyncModel SceneState) → Holds (leaves c) n → c.left ≡ b.left → FromBegin c show steps coming)
+    → FromBegin b show steps (after_exchanges (exchange_at l h n does) coming)
+begin_happens h never b l n show steps coming holds does on =
+    let xs = happens_by_steps (leaves b) l n h never holds does in
+    subst (λ es. FromBegin b show steps (after_exchanges es coming)) xs.same
+    (steps_turn xs.steps b show steps coming xs.are (λ c e k. on c (subst (λ u. Holds u n) (sym e) xs.holds) k))
+
+-- if this leads from the lines l to n, and `FromClient` holds from each world with the lines n in flight and with the client of w, it
+-- holds from w, with the exchange of what happened
+pub client_happens : (h : Happening) → ((act : Act) → h ≡ Acts act → ⊥) → (w : SceneWorld) (l n : Lines) (steps : List (client.Step Asked)) (coming : Sequel)
+    → Holds (under_way_on w.wire) l → (does : Leads l h n)
+    → ((v : SceneWorld) → Holds (under_way_on v.wire) n → v.client ≡ w.client → FromClient v steps coming)
+    → FromClient w steps (after_exchanges (exchange_at l h n does) coming)
+client_happens h never w l n steps coming holds does on =
+    let xs = happens_by_steps (under_way_on w.wire) l n h never holds does in
+    subst (λ es. FromClient w steps (after_exchanges es coming)) xs.same
+    (steps_move xs.steps w steps coming xs.are (λ v e k. on v (subst (λ u. Holds u n) (sym e) xs.holds) k))
 
 -- What commands ask.
 
@@ -223,14 +252,15 @@ module _ (plan : Plan) (commands : List Task) (askable : AreAskable commands) wh
   some_left (asked ∷ rest) e none = cc
 
   -- if what happens on the line has no acts, and `FromClient` holds from each world with the lines that this leads to in flight
-  -- and with the client of w, it holds from w
-  goes_idly : (hs : List Happening) (w : SceneWorld) (l m : Lines) (steps : List (client.Step Asked)) (coming : Sequel) → acts_of hs ≡ [] → Holds (under_way_on w.wire) l → LeadAll l hs m
-      → ((v : SceneWorld) → Holds (under_way_on v.wire) m → FromClient v steps coming) → FromClient w steps coming
+  -- and with the client of w, it holds from w, with the exchanges of what happens
+  goes_idly : (hs : List Happening) (w : SceneWorld) (l m : Lines) (steps : List (client.Step Asked)) (coming : Sequel) → acts_of hs ≡ [] → Holds (under_way_on w.wire) l → (all : LeadAll l hs m)
+      → ((v : SceneWorld) → Holds (under_way_on v.wire) m → FromClient v steps coming) → FromClient w steps (after_exchanges (exchanges_of l hs m all) coming)
   goes_idly [] w l m steps coming none holds all on = on w (subst (Holds (under_way_on w.wire)) (sym all) holds)
   goes_idly (Acts act ∷ hs) w l m steps coming none holds all on = absurd (cons_not_nil act (acts_of hs) none)
   goes_idly (h ∷ hs) w l m steps coming none holds all on =
-      let xs = happens_by_steps (under_way_on w.wire) l all.0 h (λ act e. cc) holds all.1 in
-      steps_move xs.steps w steps coming xs.are (λ v e k. goes_idly hs v all.0 m steps coming none (subst (λ u. Holds u all.0) (sym e) xs.holds) all.2 on)
+      let others = exchanges_of all.0 hs m all.2 in
+      subst (λ es. FromClient w steps (record coming { exchanges = es })) (sym (append_assoc (exchange_at l h all.0 all.1) others coming.exchanges))
+      (client_happens h (λ act e. cc) w l all.0 steps (after_exchanges others coming) holds all.1 (λ v next k. goes_idly hs v all.0 m steps coming none next all.2 on))
 
   -- From a synchronization and from a client on.
 
@@ -245,20 +275,20 @@ module _ (plan : Plan) (commands : List Task) (askable : AreAskable commands) wh
   none_over t (act ∷ acts) over runs = absurd (no_act_once_over plan commands t act over runs.0)
 
   -- from each state b of a synchronization on that agrees with the station's model s, which synchronizes, and with the line: what
-  -- happens on the line shows the parts of the station's run by these acts
+  -- happens on the line shows the parts of the station's run by these acts, with the exchanges of what happens
   abbrev FromBeginOf : List Happening → Lines → Type 0
   FromBeginOf hs m =
       (s : Model) (b : begin.SyncModel SceneState) (l : Lines) → Invariant plan commands s → s.rest ≡ [] → has_begun s.progress ≡ false → BeginIsAt b s.progress.word l
-      → AreSmall s.progress.word → LeadAll l hs m → Runs plan commands s (acts_of hs)
-      → OnBegin b m (parts_of plan commands s (acts_of hs)) (after_all plan commands s (acts_of hs)).progress.word
+      → AreSmall s.progress.word → (all : LeadAll l hs m) → Runs plan commands s (acts_of hs)
+      → OnBegin b m (parts_of plan commands s (acts_of hs)) (after_all plan commands s (acts_of hs)).progress.word (exchanges_of l hs m all)
 
   -- from each world w of a client on that agrees with the station's model s, which has synchronized, and with the line: what
-  -- happens on the line shows the parts of the station's run by these acts
+  -- happens on the line shows the parts of the station's run by these acts, with the exchanges of what happens
   abbrev FromClientOf : List Happening → Lines → Type 0
   FromClientOf hs m =
       (s : Model) (w : SceneWorld) (l : Lines) → Invariant plan commands s → s.rest ≡ [] → has_begun s.progress ≡ true → WorldIsAt w s.client l
-      → LeadAll l hs m → Runs plan commands s (acts_of hs)
-      → OnClient w m (parts_of plan commands s (acts_of hs)) (after_all plan commands s (acts_of hs)).progress.word
+      → (all : LeadAll l hs m) → Runs plan commands s (acts_of hs)
+      → OnClient w m (parts_of plan commands s (acts_of hs)) (after_all plan commands s (acts_of hs)).progress.word (exchanges_of l hs m all)
 
   -- if what happens later is `FromBeginOf` and `FromClientOf`, it is `FromBeginOf` with one more act before it
   act_begin : (act : Act) (hs : List Happening) (m : Lines) → FromBeginOf hs m → FromClientOf hs m → FromBeginOf (Acts act ∷ hs) m
@@ -267,8 +297,8 @@ module _ (plan : Plan) (commands : List Task) (askable : AreAskable commands) wh
       let t = after plan commands s act in
       let p = sync_part s o act in
       let left = (after_all plan commands t (acts_of hs)).progress.word in
-      subst (λ x. OnBegin b m (in_front (if x then client_part plan commands s o act else sync_part s o act) (x && loses_all t.progress) (parts_of plan commands t (acts_of hs))) left) (sym begins)
-      (begin_first b p (unanswered_after s.progress.word (heard_in p.sync_steps)) all.0 m (parts_of plan commands t (acts_of hs)) left (some_parts plan commands t (acts_of hs)) means.0 to.1
+      subst (λ x. OnBegin b m (in_front (if x then client_part plan commands s o act else sync_part s o act) (x && loses_all t.progress) (parts_of plan commands t (acts_of hs))) left (exchanges_of all.0 hs m all.2)) (sym begins)
+      (begin_first b p (unanswered_after s.progress.word (heard_in p.sync_steps)) all.0 m (parts_of plan commands t (acts_of hs)) left (exchanges_of all.0 hs m all.2) (some_parts plan commands t (acts_of hs)) means.0 to.1
       (λ c later. next c (subst (λ word. BeginIsAt c word all.0) (sym means.2) later) (has_begun t.progress) refl)) where
         -- the act means its part
         means : IsMeant false s act (sync_part s (action_at plan s) act) (after plan commands s act)
@@ -283,13 +313,14 @@ module _ (plan : Plan) (commands : List Task) (askable : AreAskable commands) wh
         -- what happens later, from the state after the act, by whether the station has synchronized then (`x`)
         next : (c : begin.SyncModel SceneState) → BeginIsAt c (after plan commands s act).progress.word all.0 → (x : Bool) → has_begun (after plan commands s act).progress ≡ x
             → OnBegin c m (parts_of plan commands (after plan commands s act) (acts_of hs)) (after_all plan commands (after plan commands s act) (acts_of hs)).progress.word
+            (exchanges_of all.0 hs m all.2)
         next c later false e =
             later_begin (after plan commands s act) c all.0 (invariant_after plan commands s act fine) to.0 e later
             (subst AreSmall (sym means.2) (left_ids_are_small s.progress.word (heard_in (sync_part s (action_at plan s) act).sync_steps) ids)) all.2 runs.1
         next c later true e =
             let u = after plan commands s act in
             let ps = parts_of plan commands u (acts_of hs) in
-            begun_from c (first_part ps).sync_steps (first_part ps).steps (sequel (other_parts ps) m (after_all plan commands u (acts_of hs)).progress.word)
+            begun_from c (first_part ps).sync_steps (first_part ps).steps (sequel (other_parts ps) m (after_all plan commands u (acts_of hs)).progress.word (exchanges_of all.0 hs m all.2))
             (later.0 ∙ word_empty u.progress.word e) (first_none ps (first_part_no_sync_steps plan commands u (acts_of hs) e))
             (later_client u (ids_begun (leaves c)) all.0 (invariant_after plan commands s act fine) to.0 e
             (sym (client_new s act fine runs.0 begins), subst (λ v. Holds v all.0) (sym (begun_in_flight (leaves c))) later.1) all.2 runs.1)
@@ -300,7 +331,7 @@ module _ (plan : Plan) (commands : List Task) (askable : AreAskable commands) wh
       let o = action_at plan s in
       let t = after plan commands s act in
       let left = (after_all plan commands t (acts_of hs)).progress.word in
-      subst (λ x. OnClient w m (in_front (if x then client_part plan commands s o act else sync_part s o act) (x && loses_all t.progress) (parts_of plan commands t (acts_of hs))) left) (sym begun)
+      subst (λ x. OnClient w m (in_front (if x then client_part plan commands s o act else sync_part s o act) (x && loses_all t.progress) (parts_of plan commands t (acts_of hs))) left (exchanges_of all.0 hs m all.2)) (sym begun)
       (by_loss (loses_all t.progress) refl) where
         -- no bytes of an unfinished line are left, and the act comes to its steps
         to : ((after plan commands s act).rest ≡ [])
@@ -315,55 +346,62 @@ module _ (plan : Plan) (commands : List Task) (askable : AreAskable commands) wh
         -- what happens later, where the part has ended, by whether the station has synchronized after the act (`x`); if it has,
         -- the run is over
         anew : (v : SceneWorld) → Holds (under_way_on v.wire) all.0 → loses_all (after plan commands s act).progress ≡ true → (x : Bool) → has_begun (after plan commands s act).progress ≡ x
-            → FromClient v [] (sequel (parts_of plan commands (after plan commands s act) (acts_of hs)) m (after_all plan commands (after plan commands s act) (acts_of hs)).progress.word)
+            → FromClient v []
+            (sequel (parts_of plan commands (after plan commands s act) (acts_of hs)) m (after_all plan commands (after plan commands s act) (acts_of hs)).progress.word (exchanges_of all.0 hs m all.2))
         anew v h lost false e =
             let u = after plan commands s act in
             let word = word_if_resynchronizing plan commands s act runs.0 begun e in
-            client_anew v m (parts_of plan commands u (acts_of hs)) (after_all plan commands u (acts_of hs)).progress.word (some_parts plan commands u (acts_of hs))
+            client_anew v m (parts_of plan commands u (acts_of hs)) (after_all plan commands u (acts_of hs)).progress.word (exchanges_of all.0 hs m all.2)
+            (some_parts plan commands u (acts_of hs))
             (later_begin u (begins (under_way_on v.wire)) all.0 (invariant_after plan commands s act fine) to.0 e
             (sym word, subst (λ q. Holds q all.0) (sym (begins_in_flight (under_way_on v.wire))) h) (subst AreSmall (sym word) word_small) all.2 runs.1)
         anew v h lost true e =
             let u = after plan commands s act in
             let none = none_over u (acts_of hs) (over_of e lost) runs.1 in
-            subst (λ acts. FromClient v [] (sequel (parts_of plan commands u acts) m (after_all plan commands u (acts_of hs)).progress.word)) (sym none)
-            (goes_idly hs v all.0 m [] (sequel (idle_part ∷ []) m (after_all plan commands u (acts_of hs)).progress.word) none h all.2
-            (λ x g. ends_client_idly x m (after_all plan commands u (acts_of hs)).progress.word g))
+            let es = exchanges_of all.0 hs m all.2 in
+            subst (λ acts. FromClient v [] (sequel (parts_of plan commands u acts) m (after_all plan commands u (acts_of hs)).progress.word es)) (sym none)
+            (subst (λ l. FromClient v [] (sequel (idle_part ∷ []) m (after_all plan commands u (acts_of hs)).progress.word l)) (append-nil es)
+            (goes_idly hs v all.0 m [] (sequel (idle_part ∷ []) m (after_all plan commands u (acts_of hs)).progress.word []) none h all.2
+            (λ x g. ends_client_idly x m (after_all plan commands u (acts_of hs)).progress.word g)))
 
         -- `OnClient` holds from w with the act, whether the part ends with it (`x` is true) or goes on
         by_loss : (x : Bool) → loses_all (after plan commands s act).progress ≡ x
             → OnClient w m (in_front (client_part plan commands s (action_at plan s) act) x (parts_of plan commands (after plan commands s act) (acts_of hs)))
-            (after_all plan commands (after plan commands s act) (acts_of hs)).progress.word
+            (after_all plan commands (after plan commands s act) (acts_of hs)).progress.word (exchanges_of all.0 hs m all.2)
         by_loss false e =
             let u = after plan commands s act in
             let p = client_part plan commands s (action_at plan s) act in
             client_first w p (client_after s.client p.steps) all.0 m (parts_of plan commands u (acts_of hs)) (after_all plan commands u (acts_of hs)).progress.word
-            (some_parts plan commands u (acts_of hs)) to.1
+            (exchanges_of all.0 hs m all.2) (some_parts plan commands u (acts_of hs)) to.1
             (λ v later. later_client u v all.0 (invariant_after plan commands s act fine) to.0 (begun_if_nothing_lost u e)
             (subst (λ c. WorldIsAt v c all.0) (sym (client_on s act fine runs.0 begun e)) later) all.2 runs.1)
         by_loss true e =
             let u = after plan commands s act in
             let p = client_part plan commands s (action_at plan s) act in
-            client_last w p (client_after s.client p.steps) all.0 m (parts_of plan commands u (acts_of hs)) (after_all plan commands u (acts_of hs)).progress.word to.1
+            client_last w p (client_after s.client p.steps) all.0 m (parts_of plan commands u (acts_of hs)) (after_all plan commands u (acts_of hs)).progress.word
+            (exchanges_of all.0 hs m all.2) to.1
             (λ v h. anew v h e (has_begun u.progress) refl)
 
   -- whatever happens on the line is `FromBeginOf` and `FromClientOf`: it shows what the station sees in a run
   pub shows_the_run : (hs : List Happening) (m : Lines) → FromBeginOf hs m × FromClientOf hs m
   shows_the_run [] m = (
     λ s b l fine rest begins at ids all runs.
-        subst (λ left. FromBegin b [] [] (sequel [] m left)) at.0 (ends_begin b m (λ e. some_left s.progress.word begins (sym at.0 ∙ e)) (subst (Holds (leaves b)) (sym all) at.1)),
+        subst (λ left. FromBegin b [] [] (sequel [] m left [])) at.0 (ends_begin b m (λ e. some_left s.progress.word begins (sym at.0 ∙ e)) (subst (Holds (leaves b)) (sym all) at.1)),
     λ s w l fine rest begun at all runs. ends_client w m s.progress.word (subst (Holds (under_way_on w.wire)) (sym all) at.1),
   )
   shows_the_run (Acts act ∷ hs) m = let later = shows_the_run hs m in (act_begin act hs m later.0 later.1, act_client act hs m later.0 later.1)
   shows_the_run (h ∷ hs) m =
       let later = shows_the_run hs m in (
         λ s b l fine rest begins at ids all runs.
-            let xs = happens_by_steps (leaves b) l all.0 h (λ act e. cc) at.1 all.1 in
-            steps_turn xs.steps b _ _ _ xs.are
-            (λ c e k. later.0 s c all.0 fine rest begins (k ∙ at.0, subst (λ u. Holds u all.0) (sym e) xs.holds) ids all.2 runs),
+            let ps = parts_of plan commands s (acts_of hs) in
+            begin_happens h (λ act e. cc) b l all.0 (first_part ps).sync_steps (first_part ps).steps
+            (sequel (other_parts ps) m (after_all plan commands s (acts_of hs)).progress.word (exchanges_of all.0 hs m all.2)) at.1 all.1
+            (λ c holds k. later.0 s c all.0 fine rest begins (k ∙ at.0, holds) ids all.2 runs),
         λ s w l fine rest begun at all runs.
-            let xs = happens_by_steps (under_way_on w.wire) l all.0 h (λ act e. cc) at.1 all.1 in
-            steps_move xs.steps w _ _ xs.are
-            (λ v e k. later.1 s v all.0 fine rest begun (k ∙ at.0, subst (λ u. Holds u all.0) (sym e) xs.holds) all.2 runs),
+            let ps = parts_of plan commands s (acts_of hs) in
+            client_happens h (λ act e. cc) w l all.0 (first_part ps).steps
+            (sequel (other_parts ps) m (after_all plan commands s (acts_of hs)).progress.word (exchanges_of all.0 hs m all.2)) at.1 all.1
+            (λ v holds k. later.1 s v all.0 fine rest begun (k ∙ at.0, holds) all.2 runs),
       )
 
 -- if the instrument keeps no reply, its state is a good one (`KeptReplyReads`)
@@ -372,15 +410,15 @@ none_kept state none = subst ReadsWithItsId (sym none) tt
 
 -- a run over a rehearsed line is one in the field, and faithful
 pub rehearsed_runs_are_faithful : RehearsalsAreFaithful
-rehearsed_runs_are_faithful x of_line askable runs =
-    let c = of_line.1 in
+rehearsed_runs_are_faithful x lines c askable runs =
     let u = none_under_way c.start in
-    let start : Lines = record { up = []; down = []; state = c.start } in
+    let start = none_in_flight c.start in
+    let es = exchanges_happened lines c in
     let good = none_kept c.start c.none in
     let s = opening x.plan x.scope in
-    let g = (shows_the_run x.plan x.commands askable c.happened of_line.0).0 s (begins u) start (invariant_opening x.plan x.commands x.scope) refl refl
+    let g = (shows_the_run x.plan x.commands askable c.happened lines).0 s (begins u) start (invariant_opening x.plan x.commands x.scope) refl refl
     (refl, record { up = tt; down = refl; one = tt; state = refl; good = good }) word_small c.leads (subst (Runs x.plan x.commands s) (sym c.acts_are) runs) in
-    let f = subst (λ told. OnBegin (begins u) of_line.0 (parts_of x.plan x.commands s told) (after_all x.plan x.commands s told).progress.word) c.acts_are g in
+    let f = subst (λ told. OnBegin (begins u) lines (parts_of x.plan x.commands s told) (after_all x.plan x.commands s told).progress.word es) c.acts_are g in
     let parts = first_and_others (parts_of x.plan x.commands s x.acts) (some_parts x.plan x.commands s x.acts) in
     let program = as_program x (run f.ts f.ms ∷ f.rs) in
     let field : IsInField scene_ends KeptReplyReads scene_kept u program = record {
@@ -390,9 +428,11 @@ rehearsed_runs_are_faithful x of_line askable runs =
       shown = subst (AreShownAs scene_ends u (run f.ts f.ms ∷ f.rs)) (sym parts) (f.show, f.see, f.later.show);
       possible = ((f.are, f.may), f.later.may);
     } in
+    let faithful = run_faithful scene_ends KeptReplyReads scene_kept scene_is_an_instrument.instrument u program field in
     record {
-      under_way = u;
       runs = run f.ts f.ms ∷ f.rs;
+      same = f.same;
       field = field;
-      faithful = run_faithful scene_ends KeptReplyReads scene_kept scene_is_an_instrument.instrument u program field;
+      faithful = faithful;
+      answers = answers_on_line es u program field.possible (λ e h. subst (Has e) f.same h) faithful.own;
     }

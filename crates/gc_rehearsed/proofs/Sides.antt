@@ -18,7 +18,8 @@ use Rattle.gc_field.specs.SceneField.{KeptReplyReads, scene_ends, scene_handed, 
 use Rattle.gc_field.specs.Shown.{shows}
 use Rattle.gc_field.specs.World as world
 use Rattle.gc_field.specs.World.{Numbered, Request, Wire, World, without, doubled, up_delivered, with_up, with_down}
-use Rattle.gc_rehearsed.proofs.Steps.{Step, Reach, Lose_up, Repeat_up, Lose_down, Repeat_down, Start, Change, IsStep, under_way, reached, stepped}
+use Rattle.gc_rehearsed.specs.Exchanges.{exchange_of_move, exchange_of_turn}
+use Rattle.gc_rehearsed.proofs.Steps.{Step, Reach, Lose_up, Repeat_up, Lose_down, Repeat_down, Start, Change, IsStep, exchange_of_step, under_way, reached, stepped}
 use Rattle.gc_field.proofs.Shown.{left_reaches}
 
 -- While a station synchronizes.
@@ -70,6 +71,16 @@ turn_answers_none b (Lose_down k) = refl
 turn_answers_none b (Repeat_down k) = refl
 turn_answers_none b Start = refl
 turn_answers_none b (Change state) = refl
+
+-- the turn of a step has the step's exchange
+pub turn_exchange : (b : SyncModel SceneState) (x : Step) → exchange_of_turn b (turn_of x) ≡ exchange_of_step (leaves b) x
+turn_exchange b Reach = refl
+turn_exchange b (Lose_up k) = refl
+turn_exchange b (Repeat_up k) = refl
+turn_exchange b (Lose_down k) = refl
+turn_exchange b (Repeat_down k) = refl
+turn_exchange b Start = refl
+turn_exchange b (Change state) = refl
 
 -- the turn of a possible step is possible
 pub is_turn : (b : SyncModel SceneState) (x : Step) → IsStep (leaves b) x → IsTurn KeptReplyReads scene_kept b (turn_of x)
@@ -148,6 +159,16 @@ client_move w (Lose_down k) = refl
 client_move w (Repeat_down k) = refl
 client_move w Start = refl
 client_move w (Change state) = refl
+
+-- the move of a step has the step's exchange
+pub move_exchange : (w : SceneWorld) (x : Step) → exchange_of_move w (move_of x) ≡ exchange_of_step (under_way_on w.wire) x
+move_exchange w Reach = refl
+move_exchange w (Lose_up k) = refl
+move_exchange w (Repeat_up k) = refl
+move_exchange w (Lose_down k) = refl
+move_exchange w (Repeat_down k) = refl
+move_exchange w Start = refl
+move_exchange w (Change state) = refl
 
 -- the move of a possible step is possible
 pub is_move : (w : SceneWorld) (x : Step) → IsStep (under_way_on w.wire) x → IsPossible KeptReplyReads scene_kept w (move_of x)

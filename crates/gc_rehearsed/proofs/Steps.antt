@@ -1,6 +1,6 @@
 -- What happens on a rehearsed line, as steps of what is in flight in the field: requests with their ids, replies, and the
 -- instrument.
-use Rattle.std.proofs.Common.{◌≡◌, inl, inr, ℕ, zero, suc, ◌<◌, List, [], ◌∷◌, ◌++◌, length, Some, refl, sym, ◌∙◌, ap, subst}
+use Rattle.std.proofs.Common.{◌≡◌, inl, inr, ℕ, zero, suc, ◌<◌, List, [], ◌∷◌, ◌++◌, length, Option, Some, refl, sym, ◌∙◌, ap, subst}
 use Rattle.std.specs.List.{AllByRecursion, AllZip}
 use Rattle.gc_links.specs.Acts.{Act}
 use Rattle.gc_catalogue.specs.Asked.{asked_line, IsAskedFitting}
@@ -15,6 +15,7 @@ use Rattle.gc_field.specs.SceneField.{KeptReplyReads, scene_handed, scene_kept}
 use Rattle.gc_field.specs.World.{Request, without, doubled}
 use Rattle.gc_field.proofs.SceneField.{scene_is_an_instrument}
 use Rattle.gc_rehearsal.specs.Carrying.{Lines, Happening, Acts, Reaches, Restarts, Passes, Repeats_up, Repeats_down, Loses_up, Loses_down, Loses_front}
+use Rattle.gc_rehearsed.specs.Exchanges.{Exchange, exchange_at, exchange_in, exchange_of_front}
 use Rattle.gc_rehearsal.specs.Carrying.{HasReached, IsOneLine, IsSentOrLost, Leads, TakesReply}
 use Rattle.gc_lines.proofs.Lists.{all_append}
 use Rattle.gc_values.proofs.Every.{every_behind as all_behind}
@@ -91,10 +92,21 @@ abbrev pub AreSteps : List Step → UnderWay SceneState → Type 0
 AreSteps [] u = Unit {0}
 AreSteps (x ∷ xs) u = IsStep u x × AreSteps xs (stepped u x)
 
--- steps lead from what is in flight in the field to what is in flight on the line
-pub record Steps (u : UnderWay SceneState) (m : Lines) : Type 0 where
+-- the exchange of a step, from what is in flight
+abbrev pub exchange_of_step : UnderWay SceneState → Step → List Exchange
+exchange_of_step u Reach = exchange_in u
+exchange_of_step u other = []
+
+-- the exchanges of these steps, in order
+abbrev pub exchanges_of_steps : List Step → UnderWay SceneState → List Exchange
+exchanges_of_steps [] u = []
+exchanges_of_steps (x ∷ xs) u = exchange_of_step u x ++ exchanges_of_steps xs (stepped u x)
+
+-- steps lead from what is in flight in the field to what is in flight on the line, with these exchanges
+pub record Steps (u : UnderWay SceneState) (m : Lines) (es : List Exchange) : Type 0 where
   pub steps : List Step
   pub are : AreSteps steps u
+  pub same : exchanges_of_steps steps u ≡ es
   pub holds : Holds (all_stepped steps u) m
 
 -- Lists.
@@ -143,27 +155,28 @@ request_played_as_line s r line is = subst (λ x. IsPlayed s x (scene_handed s r
 
 -- What happens.
 
--- there are possible steps that lose all requests, and leave the replies and the state as they are
+-- there are possible steps that lose all requests, and leave the replies and the state as they are; they have no exchange
 lose_all_up : (rs : List Request) (down : List (List ℕ)) (state : SceneState)
-    → (xs : List Step) × AreSteps xs (under_way rs down state) × (all_stepped xs (under_way rs down state) ≡ under_way [] down state)
-lose_all_up [] down state = ([], tt, refl)
-lose_all_up (r ∷ rs) down state = let rest = lose_all_up rs down state in (Lose_up zero ∷ rest.0, (tt, rest.1), rest.2)
+    → (xs : List Step) × AreSteps xs (under_way rs down state) × (all_stepped xs (under_way rs down state) ≡ under_way [] down state) × (exchanges_of_steps xs (under_way rs down state) ≡ [])
+lose_all_up [] down state = ([], tt, refl, refl)
+lose_all_up (r ∷ rs) down state = let rest = lose_all_up rs down state in (Lose_up zero ∷ rest.0, (tt, rest.1), rest.2, rest.3)
 
--- there are possible steps that lose all replies, and leave the requests and the state as they are
+-- there are possible steps that lose all replies, and leave the requests and the state as they are; they have no exchange
 lose_all_down : (up : List Request) (down : List (List ℕ)) (state : SceneState)
-    → (xs : List Step) × AreSteps xs (under_way up down state) × (all_stepped xs (under_way up down state) ≡ under_way up [] state)
-lose_all_down up [] state = ([], tt, refl)
-lose_all_down up (x ∷ down) state = let rest = lose_all_down up down state in (Lose_down zero ∷ rest.0, (tt, rest.1), rest.2)
+    → (xs : List Step) × AreSteps xs (under_way up down state) × (all_stepped xs (under_way up down state) ≡ under_way up [] state) × (exchanges_of_steps xs (under_way up down state) ≡ [])
+lose_all_down up [] state = ([], tt, refl, refl)
+lose_all_down up (x ∷ down) state = let rest = lose_all_down up down state in (Lose_down zero ∷ rest.0, (tt, rest.1), rest.2, rest.3)
 
 -- if the instrument goes to a good state (`KeptReplyReads`) by the front request r, and each reply of `down` is one line, steps
 -- lead to lines m with that state, with the lines of the requests `rs` behind r, and with the replies of `down` once the reply
 -- to r was sent on its way or lost at once (`IsSentOrLost`)
 sends_out : (rs : List Request) (down : List (List ℕ)) (s : SceneState) (r : Request) (m : Lines) → m.state ≡ (scene_handed s r.id r.call).state
     → KeptReplyReads (scene_handed s r.id r.call).state → AreLinesOf rs m.up → AllByRecursion IsOneLine down
-    → IsSentOrLost down (Some (scene_handed s r.id r.call).reply) m.down → Steps (under_way (r ∷ rs) down s) m
+    → IsSentOrLost down (Some (scene_handed s r.id r.call).reply) m.down → Steps (under_way (r ∷ rs) down s) m (exchange_of_front s (r ∷ rs))
 sends_out rs down s r m state good lines one (inl lost) = record {
   steps = Reach ∷ Lose_down (length down) ∷ [];
   are = (tt, (tt, tt));
+  same = refl;
   holds = record {
     up = lines;
     down = without_last down (scene_handed s r.id r.call).reply ∙ sym lost;
@@ -175,6 +188,7 @@ sends_out rs down s r m state good lines one (inl lost) = record {
 sends_out rs down s r m state good lines one (inr out) = record {
   steps = Reach ∷ [];
   are = (tt, tt);
+  same = refl;
   holds = record {
     up = lines;
     down = sym out.1;
@@ -184,14 +198,24 @@ sends_out rs down s r m state good lines one (inr out) = record {
   };
 }
 
+-- exchanges with the same parts are the same
+same_exchange : (request line : List ℕ) (before first after last : SceneState) (reply sent : Option (List ℕ)) → request ≡ line → before ≡ first → after ≡ last → reply ≡ sent
+    → ◌≡◌ {A = Exchange} (record { request = request; before = before; after = after; reply = reply }) (record { request = line; before = first; after = last; reply = sent })
+same_exchange request line before first after last reply sent same_line same_before same_after same_reply =
+    ap (λ x. record { request = x; before = before; after = after; reply = reply }) same_line
+    ∙ ap (λ x. record { request = line; before = x; after = after; reply = reply }) same_before
+    ∙ ap (λ x. record { request = line; before = first; after = x; reply = reply }) same_after
+    ∙ ap (λ x. record { request = line; before = first; after = last; reply = x }) same_reply
+
 -- where the front line reaches the instrument (`HasReached`), steps of what is in flight in the field lead to the lines after
--- that
-reaches_by_steps : (rs : List Request) (down : List (List ℕ)) (s : SceneState) (l m : Lines) → Holds (under_way rs down s) l → HasReached l m → Steps (under_way rs down s) m
+-- that, with that exchange
+reaches_by_steps : (rs : List Request) (down : List (List ℕ)) (s : SceneState) (l m : Lines) → Holds (under_way rs down s) l → (h : HasReached l m) → Steps (under_way rs down s) m (exchange_at l Reaches m h)
 reaches_by_steps [] down s l m holds h = absurd (subst (AreLinesOf []) h.front holds.up)
 reaches_by_steps (r ∷ rs) down s l m holds h =
-    sends_out rs down s r m same.0 (scene_is_an_instrument.instrument.stays_good s r.id r.call holds.good lines.0.id) lines.1
+    subst (Steps (under_way (r ∷ rs) down s) m) did
+    (sends_out rs down s r m same.0 (scene_is_an_instrument.instrument.stays_good s r.id r.call holds.good lines.0.id) lines.1
     (subst (AllByRecursion IsOneLine) (sym holds.down) holds.one)
-    (subst (λ x. IsSentOrLost x (Some (scene_handed s r.id r.call).reply) m.down) (sym holds.down) (subst (λ x. IsSentOrLost l.down x m.down) same.1 h.plays.sends)) where
+    (subst (λ x. IsSentOrLost x (Some (scene_handed s r.id r.call).reply) m.down) (sym holds.down) (subst (λ x. IsSentOrLost l.down x m.down) same.1 h.plays.sends))) where
       -- the lines of the requests in flight are the front line and those behind it
       lines : AreLinesOf (r ∷ rs) (h.line ∷ m.up)
       lines = subst (AreLinesOf (r ∷ rs)) h.front holds.up
@@ -203,6 +227,12 @@ reaches_by_steps (r ∷ rs) down s l m holds h =
       -- what it makes of the line is what the instrument of the field makes of the request
       same : (m.state ≡ (scene_handed s r.id r.call).state) × (h.plays.reply ≡ Some (scene_handed s r.id r.call).reply)
       same = one_reply s m.state (scene_handed s r.id r.call).state h.line h.plays.reply (Some (scene_handed s r.id r.call).reply) played (request_played_as_line s r h.line lines.0)
+
+      -- so the exchange in the field is the one that happened
+      did : exchange_of_front s (r ∷ rs) ≡ exchange_at l Reaches m h
+      did =
+          ap (λ e. e ∷ []) (same_exchange (asked_line (Some r.id) r.call) h.line s l.state (scene_handed s r.id r.call).state m.state (Some (scene_handed s r.id r.call).reply) h.plays.reply
+          (sym lines.0.text) holds.state (sym same.0) (sym same.1))
 
 -- what is in flight in the field is what is in flight on the line (`Holds`), also without the front reply in both: `down` are
 -- the replies behind it
@@ -216,19 +246,21 @@ holds_one_less u down l line n holds takes is =
 pub holds_dropped : (u : UnderWay SceneState) (l : Lines) (line : List ℕ) (n : Lines) → Holds u l → TakesReply l line n → Holds (stepped u (Lose_down zero)) n
 holds_dropped u l line n holds takes = holds_one_less u (without zero u.down) l line n holds takes (ap (without zero) (holds.down ∙ takes.front))
 
--- what happens on the line, and is no act, happens by steps
-pub happens_by_steps : (u : UnderWay SceneState) (l m : Lines) (h : Happening) → ((act : Act) → h ≡ Acts act → ⊥) → Holds u l → Leads l h m → Steps u m
+-- what happens on the line, and is no act, happens by steps, with its exchange
+pub happens_by_steps : (u : UnderWay SceneState) (l m : Lines) (h : Happening) → ((act : Act) → h ≡ Acts act → ⊥) → Holds u l → (does : Leads l h m) → Steps u m (exchange_at l h m does)
 happens_by_steps u l m (Acts act) never holds leads = absurd (never act refl)
 happens_by_steps u l m Reaches never holds leads = reaches_by_steps u.up u.down u.state l m holds leads
 happens_by_steps u l m Restarts never holds leads = record {
   steps = Start ∷ [];
   are = (tt, tt);
+  same = refl;
   holds = subst (Holds (stepped u Start)) (sym leads)
       (record { up = holds.up; down = holds.down; one = holds.one; state = ap scene_restarted holds.state; good = scene_is_an_instrument.instrument.starts_good u.state holds.good });
 }
 happens_by_steps u l m (Passes moment) never holds leads = record {
   steps = Change (at_moment moment u.state) ∷ [];
   are = (scene_is_an_instrument.passes u.state moment holds.good, tt);
+  same = refl;
   holds = subst (Holds (stepped u (Change (at_moment moment u.state)))) (sym leads)
       (record { up = holds.up; down = holds.down; one = holds.one; state = ap (at_moment moment) holds.state; good = (scene_is_an_instrument.passes u.state moment holds.good).0 });
 }
@@ -238,6 +270,7 @@ happens_by_steps u l m Repeats_up never holds leads =
     record {
       steps = Repeat_up lines.0 ∷ [];
       are = (tt, tt);
+      same = refl;
       holds = subst (Holds (stepped u (Repeat_up lines.0))) (sym leads.2) (record {
         up = subst (AreLinesOf (doubled lines.0 u.up)) (ap (λ q. q ++ twice.1 ∷ []) (sym twice.2) ∙ sym twice.3) lines.1;
         down = holds.down;
@@ -254,6 +287,7 @@ happens_by_steps u l m Repeats_down never holds leads =
     record {
       steps = Repeat_down (length twice.0) ∷ [];
       are = (tt, tt);
+      same = refl;
       holds = subst (Holds (stepped u (Repeat_down (length twice.0)))) (sym leads.2) (record {
         up = holds.up;
         down = new;
@@ -268,6 +302,7 @@ happens_by_steps u l m Loses_up never holds leads =
     record {
       steps = lost.0;
       are = lost.1;
+      same = lost.3;
       holds = subst (λ v. Holds v m) (sym lost.2)
           (subst (Holds (under_way [] u.down u.state)) (sym leads) (record { up = tt; down = holds.down; one = holds.one; state = holds.state; good = holds.good }));
     }
@@ -276,10 +311,12 @@ happens_by_steps u l m Loses_down never holds leads =
     record {
       steps = lost.0;
       are = lost.1;
+      same = lost.3;
       holds = subst (λ v. Holds v m) (sym lost.2) (subst (Holds (under_way u.up [] u.state)) (sym leads) (record { up = holds.up; down = refl; one = tt; state = holds.state; good = holds.good }));
     }
 happens_by_steps u l m Loses_front never holds leads = record {
   steps = Lose_down zero ∷ [];
   are = (tt, tt);
+  same = refl;
   holds = holds_dropped u l leads.0 m holds leads.1;
 }

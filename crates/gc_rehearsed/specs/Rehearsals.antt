@@ -11,12 +11,14 @@ use Rattle.gc_station.specs.declared.plan.Plan.{Plan}
 use Rattle.gc_station.specs.Model.{Runs, opening}
 use Rattle.gc_station.specs.Runs.{state_after}
 use Rattle.gc_station.specs.Scopes.{Scope}
-use Rattle.gc_field.specs.Begin.{UnderWay, none_under_way}
+use Rattle.gc_field.specs.Begin.{none_under_way}
 use Rattle.gc_field.specs.Beginnings.{Run, killed_unless_begun}
 use Rattle.gc_field.specs.InARow.{AreFaithful, AreInARow}
 use Rattle.gc_field.specs.Runs.{IsInField, IsRunFaithful, Program}
 use Rattle.gc_field.specs.SceneField.{KeptReplyReads, scene_ends, scene_kept}
-use Rattle.gc_rehearsal.specs.Carrying.{IsOfLine, CarriesNothing}
+use Rattle.gc_rehearsal.specs.Carrying.{HasComeTo, CarriesNothing, Lines}
+use Rattle.gc_rehearsed.specs.Exchanges.{Exchange, exchanges_of, exchanges_of_all, exchanges_of_runs}
+use Rattle.gc_rehearsed.specs.OnLine.{AllAreOnLine, AnswersAreOnLine}
 
 -- what a command asks is allowed, whenever it is sent: a call's numbers lie in their types, and a procedure that isn't in the
 -- table may be asked with its parameters (`IsAskedFitting`)
@@ -40,20 +42,33 @@ pub record RehearsedStation : Type 0 where
 abbrev pub as_program : RehearsedStation → (runs : List (Run SceneState)) → Program SceneState
 as_program x runs = record { plan = x.plan; commands = x.commands; scope = x.scope; acts = x.acts; runs = runs }
 
--- the run of a station over a rehearsed line, from its first act on, is one in the field: there are runs on a line of the field,
--- over the instrument of a scene, that show the station what it saw; and the run is faithful
-pub record IsRehearsed (x : RehearsedStation) : Type 0 where
-  pub under_way : UnderWay SceneState
-  pub runs : List (Run SceneState)
-  pub field : IsInField scene_ends KeptReplyReads scene_kept under_way (as_program x runs)
-  pub faithful : IsRunFaithful scene_ends KeptReplyReads scene_kept under_way (as_program x runs)
+-- nothing is in flight on a line, and this is the state of the instrument
+abbrev pub none_in_flight : SceneState → Lines
+none_in_flight start = record { up = []; down = []; state = start }
 
--- each run of a station over a rehearsed line on which nothing was in flight before, and whose instrument kept no reply then,
--- is one in the field, and so faithful, if its commands are `IsAskable`: nothing is asked of the line, of the station's moments
--- or of its plan, nor of what comes after the run
+-- what the instrument did on a rehearsed line that has come to these lines by what happened on it (`HasComeTo`)
+abbrev pub exchanges_happened : {acts : List Act} (lines : Lines) → HasComeTo acts lines → List Exchange
+exchanges_happened lines h = exchanges_of (none_in_flight h.start) h.happened lines h.leads
+
+-- the run of a station over a rehearsed line, from its first act on, is one in the field, by what happened on that very line (`h`):
+-- there are runs on a line of the field, over the instrument that was there, that show the station what it saw, and in which that
+-- instrument did what it did on the rehearsed line: it was handed the same requests, in the same states, and made the same
+-- replies. And the run is faithful: each answer that it recorded was made, on the rehearsed line, on executing the request of that
+-- very cycle and place (`AnswersAreOnLine`)
+pub record IsRehearsed (x : RehearsedStation) (lines : Lines) (h : HasComeTo x.acts lines) : Type 0 where
+  pub runs : List (Run SceneState)
+  pub same : exchanges_of_runs (none_under_way h.start) runs ≡ exchanges_happened lines h
+  pub field : IsInField scene_ends KeptReplyReads scene_kept (none_under_way h.start) (as_program x runs)
+  pub faithful : IsRunFaithful scene_ends KeptReplyReads scene_kept (none_under_way h.start) (as_program x runs)
+  pub answers : AnswersAreOnLine (exchanges_happened lines h) (none_under_way h.start) (as_program x runs)
+
+-- whatever happened on a rehearsed line on which nothing was in flight before, and whose instrument kept no reply then: each run of
+-- a station over it is one in the field, by what happened, and so faithful, if its commands are `IsAskable`. Nothing is asked of the
+-- line, of the station's moments or of its plan, nor of what comes after the run
 abbrev pub RehearsalsAreFaithful : Type 0
 RehearsalsAreFaithful =
-    (x : RehearsedStation) → IsOfLine x.acts → AreAskable x.commands → Runs x.plan x.commands (opening x.plan x.scope) x.acts → IsRehearsed x
+    (x : RehearsedStation) (lines : Lines) (h : HasComeTo x.acts lines) → AreAskable x.commands → Runs x.plan x.commands (opening x.plan x.scope) x.acts
+    → IsRehearsed x lines h
 
 -- Stations one after the other.
 
@@ -85,18 +100,23 @@ abbrev pub FewEndUnbegun : ℕ → List RehearsedStation → Type 0
 FewEndUnbegun n [] = Unit {0}
 FewEndUnbegun n (x ∷ xs) = (killed_unless_begun (left_at_its_end x) n ≤ 5) × FewEndUnbegun (killed_unless_begun (left_at_its_end x) n) xs
 
--- stations in a row are in the field, with nothing in flight before the first: with a list of runs for each, they are programs in
--- a row (`AreInARow`), and each of them is faithful
-pub record AreRehearsed (xs : List RehearsedStation) : Type 0 where
-  pub start : SceneState
+-- stations in a row are in the field, by what happened on the rehearsed line (`h`): with a list of runs for each, they are programs
+-- in a row (`AreInARow`), and each of them is faithful. What the instrument did in these runs, and `after` the last station's run,
+-- is what it did on the rehearsed line; each answer of each station was made there, on executing its own request
+pub record AreRehearsed (xs : List RehearsedStation) (lines : Lines) (h : HasComeTo (acts_of_all xs) lines) : Type 0 where
   pub runs : List (List (Run SceneState))
   pub each : length runs ≡ length xs
-  pub field : AreInARow scene_ends KeptReplyReads scene_kept 0 (none_under_way start) (programs xs runs)
-  pub faithful : AreFaithful scene_ends KeptReplyReads scene_kept (none_under_way start) (programs xs runs)
+  pub after : List Exchange
+  pub same : exchanges_of_all (none_under_way h.start) runs ++ after ≡ exchanges_happened lines h
+  pub field : AreInARow scene_ends KeptReplyReads scene_kept 0 (none_under_way h.start) (programs xs runs)
+  pub faithful : AreFaithful scene_ends KeptReplyReads scene_kept (none_under_way h.start) (programs xs runs)
+  pub answers : AllAreOnLine (exchanges_happened lines h) (none_under_way h.start) (programs xs runs)
 
--- stations that run one after the other over a rehearsed line, on which nothing was in flight before the first (`IsOfLine`), and
--- which keeps what it likes of what is in flight at a close, are stations in a row in the field, and so each is faithful, as long
--- as fewer than six in a row end while they synchronize. Their commands are `IsAskable`, and between two of them nothing is sent
--- whole and nothing comes (`RunsAndStops`)
+-- whatever happened on a rehearsed line on which nothing was in flight before, and which keeps what it likes of what is in flight at
+-- a close: stations that run one after the other over it are stations in a row in the field, by what happened, and so each is
+-- faithful, as long as fewer than six in a row end while they synchronize. Their commands are `IsAskable`, and between two of them
+-- nothing is sent whole and nothing comes (`RunsAndStops`)
 abbrev pub RehearsalsInARowAreFaithful : Type 0
-RehearsalsInARowAreFaithful = (xs : List RehearsedStation) → IsOfLine (acts_of_all xs) → AllByRecursion RunsAndStops xs → FewEndUnbegun 0 xs → AreRehearsed xs
+RehearsalsInARowAreFaithful =
+    (xs : List RehearsedStation) (lines : Lines) (h : HasComeTo (acts_of_all xs) lines) → AllByRecursion RunsAndStops xs → FewEndUnbegun 0 xs
+    → AreRehearsed xs lines h

@@ -2,11 +2,12 @@
 
 ghost use Rattle.gc_rehearsed.specs.Rehearsals.{RehearsalsAreFaithful, RehearsalsInARowAreFaithful};
 
-/// For each run of a station over a rehearsed line there are runs in the field that show the station what it saw, and in which it
-/// is faithful, if nothing was in flight before and the instrument kept no reply. In these each recorded answer was made on
-/// executing the very request of that cycle and place. That they are what happened on the rehearsed line isn't said. Nothing is
-/// assumed of what the line loses, repeats, holds or closes, of when the instrument restarts, of the station's moments or of its
-/// plan; of its commands only that what each asks is allowed (`commands_are_askable`).
+/// Whatever happened on a rehearsed line on which nothing was in flight before, and whose instrument kept no reply then: for each run
+/// of a station over it there are runs in the field that show the station what it saw, in which the instrument did what it did on
+/// that very line, and in which the station is faithful. So each recorded answer was made on executing the very request of that
+/// cycle and place, on the rehearsed line. Nothing is assumed of what the line loses, repeats, holds or closes, of when the
+/// instrument restarts, of the station's moments or of its plan; of its commands only that what each asks is allowed
+/// (`commands_are_askable`).
 pub fn rehearsals_are_faithful()
     ensures { RehearsalsAreFaithful }
 {}
