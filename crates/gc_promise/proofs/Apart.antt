@@ -14,7 +14,7 @@ use Rattle.gc_catalogue.specs.declared.asked.Asked.{Asked}
 use Rattle.gc_catalogue.specs.declared.asked.Asked.TheVariants.{Table, Raw}
 use Rattle.gc_catalogue.specs.declared.call.Call.{Call}
 use Rattle.gc_catalogue.specs.declared.call.Call.TheVariants.{GetFace, GetPrism, GetPrecision, InstrumentNo}
-use Rattle.gc_texts.specs.Endings.{End, Answered, Unreadable, Elsewhere, Disagree, Late, Lost, Skipped, Missed, word_of, line_of, quality_text}
+use Rattle.gc_texts.specs.Endings.{End, Answered, Unreadable, Elsewhere, Disagree, Late, Lost, Skipped, Missed, word_of, fault_of, line_of, quality_text}
 use Rattle.gc_texts.specs.Logs.{escaped}
 use Rattle.gc_texts.specs.declared.wish.Wish.{Wish}
 use Rattle.gc_texts.specs.declared.quality.Quality.{Quality}
@@ -23,7 +23,7 @@ use Rattle.gc_rows.specs.JsonLines.{Member, Text, Number, Texts, ending_members,
 use Rattle.gc_rows.specs.Items.{split_items}
 use Rattle.gc_rows.specs.Laws.{members_read, texts_read}
 use Rattle.gc_rows.specs.Quantities.{column_of, quantity_names}
-use Rattle.gc_rows.specs.Rows.{code_of, com_of, moment_text, procedure_of, values_of}
+use Rattle.gc_rows.specs.Rows.{code_of, com_of, fault_field, moment_text, procedure_of, values_of}
 use Rattle.gc_rows.specs.declared.when.When.{When}
 use Rattle.std.proofs.lemmas.Option.{same_Some}
 use Rattle.gc_promise.specs.Objects.{text_of}
@@ -69,7 +69,9 @@ LacksAll ms keys = AllByRecursion (λ (key : List ℕ). find key ms ≡ None) ke
 -- of the names of members that come before those for quantities in a record's object, the ones under which something is looked
 -- up
 abbrev pub early_names : List (List ℕ)
-early_names = codes "cycle" ∷ codes "place" ∷ codes "target" ∷ codes "procedure" ∷ codes "outcome" ∷ codes "rc_com" ∷ codes "rc" ∷ codes "values" ∷ codes "sent" ∷ []
+early_names =
+    codes "cycle" ∷ codes "place" ∷ codes "target" ∷ codes "procedure" ∷ codes "outcome" ∷ codes "rc_com" ∷ codes "rc" ∷ codes "values" ∷ codes "sent"
+    ∷ codes "time" ∷ codes "name" ∷ codes "fault" ∷ codes "run" ∷ []
 
 -- `quality`, and the names of `early_names`
 abbrev pub early_or_quality : List (List ℕ)
@@ -82,39 +84,39 @@ IsApart call answer came = LacksAll (members_from (column_of call answer) (answe
 
 -- `IsApart` holds of an answer that is a short whole number
 short_apart : (call : Call) (n : ℤ) (came : List ℕ) → IsApart call (Short n) came
-short_apart GetFace n came = (refl, (refl, (refl, (refl, (refl, (refl, (refl, (refl, (refl, (refl, tt))))))))))
-short_apart GetPrism n came = (refl, (refl, (refl, (refl, (refl, (refl, (refl, (refl, (refl, (refl, tt))))))))))
-short_apart GetPrecision n came = (refl, (refl, (refl, (refl, (refl, (refl, (refl, (refl, (refl, (refl, tt))))))))))
-short_apart InstrumentNo n came = (refl, (refl, (refl, (refl, (refl, (refl, (refl, (refl, (refl, (refl, tt))))))))))
-short_apart call n came = (refl, (refl, (refl, (refl, (refl, (refl, (refl, (refl, (refl, (refl, tt))))))))))
+short_apart GetFace n came = (refl, (refl, (refl, (refl, (refl, (refl, (refl, (refl, (refl, (refl, (refl, (refl, (refl, (refl, tt))))))))))))))
+short_apart GetPrism n came = (refl, (refl, (refl, (refl, (refl, (refl, (refl, (refl, (refl, (refl, (refl, (refl, (refl, (refl, tt))))))))))))))
+short_apart GetPrecision n came = (refl, (refl, (refl, (refl, (refl, (refl, (refl, (refl, (refl, (refl, (refl, (refl, (refl, (refl, tt))))))))))))))
+short_apart InstrumentNo n came = (refl, (refl, (refl, (refl, (refl, (refl, (refl, (refl, (refl, (refl, (refl, (refl, (refl, (refl, tt))))))))))))))
+short_apart call n came = (refl, (refl, (refl, (refl, (refl, (refl, (refl, (refl, (refl, (refl, (refl, (refl, (refl, (refl, tt))))))))))))))
 
 -- `IsApart` holds of an answer that is a long whole number
 long_apart : (call : Call) (n : ℤ) (came : List ℕ) → IsApart call (Long n) came
-long_apart GetFace n came = (refl, (refl, (refl, (refl, (refl, (refl, (refl, (refl, (refl, (refl, tt))))))))))
-long_apart GetPrism n came = (refl, (refl, (refl, (refl, (refl, (refl, (refl, (refl, (refl, (refl, tt))))))))))
-long_apart GetPrecision n came = (refl, (refl, (refl, (refl, (refl, (refl, (refl, (refl, (refl, (refl, tt))))))))))
-long_apart InstrumentNo n came = (refl, (refl, (refl, (refl, (refl, (refl, (refl, (refl, (refl, (refl, tt))))))))))
-long_apart call n came = (refl, (refl, (refl, (refl, (refl, (refl, (refl, (refl, (refl, (refl, tt))))))))))
+long_apart GetFace n came = (refl, (refl, (refl, (refl, (refl, (refl, (refl, (refl, (refl, (refl, (refl, (refl, (refl, (refl, tt))))))))))))))
+long_apart GetPrism n came = (refl, (refl, (refl, (refl, (refl, (refl, (refl, (refl, (refl, (refl, (refl, (refl, (refl, (refl, tt))))))))))))))
+long_apart GetPrecision n came = (refl, (refl, (refl, (refl, (refl, (refl, (refl, (refl, (refl, (refl, (refl, (refl, (refl, (refl, tt))))))))))))))
+long_apart InstrumentNo n came = (refl, (refl, (refl, (refl, (refl, (refl, (refl, (refl, (refl, (refl, (refl, (refl, (refl, (refl, tt))))))))))))))
+long_apart call n came = (refl, (refl, (refl, (refl, (refl, (refl, (refl, (refl, (refl, (refl, (refl, (refl, (refl, (refl, tt))))))))))))))
 
 -- `IsApart` holds of each answer
 answer_apart : (call : Call) (answer : Answer) (came : List ℕ) → IsApart call answer came
-answer_apart call Nothing came = (refl, (refl, (refl, (refl, (refl, (refl, (refl, (refl, (refl, (refl, tt))))))))))
+answer_apart call Nothing came = (refl, (refl, (refl, (refl, (refl, (refl, (refl, (refl, (refl, (refl, (refl, (refl, (refl, (refl, tt))))))))))))))
 answer_apart call (Short n) came = short_apart call n came
-answer_apart call (Version release version subversion) came = (refl, (refl, (refl, (refl, (refl, (refl, (refl, (refl, (refl, (refl, tt))))))))))
+answer_apart call (Version release version subversion) came = (refl, (refl, (refl, (refl, (refl, (refl, (refl, (refl, (refl, (refl, (refl, (refl, (refl, (refl, tt))))))))))))))
 answer_apart call (Long n) came = long_apart call n came
-answer_apart call (Name name) came = (refl, (refl, (refl, (refl, (refl, (refl, (refl, (refl, (refl, (refl, tt))))))))))
-answer_apart call (Date d) came = (refl, (refl, (refl, (refl, (refl, (refl, (refl, (refl, (refl, (refl, tt))))))))))
-answer_apart call (Temperature t) came = (refl, (refl, (refl, (refl, (refl, (refl, (refl, (refl, (refl, (refl, tt))))))))))
-answer_apart call (Place s) came = (refl, (refl, (refl, (refl, (refl, (refl, (refl, (refl, (refl, (refl, tt))))))))))
-answer_apart call (Height h) came = (refl, (refl, (refl, (refl, (refl, (refl, (refl, (refl, (refl, (refl, tt))))))))))
-answer_apart call (Angles hz v) came = (refl, (refl, (refl, (refl, (refl, (refl, (refl, (refl, (refl, (refl, tt))))))))))
-answer_apart call (Measured hz v distance) came = (refl, (refl, (refl, (refl, (refl, (refl, (refl, (refl, (refl, (refl, tt))))))))))
-answer_apart call (MeasuredMode hz v distance mode) came = (refl, (refl, (refl, (refl, (refl, (refl, (refl, (refl, (refl, (refl, tt))))))))))
+answer_apart call (Name name) came = (refl, (refl, (refl, (refl, (refl, (refl, (refl, (refl, (refl, (refl, (refl, (refl, (refl, (refl, tt))))))))))))))
+answer_apart call (Date d) came = (refl, (refl, (refl, (refl, (refl, (refl, (refl, (refl, (refl, (refl, (refl, (refl, (refl, (refl, tt))))))))))))))
+answer_apart call (Temperature t) came = (refl, (refl, (refl, (refl, (refl, (refl, (refl, (refl, (refl, (refl, (refl, (refl, (refl, (refl, tt))))))))))))))
+answer_apart call (Place s) came = (refl, (refl, (refl, (refl, (refl, (refl, (refl, (refl, (refl, (refl, (refl, (refl, (refl, (refl, tt))))))))))))))
+answer_apart call (Height h) came = (refl, (refl, (refl, (refl, (refl, (refl, (refl, (refl, (refl, (refl, (refl, (refl, (refl, (refl, tt))))))))))))))
+answer_apart call (Angles hz v) came = (refl, (refl, (refl, (refl, (refl, (refl, (refl, (refl, (refl, (refl, (refl, (refl, (refl, (refl, tt))))))))))))))
+answer_apart call (Measured hz v distance) came = (refl, (refl, (refl, (refl, (refl, (refl, (refl, (refl, (refl, (refl, (refl, (refl, (refl, (refl, tt))))))))))))))
+answer_apart call (MeasuredMode hz v distance mode) came = (refl, (refl, (refl, (refl, (refl, (refl, (refl, (refl, (refl, (refl, (refl, (refl, (refl, (refl, tt))))))))))))))
 
 -- the member for a reply's items, if there is one, has none of the names of `early_or_quality`
 items_apart : (items : Option (List (List ℕ))) → LacksAll (item_members items) early_or_quality
-items_apart None = (refl, (refl, (refl, (refl, (refl, (refl, (refl, (refl, (refl, (refl, tt))))))))))
-items_apart (Some texts) = (refl, (refl, (refl, (refl, (refl, (refl, (refl, (refl, (refl, (refl, tt))))))))))
+items_apart None = (refl, (refl, (refl, (refl, (refl, (refl, (refl, (refl, (refl, (refl, (refl, (refl, (refl, (refl, tt))))))))))))))
+items_apart (Some texts) = (refl, (refl, (refl, (refl, (refl, (refl, (refl, (refl, (refl, (refl, (refl, (refl, (refl, (refl, tt))))))))))))))
 
 -- no member for an answer's quantity or items has one of the names of `early_or_quality`
 columns_apart : (asked : Asked) (answer : Answer) (line : List ℕ) → LacksAll (answer_members asked answer line) early_or_quality
@@ -123,23 +125,23 @@ columns_apart (Raw raw) answer line = items_apart (split_items (values_of line))
 
 -- no member for a quantity or for items has one of the names of `early_or_quality`
 pub quantities_apart : (call : Asked) (end : End) → LacksAll (quantity_members call end) early_or_quality
-quantities_apart call (Answered quality.Unconfirmed (Some answer) line) = (refl, (refl, (refl, (refl, (refl, (refl, (refl, (refl, (refl, (refl, tt))))))))))
+quantities_apart call (Answered quality.Unconfirmed (Some answer) line) = (refl, (refl, (refl, (refl, (refl, (refl, (refl, (refl, (refl, (refl, (refl, (refl, (refl, (refl, tt))))))))))))))
 quantities_apart call (Answered quality.Fine (Some answer) line) = columns_apart call answer line
 quantities_apart call (Answered quality.Warning (Some answer) line) = columns_apart call answer line
 quantities_apart call (Answered quality.Refused (Some answer) line) = columns_apart call answer line
-quantities_apart call (Answered quality None line) = (refl, (refl, (refl, (refl, (refl, (refl, (refl, (refl, (refl, (refl, tt))))))))))
-quantities_apart call (Unreadable line fault) = (refl, (refl, (refl, (refl, (refl, (refl, (refl, (refl, (refl, (refl, tt))))))))))
-quantities_apart call (Elsewhere line) = (refl, (refl, (refl, (refl, (refl, (refl, (refl, (refl, (refl, (refl, tt))))))))))
-quantities_apart call (Disagree line) = (refl, (refl, (refl, (refl, (refl, (refl, (refl, (refl, (refl, (refl, tt))))))))))
-quantities_apart call Late = (refl, (refl, (refl, (refl, (refl, (refl, (refl, (refl, (refl, (refl, tt))))))))))
-quantities_apart call Lost = (refl, (refl, (refl, (refl, (refl, (refl, (refl, (refl, (refl, (refl, tt))))))))))
-quantities_apart call Skipped = (refl, (refl, (refl, (refl, (refl, (refl, (refl, (refl, (refl, (refl, tt))))))))))
-quantities_apart call Missed = (refl, (refl, (refl, (refl, (refl, (refl, (refl, (refl, (refl, (refl, tt))))))))))
+quantities_apart call (Answered quality None line) = (refl, (refl, (refl, (refl, (refl, (refl, (refl, (refl, (refl, (refl, (refl, (refl, (refl, (refl, tt))))))))))))))
+quantities_apart call (Unreadable line fault) = (refl, (refl, (refl, (refl, (refl, (refl, (refl, (refl, (refl, (refl, (refl, (refl, (refl, (refl, tt))))))))))))))
+quantities_apart call (Elsewhere line) = (refl, (refl, (refl, (refl, (refl, (refl, (refl, (refl, (refl, (refl, (refl, (refl, (refl, (refl, tt))))))))))))))
+quantities_apart call (Disagree line) = (refl, (refl, (refl, (refl, (refl, (refl, (refl, (refl, (refl, (refl, (refl, (refl, (refl, (refl, tt))))))))))))))
+quantities_apart call Late = (refl, (refl, (refl, (refl, (refl, (refl, (refl, (refl, (refl, (refl, (refl, (refl, (refl, (refl, tt))))))))))))))
+quantities_apart call Lost = (refl, (refl, (refl, (refl, (refl, (refl, (refl, (refl, (refl, (refl, (refl, (refl, (refl, (refl, tt))))))))))))))
+quantities_apart call Skipped = (refl, (refl, (refl, (refl, (refl, (refl, (refl, (refl, (refl, (refl, (refl, (refl, (refl, (refl, tt))))))))))))))
+quantities_apart call Missed = (refl, (refl, (refl, (refl, (refl, (refl, (refl, (refl, (refl, (refl, (refl, (refl, (refl, (refl, tt))))))))))))))
 
 -- the member for a quality, if there is one, has none of the names of `early_names`
 pub quality_apart : (word : List ℕ) → LacksAll (quality_members word) early_names
-quality_apart [] = (refl, (refl, (refl, (refl, (refl, (refl, (refl, (refl, (refl, tt)))))))))
-quality_apart (b ∷ bs) = (refl, (refl, (refl, (refl, (refl, (refl, (refl, (refl, (refl, tt)))))))))
+quality_apart [] = (refl, (refl, (refl, (refl, (refl, (refl, (refl, (refl, (refl, (refl, (refl, (refl, (refl, tt)))))))))))))
+quality_apart (b ∷ bs) = (refl, (refl, (refl, (refl, (refl, (refl, (refl, (refl, (refl, (refl, (refl, (refl, (refl, tt)))))))))))))
 
 -- the member for a quality, if there is one, has no name of a quantity
 pub quality_without : (word : List ℕ) → LacksAll (quality_members word) quantity_names
@@ -156,7 +158,7 @@ lacks_both xs ys (key ∷ keys) a b =
 
 -- the member for the attempt has none of the names of `early_names`
 pub attempt_apart : (when : When) → LacksAll (attempt_members when) early_names
-attempt_apart when = (refl, (refl, (refl, (refl, (refl, (refl, (refl, (refl, (refl, tt)))))))))
+attempt_apart when = (refl, (refl, (refl, (refl, (refl, (refl, (refl, (refl, (refl, (refl, (refl, (refl, (refl, tt)))))))))))))
 
 -- the member for the attempt has no name of a quantity
 pub attempt_without : (when : When) → LacksAll (attempt_members when) quantity_names
@@ -188,16 +190,17 @@ pub moment_unqualified : (sent : Option ℕ) (time cycle place : List ℕ) → f
 moment_unqualified None time cycle place = refl
 moment_unqualified (Some utc) time cycle place = refl
 
--- no member on how a command ended has one of these six names
-pub ending_apart : (end : End) → LacksAll (ending_members end) (codes "cycle" ∷ codes "place" ∷ codes "target" ∷ codes "procedure" ∷ codes "sent" ∷ codes "quality" ∷ [])
-ending_apart (Answered quality answer line) = (refl, (refl, (refl, (refl, (refl, (refl, tt))))))
-ending_apart (Unreadable line fault) = (refl, (refl, (refl, (refl, (refl, (refl, tt))))))
-ending_apart (Elsewhere line) = (refl, (refl, (refl, (refl, (refl, (refl, tt))))))
-ending_apart (Disagree line) = (refl, (refl, (refl, (refl, (refl, (refl, tt))))))
-ending_apart Late = (refl, (refl, (refl, (refl, (refl, (refl, tt))))))
-ending_apart Lost = (refl, (refl, (refl, (refl, (refl, (refl, tt))))))
-ending_apart Skipped = (refl, (refl, (refl, (refl, (refl, (refl, tt))))))
-ending_apart Missed = (refl, (refl, (refl, (refl, (refl, (refl, tt))))))
+-- no member on how a command ended has one of these nine names
+pub ending_apart : (end : End) → LacksAll (ending_members end)
+    (codes "cycle" ∷ codes "place" ∷ codes "target" ∷ codes "procedure" ∷ codes "sent" ∷ codes "quality" ∷ codes "time" ∷ codes "name" ∷ codes "run" ∷ [])
+ending_apart (Answered quality answer line) = (refl, (refl, (refl, (refl, (refl, (refl, (refl, (refl, (refl, tt)))))))))
+ending_apart (Unreadable line fault) = (refl, (refl, (refl, (refl, (refl, (refl, (refl, (refl, (refl, tt)))))))))
+ending_apart (Elsewhere line) = (refl, (refl, (refl, (refl, (refl, (refl, (refl, (refl, (refl, tt)))))))))
+ending_apart (Disagree line) = (refl, (refl, (refl, (refl, (refl, (refl, (refl, (refl, (refl, tt)))))))))
+ending_apart Late = (refl, (refl, (refl, (refl, (refl, (refl, (refl, (refl, (refl, tt)))))))))
+ending_apart Lost = (refl, (refl, (refl, (refl, (refl, (refl, (refl, (refl, (refl, tt)))))))))
+ending_apart Skipped = (refl, (refl, (refl, (refl, (refl, (refl, (refl, (refl, (refl, tt)))))))))
+ending_apart Missed = (refl, (refl, (refl, (refl, (refl, (refl, (refl, (refl, (refl, tt)))))))))
 
 -- no member on how a command ended has the name of a quantity
 pub ending_without : (end : End) → LacksAll (ending_members end) quantity_names
@@ -218,10 +221,11 @@ ending_without Skipped =
 ending_without Missed =
     (refl, (refl, (refl, (refl, (refl, (refl, (refl, (refl, (refl, (refl, (refl, (refl, (refl, (refl, (refl, (refl, (refl, (refl, (refl, (refl, (refl, (refl, (refl, (refl, tt))))))))))))))))))))))))
 
--- no member on a command has the name `cycle`, `place`, `sent` or `quality`
-pub command_apart : (command : Wish) (name : List ℕ) → LacksAll (command_members command name) (codes "cycle" ∷ codes "place" ∷ codes "sent" ∷ codes "quality" ∷ [])
-command_apart command [] = (refl, (refl, (refl, (refl, tt))))
-command_apart command (b ∷ bs) = (refl, (refl, (refl, (refl, tt))))
+-- no member on a command has one of these seven names
+pub command_apart : (command : Wish) (name : List ℕ) → LacksAll (command_members command name)
+    (codes "cycle" ∷ codes "place" ∷ codes "sent" ∷ codes "quality" ∷ codes "time" ∷ codes "fault" ∷ codes "run" ∷ [])
+command_apart command [] = (refl, (refl, (refl, (refl, (refl, (refl, (refl, tt)))))))
+command_apart command (b ∷ bs) = (refl, (refl, (refl, (refl, (refl, (refl, (refl, tt)))))))
 
 -- no member on a command has the name of a quantity
 pub command_without : (command : Wish) (name : List ℕ) → LacksAll (command_members command name) quantity_names
@@ -242,6 +246,18 @@ pub moment_found : (sent : Option ℕ) (time cycle place : List ℕ) → let ms 
     (find (codes "cycle") ms ≡ Some (json.number cycle)) × (find (codes "place") ms ≡ Some (json.number place))
 moment_found None time cycle place = (refl, refl)
 moment_found (Some utc) time cycle place = (refl, refl)
+
+-- the time is found under `time` among them
+pub time_found : (sent : Option ℕ) (time cycle place : List ℕ) → find (codes "time") (moment_members sent time cycle place) ≡ Some (json.string (escaped time))
+time_found None time cycle place = refl
+time_found (Some utc) time cycle place = refl
+
+-- nothing is found under `run` among them
+pub moment_unnamed : (sent : Option ℕ) (time cycle place : List ℕ)
+    → (find (codes "run") (moment_members sent time cycle place) ≡ None) × (find (codes "name") (moment_members sent time cycle place) ≡ None)
+    × (find (codes "fault") (moment_members sent time cycle place) ≡ None)
+moment_unnamed None time cycle place = (refl, refl, refl)
+moment_unnamed (Some utc) time cycle place = (refl, refl, refl)
 
 -- of the five results of a search in a record's object only the fourth one (`o`), among the members on when and where, may have
 -- found something: then `later_or` of all five is that one
@@ -271,6 +287,22 @@ outcome_found Late = refl
 outcome_found Lost = refl
 outcome_found Skipped = refl
 outcome_found Missed = refl
+
+-- the text under `name` among the members on a command is the target's name, escaped; nothing, if it is empty
+pub name_found : (command : Wish) (name : List ℕ) → text_of (find (codes "name") (command_members command name)) ≡ escaped name
+name_found command [] = refl
+name_found command (b ∷ bs) = refl
+
+-- the text under `fault` among the members on how a command ended is the number of the fault; nothing, if there is none
+pub fault_found : (end : End) → text_of (find (codes "fault") (ending_members end)) ≡ fault_field (fault_of end)
+fault_found (Answered quality answer line) = refl
+fault_found (Unreadable line fault) = refl
+fault_found (Elsewhere line) = refl
+fault_found (Disagree line) = refl
+fault_found Late = refl
+fault_found Lost = refl
+fault_found Skipped = refl
+fault_found Missed = refl
 
 -- under `rc_com` and `rc` these members have the codes of this line, without leading zeros, and under `values` its parameters,
 -- escaped

@@ -15,7 +15,8 @@ use Rattle.gc_harm.proofs.UndamagedRuns.{is_instance}
 use Rattle.gc_promise.specs.Damaged.{HarmedRun, IsHarmedRun, ObjectsAreOwnOrDamaged, RowsAreOwnOrDamaged, RowsByDamagedLinesAreFew, RunsInFieldAreInstances, TablesAreOwnOrDamaged, harmed_program_of, own_or_damaged_lines}
 use Rattle.gc_promise.specs.Tables.{acts_in, program_of, records_of_run, scope_of}
 use Rattle.gc_promise.proofs.Objected.{objected}
-use Rattle.gc_promise.proofs.Owning.{row_of_reply}
+use Rattle.gc_station.proofs.Moments.{came_at, one_added}
+use Rattle.gc_promise.proofs.Owning.{row_and_fault}
 use Rattle.gc_promise.proofs.Tabled.{tabled}
 use Rattle.gc_promise.proofs.Written.{IsAnswered}
 
@@ -26,18 +27,18 @@ module _ {State : Type 0} (ends : Ends State) (kept : State → Option KeptReply
   local = run_local ends AnyState kept is x.in_flight (harmed_program_of x.run.survey reads (acts_in x.run) x.happened) was.in_field
 
   -- it is answered by lines that are own or damaged
-  pub answered : IsAnswered (own_or_damaged_lines ends reads x) reads x.run x.had
-  answered = record { is_run = was.is_run; took = was.took; runs = was.in_field.runs; answers = λ n r got. local.answers n r got }
+  pub answered : IsAnswered (own_or_damaged_lines ends reads x) reads x.run.survey (acts_in x.run)
+  answered = record { runs = was.in_field.runs; answers = λ n r got. local.answers n r got }
 
 -- what a sink took of a run over a line that damages is a table
 pub tables_own_or_damaged : {State : Type 0} → TablesAreOwnOrDamaged State
 tables_own_or_damaged ends kept is reads are x was columns form =
-    tabled (own_or_damaged_lines ends reads x) reads are x.run x.had (answered ends kept is reads x was) columns form
+    tabled (own_or_damaged_lines ends reads x) reads are x.run x.had was.is_run was.took (answered ends kept is reads x was) columns form
 
 -- or lines of JSON
 pub objects_own_or_damaged : {State : Type 0} → ObjectsAreOwnOrDamaged State
 objects_own_or_damaged ends kept is reads are x was form small =
-    objected (own_or_damaged_lines ends reads x) reads are x.run x.had (answered ends kept is reads x was) form small
+    objected (own_or_damaged_lines ends reads x) reads are x.run x.had was.is_run was.took (answered ends kept is reads x was) form small
 
 -- the row of each record whose command a reply in time ended is that of a line that is own or damaged
 pub rows_own_or_damaged : {State : Type 0} → RowsAreOwnOrDamaged State
@@ -45,9 +46,12 @@ rows_own_or_damaged ends kept is reads are x was columns form place r got line a
     let survey = x.run.survey in
     let acts = acts_in x.run in
     let scope = scope_of survey reads in
+    let came = all_at (AnswerIsJustified survey.plan survey.tasks scope acts) (records_of_run reads x.run) place r (answers_true survey.plan survey.tasks scope acts was.in_field.runs) got in
+    let row = row_and_fault survey.layout columns survey.names form survey.plan survey.tasks scope acts r came line answers in
     record {
-      is_of = row_of_reply survey.layout columns survey.names form survey.plan survey.tasks scope acts r
-          (all_at (AnswerIsJustified survey.plan survey.tasks scope acts) (records_of_run reads x.run) place r (answers_true survey.plan survey.tasks scope acts was.in_field.runs) got) line answers;
+      is_of = row.is_of;
+      came = came_at survey.plan survey.tasks scope acts was.in_field.runs r line answers (came line answers);
+      fault = row.fault reads are (one_added survey.plan survey.tasks scope acts was.in_field.runs place r got).1;
       answer = (local ends kept is reads x was).answers place r got line answers;
     }
 

@@ -25,25 +25,25 @@ use Rattle.gc_catalogue.specs.declared.asked.Asked.{Asked}
 use Rattle.gc_catalogue.specs.declared.asked.Asked.TheVariants.{Table, Raw}
 use Rattle.gc_catalogue.specs.declared.call.Call.{Call}
 use Rattle.gc_catalogue.specs.declared.call.Call.TheVariants.{GetFace, GetPrism, GetPrecision, InstrumentNo}
-use Rattle.gc_texts.specs.Endings.{End, Answered, word_of, line_of, quality_of, quality_text}
+use Rattle.gc_texts.specs.Endings.{End, Answered, word_of, fault_of, line_of, quality_of, quality_text}
 use Rattle.gc_texts.specs.Logs.{escaped}
 use Rattle.gc_texts.specs.Stamps.{stamp_text}
 use Rattle.gc_texts.specs.declared.wish.Wish.{Wish}
 use Rattle.gc_texts.specs.declared.quality.Quality.{Quality}
 use Rattle.gc_texts.specs.declared.quality.Quality.TheVariants as quality
-use Rattle.gc_rows.specs.JsonLines.{Member, Text, ending_members, item_members, members_after_run, last_members, members_after_ending, answer_members, quantity_members, attempt_members, values_members, members_from, command_members, when_members, without_zeros, quality_members}
+use Rattle.gc_rows.specs.JsonLines.{Member, ending_members, item_members, members_after_run, last_members, members_after_ending, answer_members, quantity_members, attempt_members, values_members, members_from, command_members, when_members, without_zeros, quality_members}
 use Rattle.gc_rows.specs.Items.{split_items}
 use Rattle.gc_rows.specs.Laws.{record_read}
 use Rattle.gc_rows.specs.Quantities.{column_of, quantity_names, quantity_text}
-use Rattle.gc_rows.specs.Rows.{code_of, com_of, moment_text, procedure_of, value_texts, values_of}
+use Rattle.gc_rows.specs.Rows.{code_of, com_of, fault_field, moment_text, procedure_of, value_texts, values_of}
 use Rattle.gc_rows.specs.ProcedureQuantities.{names_if}
 use Rattle.gc_rows.specs.declared.when.When.{When}
 use Rattle.gc_rows.proofs.ProcedureQuantities.{quantities_under_their_names}
 use Rattle.gc_promise.specs.Fields.{IsQuantity, quantity_in, shown_as, under}
 use Rattle.gc_promise.specs.Objects.{text_of}
 use Rattle.gc_promise.proofs.Names.{IsAnswerTo, of_quantity, word_plain}
-use Rattle.gc_promise.proofs.Plain.{NeedsNoEscape, decimal_plain, digits_plain, plain_both}
-use Rattle.gc_promise.proofs.Apart.{find, later_none, find_both, LacksAll, early_names, quantities_apart, quality_apart, quality_without, lacks_both, attempt_apart, attempt_without, items_without, quality_found, moment_unqualified, ending_apart, ending_without, command_apart, command_without, moment_without, moment_found, only_fourth_found, sent_found, command_found, outcome_found, line_found}
+use Rattle.gc_promise.proofs.Plain.{NeedsNoEscape, decimal_plain, digits_plain, moment_plain, plain_both}
+use Rattle.gc_promise.proofs.Apart.{find, later_none, find_both, LacksAll, early_names, quantities_apart, quality_apart, quality_without, lacks_both, attempt_apart, attempt_without, items_without, quality_found, moment_unqualified, ending_apart, ending_without, command_apart, command_without, moment_without, moment_found, moment_unnamed, only_fourth_found, sent_found, time_found, name_found, fault_found, command_found, outcome_found, line_found}
 
 -- A code without its zeros is the same number.
 
@@ -291,12 +291,52 @@ module _ (when : When) (text : List ℕ) (command : Wish) (end : End) where
   apart = lacks_both quantities last early_names (quantities_apart command.call end).1
       (lacks_both on_quality (attempt_members when) early_names (quality_apart (quality_text (quality_of end))) (attempt_apart when))
 
+  -- of the five results of a search in the object only the third one (`o`), among the members on the command, may have found something
+  third_found : (o : Option json.Json) → later_or (later_or (later_or (later_or None None) o) None) None ≡ o
+  third_found None = refl
+  third_found (Some j) = refl
+
+  -- or only the second one, among the members on how the command ended
+  second_found : (o : Option json.Json) → later_or (later_or (later_or (later_or None o) None) None) None ≡ o
+  second_found None = refl
+  second_found (Some j) = refl
+
   -- under `sent` the object has when the record's request was sent; nothing if it wasn't
   pub member_sent : at_member (codes "sent") ≡ moment_text when.stamp.sent
   member_sent =
       found_at (codes "sent") None None None (find (codes "sent") moments) apart.1.1.1.1.1.1.1.1.0 (ending_apart end).1.1.1.1.0 (command_apart command text).1.1.0 refl
       ∙ ap text_of (only_fourth_found (find (codes "sent") moments))
       ∙ sent_found when.stamp.sent (stamp_text when.stamp.utc) (decimal when.stamp.cycle) (decimal when.stamp.turn.place)
+
+  -- under `time` the object has when the record's command ended
+  pub member_time : at_member (codes "time") ≡ stamp_text when.stamp.utc
+  member_time =
+      found_at (codes "time") None None None (Some (json.string (escaped (stamp_text when.stamp.utc)))) apart.1.1.1.1.1.1.1.1.1.0 (ending_apart end).1.1.1.1.1.1.0
+      (command_apart command text).1.1.1.1.0 (time_found when.stamp.sent (stamp_text when.stamp.utc) (decimal when.stamp.cycle) (decimal when.stamp.turn.place))
+      ∙ moment_plain (Some when.stamp.utc)
+
+  -- under `name` the object has the name of the target, escaped
+  pub member_name : at_member (codes "name") ≡ escaped text
+  member_name =
+      found_at (codes "name") None None (find (codes "name") on_command) None apart.1.1.1.1.1.1.1.1.1.1.0 (ending_apart end).1.1.1.1.1.1.1.0 refl
+      (moment_unnamed when.stamp.sent (stamp_text when.stamp.utc) (decimal when.stamp.cycle) (decimal when.stamp.turn.place)).1
+      ∙ ap text_of (third_found (find (codes "name") on_command))
+      ∙ name_found command text
+
+  -- under `fault` the object has the number of the ending's fault; nothing if it has none
+  pub member_fault : at_member (codes "fault") ≡ fault_field (fault_of end)
+  member_fault =
+      found_at (codes "fault") None (find (codes "fault") ending) None None apart.1.1.1.1.1.1.1.1.1.1.1.0 refl (command_apart command text).1.1.1.1.1.0
+      (moment_unnamed when.stamp.sent (stamp_text when.stamp.utc) (decimal when.stamp.cycle) (decimal when.stamp.turn.place)).2
+      ∙ ap text_of (second_found (find (codes "fault") ending))
+      ∙ fault_found end
+
+  -- under `run` the object has when the run began
+  pub member_run : at_member (codes "run") ≡ stamp_text when.run
+  member_run =
+      found_at (codes "run") None None None None apart.1.1.1.1.1.1.1.1.1.1.1.1.0 (ending_apart end).1.1.1.1.1.1.1.1.0 (command_apart command text).1.1.1.1.1.1.0
+      (moment_unnamed when.stamp.sent (stamp_text when.stamp.utc) (decimal when.stamp.cycle) (decimal when.stamp.turn.place)).0
+      ∙ moment_plain (Some when.run)
 
   -- under `cycle` the object has the record's cycle
   pub member_cycle : at_member (codes "cycle") ≡ decimal when.stamp.cycle

@@ -1,26 +1,20 @@
 -- The rows that are left of a run that was killed: what the run's contract says of its acts, and the laws on files of rows, put
 -- together.
-use Rattle.std.proofs.Common.{◌≡◌, ◌⊎◌, ℕ, ◌≤◌, Bool, true, false, List, [], ◌∷◌, ◌++◌, take, Option, Some, Result, inl, inr, refl, sym, ◌∙◌, ap, subst, append_assoc, append-nil}
+use Rattle.std.proofs.Common.{◌≡◌, ◌⊎◌, ℕ, true, List, [], ◌∷◌, ◌++◌, Option, Some, Result, inl, inr, refl, sym, ◌∙◌, ap, subst, append_assoc}
 use Rattle.std.proofs.lemmas.List.{append_cancel_left}
-use Rattle.std.specs.Prelude.{not, if◌then◌else◌}
 use Rattle.std.specs.Io.KnownBytes.{Appends}
 use Rattle.gc_catalogue.specs.declared.answer.Reading.{Reading}
 use Rattle.gc_catalogue.specs.declared.asked.Asked.{Asked}
-use Rattle.gc_files.specs.Failing.{Sides, RunEnd, MayEnd, sides_ended, doubt_ended, Event, Ran, feeds, settled, same_sides, doubt_after, ArePossibleEvents, runs_of, IsFound, IsTrusted}
-use Rattle.gc_files.specs.Files.{Step, Life, content, MayBeLeft}
-use Rattle.gc_files.specs.Rows.{whole, opened_table, OpensFile, cuts_none, appended, IsFront}
-use Rattle.gc_files.specs.Runs.{synced, Run, row_lines, IsRun, rows_of, AreRowCounts, HasRows}
-use Rattle.gc_files.specs.Sinks.{steps_in, taken_in, is_durable}
+use Rattle.gc_files.specs.Files.{Step}
+use Rattle.gc_files.specs.Rows.{cuts_none, appended, IsFront}
+use Rattle.gc_files.specs.Sinks.{steps_in, taken_in}
 use Rattle.gc_files.proofs.Adding.{appended_two}
-use Rattle.gc_files.proofs.Failing.{tables_outlast_failures}
-use Rattle.gc_files.proofs.Lasting.{tables_last}
-use Rattle.gc_files.proofs.Whole.{whole_more}
 use Rattle.gc_links.specs.Acts.{Act}
 use Rattle.gc_messages.specs.Following.{bytes_in}
 use Rattle.gc_station.specs.ActKinds.{ReadsClock}
 use Rattle.gc_station.specs.Keeping.{KeepsUp, close_at_output}
+use Rattle.gc_station.specs.Model.{Runs, opening}
 use Rattle.gc_station.specs.Records.{Record, texts_of}
-use Rattle.gc_station.specs.Runs.{state_after}
 use Rattle.gc_station.specs.Scopes.{Scope, AreReadings}
 use Rattle.gc_messages.specs.declared.following.Followed.{Followed}
 use Rattle.gc_station.specs.declared.tally.Tally.{Tally}
@@ -32,14 +26,15 @@ use Rattle.gc_lines.specs.declared.ports.Source.{Ghosts as Source}
 use Rattle.gc_lines.specs.declared.ports.Sink.{Ghosts as Sink}
 use Rattle.gc_measuring.specs.Measuring.{PortsSeen, Measures, most_turns, survey_of, Survey, text_by, front_text, RunsAfterFront}
 use Rattle.std.proofs.lemmas.Option.{same_Some}
-use Rattle.gc_promise.specs.Lasting.{HasRunOfFile, AppendsAreRuns, RunMoment, IsRunMoment, rows_by, AreLeft, RowsOutlastCrashes, life_begun, sides_begun, RowsOutlastFailures}
-use Rattle.gc_promise.specs.Tables.{acts_in, records_of_run, scope_of}
-use Rattle.gc_promise.proofs.Ended.{text_whole}
-use Rattle.gc_promise.proofs.Pieces.{all_pieces, rows_left, whole_rest}
-use Rattle.gc_promise.proofs.Seen.{IsKeptAt, kept_at, done_at, next_at, seen_at, texts_whole}
+use Rattle.gc_promise.specs.Lasting.{HasRunOfFile, AppendsAreRuns, RunMoment, IsRunMoment, rows_by, AreLeft, RowsOutlastCrashes, RowsOutlastFailures}
+use Rattle.gc_promise.specs.LastingSoFar.{AreLeftSoFar, IsFileRunSoFar}
+use Rattle.gc_promise.specs.RunMoments.{FileMomentsAreRunsSoFar, file_so_far_at}
+use Rattle.gc_promise.proofs.LastingSoFar.{so_far_outlast_crashes, so_far_outlast_failures}
+use Rattle.gc_promise.proofs.RunMoments.{measured_are}
+use Rattle.gc_promise.specs.Tables.{acts_in, acts_measured, records_of_run, scope_of}
+use Rattle.gc_promise.proofs.Seen.{IsKeptAt, kept_at, done_at, next_at, seen_at}
 use Rattle.gc_promise.proofs.Taken.{appended_to_known, run_took, written_front}
-use Rattle.gc_promise.proofs.Staying.{run_by, is_run, happen_append, life_append, splits_at_run, cuts_first, possible_events_append, sides_append, runs_of_append}
-use Rattle.std.proofs.lemmas.Bool.{not-true}
+use Rattle.gc_promise.proofs.Staying.{cuts_first}
 
 -- What the clauses say.
 
@@ -124,131 +119,63 @@ module _ {R : Type 0} (m : RunMoment R) (is : IsRunMoment m) (reads : Asked → 
       let same : bytes_in m.file ≡ written = same_Some (bytes_in m.file) written (sym is.run.took ∙ took.is ∙ ap (λ (l : List ℕ). Some (l ++ written)) none) in
       subst (λ (l : List ℕ). IsFront l (rows_by m.run.survey reads (acts_in m.run))) (sym same) (written_front text (records_of_run reads m.run) m.run.result took.torn took.are)
 
-  -- the rows of what any acts settle end in a line feed, unless there is none
-  rows_whole : (acts : List Act) → whole (rows_by m.run.survey reads acts) ≡ rows_by m.run.survey reads acts
-  rows_whole acts = texts_whole text (text_whole m.run.survey.layout m.run.survey.names) (state_after m.run.survey.plan m.run.survey.tasks scope acts).records
-
-  -- The file.
-
-  -- what the run wrote into files before this one
-  abbrev earlier_bytes : List ℕ
-  earlier_bytes = appended m.was.earlier.steps
-
-  -- what this file had taken at the moment's act
-  abbrev taken : List ℕ
-  taken = taken_in m.was.rows
-
-  -- the file's calls between the moment's act and the moment
-  abbrev since : List Step
-  since = is.reached.since
-
-  -- all rows that the run may write after what the file had taken at the moment's act
-  abbrev rest : List ℕ
-  rest = appended since ++ (appended is.reached.rest ++ end.rest)
-
-  -- what the file had taken at the moment's act ends in a line feed, unless it is nothing
-  taken_whole : whole taken ≡ taken
-  taken_whole = whole_rest earlier_bytes taken (rw (settled_by) (rows_whole m.done))
-
   -- the calls of the file in the end are those at the turn, those since, and a rest
-  calls_are : steps_in m.file.rows ≡ (steps_in m.was.rows ++ since) ++ is.reached.rest
+  calls_are : steps_in m.file.rows ≡ (steps_in m.was.rows ++ is.reached.since) ++ is.reached.rest
   calls_are = is.reached.ends ∙ ap (λ (l : List Step). l ++ is.reached.rest) is.reached.begins
 
-  -- all rows that the run may write are those of earlier files, those that the file had taken at the turn, and a rest
-  all_is : rows_by m.run.survey reads (acts_in m.run) ≡ earlier_bytes ++ (taken ++ rest)
-  all_is =
-      let file : bytes_in m.file ≡ earlier_bytes ++ (taken ++ (appended since ++ appended is.reached.rest)) =
+  -- what the file and those before it took in the end is what they had taken at the turn, what was appended since, and a rest
+  file_is : bytes_in m.file ≡ (bytes_in m.was ++ appended is.reached.since) ++ appended is.reached.rest
+  file_is =
       ap (λ (l : List Step). appended l ++ taken_in m.file.rows) is.reached.left
-      ∙ ap (λ (l : List ℕ). earlier_bytes ++ l)
-      (ap appended calls_are ∙ appended_two (steps_in m.was.rows ++ since) is.reached.rest
-      ∙ ap (λ (l : List ℕ). l ++ appended is.reached.rest) (appended_two (steps_in m.was.rows) since)
-      ∙ append_assoc taken (appended since) (appended is.reached.rest)) in
-      end.split ∙ ap (λ (l : List ℕ). l ++ end.rest) file ∙ append_assoc earlier_bytes (taken ++ (appended since ++ appended is.reached.rest)) end.rest
-      ∙ ap (λ (l : List ℕ). earlier_bytes ++ l)
-      (append_assoc taken (appended since ++ appended is.reached.rest) end.rest
-      ∙ ap (λ (l : List ℕ). taken ++ l) (append_assoc (appended since) (appended is.reached.rest) end.rest))
+      ∙ ap (λ (l : List ℕ). appended m.was.earlier.steps ++ l)
+      (ap appended calls_are ∙ appended_two (steps_in m.was.rows ++ is.reached.since) is.reached.rest
+      ∙ ap (λ (l : List ℕ). l ++ appended is.reached.rest) (appended_two (steps_in m.was.rows) is.reached.since))
+      ∙ sym (append_assoc (appended m.was.earlier.steps) (taken_in m.was.rows ++ appended is.reached.since) (appended is.reached.rest))
+      ∙ ap (λ (l : List ℕ). l ++ appended is.reached.rest) (sym (append_assoc (appended m.was.earlier.steps) (taken_in m.was.rows) (appended is.reached.since)))
 
-  -- the rows that may follow (`rest`) end in a line feed, unless there are none
-  rest_whole : whole rest ≡ rest
-  rest_whole = whole_rest taken rest (whole_rest earlier_bytes (taken ++ rest) (subst (λ (l : List ℕ). whole l ≡ l) all_is (rows_whole (acts_in m.run))))
+  -- the acts that were done by the turn are first ones of the run's
+  acts_are : acts_in m.run ≡ m.done ++ seen.act ∷ seen.behind
+  acts_are =
+      ap (λ r. acts_measured r m.run.recorded) ran.is ∙ measured_are ran.end m.run.recorded keeps.acts keeps.tells ∙ seen.all
+      ∙ ap (λ (xs : List Act). xs ++ seen.act ∷ seen.behind) (sym (done_at m.run.survey.plan m.run.survey.tasks scope text m.turn seen.front m.done seen.act seen.kept is.seen.done))
 
-  -- what the file had taken at the turn was all synced
-  kept : synced (steps_in m.was.rows) ≡ taken
-  kept =
-      let lasts : is_durable m.was.rows ≡ true = sym is.seen.lasts ∙ seen.kept.lasts is_more in
-      let isnt : not m.was.rows.unkept ≡ true = subst (λ (b : Bool). (if b then not m.was.rows.unkept else true) ≡ true) is.seen.synced lasts in
-      m.was.rows.kept (not-true m.was.rows.unkept isnt)
-
-  -- `AreLeft` holds of the first `count` lines of `taken` and `rest`, if these are at least as many as the lines of `taken`
-  left_of : (count : ℕ) → feeds taken ≤ count → AreLeft m reads (row_lines (take count (all_pieces (taken ++ rest))))
-  left_of count least =
-      let l = rows_left taken rest count taken_whole rest_whole least in
+  -- the moment is a run of a file so far
+  pub moment_of_file : IsFileRunSoFar reads (file_so_far_at m)
+  moment_of_file =
+      let none : cuts_none ((steps_in m.was.rows ++ is.reached.since) ++ is.reached.rest) ≡ true = subst (λ (l : List Step). cuts_none l ≡ true) calls_are m.file.rows.only_appends in
       record {
+        runs = subst (λ (xs : List Act). Runs m.run.survey.plan m.run.survey.tasks (opening m.run.survey.plan scope) xs)
+            (sym (ap (λ r. acts_measured r m.run.recorded) ran.is ∙ measured_are ran.end m.run.recorded keeps.acts keeps.tells)) keeps.runs;
+        others = seen.act ∷ seen.behind;
+        order = acts_are;
         settled = settled_by;
-        more = l.more;
-        has = l.has;
+        syncs = is.seen.synced;
+        lasts = sym is.seen.lasts ∙ seen.kept.lasts is_more;
+        since = is.reached.since;
+        begins = is.reached.begins;
+        appends = subst (λ (l : List Step). cuts_none l ≡ true) (sym is.reached.begins) (cuts_first (steps_in m.was.rows ++ is.reached.since) is.reached.rest none);
         own = record {
-          rest = l.own.rest;
-          split = all_is ∙ ap (λ (xs : List ℕ). earlier_bytes ++ xs) l.own.split ∙ sym (append_assoc earlier_bytes (taken ++ l.more) l.own.rest)
-              ∙ ap (λ (xs : List ℕ). xs ++ l.own.rest) (sym (append_assoc earlier_bytes taken l.more));
+          rest = appended is.reached.rest ++ end.rest;
+          split = end.split ∙ ap (λ (l : List ℕ). l ++ end.rest) file_is ∙ append_assoc (bytes_in m.was ++ appended is.reached.since) (appended is.reached.rest) end.rest;
         };
-        lines = whole_more (bytes_in m.was) l.more (rw (settled_by) (rows_whole m.done)) ∙ ap (λ (xs : List ℕ). bytes_in m.was ++ xs) l.lines;
       }
 
-  -- The run.
+  -- what is left of it is left of the run
+  left_of : (left : List ℕ) → AreLeftSoFar (file_so_far_at m) reads left → AreLeft m reads left
+  left_of left l = record { settled = settled_by; more = l.more; has = l.has; own = l.own; lines = l.lines }
 
-  -- the run as the laws on files of rows have one: after the calls of its opening, those up to the moment
-  abbrev run : List Step → Run
-  run steps = run_by steps m.calls taken (taken ++ rest)
+-- the law: each moment of a run of a file that returned is a run of a file so far
+pub file_moments_so_far : {R : Type 0} → FileMomentsAreRunsSoFar R
+file_moments_so_far reads are m is = moment_of_file m is reads are
 
-  -- with the calls of an opening of a file that held these bytes, `run` is a run as the laws on files of rows have one
-  run_is_run : (head held : List ℕ) (steps : List Step) → OpensFile head held steps → IsRun head held (run steps)
-  run_is_run head held steps opens =
-      let none : cuts_none ((steps_in m.was.rows ++ since) ++ is.reached.rest) ≡ true = subst (λ (l : List Step). cuts_none l ≡ true) calls_are m.file.rows.only_appends in
-      subst (λ (calls : List Step). IsRun head held (run_by steps calls taken (taken ++ rest))) (sym is.reached.begins)
-      (is_run head held steps (steps_in m.was.rows) since rest opens kept taken_whole rest_whole (cuts_first (steps_in m.was.rows ++ since) is.reached.rest none)
-      (record {
-        rest = appended is.reached.rest ++ end.rest;
-        split = ap (λ (l : List ℕ). taken ++ l) refl ∙ sym (append_assoc taken (appended since) (appended is.reached.rest ++ end.rest))
-            ∙ ap (λ (l : List ℕ). l ++ (appended is.reached.rest ++ end.rest)) (sym (appended_two (steps_in m.was.rows) since));
-      }))
-
--- the law on crashes: after one, the file's table is the one that was there at first, rows of the earlier runs, and the rows
--- that are left of this run
+-- the law on crashes: what is left of a run so far is left of the run
 pub rows_outlast_crashes : {R : Type 0} → RowsOutlastCrashes R
 rows_outlast_crashes m is reads are x was =
-    let one_run : Run = run m is reads are x.opening in
-    let now = run_is_run m is reads are x.head (content (life_begun x)) x.opening was.opens in
-    let all = happen_append x.head (settled x.first) x.earlier (one_run ∷ []) was.happened (now, tt, tt) in
-    let there = subst (λ (l : Life). MayBeLeft l x.found) (sym (life_append (settled x.first) x.earlier (one_run ∷ []))) was.is_found in
-    let p = splits_at_run x.head (opened_table x.head x.first) x.found x.earlier [] one_run (tables_last x.head x.first was.is_head (x.earlier ++ one_run ∷ []) all x.found there) in
-    (p.counts, row_lines (take p.count one_run.rows), p.first, left_of m is reads are p.count p.least, p.is ∙ no_rows_of_none p.counts' p.others _)
-  where
-    -- the rows of an empty list of runs are empty, so appending them changes nothing
-    no_rows_of_none : (counts : List ℕ) → AreRowCounts [] counts → (l : List ℕ) → l ++ rows_of [] counts ≡ l
-    no_rows_of_none [] cs l = append-nil l
-    no_rows_of_none (n ∷ counts) cs l = absurd cs
+    let p = so_far_outlast_crashes reads are (file_so_far_at m) (moment_of_file m is reads are) x was in
+    (p.0, p.1, p.2, left_of m is reads are p.1 p.3, p.4)
 
--- the law on failed syncs: where a run ended by a kill or by a sync that failed, and events came before and after, the file's
--- table is the one that was there at first, rows of the earlier runs, the rows that are left of this run, and rows of the later
--- ones
+-- the law on failed syncs: so it is there
 pub rows_outlast_failures : {R : Type 0} → RowsOutlastFailures R
 rows_outlast_failures m is reads are x was =
-    let sides = sides_begun x in
-    let one_run : Run = run m is reads are x.opening in
-    let event = Ran one_run x.ending in
-    let now = run_is_run m is reads are x.head (content sides.read) x.opening was.opens in
-    let behind = possible_after x.head sides (doubt_after false x.earlier) one_run x.ending x.later was.trusted now was.ends was.happened_after in
-    let all = possible_events_append x.head (same_sides (settled x.first)) false x.earlier (event ∷ x.later) was.happened_before behind in
-    let there = subst (λ (s : Sides). IsFound s x.found) (sym (sides_append (same_sides (settled x.first)) x.earlier (event ∷ x.later))) was.is_found in
-    let has = tables_outlast_failures x.head x.first was.is_head (x.earlier ++ event ∷ x.later) all x.found there in
-    let p = splits_at_run x.head (opened_table x.head x.first) x.found (runs_of x.earlier) (runs_of x.later) one_run
-    (subst (λ (rs : List Run). HasRows x.head (opened_table x.head x.first) rs x.found) (runs_of_append x.earlier (event ∷ x.later)) has) in
-    (p.counts, row_lines (take p.count one_run.rows), p.counts', p.first, left_of m is reads are p.count p.least, p.others, p.is)
-  where
-    -- a run that ends in this way, in a file that isn't in doubt, and events that can happen after that, can happen as one list
-    possible_after : (head : List ℕ) (sides : Sides) (doubted : Bool) (run : Run) (ending : RunEnd) (later : List Event) → doubted ≡ false → IsRun head (content sides.read) run
-        → MayEnd sides run.steps ending → ArePossibleEvents IsTrusted head (sides_ended sides run.steps ending) (doubt_ended ending false) later
-        → ArePossibleEvents IsTrusted head sides doubted (Ran run ending ∷ later)
-    possible_after head sides doubted run ending later trusted is ends after =
-        ((trusted, is, ends), subst (λ (d : Bool). ArePossibleEvents IsTrusted head (sides_ended sides run.steps ending) (doubt_ended ending d) later) (sym trusted) after)
+    let p = so_far_outlast_failures reads are (file_so_far_at m) (moment_of_file m is reads are) x was in
+    (p.0, p.1, p.2, p.3, left_of m is reads are p.1 p.4, p.5, p.6)

@@ -4,6 +4,7 @@ mod Setting
 mod Names
 mod Taken
 mod Owning
+mod Endings
 mod Judged
 mod Written
 mod Tabled
@@ -23,3 +24,8 @@ mod Pieces
 mod Seen
 mod Staying
 mod Witnessed
+mod Fronts
+mod SoFar
+mod LastingSoFar
+mod LeftSoFar
+mod RunMoments

@@ -1,5 +1,5 @@
 -- What is under a name in the row of a record.
-use Rattle.std.proofs.Common.{◌≡◌, ◌||◌, ℕ, ℤ, Bool, true, false, List, [], ◌∷◌, ◌++◌, length, map, replicate, Option, Some, None, if◌then◌else◌, refl, sym, ap, ◌∙◌, arith}
+use Rattle.std.proofs.Common.{◌≡◌, ◌||◌, ℕ, Bool, true, false, List, [], ◌∷◌, ◌++◌, length, map, replicate, Option, Some, None, if◌then◌else◌, refl, sym, ap, ◌∙◌, arith}
 use Rattle.std.specs.Prelude.{codes, nat_eq, not}
 use Rattle.std.specs.Cmp.Lexicographic.{pointwise}
 use Rattle.std.specs.Fmt.{decimal}
@@ -16,6 +16,7 @@ use Rattle.gc_lines.specs.Replies.{ReplyFields}
 use Rattle.gc_catalogue.specs.declared.call.Call.{Call}
 use Rattle.gc_catalogue.specs.declared.call.Call.TheVariants.{GetFace, GetPrism, GetPrecision, InstrumentNo}
 use Rattle.gc_values.specs.ValueFault.{value_fault_number}
+use Rattle.gc_values.specs.declared.fault.ValueFault.{ValueFault}
 use Rattle.gc_values.specs.declared.value.Value.{Value as Parameter}
 use Rattle.gc_values.specs.declared.value.Value.TheVariants as value
 use Rattle.gc_texts.specs.Endings.{End, Answered, Unreadable, Elsewhere, Disagree, Late, Lost, Skipped, Missed, word_of, fault_of, line_of, quality_of, quality_text}
@@ -55,6 +56,11 @@ quality_plain (Some quality.Warning) = refl
 quality_plain (Some quality.Unconfirmed) = refl
 quality_plain (Some quality.Refused) = refl
 quality_plain None = refl
+
+-- the number of a fault, or the empty text if there is none, appears unchanged in a field
+pub fault_plain : (o : Option ValueFault) → NeedsNoEscape (fault_field o)
+fault_plain (Some fault) = decimal_plain (value_fault_number fault)
+fault_plain None = refl
 
 -- Columns after columns.
 
@@ -115,6 +121,26 @@ module _ (when : When) (name : List ℕ) (command : Wish) (end : End) where
   pub under_sent : (columns : Bool) → row_at columns (codes "sent") ≡ moment_text when.stamp.sent
   under_sent false = moment_plain when.stamp.sent
   under_sent true = moment_plain when.stamp.sent
+
+  -- under `run` a row has when the run began
+  pub under_run : (columns : Bool) → row_at columns (codes "run") ≡ stamp_text when.run
+  under_run false = moment_plain (Some when.run)
+  under_run true = moment_plain (Some when.run)
+
+  -- under `time` a row has when the record's command ended
+  pub under_time : (columns : Bool) → row_at columns (codes "time") ≡ stamp_text when.stamp.utc
+  under_time false = moment_plain (Some when.stamp.utc)
+  under_time true = moment_plain (Some when.stamp.utc)
+
+  -- under `name` a row has the name of the target, escaped
+  pub under_name : (columns : Bool) → row_at columns (codes "name") ≡ escaped name
+  under_name false = refl
+  under_name true = refl
+
+  -- under `fault` a row has the number of the ending's fault; nothing if it has none
+  pub under_fault : (columns : Bool) → row_at columns (codes "fault") ≡ fault_field (fault_of end)
+  under_fault false = fault_plain (fault_of end)
+  under_fault true = fault_plain (fault_of end)
 
   -- under `cycle` a row has the record's cycle
   pub under_cycle : (columns : Bool) → row_at columns (codes "cycle") ≡ decimal when.stamp.cycle

@@ -30,6 +30,7 @@ use Rattle.gc_rows.specs.declared.when.When.{When}
 use Rattle.gc_rows.proofs.JsonLines.{feed_apart, object_reads_back}
 use Rattle.gc_rows.proofs.Members.{each_member_plain}
 use Rattle.gc_station.specs.Qualities.{answer_in}
+use Rattle.gc_links.specs.Acts.{Act}
 use Rattle.gc_station.specs.Records.{Record, texts_of}
 use Rattle.gc_station.specs.Scopes.{AreReadings}
 use Rattle.gc_measuring.specs.Measuring.{Survey, front_text, text_by}
@@ -37,8 +38,8 @@ use Rattle.gc_field.specs.Instrument.{AnyState}
 use Rattle.gc_promise.specs.Fields.{IsQuantity, quantity_in, shown_as}
 use Rattle.gc_files.specs.Runs as rows
 use Rattle.gc_promise.specs.Objects.{AreObjects, AreTyped, IsObject, IsTyped, ObjectsAreTheirOwn}
-use Rattle.gc_promise.specs.Tables.{Answers, StationRun, own_lines, records_of_run}
-use Rattle.gc_promise.proofs.Finding.{at_member, member_attempt, member_cycle, member_outcome, member_place, member_procedure, member_quality, member_quantity, member_rc, member_rc_com, member_sent, member_stands, member_target, member_values, zeros_gone}
+use Rattle.gc_promise.specs.Tables.{Answers, AreOneForOne, IsStationRun, StationRun, acts_in, own_lines, records_in, records_of_run, scope_of}
+use Rattle.gc_promise.proofs.Finding.{at_member, member_attempt, member_cycle, member_fault, member_name, member_outcome, member_place, member_procedure, member_quality, member_quantity, member_rc, member_rc_com, member_run, member_sent, member_stands, member_target, member_time, member_values, zeros_gone}
 use Rattle.gc_promise.proofs.Judged.{no_value_if_none, value_if_some}
 use Rattle.gc_promise.proofs.Names.{answer_to}
 use Rattle.gc_values.proofs.Every.{every_front as all_front}
@@ -86,7 +87,7 @@ module _ (survey : Survey) (r : Record) where
   at name = at_member (when_in survey r) (target_in survey r) r.command r.end name
 
   -- under these names the record's object has what `HasItsTexts` says
-  object_stands : HasItsTexts true at r
+  object_stands : HasItsTexts survey true at r
   object_stands =
       let when = when_in survey r in
       let text = target_in survey r in
@@ -94,13 +95,17 @@ module _ (survey : Survey) (r : Record) where
         is_of = record {
           command = record {
             sent = member_sent when text r.command r.end;
+            time = member_time when text r.command r.end;
             cycle = member_cycle when text r.command r.end;
             place = member_place when text r.command r.end;
             target = member_target when text r.command r.end;
             procedure = member_procedure when text r.command r.end;
             outcome = member_outcome when text r.command r.end;
+            fault = member_fault when text r.command r.end;
           };
           attempt = member_attempt when text r.command r.end;
+          run = member_run when text r.command r.end;
+          name = member_name when text r.command r.end;
         };
         quality = member_quality when text r.command r.end;
         rc_com = λ line n answered is. subst (λ (t : List ℕ). IsSmallNumber t n) (sym (member_rc_com when text r.command r.end line answered)) (zeros_gone (com_of line) n is);
@@ -129,16 +134,12 @@ name_bytes target (name ∷ names) are =
     cond_both (name.target == target) name.text.items (name_text target names) AreBytes (λ _. are.0) (λ _. name_bytes target names are.1)
 
 -- nothing comes before lines of JSON
-no_front : (headed : Bool) (form : Form) → form ≡ Json → (if headed then [] else head_text form) ≡ []
+pub no_front : (headed : Bool) (form : Form) → form ≡ Json → (if headed then [] else head_text form) ≡ []
 no_front true form is = refl
 no_front false form is = ap head_text is
 
-module _ (CanAnswer : Answers) (reads : Asked → List ℕ → Reading) (are : AreReadings reads) (run : StationRun) (had : List ℕ) (is : IsAnswered CanAnswer reads run had)
-    (form : run.survey.layout.form ≡ Json) (small : AreTyped run.survey (records_of_run reads run)) where
-  -- what the run measures
-  abbrev survey : Survey
-  survey = run.survey
-
+module _ (CanAnswer : Answers) (reads : Asked → List ℕ → Reading) (are : AreReadings reads) (survey : Survey) (acts : List Act) (is : IsAnswered CanAnswer reads survey acts)
+    (form : survey.layout.form ≡ Json) (small : AreTyped survey (records_in survey reads acts)) where
   -- the line of a record of the run, without its line feed
   abbrev pub line_of_record : Record → List ℕ
   line_of_record r = line_text (when_in survey r) (target_in survey r) r.command r.end
@@ -151,17 +152,17 @@ module _ (CanAnswer : Answers) (reads : Asked → List ℕ → Reading) (are : A
       ap (λ (f : Form). record_text f when text r.command r.end) form ∙ line_ends when text r.command r.end
 
   -- the line of each record that was written whole is its object
-  pub objects_by : (written others : List Record) → records_of_run reads run ≡ written ++ others → (n : ℕ) (r : Record) → slice_get written n ≡ Some r
-      → IsObject CanAnswer survey.tasks n (line_of_record r) r
+  pub objects_by : (written others : List Record) → records_in survey reads acts ≡ written ++ others → (n : ℕ) (r : Record) → slice_get written n ≡ Some r
+      → IsObject CanAnswer survey (scope_of survey reads) acts n (line_of_record r) r
   objects_by written others order n r got =
       let when = when_in survey r in
       let text = target_in survey r in
-      let bounds = all_written (IsTyped survey.layout.run) (records_of_run reads run) written others order small.each n r got in
+      let bounds = all_written (IsTyped survey.layout.run) (records_in survey reads acts) written others order small.each n r got in
       let members = each_member_plain when text r.command r.end bounds.0 (name_bytes r.command.target survey.names small.names) bounds.1 bounds.2 in
       record {
         members = record_read when.run (members_after_run when text r.command r.end);
         reads_as = object_reads_back when.run (members_after_run when text r.command r.end) small.run members;
-        is_by = written_by CanAnswer reads are run had is true (at survey r) r (object_stands survey r) written others order n got;
+        is_by = written_by CanAnswer reads are survey acts is true (at survey r) r (object_stands survey r) written others order n got;
       }
 
   -- the lines of records in the types of the program have no line feed
@@ -174,26 +175,38 @@ module _ (CanAnswer : Answers) (reads : Asked → List ℕ → Reading) (are : A
       let members = each_member_plain when text r.command r.end bounds.0.0 (name_bytes r.command.target survey.names small.names) bounds.0.1 bounds.0.2 in
       (line_unbroken when text r.command r.end bounds.0.2 members, all_unbroken rs bounds.1)
 
-  -- what the sink took are lines of JSON
-  pub objected : AreObjects CanAnswer reads run had
-  objected =
-      let took = run_took reads are run had is.is_run is.took in
-      let written = took.are.written in
-      let nothing_first : had ++ front_text survey.layout ≡ had = ap (λ (l : List ℕ). had ++ l) (no_front survey.layout.headed survey.layout.form form) ∙ append-nil had in
-      record {
-        lines = map line_of_record written;
-        torn = took.torn;
-        took = took.is ∙ ap (λ (l : List ℕ). Some (l ++ (texts_of (text_by survey) written ++ took.torn))) nothing_first
-            ∙ ap (λ (l : List ℕ). Some (had ++ (l ++ took.torn))) (each_line (text_by survey) line_of_record one_line written);
-        are = took.are;
-        unbroken =
-            all_unbroken written
-            (all_front (IsTyped survey.layout.run) written took.are.unwritten
-            (subst (AllByRecursion (IsTyped survey.layout.run)) took.are.order small.each));
-        one_for_one = one_for_one (λ n line r. IsObject CanAnswer survey.tasks n line r) line_of_record written (objects_by written took.are.unwritten took.are.order);
-      }
+  -- so have those of the first ones of the run's records
+  pub written_unbroken : (written others : List Record) → records_in survey reads acts ≡ written ++ others → AllByRecursion (Lacks 10) (map line_of_record written)
+  written_unbroken written others order =
+      all_unbroken written (all_front (IsTyped survey.layout.run) written others (subst (AllByRecursion (IsTyped survey.layout.run)) order small.each))
+
+  -- the lines are the objects of these records, one for one
+  pub objects_one_for_one : (written others : List Record) → records_in survey reads acts ≡ written ++ others
+      → AreOneForOne (λ n line r. IsObject CanAnswer survey (scope_of survey reads) acts n line r) (map line_of_record written) written
+  objects_one_for_one written others order =
+      one_for_one (λ n line r. IsObject CanAnswer survey (scope_of survey reads) acts n line r) line_of_record written (objects_by written others order)
+
+-- what the sink took of a run that is answered so are lines of JSON
+pub objected : (CanAnswer : Answers) (reads : Asked → List ℕ → Reading) → AreReadings reads → (run : StationRun) (had : List ℕ) → IsStationRun run → run.old.taken ≡ Some had
+    → IsAnswered CanAnswer reads run.survey (acts_in run) → run.survey.layout.form ≡ Json → AreTyped run.survey (records_of_run reads run) → AreObjects CanAnswer reads run had
+objected CanAnswer reads are run had is_run old is form small =
+    let survey = run.survey in
+    let acts = acts_in run in
+    let took = run_took reads are run had is_run old in
+    let written = took.are.written in
+    let line = line_of_record CanAnswer reads are survey acts is form small in
+    let nothing_first : had ++ front_text survey.layout ≡ had = ap (λ (l : List ℕ). had ++ l) (no_front survey.layout.headed survey.layout.form form) ∙ append-nil had in
+    record {
+      lines = map line written;
+      torn = took.torn;
+      took = took.is ∙ ap (λ (l : List ℕ). Some (l ++ (texts_of (text_by survey) written ++ took.torn))) nothing_first
+          ∙ ap (λ (l : List ℕ). Some (had ++ (l ++ took.torn))) (each_line (text_by survey) line (one_line CanAnswer reads are survey acts is form small) written);
+      are = took.are;
+      unbroken = written_unbroken CanAnswer reads are survey acts is form small written took.are.unwritten took.are.order;
+      one_for_one = objects_one_for_one CanAnswer reads are survey acts is form small written took.are.unwritten took.are.order;
+    }
 
 -- what a sink took of a run in the field are its own objects
 pub objects_own : {State : Type 0} → ObjectsAreTheirOwn State
 objects_own ends kept is reads are x was form small =
-    objected (own_lines ends AnyState kept reads x) reads are x.run x.had (answered_in_field ends kept is reads x was) form small
+    objected (own_lines ends AnyState kept reads x) reads are x.run x.had was.is_run was.took (answered_in_field ends kept is reads x was) form small

@@ -8,22 +8,26 @@ use Rattle.gc_lines.specs.Readers.{reply_at}
 use Rattle.gc_lines.specs.Replies.{ReplyFields, IsReply}
 use Rattle.gc_lines.specs.declared.fault.LineFault.{LineFault}
 use Rattle.gc_lines.proofs.Replies.{reply_found}
+use Rattle.gc_catalogue.specs.Asked.{IsAskedReading}
+use Rattle.gc_catalogue.specs.declared.answer.Reading.TheVariants.{Unreadable as DoesntRead}
+use Rattle.gc_catalogue.proofs.AskedRules.{each_asked_reply}
 use Rattle.gc_client.specs.Rule.{heard, id_in}
 use Rattle.gc_instrument.specs.State.{KeptReply}
-use Rattle.gc_texts.specs.Endings.{End, line_of}
+use Rattle.gc_texts.specs.Endings.{End, fault_of, line_of}
 use Rattle.gc_texts.specs.Names.{name_text}
 use Rattle.gc_texts.specs.declared.tasks.Task.{Task}
 use Rattle.gc_texts.specs.declared.wish.Wish.{Wish}
 use Rattle.gc_texts.specs.declared.name.Name.{Name}
 use Rattle.gc_rows.specs.Records.{record_text}
-use Rattle.gc_rows.specs.Rows.{row_of, row_fields, com_of, code_of, values_of}
+use Rattle.gc_rows.specs.Rows.{row_of, row_fields, com_of, code_of, fault_field, values_of}
 use Rattle.gc_rows.specs.declared.when.When.{When}
 use Rattle.gc_rows.proofs.Columns.{reply_columns}
 use Rattle.gc_rows.proofs.Rows.{rows_read_back}
 use Rattle.gc_links.specs.Acts.{Act}
 use Rattle.gc_station.specs.Answers.{AnswerIsJustified}
 use Rattle.gc_station.specs.Records.{Record}
-use Rattle.gc_station.specs.Scopes.{Scope}
+use Rattle.gc_station.specs.Model.{Runs, opening}
+use Rattle.gc_station.specs.Scopes.{AreReadings, Reads, Scope}
 use Rattle.gc_station.specs.declared.plan.Plan.{Plan}
 use Rattle.gc_station.proofs.Answers.{answers_true}
 use Rattle.gc_words.specs.declared.layout.Layout.{Layout}
@@ -34,8 +38,12 @@ use Rattle.gc_field.specs.Instrument.{AnyState}
 use Rattle.gc_field.specs.Runs.{IsOwnAnswer, Program, program_parts, program_records}
 use Rattle.gc_field.specs.Shown.{stretches}
 use Rattle.gc_field.proofs.Joining.{run_faithful}
-use Rattle.gc_promise.specs.Rows.{column, FieldsSay, IsOwnIfAnswered, IsRowOfReply, RowsAreTheirOwn}
+use Rattle.gc_promise.specs.Rows.{column, FieldsSay, IsOwnIfAnswered, IsRowOfReply, RowsAreTheirOwn, SayFault}
+use Rattle.std.proofs.lemmas.Option.{same_Some}
 use Rattle.gc_promise.specs.Tables.{table_form}
+use Rattle.gc_promise.proofs.Endings.{is_unreadable}
+use Rattle.gc_station.specs.Moments.{IsAsRead}
+use Rattle.gc_station.proofs.Moments.{all_read, came_at}
 use Rattle.gc_promise.proofs.Names.{by_line}
 
 -- a line from which an id is heard (`heard`) reads as a reply
@@ -68,7 +76,7 @@ record_fields layout columns names r = row_fields columns (when_of layout.run r)
 -- if this line, a reply, ended the record's command in time, the fields of the record's row say what the record and the line
 -- say
 fields_say : (layout : Layout) (columns : Bool) (names : List Name) (r : Record) (line : List ℕ) → line_of r.end ≡ Some line
-    → (reply : ReplyFields) × IsReply line reply → FieldsSay (record_fields layout columns names r) r line
+    → (reply : ReplyFields) × IsReply line reply → FieldsSay layout names (record_fields layout columns names r) r line
 fields_say layout columns names r line answered reply =
     let when = when_of layout.run r in
     let name = name_text r.command.target names in
@@ -77,7 +85,9 @@ fields_say layout columns names r line answered reply =
     let rc : column (codes "rc") (row_fields columns when name r.command r.end) ≡ code_of line = same_by_line columns when name r.command r.end (codes "rc") line answered in
     let values : column (codes "values") (row_fields columns when name r.command r.end) ≡ values_of line = same_by_line columns when name r.command r.end (codes "values") line answered in
     record {
-      command = record { sent = refl; cycle = refl; place = refl; target = refl; procedure = refl; outcome = refl };
+      run = refl;
+      command = record { sent = refl; time = refl; cycle = refl; place = refl; target = refl; procedure = refl; outcome = refl; fault = refl };
+      name = refl;
       says = record {
         reply = reply.0;
         is_reply = reply.1;
@@ -87,8 +97,19 @@ fields_say layout columns names r line answered reply =
       values = values ∙ said.values;
     }
 
+-- if this line, a reply, ended the record's command in time, and it is unreadable only as its line reads, the row has that fault
+fields_fault : (reads : Reads) → AreReadings reads → (layout : Layout) (columns : Bool) (names : List Name) (r : Record) (line : List ℕ) → line_of r.end ≡ Some line
+    → (reply : ReplyFields) × IsReply line reply → IsAsRead reads r → SayFault (record_fields layout columns names r) r line
+fields_fault reads are layout columns names r line answered reply as_read unreadable =
+    let e = is_unreadable r.end unreadable in
+    let reading = each_asked_reply r.command.call reply.0 in
+    let same : e.0 ≡ line = same_Some e.0 line (ap line_of (sym e.2) ∙ answered) in
+    let by_line : reads r.command.call line ≡ DoesntRead e.1 = subst (λ (l : List ℕ). reads r.command.call l ≡ DoesntRead e.1) same (as_read e.0 e.1 e.2) in
+    let says : reading.0 ≡ DoesntRead e.1 = sym (are r.command.call line reading.0 (record { reply = reply.0; is_reply = reply.1; is_reading = reading.1 })) ∙ by_line in
+    (reply.0, reply.1, e.1, subst (IsAskedReading r.command.call reply.0) says reading.1, ap (λ (end : End). fault_field (fault_of end)) e.2)
+
 -- if a record's answer is justified, and a reply in time ended its command, its row is that of the reply's line
-pub row_of_reply : (layout : Layout) (columns : Bool) (names : List Name) → layout.form ≡ table_form columns → (plan : Plan) (commands : List Task) (scope : Scope) (acts : List Act) (r : Record)
+row_of_reply : (layout : Layout) (columns : Bool) (names : List Name) → layout.form ≡ table_form columns → (plan : Plan) (commands : List Task) (scope : Scope) (acts : List Act) (r : Record)
     → AnswerIsJustified plan commands scope acts r → (line : List ℕ) → line_of r.end ≡ Some line → IsRowOfReply layout names r line
 row_of_reply layout columns names form plan commands scope acts r came line answered =
     let justified = came line answered in
@@ -103,6 +124,21 @@ row_of_reply layout columns names form plan commands scope acts r came line answ
       says = fields_say layout columns names r line answered (heard_is_reply line _ justified.reply.id);
     }
 
+-- a row of a record that this line ended, and the fault for which the line doesn't read, if it doesn't
+pub record HasRowAndFault (layout : Layout) (names : List Name) (r : Record) (line : List ℕ) : Type 0 where
+  pub is_of : IsRowOfReply layout names r line
+  pub fault : (reads : Reads) → AreReadings reads → IsAsRead reads r → SayFault is_of.fields r line
+
+-- if a record's answer is justified, and a reply in time ended its command, it has both
+pub row_and_fault : (layout : Layout) (columns : Bool) (names : List Name) → layout.form ≡ table_form columns → (plan : Plan) (commands : List Task) (scope : Scope) (acts : List Act) (r : Record)
+    → AnswerIsJustified plan commands scope acts r → (line : List ℕ) → line_of r.end ≡ Some line → HasRowAndFault layout names r line
+unfolding row_of_reply
+row_and_fault layout columns names form plan commands scope acts r came line answered =
+    record {
+      is_of = row_of_reply layout columns names form plan commands scope acts r came line answered;
+      fault = λ reads are as_read. fields_fault reads are layout columns names r line answered (heard_is_reply line _ (came line answered).reply.id) as_read;
+    }
+
 module _ {State : Type 0} (ends : Ends State) (kept : State → Option KeptReply) (layout : Layout) (columns : Bool) (names : List Name) (form : layout.form ≡ table_form columns)
     (u : UnderWay State) (x : Program State) where
   -- the answer of this record of the run is its own
@@ -113,19 +149,29 @@ module _ {State : Type 0} (ends : Ends State) (kept : State → Option KeptReply
   abbrev IsJustified : Record → Type 0
   IsJustified = AnswerIsJustified x.plan x.commands x.scope x.acts
 
-  -- if a record's answer is its own and justified, and a reply in time ended its command, its row is its own
-  one_own : (r : Record) → AnswerIsOwn r → IsJustified r → IsOwnIfAnswered ends AnyState kept layout names u x r
-  one_own r own came line answered = record { is_of = row_of_reply layout columns names form x.plan x.commands x.scope x.acts r came line answered; own = own line answered }
+  -- if a record's answer is its own and justified, and a reply in time ended its command, its row is its own; in a run, where the record
+  -- is unreadable only as its line reads
+  one_own : Runs x.plan x.commands (opening x.plan x.scope) x.acts → (r : Record) → AnswerIsOwn r → IsJustified r → IsAsRead x.scope.reads r
+      → IsOwnIfAnswered ends AnyState kept layout names u x r
+  one_own runs r own came as_read line answered =
+      let row = row_and_fault layout columns names form x.plan x.commands x.scope x.acts r came line answered in
+      record {
+        is_of = row.is_of;
+        came = came_at x.plan x.commands x.scope x.acts runs r line answered (came line answered);
+        fault = λ are. row.fault x.scope.reads are as_read;
+        own = own line answered;
+      }
 
   -- if the answers of these records are their own and justified, the row of each of them whose command a reply in time ended is
   -- its own
-  each_own : (records : List Record) → AllByRecursion AnswerIsOwn records → AllByRecursion IsJustified records
-      → AllByRecursion (IsOwnIfAnswered ends AnyState kept layout names u x) records
-  each_own [] own came = tt
-  each_own (r ∷ records) own came = (one_own r own.0 came.0, each_own records own.1 came.1)
+  each_own : Runs x.plan x.commands (opening x.plan x.scope) x.acts → (records : List Record) → AllByRecursion AnswerIsOwn records → AllByRecursion IsJustified records
+      → AllByRecursion (IsAsRead x.scope.reads) records → AllByRecursion (IsOwnIfAnswered ends AnyState kept layout names u x) records
+  each_own runs [] own came as_read = tt
+  each_own runs (r ∷ records) own came as_read = (one_own runs r own.0 came.0 as_read.0, each_own runs records own.1 came.1 as_read.1)
 
 -- in a run in the field, the row of each record whose command a reply in time ended is its own
 pub rows_own : {State : Type 0} → RowsAreTheirOwn State
 rows_own ends kept is layout columns names form u x field =
     let faithful = run_faithful ends AnyState kept is u x field in
-    each_own ends kept layout columns names form u x (program_records x) faithful.own (answers_true x.plan x.commands x.scope x.acts field.runs)
+    each_own ends kept layout columns names form u x field.runs (program_records x) faithful.own (answers_true x.plan x.commands x.scope x.acts field.runs)
+    (all_read x.plan x.commands x.scope x.acts field.runs)

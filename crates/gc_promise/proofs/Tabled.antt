@@ -10,7 +10,7 @@ use Rattle.gc_catalogue.specs.declared.answer.Answer.{Answer}
 use Rattle.gc_catalogue.specs.declared.answer.Reading.{Reading}
 use Rattle.gc_catalogue.specs.declared.answer.Reading.TheVariants as reading
 use Rattle.gc_catalogue.specs.declared.asked.Asked.{Asked}
-use Rattle.gc_texts.specs.Endings.{End, Answered, Unreadable, word_of}
+use Rattle.gc_texts.specs.Endings.{End, Answered, word_of}
 use Rattle.gc_texts.specs.Logs.{escaped}
 use Rattle.gc_texts.specs.declared.wish.Wish.{Wish}
 use Rattle.gc_texts.specs.declared.quality.Quality.{Quality}
@@ -19,15 +19,16 @@ use Rattle.gc_rows.specs.Records.{head_text, header, record_text}
 use Rattle.gc_rows.specs.Rows.{code_of, com_of, row_of}
 use Rattle.gc_rows.specs.declared.record.Form.{Form}
 use Rattle.gc_rows.specs.declared.when.When.{When}
+use Rattle.gc_links.specs.Acts.{Act}
 use Rattle.gc_station.specs.Qualities.{answer_in}
 use Rattle.gc_station.specs.Records.{Record, texts_of}
 use Rattle.gc_station.specs.Scopes.{AreReadings}
 use Rattle.gc_measuring.specs.Measuring.{Survey, front_text, text_by}
 use Rattle.gc_field.specs.Instrument.{AnyState}
 use Rattle.gc_promise.specs.Fields.{IsQuantity, IsRowBy, quantity_in, shown_as, under}
-use Rattle.gc_promise.specs.Tables.{Answers, AreReadAs, IsTable, StationRun, TablesAreTheirOwn, head_rows, own_lines, records_of_run, table_form}
+use Rattle.gc_promise.specs.Tables.{Answers, AreOneForOne, AreReadAs, IsStationRun, IsTable, StationRun, TablesAreTheirOwn, acts_in, head_rows, own_lines, records_in, scope_of, table_form}
 use Rattle.gc_promise.proofs.Judged.{no_value_if_none, value_if_some}
-use Rattle.gc_promise.proofs.Names.{answer_to, none_answered, none_unanswered, quantity_stands, under_attempt, under_cycle, under_outcome, under_place, under_procedure, under_quality, under_rc, under_rc_com, under_sent, under_target, under_values, row_at}
+use Rattle.gc_promise.proofs.Names.{answer_to, none_answered, none_unanswered, quantity_stands, under_attempt, under_cycle, under_fault, under_name, under_outcome, under_place, under_run, under_time, under_procedure, under_quality, under_rc, under_rc_com, under_sent, under_target, under_values, row_at}
 use Rattle.gc_promise.proofs.Owning.{record_fields, in_table, two_fields}
 use Rattle.gc_promise.proofs.Plain.{number_plain}
 use Rattle.gc_promise.proofs.Reading.{both_read, each_reads, none_read, row_reads}
@@ -93,7 +94,7 @@ module _ (survey : Survey) (columns : Bool) (r : Record) where
   no_quantity_at false shows other name quantity = absurd (false≢true shows)
 
   -- under the names of the header the record's row has what `HasItsTexts` says
-  row_stands : HasItsTexts columns at r
+  row_stands : HasItsTexts survey columns at r
   row_stands =
       let when = when_in survey r in
       let text = target_in survey r in
@@ -101,13 +102,17 @@ module _ (survey : Survey) (columns : Bool) (r : Record) where
         is_of = record {
           command = record {
             sent = under_sent when text r.command r.end columns;
+            time = under_time when text r.command r.end columns;
             cycle = under_cycle when text r.command r.end columns;
             place = under_place when text r.command r.end columns;
             target = under_target when text r.command r.end columns;
             procedure = under_procedure when text r.command r.end columns;
             outcome = under_outcome when text r.command r.end columns;
+            fault = under_fault when text r.command r.end columns;
           };
           attempt = under_attempt when text r.command r.end columns;
+          run = under_run when text r.command r.end columns;
+          name = under_name when text r.command r.end columns;
         };
         quality = under_quality when text r.command r.end columns;
         rc_com = λ line n answered is.
@@ -129,12 +134,8 @@ head_reads false columns form is = subst (λ (f : Form). AreReadAs (head_text f)
   names_read false = row_reads (header false) (omega arith)
   names_read true = row_reads (header true) (omega arith)
 
-module _ (CanAnswer : Answers) (reads : Asked → List ℕ → Reading) (are : AreReadings reads) (run : StationRun) (had : List ℕ) (is : IsAnswered CanAnswer reads run had)
-    (columns : Bool) (form : run.survey.layout.form ≡ table_form columns) where
-  -- what the run measures
-  abbrev survey : Survey
-  survey = run.survey
-
+module _ (CanAnswer : Answers) (reads : Asked → List ℕ → Reading) (are : AreReadings reads) (survey : Survey) (acts : List Act) (is : IsAnswered CanAnswer reads survey acts)
+    (columns : Bool) (form : survey.layout.form ≡ table_form columns) where
   -- the text of a record is read as its row
   pub one_reads : (r : Record) → AreReadAs (text_by survey r) (row survey columns r ∷ [])
   one_reads r =
@@ -145,34 +146,47 @@ module _ (CanAnswer : Answers) (reads : Asked → List ℕ → Reading) (are : A
       subst (λ (t : List ℕ). AreReadAs t (row survey columns r ∷ [])) (sym is_row) (row_reads (record_fields survey.layout columns survey.names r) (two_fields columns when text r.command r.end))
 
   -- the row of each record that was written whole is by a line that may have answered it
-  pub rows_by : (written others : List Record) → records_of_run reads run ≡ written ++ others → (n : ℕ) (r : Record) → slice_get written n ≡ Some r
-      → IsRowBy (CanAnswer n r) columns (at survey columns r) survey.tasks r
-  rows_by written others order n r got = written_by CanAnswer reads are run had is columns (at survey columns r) r (row_stands survey columns r) written others order n got
+  pub rows_by : (written others : List Record) → records_in survey reads acts ≡ written ++ others → (n : ℕ) (r : Record) → slice_get written n ≡ Some r
+      → IsRowBy (CanAnswer n r) columns (at survey columns r) survey (scope_of survey reads) acts r
+  rows_by written others order n r got = written_by CanAnswer reads are survey acts is columns (at survey columns r) r (row_stands survey columns r) written others order n got
 
-  -- what the sink took is a table
-  pub tabled : IsTable CanAnswer columns reads run had
-  tabled =
-      let took = run_took reads are run had is.is_run is.took in
-      let front = front_text survey.layout in
-      let written = took.are.written in
-      let texts = texts_of (text_by survey) written in
-      let whole : AreReadAs (front ++ texts) (head_rows survey.layout columns ++ map (row survey columns) written) =
-      both_read front texts (head_rows survey.layout columns) (map (row survey columns) written) (head_reads survey.layout.headed columns survey.layout.form form)
-      (each_reads (text_by survey) (row survey columns) one_reads written) in
-      record {
-        bytes = front ++ texts;
-        torn = took.torn;
-        took = took.is ∙ ap Some (append_assoc had front (texts ++ took.torn) ∙ ap (λ (l : List ℕ). had ++ l) (sym (append_assoc front texts took.torn)));
-        are = took.are;
-        rows = map (row survey columns) written;
-        reads_as = whole;
-        behind = λ held earlier first. both_read held (front ++ texts) earlier (head_rows survey.layout columns ++ map (row survey columns) written) first whole;
-        one_for_one =
-            one_for_one (λ n fields r. IsRowBy (CanAnswer n r) columns (λ name. under name (header columns) fields) survey.tasks r) (row survey columns) written
-            (rows_by written took.are.unwritten took.are.order);
-      }
+  -- what comes before the records, and then the texts of these records, which were written whole, are a table
+  pub written_reads : (written : List Record)
+      → AreReadAs (front_text survey.layout ++ texts_of (text_by survey) written) (head_rows survey.layout columns ++ map (row survey columns) written)
+  written_reads written =
+      both_read (front_text survey.layout) (texts_of (text_by survey) written) (head_rows survey.layout columns) (map (row survey columns) written)
+      (head_reads survey.layout.headed columns survey.layout.form form) (each_reads (text_by survey) (row survey columns) one_reads written)
+
+  -- the rows are those of these records, one for one
+  pub rows_one_for_one : (written others : List Record) → records_in survey reads acts ≡ written ++ others
+      → AreOneForOne (λ n fields r. IsRowBy (CanAnswer n r) columns (λ name. under name (header columns) fields) survey (scope_of survey reads) acts r) (map (row survey columns) written) written
+  rows_one_for_one written others order =
+      one_for_one (λ n fields r. IsRowBy (CanAnswer n r) columns (λ name. under name (header columns) fields) survey (scope_of survey reads) acts r) (row survey columns) written
+      (rows_by written others order)
+
+-- what the sink took of a run that is answered so is a table
+pub tabled : (CanAnswer : Answers) (reads : Asked → List ℕ → Reading) → AreReadings reads → (run : StationRun) (had : List ℕ) → IsStationRun run → run.old.taken ≡ Some had
+    → IsAnswered CanAnswer reads run.survey (acts_in run) → (columns : Bool) → run.survey.layout.form ≡ table_form columns → IsTable CanAnswer columns reads run had
+tabled CanAnswer reads are run had is_run old is columns form =
+    let took = run_took reads are run had is_run old in
+    let survey = run.survey in
+    let acts = acts_in run in
+    let front = front_text survey.layout in
+    let written = took.are.written in
+    let texts = texts_of (text_by survey) written in
+    let whole = written_reads CanAnswer reads are survey acts is columns form written in
+    record {
+      bytes = front ++ texts;
+      torn = took.torn;
+      took = took.is ∙ ap Some (append_assoc had front (texts ++ took.torn) ∙ ap (λ (l : List ℕ). had ++ l) (sym (append_assoc front texts took.torn)));
+      are = took.are;
+      rows = map (row survey columns) written;
+      reads_as = whole;
+      behind = λ held earlier first. both_read held (front ++ texts) earlier (head_rows survey.layout columns ++ map (row survey columns) written) first whole;
+      one_for_one = rows_one_for_one CanAnswer reads are survey acts is columns form written took.are.unwritten took.are.order;
+    }
 
 -- what a sink took of a run in the field is its own table
 pub tables_own : {State : Type 0} → TablesAreTheirOwn State
 tables_own ends kept is reads are x was columns form =
-    tabled (own_lines ends AnyState kept reads x) reads are x.run x.had (answered_in_field ends kept is reads x was) columns form
+    tabled (own_lines ends AnyState kept reads x) reads are x.run x.had was.is_run was.took (answered_in_field ends kept is reads x was) columns form

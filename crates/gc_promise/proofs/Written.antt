@@ -1,5 +1,5 @@
 -- The row of a record, or its object, is its own: one proof for both, over the text under each name.
-use Rattle.std.proofs.Common.{◌≡◌, inl, inr, ℕ, Bool, true, List, [], ◌++◌, map, get_or, Option, Some, refl, sym, ap, ◌∙◌, subst, arith}
+use Rattle.std.proofs.Common.{◌≡◌, ℕ, Bool, true, List, [], ◌++◌, map, Option, Some, sym, ap, ◌∙◌, subst}
 use Rattle.std.specs.Prelude.{codes, slice_get}
 use Rattle.std.specs.List.{AllByRecursion}
 use Rattle.gc_lines.specs.Numbers.{IsSmallNumber}
@@ -9,15 +9,16 @@ use Rattle.gc_values.proofs.Every.{every_front as all_front}
 use Rattle.gc_catalogue.specs.Asked.{IsAskedReading}
 use Rattle.gc_catalogue.specs.declared.answer.Answer.{Answer}
 use Rattle.gc_catalogue.specs.declared.answer.Reading.{Reading}
+use Rattle.gc_catalogue.specs.declared.answer.Reading.TheVariants.{Unreadable as DoesntRead}
 use Rattle.gc_catalogue.specs.declared.asked.Asked.{Asked}
 use Rattle.gc_catalogue.proofs.AskedRules.{each_asked_reply}
 use Rattle.gc_instrument.specs.State.{KeptReply}
-use Rattle.gc_texts.specs.Endings.{End, Answered, Unreadable, Elsewhere, Disagree, Late, Lost, Skipped, Missed, word_of, quality_of, quality_text, line_of}
+use Rattle.gc_texts.specs.Endings.{End, Answered, word_of, fault_of, quality_of, quality_text, line_of}
 use Rattle.gc_texts.specs.Logs.{escaped}
 use Rattle.gc_texts.specs.Names.{name_text}
 use Rattle.gc_texts.specs.Qualities.{quality_word}
 use Rattle.gc_texts.specs.declared.quality.Quality.{Quality}
-use Rattle.gc_rows.specs.Rows.{code_of, com_of, values_of}
+use Rattle.gc_rows.specs.Rows.{code_of, com_of, fault_field, values_of}
 use Rattle.gc_rows.specs.declared.when.When.{When}
 use Rattle.gc_rows.proofs.Columns.{reply_columns}
 use Rattle.gc_links.specs.Acts.{Act}
@@ -41,8 +42,12 @@ use Rattle.gc_world.proofs.Places.{get_seen}
 use Rattle.std.proofs.lemmas.List.{length-map}
 use Rattle.std.proofs.lemmas.Option.{same_Some}
 use Rattle.gc_promise.specs.Fields.{IsQuantity, IsRowBy, IsRowOf, IsOutcomeOfReply, HasReply, quality_in, quantity_in, quantity_source, shown_as}
-use Rattle.gc_promise.specs.Tables.{Answers, AreOneForOne, FieldRun, IsFieldRun, IsStationRun, StationRun, acts_in, own_lines, parts_of_run, program_of, records_of_run, scope_of}
-use Rattle.gc_promise.proofs.Judged.{IsJudged, judged}
+use Rattle.gc_promise.specs.Tables.{Answers, AreOneForOne, FieldRun, IsFieldRun, acts_in, own_lines, parts_of_run, program_of, records_in, records_of_run, scope_of}
+use Rattle.gc_station.specs.Moments.{HasItsMoment}
+use Rattle.gc_promise.proofs.Endings.{is_answered, is_unreadable, reply_ended, without_fault, without_quality}
+use Rattle.gc_promise.proofs.Judged.{judged}
+use Rattle.gc_station.specs.Moments.{IsAsRead}
+use Rattle.gc_station.proofs.Moments.{came_at, one_added}
 use Rattle.gc_promise.proofs.Owning.{heard_is_reply}
 use Rattle.gc_promise.proofs.Setting.{never_sent, set_to}
 
@@ -53,57 +58,6 @@ when_in survey r = when_of survey.layout.run r
 -- the name of the target of a record of this survey
 abbrev pub target_in : Survey → Record → List ℕ
 target_in survey r = name_text r.command.target survey.names
-
--- Words.
-
--- the first letter of a word
-abbrev pub first_letter : List ℕ → ℕ
-first_letter word = get_or word 0 0
-
--- a word with the first letter of none of a reply's four outcomes is no outcome of a reply
-pub no_outcome_of_reply : (word : List ℕ) → (first_letter word ≡ first_letter (codes "answered") → ⊥) → (first_letter word ≡ first_letter (codes "unreadable") → ⊥)
-    → (first_letter word ≡ first_letter (codes "elsewhere") → ⊥) → (first_letter word ≡ first_letter (codes "disagree") → ⊥) → IsOutcomeOfReply word → ⊥
-no_outcome_of_reply word a u e d (inl is) = a (ap first_letter is)
-no_outcome_of_reply word a u e d (inr (inl is)) = u (ap first_letter is)
-no_outcome_of_reply word a u e d (inr (inr (inl is))) = e (ap first_letter is)
-no_outcome_of_reply word a u e d (inr (inr (inr is))) = d (ap first_letter is)
-
--- if the outcome is that of a reply, a reply in time ended the command
-pub reply_ended : (end : End) → IsOutcomeOfReply (word_of end) → (line : List ℕ) × (line_of end ≡ Some line)
-reply_ended (Answered quality answer line) is = (line, refl)
-reply_ended (Unreadable line fault) is = (line, refl)
-reply_ended (Elsewhere line) is = (line, refl)
-reply_ended (Disagree line) is = (line, refl)
-reply_ended Late is = absurd (no_outcome_of_reply (codes "late") (λ e. omega (arith, e)) (λ e. omega (arith, e)) (λ e. omega (arith, e)) (λ e. omega (arith, e)) is)
-reply_ended Lost is = absurd (no_outcome_of_reply (codes "lost") (λ e. omega (arith, e)) (λ e. omega (arith, e)) (λ e. omega (arith, e)) (λ e. omega (arith, e)) is)
-reply_ended Skipped is = absurd (no_outcome_of_reply (codes "skipped") (λ e. omega (arith, e)) (λ e. omega (arith, e)) (λ e. omega (arith, e)) (λ e. omega (arith, e)) is)
-reply_ended Missed is = absurd (no_outcome_of_reply (codes "missed") (λ e. omega (arith, e)) (λ e. omega (arith, e)) (λ e. omega (arith, e)) (λ e. omega (arith, e)) is)
-
--- a word with another first letter than `answered` isn't `answered`
-pub not_answered : (word : List ℕ) → (first_letter word ≡ first_letter (codes "answered") → ⊥) → word ≡ codes "answered" → ⊥
-not_answered word other is = other (ap first_letter is)
-
--- a command whose outcome is `answered` ended as `Answered`, with a quality and maybe with values
-pub is_answered : (end : End) → word_of end ≡ codes "answered" → (quality : Quality) × (values : Option Answer) × (line : List ℕ) × (end ≡ Answered quality values line)
-is_answered (Answered quality values line) word = (quality, values, line, refl)
-is_answered (Unreadable l fault) word = absurd (not_answered (codes "unreadable") (λ e. omega (arith, e)) word)
-is_answered (Elsewhere l) word = absurd (not_answered (codes "elsewhere") (λ e. omega (arith, e)) word)
-is_answered (Disagree l) word = absurd (not_answered (codes "disagree") (λ e. omega (arith, e)) word)
-is_answered Late word = absurd (not_answered (codes "late") (λ e. omega (arith, e)) word)
-is_answered Lost word = absurd (not_answered (codes "lost") (λ e. omega (arith, e)) word)
-is_answered Skipped word = absurd (not_answered (codes "skipped") (λ e. omega (arith, e)) word)
-is_answered Missed word = absurd (not_answered (codes "missed") (λ e. omega (arith, e)) word)
-
--- a command whose outcome isn't `answered` has no quality
-pub without_quality : (end : End) → (word_of end ≡ codes "answered" → ⊥) → quality_text (quality_of end) ≡ []
-without_quality (Answered quality values line) other = absurd (other refl)
-without_quality (Unreadable l fault) other = refl
-without_quality (Elsewhere l) other = refl
-without_quality (Disagree l) other = refl
-without_quality Late other = refl
-without_quality Lost other = refl
-without_quality Skipped other = refl
-without_quality Missed other = refl
 
 -- what holds of all elements of `xs` holds of the one at a place among the first of them (`written`)
 pub all_written : {X : Type 0} (P : X → Type 0) (xs written others : List X) → xs ≡ written ++ others → AllByRecursion P xs → (n : ℕ) (x : X) → slice_get written n ≡ Some x → P x
@@ -122,11 +76,11 @@ one_for_one Is f rs own =
 
 -- A row or an object.
 
--- a row or an object of the record, in which `at` gives the text under each name, has what the record says, however the command
+-- a row or an object of the record of this survey, in which `at` gives the text under each name, has what the record says, however the command
 -- ended; the quality; of a line that ended the command, its codes, as numbers, and its values; and, where it has quantities
 -- (`has_quantities`), those of an answer as `shown_as` has them, and none if the command isn't answered
-pub record HasItsTexts (has_quantities : Bool) (at : List ℕ → List ℕ) (r : Record) : Type 0 where
-  pub is_of : IsRowOf at r
+pub record HasItsTexts (survey : Survey) (has_quantities : Bool) (at : List ℕ → List ℕ) (r : Record) : Type 0 where
+  pub is_of : IsRowOf survey at r
   pub quality : at (codes "quality") ≡ quality_text (quality_of r.end)
   pub rc_com : (line : List ℕ) (n : ℕ) → line_of r.end ≡ Some line → IsSmallNumber (com_of line) n → IsSmallNumber (at (codes "rc_com")) n
   pub rc : (line : List ℕ) (n : ℕ) → line_of r.end ≡ Some line → IsSmallNumber (code_of line) n → IsSmallNumber (at (codes "rc")) n
@@ -136,12 +90,12 @@ pub record HasItsTexts (has_quantities : Bool) (at : List ℕ → List ℕ) (r :
       → r.end ≡ Answered q answer line → answer ≡ answer_in told → (name : List ℕ) → IsQuantity name → at name ≡ shown_as q (escaped (quantity_in r.command.call told name))
   pub none : has_quantities ≡ true → (word_of r.end ≡ codes "answered" → ⊥) → (name : List ℕ) → IsQuantity name → at name ≡ []
 
-module _ (survey : Survey) (reads : Asked → List ℕ → Reading) (are : AreReadings reads) (has_quantities : Bool) (at : List ℕ → List ℕ) (r : Record) (has : HasItsTexts has_quantities at r) where
+module _ (survey : Survey) (reads : Asked → List ℕ → Reading) (are : AreReadings reads) (has_quantities : Bool) (at : List ℕ → List ℕ) (r : Record) (has : HasItsTexts survey has_quantities at r) where
   -- if a line with the fields of a reply ended the command in time, and the record's quality and values are as listed
-  -- (`IsAsListed`), the row says what the line says (`HasReply`)
-  says : (line : List ℕ) → line_of r.end ≡ Some line → (x : ReplyFields) × IsReply line x → IsAsListed reads survey.tasks r
+  -- (`IsAsListed`), and it is unreadable only as the line reads, the row says what the line says (`HasReply`)
+  says : (line : List ℕ) → line_of r.end ≡ Some line → (x : ReplyFields) × IsReply line x → IsAsListed reads survey.tasks r → IsAsRead reads r
       → HasReply has_quantities at (twice_at survey.tasks r.place) (accepted_at survey.tasks r.place) r.command.call line
-  says line answered reply listed =
+  says line answered reply listed as_read =
       let said = reply_columns line reply.0 reply.1 in
       let accepted = accepted_at survey.tasks r.place in
       let twice = twice_at survey.tasks r.place in
@@ -167,6 +121,11 @@ module _ (survey : Survey) (reads : Asked → List ℕ → Reading) (are : AreRe
         quality = λ answers.
             let e = is_answered r.end (sym has.is_of.command.outcome ∙ answers) in
             has.quality ∙ ap (λ (end : End). quality_text (quality_of end)) e.3 ∙ ap quality_word (judges e.0 e.1 e.2 e.3).0;
+        fault = λ unreadable.
+            let e = is_unreadable r.end (sym has.is_of.command.outcome ∙ unreadable) in
+            let same : e.0 ≡ line = same_Some e.0 line (ap line_of (sym e.2) ∙ answered) in
+            let by_line : reads r.command.call line ≡ DoesntRead e.1 = subst (λ (l : List ℕ). reads r.command.call l ≡ DoesntRead e.1) same (as_read e.0 e.1 e.2) in
+            (e.1, sym (are r.command.call line reading.0 (record { reply = reply.0; is_reply = reply.1; is_reading = reading.1 })) ∙ by_line, has.is_of.command.fault ∙ ap (λ (end : End). fault_field (fault_of end)) e.2);
         quantity_reading = told.0;
         is_quantity_reading = told.1;
         quantities = λ shows answers name quantity.
@@ -178,52 +137,56 @@ module _ (survey : Survey) (reads : Asked → List ℕ → Reading) (are : AreRe
   -- the row of a record is by a line that may have answered it (`IsRowBy`), if the line of its reply is one, the record's answer is
   -- justified, its quality is as listed, and it is of its task
   row_by_if : (CanAnswer : List ℕ → Type 0) (acts : List Act) → ((line : List ℕ) → line_of r.end ≡ Some line → CanAnswer line)
+      → Runs survey.plan survey.tasks (opening survey.plan (scope_of survey reads)) acts
       → AnswerIsJustified survey.plan survey.tasks (scope_of survey reads) acts r → IsAsListed reads survey.tasks r → IsOfItsTask survey.tasks r
-      → IsRowBy CanAnswer has_quantities at survey.tasks r
-  row_by_if CanAnswer acts can came listed of =
+      → HasItsMoment survey.plan survey.tasks (scope_of survey reads) acts r × IsAsRead reads r
+      → IsRowBy CanAnswer has_quantities at survey (scope_of survey reads) acts r
+  row_by_if CanAnswer acts can runs came listed of added =
       record {
         is_of = has.is_of;
+        ended = added.0;
         clock = set_to at survey.tasks r of has.is_of.command.sent;
         unsent = never_sent at survey.tasks r of has.is_of.command.sent;
         replied = λ is.
             let replied = reply_ended r.end (subst IsOutcomeOfReply has.is_of.command.outcome is) in
-            let justified = came replied.0 replied.1 in
-            (replied.0, says replied.0 replied.1 (heard_is_reply replied.0 _ justified.reply.id) listed, can replied.0 replied.1);
+            let justified = came replied.0 replied.1 in (
+              replied.0,
+              says replied.0 replied.1 (heard_is_reply replied.0 _ justified.reply.id) listed added.1,
+              can replied.0 replied.1,
+              came_at survey.plan survey.tasks (scope_of survey reads) acts runs r replied.0 replied.1 justified,
+            );
         without = λ shows other name quantity. has.none shows (λ answers. other (has.is_of.command.outcome ∙ answers)) name quantity;
         unqualified = λ other. has.quality ∙ without_quality r.end (λ answers. other (has.is_of.command.outcome ∙ answers));
+        faultless = λ other. has.is_of.command.fault ∙ without_fault r.end (λ unreadable. other (has.is_of.command.outcome ∙ unreadable));
       }
 
--- a run of a station whose sink had taken the bytes `had`; and the line of each of its replies may have answered the command of the
--- record that it ended, where `reads` gives what replies say of their calls
-pub record IsAnswered (CanAnswer : Answers) (reads : Asked → List ℕ → Reading) (run : StationRun) (had : List ℕ) : Type 0 where
-  pub is_run : IsStationRun run
-  pub took : run.old.taken ≡ Some had
-  pub runs : Runs run.survey.plan run.survey.tasks (opening run.survey.plan (scope_of run.survey reads)) (acts_in run)
-  pub answers : (n : ℕ) (r : Record) → slice_get (records_of_run reads run) n ≡ Some r → (line : List ℕ) → line_of r.end ≡ Some line → CanAnswer n r line
+-- a run of this survey with these acts, in which the line of each reply may have answered the command of the record that it ended, where
+-- `reads` gives what replies say of their calls
+pub record IsAnswered (CanAnswer : Answers) (reads : Asked → List ℕ → Reading) (survey : Survey) (acts : List Act) : Type 0 where
+  pub runs : Runs survey.plan survey.tasks (opening survey.plan (scope_of survey reads)) acts
+  pub answers : (n : ℕ) (r : Record) → slice_get (records_in survey reads acts) n ≡ Some r → (line : List ℕ) → line_of r.end ≡ Some line → CanAnswer n r line
 
-module _ (CanAnswer : Answers) (reads : Asked → List ℕ → Reading) (are : AreReadings reads) (run : StationRun) (had : List ℕ) (is : IsAnswered CanAnswer reads run had) where
+module _ (CanAnswer : Answers) (reads : Asked → List ℕ → Reading) (are : AreReadings reads) (survey : Survey) (acts : List Act) (is : IsAnswered CanAnswer reads survey acts) where
   -- a row or an object that has its texts (`HasItsTexts`) is by a line that may have answered its record, if that is among the first
   -- of the run's records (`written`)
-  pub written_by : (has_quantities : Bool) (at : List ℕ → List ℕ) (r : Record) → HasItsTexts has_quantities at r → (written others : List Record)
-      → records_of_run reads run ≡ written ++ others → (n : ℕ) → slice_get written n ≡ Some r → IsRowBy (CanAnswer n r) has_quantities at run.survey.tasks r
+  pub written_by : (has_quantities : Bool) (at : List ℕ → List ℕ) (r : Record) → HasItsTexts survey has_quantities at r → (written others : List Record)
+      → records_in survey reads acts ≡ written ++ others → (n : ℕ) → slice_get written n ≡ Some r
+      → IsRowBy (CanAnswer n r) has_quantities at survey (scope_of survey reads) acts r
   written_by has_quantities at r has written others order n got =
-      let survey = run.survey in
-      let acts = acts_in run in
-      let records = records_of_run reads run in
-      row_by_if survey reads are has_quantities at r has (CanAnswer n r) acts (is.answers n r (ap (λ l. slice_get l n) order ∙ get_more written others n r got))
-      (all_written (AnswerIsJustified survey.plan survey.tasks (scope_of survey reads) acts) records written others order
-      (answers_true survey.plan survey.tasks (scope_of survey reads) acts is.runs) n r got)
-      (all_written (λ (x : Record). IsAsListed reads survey.tasks x) records written others order (qualities_as_listed survey.plan survey.tasks (scope_of survey reads) acts) n r got)
-      (all_written (IsOfItsTask survey.tasks) records written others order (of_tasks survey.plan survey.tasks (scope_of survey reads) acts) n r got)
+      let records = records_in survey reads acts in
+      let there : slice_get records n ≡ Some r = ap (λ l. slice_get l n) order ∙ get_more written others n r got in
+      row_by_if survey reads are has_quantities at r has (CanAnswer n r) acts (is.answers n r there) is.runs
+      (all_at (AnswerIsJustified survey.plan survey.tasks (scope_of survey reads) acts) records n r (answers_true survey.plan survey.tasks (scope_of survey reads) acts is.runs) there)
+      (all_at (λ (x : Record). IsAsListed reads survey.tasks x) records n r (qualities_as_listed survey.plan survey.tasks (scope_of survey reads) acts) there)
+      (all_at (IsOfItsTask survey.tasks) records n r (of_tasks survey.plan survey.tasks (scope_of survey reads) acts) there)
+      (one_added survey.plan survey.tasks (scope_of survey reads) acts is.runs n r there)
 
 -- a run in the field is answered by lines that are its records' own
 pub answered_in_field : {State : Type 0} (ends : Ends State) (kept : State → Option KeptReply) → IsAnInstrument ends AnyState kept → (reads : Asked → List ℕ → Reading) (x : FieldRun State)
-    → IsFieldRun ends kept reads x → IsAnswered (own_lines ends AnyState kept reads x) reads x.run x.had
+    → IsFieldRun ends kept reads x → IsAnswered (own_lines ends AnyState kept reads x) reads x.run.survey (acts_in x.run)
 answered_in_field ends kept is reads x was =
     let faithful = run_faithful ends AnyState kept is x.in_flight (program_of x.run.survey reads (acts_in x.run) x.happened) was.in_field in
     record {
-      is_run = was.is_run;
-      took = was.took;
       runs = was.in_field.runs;
       answers = λ n r got.
           all_at (IsOwnAnswer ends AnyState kept x.run.survey.tasks (parts_of_run reads x.run) (stretches ends x.in_flight x.happened)) (records_of_run reads x.run) n r faithful.own got;

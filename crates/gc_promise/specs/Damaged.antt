@@ -17,8 +17,9 @@ use Rattle.gc_field.specs.Instrument.{AnyState, OfAnyInstrument, TreatsRawsAlike
 use Rattle.gc_harm.specs.Runs.{AreFewRecordsByDamagedLines, AreOfTable, HarmedProgram, HasItsAnswer, IsInHarmedField, sent_until}
 use Rattle.gc_harm.specs.Stretches.{HarmedStretch, HasDamageApart}
 use Rattle.gc_harm.specs.UndamagedRuns.{undamaged_stretches}
+use Rattle.gc_station.specs.Moments.{CameAt}
 use Rattle.gc_promise.specs.Objects.{AreObjects, AreTyped}
-use Rattle.gc_promise.specs.Rows.{IsRowOfReply}
+use Rattle.gc_promise.specs.Rows.{IsRowOfReply, SayFault}
 use Rattle.gc_promise.specs.Tables.{Answers, FieldRun, IsStationRun, IsTable, OfEachFieldRun, StationRun, acts_in, parts_of_run, records_of_run, scope_of, table_form}
 
 -- a run of a station over a line that damages, with the bytes that its sink had before, what was in flight at its start, and what
@@ -63,9 +64,12 @@ ObjectsAreOwnOrDamaged State =
     OfEachHarmedRun {State = State} (λ ends kept reads x.
     x.run.survey.layout.form ≡ Json → AreTyped x.run.survey (records_of_run reads x.run) → AreObjects (own_or_damaged_lines ends reads x) reads x.run x.had)
 
--- the row of the record at a place in a table is that of this line, which is own or damaged
+-- the row of the record at a place in a table is that of this line, which is own or damaged, and has the moment of the read that brought it,
+-- and the fault for which it doesn't read
 pub record IsRowOfOwnOrDamaged {State : Type 0} (ends : Ends State) (reads : Asked → List ℕ → Reading) (x : HarmedRun State) (place : ℕ) (r : Record) (line : List ℕ) : Type 0 where
   pub is_of : IsRowOfReply x.run.survey.layout x.run.survey.names r line
+  pub came : CameAt x.run.survey.plan x.run.survey.tasks (scope_of x.run.survey reads) (acts_in x.run) r line
+  pub fault : SayFault is_of.fields r line
   pub answer : own_or_damaged_lines ends reads x place r line
 
 -- the row of each record of a run whose command a reply in time ended is so, however much of it was written

@@ -14,8 +14,9 @@ use Rattle.gc_catalogue.specs.declared.asked.Asked.TheVariants.{Table, Raw}
 use Rattle.gc_catalogue.specs.declared.call.Call.TheVariants.{SetDate}
 use Rattle.gc_catalogue.specs.declared.answer.Answer.{Answer}
 use Rattle.gc_texts.specs.Codes.{lists_code}
-use Rattle.gc_texts.specs.Endings.{word_of}
+use Rattle.gc_texts.specs.Endings.{fault_of, word_of}
 use Rattle.gc_texts.specs.Logs.{escaped}
+use Rattle.gc_texts.specs.Names.{name_text}
 use Rattle.gc_texts.specs.Qualities.{quality_word}
 use Rattle.gc_texts.specs.Stamps.{date_time, stamp_text}
 use Rattle.gc_texts.specs.declared.agree.Twice.{Twice}
@@ -23,12 +24,18 @@ use Rattle.gc_texts.specs.declared.codes.Codes.{Codes}
 use Rattle.gc_texts.specs.declared.quality.Quality.{Quality}
 use Rattle.gc_texts.specs.declared.quality.Quality.TheVariants.{Fine, Warning, Unconfirmed, Refused}
 use Rattle.gc_texts.specs.declared.tasks.Task.{Task}
-use Rattle.gc_rows.specs.Rows.{moment_text, procedure_of, value_texts}
+use Rattle.gc_rows.specs.Rows.{fault_field, moment_text, procedure_of, value_texts}
 use Rattle.gc_rows.specs.Quantities.{quantity_names}
 use Rattle.gc_rows.specs.ProcedureQuantities.{quantities_returned}
 use Rattle.gc_station.specs.Parts.{went_out}
 use Rattle.gc_station.specs.Qualities.{accepted_at, quality_as, twice_at}
 use Rattle.gc_station.specs.Records.{Record}
+use Rattle.gc_station.specs.Scopes.{Scope}
+use Rattle.gc_links.specs.Acts.{Act}
+use Rattle.gc_measuring.specs.Measuring.{Survey}
+use Rattle.gc_station.specs.Moments.{CameAt, HasItsMoment}
+use Rattle.gc_values.specs.ValueFault.{value_fault_number}
+use Rattle.gc_values.specs.declared.fault.ValueFault.{ValueFault}
 
 -- the field that is under a name, in a row whose fields are under these names; an empty one if there is no such name or
 -- no field for it
@@ -37,21 +44,26 @@ under name [] fields = []
 under name (n ∷ names) [] = []
 under name (n ∷ names) (field ∷ fields) = if pointwise nat_eq n name then field else under name names fields
 
--- the row says of its record's command, however that ended, when the request was sent, the cycle, the place of the turn, the
--- target, the procedure and the outcome. Nothing is under `sent` if the record has no moment of sending. `at` gives the text
--- under a name
+-- the row says of its record's command, however that ended, when the request was sent and when the command ended, the cycle, the
+-- place of the turn, the target, the procedure, the outcome, and the number of the fault of an unreadable reply. Nothing is under
+-- `sent` if the record has no moment of sending, and nothing under `fault` if the ending has no fault. `at` gives the text under a name
 pub record SaysCommand (at : List ℕ → List ℕ) (r : Record) : Type 0 where
   pub sent : at (codes "sent") ≡ moment_text r.sent
+  pub time : at (codes "time") ≡ stamp_text r.utc
   pub cycle : at (codes "cycle") ≡ decimal r.cycle
   pub place : at (codes "place") ≡ decimal r.turn.place
   pub target : at (codes "target") ≡ decimal r.command.target
   pub procedure : at (codes "procedure") ≡ decimal (procedure_of r.command.call)
   pub outcome : at (codes "outcome") ≡ word_of r.end
+  pub fault : at (codes "fault") ≡ fault_field (fault_of r.end)
 
--- the row has what its record says, however the command ended: what `SaysCommand` lists, and the attempt of the turn
-pub record IsRowOf (at : List ℕ → List ℕ) (r : Record) : Type 0 where
+-- the row has what its record says, however the command ended: what `SaysCommand` lists, and the attempt of the turn; and what it has
+-- of the run, which measures this survey: the moment at which the run began, and the name of the target, `escaped`
+pub record IsRowOf (survey : Survey) (at : List ℕ → List ℕ) (r : Record) : Type 0 where
   pub command : SaysCommand at r
   pub attempt : at (codes "attempt") ≡ decimal r.turn.attempt
+  pub run : at (codes "run") ≡ stamp_text survey.layout.run
+  pub name : at (codes "name") ≡ escaped (name_text r.command.target survey.names)
 
 -- the row has the codes of this line, which is a reply. `at` gives the text under a name
 pub record SaysCodes (at : List ℕ → List ℕ) (line : List ℕ) : Type 0 where
@@ -120,6 +132,8 @@ pub record HasReply (has_quantities : Bool) (at : List ℕ → List ℕ) (twice 
   pub answer_reading : Reading
   pub is_answer_reading : IsAskedReading call says.reply answer_reading
   pub quality : at (codes "outcome") ≡ codes "answered" → at (codes "quality") ≡ quality_word (quality_as twice (quality_in accepted answer_reading))
+  -- if the command is unreadable, the row has the number of the fault for which the reply's parameters don't read
+  pub fault : at (codes "outcome") ≡ codes "unreadable" → (why : ValueFault) × (answer_reading ≡ reading.Unreadable why) × (at (codes "fault") ≡ decimal (value_fault_number why))
   -- what the reply says of the call where its quantities are read, as `quantity_source` has it
   pub quantity_reading : Reading
   pub is_quantity_reading : IsAskedReading call (quantity_source (quality_in accepted answer_reading) says.reply) quantity_reading
@@ -127,18 +141,24 @@ pub record HasReply (has_quantities : Bool) (at : List ℕ → List ℕ) (twice 
       has_quantities ≡ true → at (codes "outcome") ≡ codes "answered" →
       (name : List ℕ) → IsQuantity name → at name ≡ shown_as (quality_as twice (quality_in accepted answer_reading)) (escaped (quantity_in call quantity_reading name))
 
--- the row of record `r`, in which `at` gives the text under each name, in a run of these commands. What it has of a reply is what a
--- line says for which `IsAnswer` holds: it says which lines may have answered the record's command
-pub record IsRowBy (IsAnswer : List ℕ → Type 0) (has_quantities : Bool) (at : List ℕ → List ℕ) (commands : List Task) (r : Record) : Type 0 where
-  pub is_of : IsRowOf at r
+-- the row of record `r`, in which `at` gives the text under each name, in a run of this survey with these acts. What it has of a reply is
+-- what a line says for which `IsAnswer` holds: it says which lines may have answered the record's command
+pub record IsRowBy (IsAnswer : List ℕ → Type 0) (has_quantities : Bool) (at : List ℕ → List ℕ) (survey : Survey) (scope : Scope) (acts : List Act) (r : Record) : Type 0 where
+  pub is_of : IsRowOf survey at r
+  -- under `time` is the moment of the act by which the command ended
+  pub ended : HasItsMoment survey.plan survey.tasks scope acts r
   -- if the command sets the clock and its request was sent, that asked for the moment under `sent`, cut to seconds
-  pub clock : (task : Task) → slice_get commands r.place ≡ Some task → task.now ≡ true → went_out r.end ≡ true → IsSetTo at r
+  pub clock : (task : Task) → slice_get survey.tasks r.place ≡ Some task → task.now ≡ true → went_out r.end ≡ true → IsSetTo at r
   -- if no request was sent, nothing is under `sent`
   pub unsent : went_out r.end ≡ false → at (codes "sent") ≡ []
-  -- if the outcome is that of a reply, the row says what a line says that may have answered the command
+  -- if the outcome is that of a reply, the row says what a line says that may have answered the command, and has under `time` the moment
+  -- of the read that brought that line
   pub replied :
       IsOutcomeOfReply (at (codes "outcome")) →
-      (line : List ℕ) × HasReply has_quantities at (twice_at commands r.place) (accepted_at commands r.place) r.command.call line × IsAnswer line
+      (line : List ℕ) × HasReply has_quantities at (twice_at survey.tasks r.place) (accepted_at survey.tasks r.place) r.command.call line × IsAnswer line
+      × CameAt survey.plan survey.tasks scope acts r line
   -- if the outcome isn't `answered`, the row has no quantity, where rows have quantities, and no quality
   pub without : has_quantities ≡ true → (at (codes "outcome") ≡ codes "answered" → ⊥) → (name : List ℕ) → IsQuantity name → at name ≡ []
   pub unqualified : (at (codes "outcome") ≡ codes "answered" → ⊥) → at (codes "quality") ≡ []
+  -- if it isn't `unreadable`, the row has no fault
+  pub faultless : (at (codes "outcome") ≡ codes "unreadable" → ⊥) → at (codes "fault") ≡ []

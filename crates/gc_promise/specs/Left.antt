@@ -17,7 +17,7 @@ use Rattle.gc_promise.specs.Damaged.{OfEachHarmedRun, own_or_damaged_lines}
 use Rattle.gc_promise.specs.Fields.{IsRowBy, under}
 use Rattle.gc_promise.specs.Lasting.{AreLeft, RunMoment}
 use Rattle.gc_promise.specs.Objects.{AreTyped, IsObject}
-use Rattle.gc_promise.specs.Tables.{Answers, AreOneForOne, AreReadAs, OfEachFieldRun, own_lines, records_of_run, table_form}
+use Rattle.gc_promise.specs.Tables.{Answers, AreOneForOne, AreReadAs, OfEachFieldRun, acts_in, own_lines, records_of_run, scope_of, table_form}
 
 -- `left` is what is left of a run after a moment: with what went into files before this one, it is the texts of the first ones of the
 -- run's records, each whole
@@ -35,7 +35,7 @@ pub record IsLeftTable {R : Type 0} (CanAnswer : Answers) (columns : Bool) (read
   pub is_of : IsLeftOf reads m left records
   pub rows : List (List (List ℕ))
   pub reads_as : AreReadAs (bytes_in m.was ++ is_of.more) rows
-  pub one_for_one : AreOneForOne (λ n row r. IsRowBy (CanAnswer n r) columns (λ name. under name (header columns) row) m.run.survey.tasks r) rows records
+  pub one_for_one : AreOneForOne (λ n row r. IsRowBy (CanAnswer n r) columns (λ name. under name (header columns) row) m.run.survey (scope_of m.run.survey reads) (acts_in m.run) r) rows records
 
 -- of a run that is written as lines of JSON: with what went into files before this one, what is left are lines, which are the objects of
 -- the first ones of the run's records, one for one and in order, each by a line that may have answered it
@@ -45,7 +45,7 @@ pub record AreLeftObjects {R : Type 0} (CanAnswer : Answers) (reads : Asked → 
   pub lines : List (List ℕ)
   pub split : bytes_in m.was ++ is_of.more ≡ rows.row_lines lines
   pub unbroken : AllByRecursion (Lacks 10) lines
-  pub one_for_one : AreOneForOne (λ n line r. IsObject CanAnswer m.run.survey.tasks n line r) lines records
+  pub one_for_one : AreOneForOne (λ n line r. IsObject CanAnswer m.run.survey (scope_of m.run.survey reads) (acts_in m.run) n line r) lines records
 
 -- of each run in the field: what is left of it after any moment (`AreLeft`) are rows, and each is its own
 abbrev pub LeftTablesAreTheirOwn : (R State : Type 0) → Type 0

@@ -7,3 +7,6 @@ pub mod Eventful
 pub mod Witness
 pub mod Lasting
 pub mod Left
+pub mod SoFar
+pub mod LastingSoFar
+pub mod RunMoments

@@ -12,15 +12,16 @@ use Rattle.gc_files.specs.Runs as rows
 use Rattle.gc_texts.specs.Cuts.{Lacks}
 use Rattle.gc_texts.specs.Logs.{AreBytes}
 use Rattle.gc_texts.specs.declared.name.Name.{Name}
-use Rattle.gc_texts.specs.declared.tasks.Task.{Task}
 use Rattle.gc_rows.specs.Laws.{IsEndOfBytes, FitsIn64Bits}
 use Rattle.gc_rows.specs.declared.record.Form.TheVariants.{Json}
+use Rattle.gc_links.specs.Acts.{Act}
 use Rattle.gc_station.specs.Records.{Record}
+use Rattle.gc_station.specs.Scopes.{Scope}
 use Rattle.gc_measuring.specs.Measuring.{Survey, when_of}
 use Rattle.gc_field.specs.World.{Ends}
 use Rattle.gc_field.specs.Instrument.{AnyState}
 use Rattle.gc_promise.specs.Fields.{IsRowBy}
-use Rattle.gc_promise.specs.Tables.{Answers, AreOneForOne, AreWrittenIn, FieldRun, OfEachFieldRun, StationRun, own_lines, records_of_run}
+use Rattle.gc_promise.specs.Tables.{Answers, AreOneForOne, AreWrittenIn, FieldRun, OfEachFieldRun, StationRun, acts_in, own_lines, records_of_run, scope_of}
 
 -- the record, of a run that began at the moment `run`, is in the types of the program: the numbers that are written of it have 64
 -- bits, and its texts are bytes
@@ -39,12 +40,12 @@ text_of (Some (json.number digits)) = digits
 text_of (Some (json.string bytes)) = bytes
 text_of _ = []
 
--- a line is the object of the record at a place among those of a run with these commands: the toolchain's reader of JSON takes it for
--- an object, whose members are the record's, by a line that may have answered it
-pub record IsObject (CanAnswer : Answers) (commands : List Task) (place : ℕ) (line : List ℕ) (r : Record) : Type 0 where
+-- a line is the object of the record at a place among those of a run of this survey with these acts: the toolchain's reader of JSON takes it
+-- for an object, whose members are the record's, by a line that may have answered it
+pub record IsObject (CanAnswer : Answers) (survey : Survey) (scope : Scope) (acts : List Act) (place : ℕ) (line : List ℕ) (r : Record) : Type 0 where
   pub members : json.Members
   pub reads_as : document line ≡ Some (json.object members)
-  pub is_by : IsRowBy (CanAnswer place r) true (λ name. text_of (get_member name members)) commands r
+  pub is_by : IsRowBy (CanAnswer place r) true (λ name. text_of (get_member name members)) survey scope acts r
 
 -- what the sink of a run took, after what it had: lines, in none of which is a line feed, and which are the run's records as far as
 -- these were written (`AreWrittenIn`), one for one and in order, each by a line that may have answered it
@@ -54,7 +55,7 @@ pub record AreObjects (CanAnswer : Answers) (reads : Asked → List ℕ → Read
   pub took : run.new.taken ≡ Some (had ++ (rows.row_lines lines ++ torn))
   pub are : AreWrittenIn reads run torn
   pub unbroken : AllByRecursion (Lacks 10) lines
-  pub one_for_one : AreOneForOne (λ n line r. IsObject CanAnswer run.survey.tasks n line r) lines are.written
+  pub one_for_one : AreOneForOne (λ n line r. IsObject CanAnswer run.survey (scope_of run.survey reads) (acts_in run) n line r) lines are.written
 
 -- what the sink of run `x` took are lines of JSON, each of which is its own
 abbrev pub AreOwnObjects : {State : Type 0} → Ends State → (Good : State → Type 0) → (kept : State → Option KeptReply) → (reads : Asked → List ℕ → Reading) → FieldRun State → Type 0

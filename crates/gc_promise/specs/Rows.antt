@@ -2,14 +2,23 @@
 -- instrument on executing the very request of that row's cycle and place. A part is what a station sees of its run from one
 -- synchronization to the next, and a stretch what happens on the line meanwhile, once it has synchronized.
 use Rattle.std.specs.Prelude.{◌≡◌, ℕ, Bool, List, Option, Some, codes}
+use Rattle.std.specs.Fmt.{decimal}
 use Rattle.std.specs.List.{AllByRecursion}
+use Rattle.gc_values.specs.ValueFault.{value_fault_number}
+use Rattle.gc_values.specs.declared.fault.ValueFault.{ValueFault}
+use Rattle.gc_catalogue.specs.Asked.{IsAskedReading}
+use Rattle.gc_catalogue.specs.declared.answer.Reading.TheVariants.{Unreadable}
 use Rattle.gc_instrument.specs.State.{KeptReply}
 use Rattle.gc_texts.specs.Endings.{line_of}
+use Rattle.gc_texts.specs.Names.{name_text}
+use Rattle.gc_texts.specs.Stamps.{stamp_text}
 use Rattle.gc_texts.specs.declared.name.Name.{Name}
 use Rattle.gc_rows.specs.Laws.{ReadsBackAs}
 use Rattle.gc_rows.specs.Records as rows
 use Rattle.gc_rows.specs.Rows.{row_of}
+use Rattle.gc_lines.specs.Replies.{ReplyFields, IsReply}
 use Rattle.gc_station.specs.Records.{Record}
+use Rattle.gc_station.specs.Scopes.{AreReadings}
 use Rattle.gc_words.specs.declared.layout.Layout.{Layout}
 use Rattle.gc_measuring.specs.Measuring.{text_in}
 use Rattle.gc_field.specs.World.{Ends}
@@ -18,18 +27,28 @@ use Rattle.gc_field.specs.Instrument.{OfAnyInstrument}
 use Rattle.gc_field.specs.Runs.{IsInField, IsItsOwn, Program, program_parts, program_records}
 use Rattle.gc_field.specs.Shown.{stretches}
 use Rattle.gc_promise.specs.Fields.{SaysCodes, SaysCommand, under}
+use Rattle.gc_station.specs.Moments.{CameAt}
 use Rattle.gc_promise.specs.Tables.{table_form}
 
 -- the field in the column of this name, of a row with these fields; `name` is that of one of the first thirteen columns
 abbrev pub column : List ℕ → List (List ℕ) → List ℕ
 column name fields = under name rows.first_names fields
 
--- the fields of a row say what the record says of its command (`SaysCommand`), and the codes and parameters of its reply, this
--- line
-pub record FieldsSay (fields : List (List ℕ)) (r : Record) (line : List ℕ) : Type 0 where
+-- the fields of a row that is written in this layout, with these names of targets, say when the run began, what the record says of its
+-- command (`SaysCommand`), the name of its target, and the codes and parameters of its reply, this line
+pub record FieldsSay (layout : Layout) (names : List Name) (fields : List (List ℕ)) (r : Record) (line : List ℕ) : Type 0 where
+  pub run : column (codes "run") fields ≡ stamp_text layout.run
   pub command : SaysCommand (λ name. column name fields) r
+  pub name : column (codes "name") fields ≡ name_text r.command.target names
   pub says : SaysCodes (λ name. column name fields) line
   pub values : column (codes "values") fields ≡ says.reply.params
+
+-- if the outcome is `unreadable`, the fields of a row have the number of the fault for which the parameters of the reply, this line, don't
+-- read as an answer to the record's command
+abbrev pub SayFault : (fields : List (List ℕ)) → Record → (line : List ℕ) → Type 0
+SayFault fields r line =
+    column (codes "outcome") fields ≡ codes "unreadable" →
+    (reply : ReplyFields) × IsReply line reply × (why : ValueFault) × IsAskedReading r.command.call reply (Unreadable why) × (column (codes "fault") fields ≡ decimal (value_fault_number why))
 
 -- the row of a record that is written in this layout, with these names of targets, is by the line of its reply: a reader of
 -- comma-separated values gives the row back as its fields, `escaped` as the row has them, whatever stands after it; and the fields
@@ -38,15 +57,18 @@ pub record IsRowOfReply (layout : Layout) (names : List Name) (r : Record) (line
   pub fields : List (List ℕ)
   pub row : text_in layout names r ≡ row_of fields
   pub reads_back : ReadsBackAs (text_in layout names r) fields
-  pub says : FieldsSay fields r line
+  pub says : FieldsSay layout names fields r line
 
 module _ {State : Type 0} (ends : Ends State) (Good : State → Type 0) (kept : State → Option KeptReply) where
   -- Of the run `x`, with `u` in flight at its start, whose records are written in a layout, with these names of targets.
   module _ (layout : Layout) (names : List Name) (u : UnderWay State) (x : Program State) where
     -- the row of a record in a table is its own: it is that of this line (`IsRowOfReply`), which was made by the instrument on executing the
-    -- request of the record's cycle and place
+    -- request of the record's cycle and place; it has the moment of the read that brought the line; and, where the run has of each line what
+    -- that says, the fault for which it doesn't read
     pub record IsRowOfLine (r : Record) (line : List ℕ) : Type 0 where
       pub is_of : IsRowOfReply layout names r line
+      pub came : CameAt x.plan x.commands x.scope x.acts r line
+      pub fault : AreReadings x.scope.reads → SayFault is_of.fields r line
       pub own : IsItsOwn ends Good kept x.commands (program_parts x) (stretches ends u x.runs) r line
 
     -- if a reply in time ended the record's command (`line_of`), its row is its own

@@ -163,7 +163,7 @@ pub record IsTable (CanAnswer : Answers) (columns : Bool) (reads : Asked → Lis
   pub reads_as : AreReadAs bytes (head_rows run.survey.layout columns ++ rows)
   -- also in a file of --append: after earlier bytes, which a reader takes for `earlier`, it goes on with the table's rows
   pub behind : (held : List ℕ) (earlier : List (List (List ℕ))) → AreReadAs held earlier → AreReadAs (held ++ bytes) (earlier ++ (head_rows run.survey.layout columns ++ rows))
-  pub one_for_one : AreOneForOne (λ n row r. IsRowBy (CanAnswer n r) columns (λ name. under name (header columns) row) run.survey.tasks r) rows are.written
+  pub one_for_one : AreOneForOne (λ n row r. IsRowBy (CanAnswer n r) columns (λ name. under name (header columns) row) run.survey (scope_of run.survey reads) (acts_in run) r) rows are.written
 
 -- what the sink of run `x` took is a table, each row of which is its own
 abbrev pub IsOwnTable : {State : Type 0} → Ends State → (Good : State → Type 0) → (kept : State → Option KeptReply) → (columns : Bool) → (reads : Asked → List ℕ → Reading) → FieldRun State → Type 0

@@ -2,8 +2,11 @@
 
 ghost use Rattle.gc_promise.specs.Damaged.{ObjectsAreOwnOrDamaged, RowsAreOwnOrDamaged, RowsByDamagedLinesAreFew, RunsInFieldAreInstances, TablesAreOwnOrDamaged};
 ghost use Rattle.gc_promise.specs.Lasting.{AppendsAreRuns, RowsOutlastCrashes, RowsOutlastFailures};
+ghost use Rattle.gc_promise.specs.LastingSoFar.{LeftObjectsSoFarAreOwnOrDamaged, LeftObjectsSoFarAreTheirOwn, LeftTablesSoFarAreOwnOrDamaged, LeftTablesSoFarAreTheirOwn, RowsSoFarOutlastCrashes, RowsSoFarOutlastFailures};
 ghost use Rattle.gc_promise.specs.Left.{LeftObjectsAreOwnOrDamaged, LeftObjectsAreTheirOwn, LeftTablesAreOwnOrDamaged, LeftTablesAreTheirOwn};
 ghost use Rattle.gc_promise.specs.Rows.{RowsAreTheirOwn};
+ghost use Rattle.gc_promise.specs.RunMoments.{FileMomentsAreRunsSoFar, MomentsAreRunsSoFar, ReturnedRunsAreRunsSoFar, RunsSoFarReturn};
+ghost use Rattle.gc_promise.specs.SoFar.{ObjectsSoFarAreOwnOrDamaged, ObjectsSoFarAreTheirOwn, RowsSoFarAreOwnOrDamaged, RowsSoFarByDamagedLinesAreFew, TablesSoFarAreOwnOrDamaged, TablesSoFarAreTheirOwn};
 ghost use Rattle.gc_promise.specs.Tables.{TablesAreTheirOwn};
 ghost use Rattle.gc_promise.specs.Objects.{ObjectsAreTheirOwn};
 ghost use Rattle.gc_promise.specs.Witness.{SomeRowIsItsOwn};
@@ -20,11 +23,13 @@ pub fn rows_are_their_own<State>()
     // Of the bytes that a sink took of a run, as `measure_at` and `append_at` have it: a reader of comma-separated values gives
     // the header, unless the output had it already, and the run's records as rows, one for one and in order: all; or, if the
     // output failed, maybe only the first ones, and then a part of the next one's row. Under the names of the header each row has
-    // when its record's request was sent, if it was, the cycle, place, attempt, target, procedure and outcome. If the command
-    // sets the clock and its request was sent, the request asked for the moment at which it was sent, cut to seconds. If the
+    // when the run began, when its record's request was sent, if it was, and when its command ended; the cycle, place and attempt;
+    // the target, the target's name, the procedure and the outcome. A command ended at the moment that was read last by the act that
+    // added its record: if a reply ended it, by the read that brought the reply's line; if it was missed, when its cycle was due. If the
+    // command sets the clock and its request was sent, the request asked for the moment at which it was sent, cut to seconds. If the
     // outcome is that of a reply, the row has the codes and values of a line that the instrument made on executing the request of
-    // this cycle and place; and if the outcome is `answered`, the quality of the answer, and, in a table with columns for them,
-    // its quantities.
+    // this cycle and place; if it is `answered`, the quality of the answer, and, in a table with columns for them, its quantities;
+    // and if it is `unreadable`, the fault for which the line's values don't read.
     ensures tables { TablesAreTheirOwn State }
 
     // The same of lines of JSON, where texts are bytes and numbers have 64 bits: a reader of JSON gives each line as an object,
@@ -32,9 +37,48 @@ pub fn rows_are_their_own<State>()
     ensures objects { ObjectsAreTheirOwn State }
 
     // Of each record of a run whose command a reply in time ended, however much of it was written: its row in a table reads back
-    // as fields, which have under the names of the header when the record's request was sent, its cycle, place, target, procedure
-    // and outcome, and the codes and values of that reply's line, which the instrument made on executing this very request.
+    // as fields, which have under the names of the header when the run began, when the record's request was sent, and the moment of the
+    // read that brought the reply's line; its cycle, place, target, the target's name, procedure and outcome; and the codes and values of
+    // that line, which the instrument made on executing this very request, or the fault for which they don't read.
     ensures records { RowsAreTheirOwn State }
+{}
+
+/// At each moment of a run, whether it ever ends or not, what its sink has taken so far reads back as its records, and each row is its own. So
+/// it is of a run that goes on, and of one that was killed at that moment. There is one row or object for each record, in order: for all that
+/// the acts before the last one settled, and maybe for some of those that the last one settled, the last of these maybe in part. What a row
+/// says, and where that comes from, is as in `rows_are_their_own`.
+pub fn rows_so_far_are_their_own<State>()
+    ensures tables { TablesSoFarAreTheirOwn State }
+    ensures objects { ObjectsSoFarAreTheirOwn State }
+{}
+
+/// At each moment of a run over a line that damages, whether it ever ends or not, each row is by a line that is own or damaged, as
+/// `rows_are_own_or_damaged` has it.
+pub fn rows_so_far_are_own_or_damaged<State>()
+    ensures tables { TablesSoFarAreOwnOrDamaged State }
+    ensures objects { ObjectsSoFarAreOwnOrDamaged State }
+
+    // Of each record whose command a reply in time ended, however much of it was written.
+    ensures records { RowsSoFarAreOwnOrDamaged State }
+
+    // How many of the records are of requests that were settled by lines that came damaged.
+    ensures few { RowsSoFarByDamagedLinesAreFew State }
+{}
+
+/// Each moment of a run that returned is a run so far, and each run so far is one that returns, if it is given as many turns as it made acts.
+/// - `moments`, `ends`: it is so of each moment of a run that returned, from its first act on, and of its end. So what is said of runs so far
+///   is said of runs that returned, too.
+/// - `returns`: given just as many turns as acts were made by the moment, a run makes these acts, and at most a close, and returns; and the
+///   bytes that its sink takes begin with those that were taken by the moment. So what is true of each run that returns, whatever turns it
+///   was given, is true of the acts and records of a run that goes on, or is killed.
+pub fn moments_are_runs_so_far<R>()
+    ensures moments { MomentsAreRunsSoFar }
+    ensures ends { ReturnedRunsAreRunsSoFar }
+
+    // Each moment of a run of a file that returned is a run of a file so far.
+    ensures files { FileMomentsAreRunsSoFar R }
+
+    ensures returns { RunsSoFarReturn }
 {}
 
 /// Some run meets all premises of `rows_are_their_own`. It does so with every function that gives what replies say, and its rows
@@ -107,4 +151,22 @@ pub fn rows_left_are_their_own<R, State>()
 pub fn rows_left_are_own_or_damaged<R, State>()
     ensures tables { LeftTablesAreOwnOrDamaged R State }
     ensures objects { LeftObjectsAreOwnOrDamaged R State }
+{}
+
+/// If a run that appends to a file with `sync` is killed at any moment, or the machine crashes, or a sync of it fails, what
+/// `rows_outlast_crashes` and `rows_outlast_failures` say holds, whether the run would ever have ended or not: of a run that goes on, as a
+/// service does, at each of its moments. The next start finds each row that was settled before the run last sent, read, opened or closed
+/// something, and none that isn't the run's.
+pub fn rows_so_far_outlast_crashes<R>()
+    ensures crashes { RowsSoFarOutlastCrashes R }
+    ensures failures { RowsSoFarOutlastFailures R }
+{}
+
+/// What is left of a run so far are whole rows, and each is its own, as `rows_left_are_their_own` has it; over a line that damages, each is by
+/// a line that is own or damaged.
+pub fn rows_left_so_far_are_their_own<R, State>()
+    ensures tables { LeftTablesSoFarAreTheirOwn R State }
+    ensures objects { LeftObjectsSoFarAreTheirOwn R State }
+    ensures damaged_tables { LeftTablesSoFarAreOwnOrDamaged R State }
+    ensures damaged_objects { LeftObjectsSoFarAreOwnOrDamaged R State }
 {}

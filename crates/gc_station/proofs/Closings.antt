@@ -259,7 +259,7 @@ act_reasoned plan commands scope earlier later act runs =
     }
 
 -- a list of acts is empty, or has a last act
-none_or_last : (acts : List Act) → (acts ≡ []) ⊎ ((earlier : List Act) × (last : Act) × (acts ≡ earlier ++ last ∷ []))
+pub none_or_last : (acts : List Act) → (acts ≡ []) ⊎ ((earlier : List Act) × (last : Act) × (acts ≡ earlier ++ last ∷ []))
 none_or_last [] = inl refl
 none_or_last (x ∷ xs) = on (none_or_last xs) where
   -- the lemma above for the list with the act x before `xs`

@@ -101,3 +101,5 @@ mod LastingByBound
 mod Returning
 mod BoundRuns
 mod NoPeriodRun
+pub mod Moments
+pub mod FirstActs

@@ -55,3 +55,5 @@ pub mod RealTime
 pub mod BoundRuns
 pub mod OnceAsked
 pub mod NoPeriodRun
+pub mod Moments
+pub mod FirstActs

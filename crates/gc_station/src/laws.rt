@@ -24,11 +24,13 @@ ghost use Rattle.gc_station.specs.NullFirst.{SynchronizationsEndWithANull};
 ghost use Rattle.gc_station.specs.Beginnings.{NoneBeforeTheLastAnswer, SynchronizesInOrder, IsClearedAndQuiet};
 ghost use Rattle.gc_station.specs.Closing.{IsReasoned, ClosesForACause, EndsForTurnsOnlyAfterAsManyActs, StopsForACause};
 ghost use Rattle.gc_station.specs.Deciding.{dead_after};
+ghost use Rattle.gc_station.specs.FirstActs.{FirstActsAreARun};
 ghost use Rattle.gc_station.specs.HoldingBack.{RequestsAreHeldBack};
 ghost use Rattle.gc_station.specs.InDoubt.{NothingIsSentInDoubt};
 ghost use Rattle.gc_station.specs.Codes.{WellIsAnAcceptedCode};
 ghost use Rattle.gc_station.specs.Counting.{TalliesCountRecords};
 ghost use Rattle.gc_station.specs.Cycles.{CyclesBeginWhenDue, SentOnlyInTime, UnsentForACause};
+ghost use Rattle.gc_station.specs.Moments.{AnswersHaveTheirMoments, EachRecordHasItsMoment, UnreadableAsTheyRead};
 ghost use Rattle.gc_station.specs.Pauses.{TriesAndPausesAreCounted};
 ghost use Rattle.gc_station.specs.Retries.{FurtherAttemptsHaveACause, EachRecordHasItsTurn};
 ghost use Rattle.gc_station.specs.Room.{RequestsHaveRoom};
@@ -505,4 +507,29 @@ pub fn a_run_ends_soon_once_asked()
 pub fn a_run_ends_by_its_bound_once_asked()
     ensures chain { EndsByBoundOnceAsked }
     ensures table { EndsATableRunByBoundOnceAsked }
+{}
+
+/// Each record has the moment of the act by which its command ended, by the clock of time stamps: an answered one that of the read that
+/// brought its reply's line.
+/// - `each`: the act added the record, and the record has the moment that was read last by then: that of the act itself, if it reads one.
+///   A missed command has the moment at which its cycle was due, where cycles have due moments and the clock doesn't go back.
+/// - `answers`: the record of a reply in time has the moment of the read that brought the reply's line.
+pub fn records_have_their_moments()
+    ensures each { EachRecordHasItsMoment }
+    ensures answers { AnswersHaveTheirMoments }
+{}
+
+/// A record of a run is unreadable only if the line of its reply doesn't read as an answer to its call, and for the very fault for which it
+/// doesn't.
+pub fn unreadable_ones_do_not_read()
+    ensures { UnreadableAsTheyRead }
+{}
+
+/// What a station has done by any moment is what a run does that is given as many turns as acts were made, and returns. Take the first
+/// acts of a run, at most as many as it has turns: of one that goes on, or is killed there, as of one that returned. A run that is given just
+/// as many turns makes each of these acts, and then ends, at most with a close. After each of the acts but the last it has the same records;
+/// after the last it may have lost what is outstanding besides. So what is true of each run that returns, whatever turns it has, is true of
+/// the acts and records of each run so far.
+pub fn first_acts_are_a_run()
+    ensures { FirstActsAreARun }
 {}
