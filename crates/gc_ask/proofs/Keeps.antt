@@ -8,7 +8,7 @@ use Rattle.std.proofs.KnownBytes.{Appends-trans, Appends-nil}
 use Rattle.gc_texts.specs.Faults.{run_fault_number}
 use Rattle.gc_texts.specs.declared.fault.RunFault.TheVariants as fault
 use Rattle.gc_lines.proofs.Known.{Appends-is}
-use Rattle.gc_ask.specs.Keeping.{ConnectionEnd, AddsEnds, ServesCallers, caller_line, end_line, end_lines}
+use Rattle.gc_ask.specs.Keeping.{ConnectionEnd, AddsEnds, KeepsCallers, ServesCallers, ServesTurns, caller_line, end_line, end_lines}
 use Rattle.gc_ask.specs.declared.callers.CallerFault.TheVariants.{Socket}
 
 -- where the ends that are known grew by some, and then by others, they grew by both in this order
@@ -65,3 +65,34 @@ pub socket_line : (number n : ℕ) → n ≡ run_fault_number fault.Socket
 socket_line number n is =
     ap (λ m. codes "geocom: connection " ++ (decimal number ++ (codes ": fault " ++ (decimal m ++ codes "\n")))) is
     ∙ ap (λ xs. codes "geocom: connection " ++ (decimal number ++ (codes ": fault " ++ (xs ++ codes "\n")))) (sym (append-nil (decimal (run_fault_number fault.Socket))))
+
+-- what is done of each caller
+module _ {C : Type 0} (serves : C → C → ConnectionEnd → Type 0) where
+  -- callers who were served, and one more
+  turns_more : (before mid after : C) (ends : List ConnectionEnd) (end : ConnectionEnd) → ServesTurns serves before ends mid → serves mid after end
+      → ServesTurns serves before (ends ++ end ∷ []) after
+  turns_more before mid after [] end turns one = (after, subst (λ state. serves state after end) turns one, refl)
+  turns_more before mid after (first ∷ later) end turns one = (turns.0, turns.1, turns_more turns.0 mid after later end turns.2 one)
+
+  -- before anybody is served, and after one more caller was, as `serves_none` and `serves_more` say
+  pub keeps_none : (served : C → Option (List ConnectionEnd)) (before : C) (messages : Option (List ℕ)) → KeepsCallers serves served 0 true before before messages messages
+  unfolding serves_none
+  keeps_none served before messages = record { kept = serves_none (served before) messages; turns = refl }
+
+  pub keeps_more : (served : C → Option (List ConnectionEnd)) (n : ℕ) (all_written all_written' : Bool) (before mid after : C) (m0 m1 m2 : Option (List ℕ)) (end : ConnectionEnd)
+      → KeepsCallers serves served n all_written before mid m0 m1 → AddsEnds (served mid) (served after) (end ∷ []) → serves mid after end
+      → (all_written' ≡ true → (all_written ≡ true) × Appends m1 m2 (end_line (n + 1) end)) → KeepsCallers serves served (n + 1) all_written' before after m0 m2
+  unfolding serves_more
+  keeps_more served n all_written all_written' before mid after m0 m1 m2 end keeps grew one tells = record {
+    kept = serves_more n all_written all_written' (served before) (served mid) (served after) m0 m1 m2 end keeps.kept grew tells;
+    turns = turns_more before mid after keeps.kept.ends end keeps.turns one;
+  }
+
+  -- what is seen of callers after each turn, where something of them stays fixed
+  pub turns_seen : {State : Type 0} (see : C → State) (fixed : C → ℕ) (most : ℕ) (on : State → State → ConnectionEnd → Type 0)
+      → ((a b : C) (end : ConnectionEnd) → fixed a ≡ most → serves a b end → (fixed b ≡ most) × on (see a) (see b) end)
+      → (before after : C) (ends : List ConnectionEnd) → fixed before ≡ most → ServesTurns serves before ends after → ServesTurns on (see before) ends (see after)
+  turns_seen see fixed most on each before after [] is turns = ap see turns
+  turns_seen see fixed most on each before after (end ∷ later) is turns =
+      let one = each before turns.0 end is turns.1 in
+      (see turns.0, one.1, turns_seen see fixed most on each turns.0 after later one.0 turns.2)

@@ -6,3 +6,4 @@ mod Runs
 mod Keeps
 mod ById
 mod Slowly
+mod ServesMore

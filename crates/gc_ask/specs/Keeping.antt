@@ -1,12 +1,15 @@
 -- A port or a device that is kept: how its connections ended, and what is written of them. This project's own.
-use Rattle.std.specs.Prelude.{◌≡◌, ℕ, ◌+◌, ◌-◌, ◌^◌, Bool, true, List, [], ◌∷◌, ◌++◌, length, Option, Some, None, Result, Ok, Err, codes}
+use Rattle.std.specs.Prelude.{◌≡◌, ◌⊎◌, ℕ, ◌+◌, ◌-◌, ◌^◌, Bool, true, List, [], ◌∷◌, ◌++◌, length, Option, Some, None, Result, Ok, Err, codes}
 use Rattle.std.specs.Fmt.{decimal}
 use Rattle.std.specs.Io.KnownBytes.{Appends}
-use Rattle.gc_lines.specs.Answering.{serve_fault_text}
+use Rattle.gc_lines.specs.Answering.{AnswerRule, serve_fault_text}
+use Rattle.gc_lines.specs.declared.frame.Frame.{Frame}
 use Rattle.gc_lines.specs.declared.served.Served.{Served}
 use Rattle.gc_lines.specs.declared.served.ServeFault.{ServeFault}
+use Rattle.gc_lines.specs.declared.served.ServeFault.TheVariants as serving
 use Rattle.gc_texts.specs.Faults.{run_fault_text}
 use Rattle.gc_texts.specs.declared.fault.RunFault.TheVariants as fault
+use Rattle.gc_ask.specs.Serving.{ServesOne}
 use Rattle.gc_ask.specs.declared.callers.CallerFault.{CallerFault}
 use Rattle.gc_ask.specs.declared.callers.CallerFault.TheVariants.{Serving, Socket, Idle}
 
@@ -63,3 +66,39 @@ most_callers (Some connections) = connections
 -- connections ended isn't known
 abbrev pub ServesConnections : (connections : Option ℕ) → (all_written : Bool) → (messages_old messages_new : Option (List ℕ)) → Type 0
 ServesConnections connections all_written messages_old messages_new = ServesCallers (most_callers connections) all_written None None messages_old messages_new
+
+-- callers were served one after the other, and their connections ended so; `serves` says of each what was done, between what was there
+-- before and after
+abbrev pub ServesTurns : {C : Type 0} → (serves : C → C → ConnectionEnd → Type 0) → (before : C) → List ConnectionEnd → (after : C) → Type 0
+ServesTurns serves before [] after = after ≡ before
+ServesTurns {C} serves before (end ∷ later) after = (state : C) × serves before state end × ServesTurns serves state later after
+
+-- `most` callers were served, as `ServesCallers` says, one after the other, as `serves` says of each (`ServesTurns`); `served` gives the
+-- ends that are known
+pub record KeepsCallers {C : Type 0} (serves : C → C → ConnectionEnd → Type 0) (served : C → Option (List ConnectionEnd)) (most : ℕ) (all_written : Bool)
+    (before after : C) (messages_old messages_new : Option (List ℕ)) : Type 0 where
+  pub kept : ServesCallers most all_written (served before) (served after) messages_old messages_new
+  pub turns : ServesTurns serves before kept.ends after
+
+-- the end of a connection of which serving ended so: as that did, but a read that failed may have timed out, and then the connection was
+-- idle
+abbrev pub IsEndOf : Result Served ServeFault → ConnectionEnd → Type 0
+IsEndOf served (Err Idle) = (replies : ℕ) × (served ≡ Err (serving.Read replies))
+IsEndOf served end = end ≡ end_of_caller served
+
+-- what was done of one caller, where an instrument with this rule served at most `most` reads: his connection was served by the
+-- instrument, which was restarted for it (`ServesOne`), and ended so; or he had no connection that could be served, and the instrument is as
+-- it was
+abbrev pub ServesCaller : {State : Type 0} → AnswerRule State Frame → (restart : State → State) → (most : ℕ) → (before after : State)
+    → ConnectionEnd → Type 0
+ServesCaller rule restart most before after end =
+    ((end ≡ Err Socket) × (after ≡ before))
+    ⊎ ((served : Result Served ServeFault) × IsEndOf served end × ServesOne rule restart most before after served)
+
+-- a kept port or device served as many callers as `ServesConnections` says, one after the other, each with the instrument as
+-- `ServesCaller` says, which at first was in the state `before`; and the messages grew by the lines of their faults
+pub record KeepsServing {State : Type 0} (rule : AnswerRule State Frame) (restart : State → State) (most : ℕ) (connections : Option ℕ)
+    (before : State) (all_written : Bool) (messages_old messages_new : Option (List ℕ)) : Type 0 where
+  pub after : State
+  pub kept : ServesConnections connections all_written messages_old messages_new
+  pub turns : ServesTurns (ServesCaller rule restart most) before kept.ends after

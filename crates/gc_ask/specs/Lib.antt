@@ -6,4 +6,5 @@ pub mod Laws
 pub mod Links
 pub mod Looping
 pub mod Places
+pub mod Serving
 pub mod Showing

@@ -2,6 +2,7 @@
 //! reply waits until it is to be sent, the connection is watched.
 
 ghost use Rattle.std.specs.Io.{ReadsAtMost, WritesAtMost};
+ghost use Rattle.gc_ask.specs.Serving.{ServesOne};
 ghost use Rattle.gc_links.specs.Acts.{GivesAtMost};
 
 use crate::busy_clock::{BusyClock, EARLY_ROOM};
@@ -59,7 +60,9 @@ impl<'a, R: Clock> Connection<'a, R> {
         rt: &R,
         instrument: &mut I,
         max_reads: u32,
-    ) -> Ended {
+    ) -> Ended
+        ensures { ServesOne I.answers I.restarted max_reads instrument.old instrument.new result.served }
+    {
         let clock = instrument.clock();
         let mut source = FromReader::new(RequestReader {
             rt,

@@ -4,7 +4,7 @@
 ghost use Rattle.std.specs.Prelude.{◌≡◌, [], ◌∷◌, true};
 ghost use Rattle.std.specs.Io.KnownBytes.{Appends};
 ghost use Rattle.gc_lines.specs.Ports.{WritesIfOk};
-ghost use Rattle.gc_ask.specs.Keeping.{AddsEnds, ServesCallers, caller_line, end_line, end_of_caller};
+ghost use Rattle.gc_ask.specs.Keeping.{AddsEnds, IsEndOf, KeepsCallers, caller_line, end_line, end_of_caller};
 
 use gc_instrument::{ServeFault, Served};
 use gc_texts::RunFault;
@@ -50,7 +50,8 @@ impl CallerFault {
 /// How the connection of a caller who was served ended: well, or with the fault of serving it. A read that timed out is a failed
 /// read here, too.
 pub(crate) fn end_of_caller(end: Result<Served, ServeFault>) -> Result<(), CallerFault>
-    ensures { result ≡ end_of_caller end }
+    ensures is { result ≡ end_of_caller end }
+    ensures ends { IsEndOf end result }
 {
     match end {
         Ok(_) => Ok(()),
@@ -60,23 +61,28 @@ pub(crate) fn end_of_caller(end: Result<Served, ServeFault>) -> Result<(), Calle
 
 /// The callers of a port or of a device.
 pub trait Callers {
-    ghost use Rattle.std.specs.Prelude.{List, Option};
+    ghost use Rattle.std.specs.Prelude.{List, Option, ⊤};
     ghost use Rattle.gc_ask.specs.Keeping.{ConnectionEnd};
 
     /// How the connections of those who were served ended, in their order, where that is known.
     ghost served: { Self → Option (List ConnectionEnd) };
 
+    /// What serving one of them does: what is there before and after it, and how his connection ended.
+    ghost serves: { Self → Self → ConnectionEnd → Type 0 } = { λ _ _ _. ⊤ };
+
     /// Waits for the next caller, and serves the connection to its end. `Err`: a fault came before the end.
     fn serve_next(&mut self) -> Result<(), CallerFault>
-        ensures { AddsEnds (served self.old) (served self.new) (result ∷ []) };
+        ensures ends { AddsEnds (served self.old) (served self.new) (result ∷ []) }
+        ensures serves { serves self.old self.new result };
 }
 
 /// Serves `most` callers, one after the other, and writes the line of each fault on `messages`, where the callers are
 /// counted from 1. A fault ends nothing but its own connection, and a line that can't be written ends nothing. Returns
 /// whether all lines were written.
 pub fn keep<C: Callers, E: Write>(callers: &mut C, most: u64, messages: &mut E) -> bool
-    // `most` callers were served, whatever became of each. Where all lines were written, the messages grew by them alone.
-    ensures kept { ServesCallers most result (C.served callers.old) (C.served callers.new) (E.contents messages.old) (E.contents messages.new) }
+    // `most` callers were served, one after the other, whatever became of each. Where all lines were written, the messages grew by them
+    // alone.
+    ensures { KeepsCallers C.serves C.served most result callers.old callers.new (E.contents messages.old) (E.contents messages.new) }
 {
     let mut all_written = true;
     for at in 0..most {

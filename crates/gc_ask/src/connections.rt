@@ -5,6 +5,7 @@ ghost use Rattle.gc_ask.specs.AskRuns.{AskRunsConnected, AsksOverFresh};
 ghost use Rattle.gc_lines.specs.Answering.{taken_by};
 ghost use Rattle.gc_ask.specs.Looping.{LoopRunsConnected, LoopsOverFresh};
 ghost use Rattle.gc_ask.specs.Places.{IsFaultOfPlace, fault_of_reason, fault_of_unusable};
+ghost use Rattle.gc_ask.specs.Serving.{ServesEach, ServesNext};
 ghost use Rattle.gc_texts.specs.CommandStops.{with_command_fault};
 ghost use Rattle.gc_texts.specs.WholeTexts.{input_of};
 ghost use Rattle.gc_texts.specs.declared.fault.RunFault.{RunFault};
@@ -151,6 +152,9 @@ pub fn serve_tcp<'c, R: Net<Listener = TcpListener, Stream = TcpStream> + Clock,
 ) -> Result<(), RunFault>
     requires some { 1 ≤ connections }
     requires few { connections ≤ 1000 }
+
+    // Each connection that was served had the instrument's replies to its lines, in order.
+    ensures serves { ServesEach I.answers I.restarted max_reads (λ fault. fault ≡ RunFault.Socket) connections instrument.old instrument.new result }
 {
     let Ok(listener) = address.listen(rt) else {
         return Err(RunFault::Socket);
@@ -168,22 +172,38 @@ pub fn serve_on<'c, R: Clock, I: Simulates<'c>>(
     connections: u32,
     instrument: &mut I,
     max_reads: u32,
-) -> Result<(), RunFault> {
+) -> Result<(), RunFault>
+    ensures serves { ServesEach I.answers I.restarted max_reads (λ fault. fault ≡ RunFault.Socket) connections instrument.old instrument.new result }
+{
     let queue = CallerQueue::new(listener);
     for at in 0..connections {
-        let Ok(stream) = queue.next() else {
-            return Err(RunFault::Socket);
-        };
         let is_last = connections - at == 1;
-        let waits = Waits {
-            longest: None,
-            queue: if is_last { None } else { Some(&queue) },
-        };
-        let connection = Connection::Stream(&stream, waits);
-        let ended = connection.serve(rt, instrument, max_reads);
-        end_of_serving(ended.served)?;
+        serve_next(rt, &queue, is_last, instrument, max_reads)?;
     }
     Ok(())
+}
+
+// Accepts the next caller, and serves his connection with the instrument, which is restarted for it. `is_last`: nobody is served
+// after him. The faults are as `serve_tcp` has them.
+fn serve_next<'c, R: Clock, I: Simulates<'c>>(
+    rt: &R,
+    queue: &CallerQueue<'_>,
+    is_last: bool,
+    instrument: &mut I,
+    max_reads: u32,
+) -> Result<(), RunFault>
+    ensures { ServesNext I.answers I.restarted max_reads (λ fault. fault ≡ RunFault.Socket) instrument.old instrument.new result }
+{
+    let Ok(stream) = queue.next() else {
+        return Err(RunFault::Socket);
+    };
+    let waits = Waits {
+        longest: None,
+        queue: if is_last { None } else { Some(queue) },
+    };
+    let connection = Connection::Stream(&stream, waits);
+    let ended = connection.serve(rt, instrument, max_reads);
+    end_of_serving(ended.served)
 }
 
 /// Reads the whole command text of a source, connects to a port of 127.0.0.1, and asks the commands over that connection, in at

@@ -1,8 +1,10 @@
 //! An instrument at the end of a serial line: a device that is served as a connection is, a number of times or for good.
 
 ghost use Rattle.std.specs.Prelude.{◌≡◌, None, IfErr, IfOk};
-ghost use Rattle.gc_ask.specs.Keeping.{ServesConnections};
-ghost use Rattle.gc_ask.specs.Places.{IsFaultOfDevice};
+ghost use Rattle.gc_ask.specs.Keeping.{KeepsServing, ServesCaller};
+ghost use Rattle.gc_ask.specs.declared.callers.CallerFault.{CallerFault};
+ghost use Rattle.gc_ask.specs.Places.{IsFaultOfDevice, IsFaultOfPlace};
+ghost use Rattle.gc_ask.specs.Serving.{ServesEach, ServesNext};
 
 use crate::caller::Connection;
 use crate::callers::{CallerFault, Callers, PAUSE, end_of_caller, keep};
@@ -29,17 +31,33 @@ pub fn serve_device<'c, R: Files<File = File> + Clock, I: Simulates<'c>>(
     connections: u32,
     instrument: &mut I,
     max_reads: u32,
-) -> Result<(), RunFault> {
+) -> Result<(), RunFault>
+    // Each connection that was served had the instrument's replies to its lines, in order.
+    ensures serves { ServesEach I.answers I.restarted max_reads IsFaultOfPlace connections instrument.old instrument.new result }
+{
     for _ in 0..connections {
-        let wire = match wire_on(rt, path) {
-            Ok(wire) => wire,
-            Err(reason) => return Err(fault_of_reason(reason)),
-        };
-        let connection = Connection::Device(&wire);
-        let ended = connection.serve(rt, instrument, max_reads);
-        end_of_serving(ended.served)?;
+        serve_once(rt, path, instrument, max_reads)?;
     }
     Ok(())
+}
+
+// Opens a device, and serves it until its end with the instrument, which is restarted for it. The faults are as `serve_device` has
+// them.
+fn serve_once<'c, R: Files<File = File> + Clock, I: Simulates<'c>>(
+    rt: &R,
+    path: &str,
+    instrument: &mut I,
+    max_reads: u32,
+) -> Result<(), RunFault>
+    ensures { ServesNext I.answers I.restarted max_reads IsFaultOfPlace instrument.old instrument.new result }
+{
+    let wire = match wire_on(rt, path) {
+        Ok(wire) => wire,
+        Err(reason) => return Err(fault_of_reason(reason)),
+    };
+    let connection = Connection::Device(&wire);
+    let ended = connection.serve(rt, instrument, max_reads);
+    end_of_serving(ended.served)
 }
 
 /// Serves a device each time that it is there, as often as `keeping` says, each time with the instrument, which is restarted
@@ -57,7 +75,9 @@ pub fn keep_device<'c, R: Files<File = File> + Clock, I: Simulates<'c>, E: Write
     instrument: &mut I,
     messages: &mut E,
 ) -> Result<bool, RunFault>
-    ensures kept { IfOk result (λ all_written. ServesConnections keeping.connections all_written (E.contents messages.old) (E.contents messages.new)) }
+    // Each caller who was served had the instrument's replies to his lines, in order.
+    ensures kept { IfOk result (λ all_written. KeepsServing I.answers I.restarted keeping.max_reads keeping.connections instrument.old all_written
+        (E.contents messages.old) (E.contents messages.new)) }
     ensures fault { IfErr result (λ fault. (messages.new ≡ messages.old) × IsFaultOfDevice fault) }
 {
     let first = match wire_on(rt, path) {
@@ -89,7 +109,10 @@ struct DeviceCallers<'a, 'c, R, I> {
 impl<'a, 'c, R: Files<File = File> + Clock, I> DeviceCallers<'a, 'c, R, I> {
     // Opens the device, which is looked for each second until it is there. The first call returns the device that was opened
     // already, if it was. `Socket`: the opening failed with an `Unusable`, or 2^64 - 1 tries failed without one.
-    fn wait(&mut self) -> Result<Wire<'c, R>, CallerFault> {
+    fn wait(&mut self) -> Result<Wire<'c, R>, CallerFault>
+        ensures same { (self.new.instrument ≡ self.old.instrument) × (self.new.max_reads ≡ self.old.max_reads) }
+        ensures missing { IfErr result (λ fault. fault ≡ CallerFault.Socket) }
+    {
         if let Some(first) = self.first.take() {
             return Ok(first);
         }
@@ -107,10 +130,25 @@ impl<'a, 'c, R: Files<File = File> + Clock, I> DeviceCallers<'a, 'c, R, I> {
     fn serve(&mut self, wire: Wire<'c, R>) -> Result<(), CallerFault>
     where
         I: Simulates<'c>,
+        ensures most { self.new.max_reads ≡ self.old.max_reads }
+        ensures serves { ServesCaller I.answers I.restarted self.old.max_reads self.old.instrument.now self.new.instrument.now result }
     {
         let connection = Connection::Device(&wire);
         let ended = connection.serve(self.rt, self.instrument, self.max_reads);
         end_of_caller(ended.served)
+    }
+
+    // Serves the device until its end, once it is there.
+    fn serve_found(&mut self) -> Result<(), CallerFault>
+    where
+        I: Simulates<'c>,
+        ensures most { self.new.max_reads ≡ self.old.max_reads }
+        ensures serves { ServesCaller I.answers I.restarted self.old.max_reads self.old.instrument.now self.new.instrument.now result }
+    {
+        match self.wait() {
+            Ok(wire) => self.serve(wire),
+            Err(fault) => Err(fault),
+        }
     }
 
     // Sleeps for `PAUSE` seconds.
@@ -123,12 +161,12 @@ impl<'a, 'c, R: Files<File = File> + Clock, I: Simulates<'c>> Callers
     for DeviceCallers<'a, 'c, R, I> {
     ghost served = { λ _. None };
 
+    ghost serves = { λ before after end. (after.max_reads ≡ before.max_reads)
+        × ServesCaller I.answers I.restarted before.max_reads before.instrument.now after.instrument.now end };
+
     // Serves the device until its end, once it is there, and then pauses for a second, however that ended.
     fn serve_next(&mut self) -> Result<(), CallerFault> {
-        let ended = match self.wait() {
-            Ok(wire) => self.serve(wire),
-            Err(fault) => Err(fault),
-        };
+        let ended = self.serve_found();
         self.pause();
         ended
     }

@@ -1,11 +1,11 @@
 //! A port of this machine that is kept: each connection is served with a restarted instrument, and none waits for ever.
 
 ghost use Rattle.std.specs.Prelude.{◌≡◌, None, IfErr, IfOk};
-ghost use Rattle.gc_ask.specs.Keeping.{ServesConnections, most_callers};
+ghost use Rattle.gc_ask.specs.Keeping.{IsEndOf, KeepsServing, most_callers};
 ghost use Rattle.gc_texts.specs.declared.fault.RunFault.{RunFault};
 
 use crate::address::Address;
-use crate::caller::{Connection, Waits};
+use crate::caller::{Connection, Ended, Waits};
 use crate::callers::{CallerFault, Callers, PAUSE, end_of_caller, keep};
 use crate::queue::CallerQueue;
 use crate::simulated::Simulates;
@@ -59,7 +59,8 @@ pub fn keep_tcp<
     instrument: &mut I,
     messages: &mut E,
 ) -> Result<bool, RunFault>
-    ensures kept { IfOk result (λ all_written. ServesConnections keeping.connections all_written (E.contents messages.old) (E.contents messages.new)) }
+    ensures kept { IfOk result (λ all_written. KeepsServing I.answers I.restarted keeping.max_reads keeping.connections instrument.old all_written
+        (E.contents messages.old) (E.contents messages.new)) }
     ensures fault { IfErr result (λ fault. (fault ≡ RunFault.Socket) × (messages.new ≡ messages.old)) }
 {
     let Ok(listener) = address.listen(rt) else {
@@ -78,7 +79,8 @@ pub fn keep_on<'c, R: Clock, I: Simulates<'c>, E: Write>(
     instrument: &mut I,
     messages: &mut E,
 ) -> bool
-    ensures { ServesConnections keeping.connections result (E.contents messages.old) (E.contents messages.new) }
+    // Each caller who was served had the instrument's replies to his lines, in order.
+    ensures { KeepsServing I.answers I.restarted keeping.max_reads keeping.connections instrument.old result (E.contents messages.old) (E.contents messages.new) }
 {
     let queue = CallerQueue::new(listener);
     let mut callers = PortCallers {
@@ -102,7 +104,12 @@ struct PortCallers<'a, 'c, R, I> {
 }
 
 impl<'a, 'c, R: Clock, I: Simulates<'c>> Callers for PortCallers<'a, 'c, R, I> {
+    ghost use Rattle.gc_ask.specs.Keeping.{ServesCaller};
+
     ghost served = { λ _. None };
+
+    ghost serves = { λ before after end. (after.max_reads ≡ before.max_reads)
+        × ServesCaller I.answers I.restarted before.max_reads before.instrument.now after.instrument.now end };
 
     // Waits for the next connection and serves it. `Socket`: no connection could be accepted, and then this sleeps for `PAUSE`
     // seconds; or the connection's time-outs couldn't be set. A read that timed out is the fault `Idle`, and any other failed
@@ -121,10 +128,18 @@ impl<'a, 'c, R: Clock, I: Simulates<'c>> Callers for PortCallers<'a, 'c, R, I> {
         };
         let connection = Connection::Stream(&stream, waits);
         let ended = connection.serve(self.rt, self.instrument, self.max_reads);
-        match ended.served {
-            Err(ServeFault::Read { .. }) if ended.is_idle => Err(CallerFault::Idle),
-            served => end_of_caller(served),
-        }
+        end_unless_idle(ended)
+    }
+}
+
+// How the connection of a caller who was served ended: a read that timed out is the fault `Idle`, and any other failed read one of
+// serving.
+fn end_unless_idle(ended: Ended) -> Result<(), CallerFault>
+    ensures { IsEndOf ended.served result }
+{
+    match ended.served {
+        Err(ServeFault::Read { .. }) if ended.is_idle => Err(CallerFault::Idle),
+        served => end_of_caller(served),
     }
 }
 

@@ -1,2 +1,5 @@
+mod JobLemmas
 mod Played
+mod ProgramLemmas
 mod Started
+mod Missing

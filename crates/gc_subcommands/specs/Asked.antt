@@ -1,10 +1,12 @@
 -- How `ask`, `loop` and `serve` report how they ended: this project's own.
-use Rattle.std.specs.Prelude.{◌≡◌, ◌⊎◌, ℕ, List, Option, None, Result, Ok, Err}
+use Rattle.std.specs.Prelude.{◌≡◌, ◌⊎◌, ℕ, Bool, true, false, List, Option, None, Result, Ok, Err}
 use Rattle.std.specs.Io.KnownBytes.{Appends}
 use Rattle.gc_ask.specs.AskRuns.{AskRunsConnected}
 use Rattle.gc_ask.specs.Looping.{LoopRunsConnected}
 use Rattle.gc_ask.specs.Places.{IsFaultOfPlace}
 use Rattle.gc_lines.specs.Answering.{Ports, Taken}
+use Rattle.gc_links.specs.declared.place.Place.{Place}
+use Rattle.gc_messages.specs.Ends.{is_port}
 use Rattle.gc_messages.specs.Refusals.{Refuses, range_line}
 use Rattle.gc_subcommands.specs.Refusing.{EndSeen}
 use Rattle.gc_subcommands.specs.Scenes.{AreUnused}
@@ -13,6 +15,7 @@ use Rattle.gc_texts.specs.CommandStops.{command_stop_text, with_command_fault}
 use Rattle.gc_texts.specs.Faults.{run_fault_text, Tells}
 use Rattle.gc_texts.specs.WholeTexts.{source_of}
 use Rattle.gc_texts.specs.declared.command_text.CommandStop.{CommandStop}
+use Rattle.gc_texts.specs.declared.command_text.CommandStop.TheVariants.{Fault, Line}
 use Rattle.gc_texts.specs.declared.fault.RunFault.{RunFault}
 
 -- what is seen of the sink of these ports
@@ -24,6 +27,14 @@ sink_of ports = record { bytes = ports.taken; failed = ports.sink_failed }
 abbrev pub TellsAsked : {X : Type 0} → Result X CommandStop → (status : ℕ) → (old new : Option (List ℕ)) → Type 0
 TellsAsked (Ok _) status old new = (status ≡ 0) × (new ≡ old)
 TellsAsked (Err stop) status old new = (status ≡ 1) × Appends old new (command_stop_text stop)
+
+-- how the end of asking commands at a port of 127.0.0.1 (`at_port`) or at another place is reported: as `TellsAsked` says. After a fault at
+-- another place, unless a line of the text is faulty, further lines may follow, and of what the messages took then nothing is said
+abbrev pub TellsAskedAt : {X : Type 0} → (at_port : Bool) → Result X CommandStop → (status : ℕ) → (old new : Option (List ℕ)) → Type 0
+TellsAskedAt true end status old new = TellsAsked end status old new
+TellsAskedAt false (Ok _) status old new = (status ≡ 0) × (new ≡ old)
+TellsAskedAt false (Err (Line n trouble)) status old new = (status ≡ 1) × Appends old new (command_stop_text (Line n trouble))
+TellsAskedAt false (Err (Fault _)) status old new = status ≡ 1
 
 -- commands had an end of which `Ends` holds, by its fault; the status and the messages tell that end (`TellsAsked`): the messages by the
 -- line of the fault, if there was one, by a second one of a faulty line of the text, and by nothing else
@@ -37,6 +48,14 @@ pub record TellsAskedEnd (Ends : Result (Unit {0}) RunFault → Type 0) (seen : 
 abbrev pub TellsAsk : EndSeen → Type 0
 TellsAsk seen =
     TellsAskedEnd (λ end. AskRunsConnected IsFaultOfPlace (source_of seen.old) (source_of seen.new) most_reads (sink_of seen.old) (sink_of seen.new) end) seen
+
+-- commands were asked over a connection to this place (`AskRunsConnected`), and the status and the messages tell how that ended
+-- (`TellsAskedAt`)
+pub record TellsAskAt (place : Place) (seen : EndSeen) : Type 0 where
+  pub end : Result (Unit {0}) CommandStop
+  pub asks : AskRunsConnected IsFaultOfPlace (source_of seen.old) (source_of seen.new) most_reads (sink_of seen.old) (sink_of seen.new)
+      (with_command_fault end)
+  pub tells : TellsAskedAt (is_port place) end seen.status seen.told_before seen.told
 
 -- commands were asked over a connection with an instrument of this program at its other end (`LoopRunsConnected`), and the status and the
 -- messages tell how that ended, as in `TellsAsk`

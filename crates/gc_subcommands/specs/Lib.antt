@@ -1,7 +1,10 @@
 pub mod Asked
 pub mod Drills
 pub mod Jobs
+pub mod Program
 pub mod Refusing
+pub mod Rules
 pub mod Scenes
+pub mod Served
 pub mod Serves
 pub mod Staging

@@ -2,11 +2,13 @@
 
 ghost use Rattle.std.specs.Prelude.{◌≡◌, true, IfOk};
 ghost use Rattle.std.specs.Process.{exit_status};
-ghost use Rattle.gc_subcommands.specs.Asked.{TellsAsk};
+ghost use Rattle.gc_subcommands.specs.Asked.{TellsAsk, TellsAskAt};
 ghost use Rattle.gc_subcommands.specs.Refusing.{end_seen};
 ghost use Rattle.gc_lines.specs.Answering.{ports_of};
 ghost use Rattle.gc_messages.specs.Ends.{is_port};
 ghost use Rattle.gc_messages.specs.Statuses.{IsStatusUpTo};
+ghost use Rattle.gc_subcommands.specs.Rules.{ask_rules};
+ghost use Rattle.gc_words.specs.Tables.{HasArguments};
 
 use crate::asked::report_asked_at;
 use crate::reads::MOST_READS;
@@ -29,7 +31,9 @@ use std::time::Clock;
 const ARGUMENTS: &[Argument<'static>] = &[PLACE];
 
 /// The subcommand `ask` for clap, with this name: its help and its arguments. `Err`: memory ran out.
-pub fn ask_command<'a>(alloc: Global, name: &'a str) -> Result<Command<'a>, AllocError> {
+pub fn ask_command<'a>(alloc: Global, name: &'a str) -> Result<Command<'a>, AllocError>
+    ensures { IfOk result (λ command. HasArguments name.now ask_rules command) }
+{
     command_of(
         alloc,
         name,
@@ -58,6 +62,12 @@ pub fn ask_place<
     // At a port the status and the messages tell how the asking ended: the messages have the line of the fault, if there was one, a
     // second one of a faulty line of the text, and nothing else.
     ensures port { is_port place.entry ≡ true → IfOk result.1 (λ status. TellsAsk (end_seen
+        (ports_of S.Source streams.input K.Sink streams.output)
+        (ports_of S.Source result.0.input K.Sink result.0.output)
+        (exit_status status) (E.contents streams.messages) (E.contents result.0.messages))) }
+
+    // At any place: what was read, asked and written, and the status, which is 0 exactly where all commands were asked and settled.
+    ensures told { IfOk result.1 (λ status. TellsAskAt place.entry (end_seen
         (ports_of S.Source streams.input K.Sink streams.output)
         (ports_of S.Source result.0.input K.Sink result.0.output)
         (exit_status status) (E.contents streams.messages) (E.contents result.0.messages))) }

@@ -4,7 +4,7 @@ ghost use Rattle.std.specs.Prelude.{◌≡◌, true, IfOk};
 ghost use Rattle.std.specs.Process.{exit_status};
 ghost use Rattle.gc_messages.specs.Ends.{is_port};
 ghost use Rattle.gc_messages.specs.Statuses.{IsStatusUpTo};
-ghost use Rattle.gc_subcommands.specs.Asked.{TellsAsked};
+ghost use Rattle.gc_subcommands.specs.Asked.{TellsAsked, TellsAskedAt};
 
 use gc_links::Place;
 use gc_messages::{Noting, report_end_at};
@@ -40,6 +40,7 @@ pub(crate) fn report_asked_at<R, E: Write>(
 ) -> io::Result<ExitCode>
     ensures port { is_port place.entry ≡ true
         → IfOk result (λ status. TellsAsked end (exit_status status) (E.contents messages.old) (E.contents messages.new)) }
+    ensures told { IfOk result (λ status. TellsAskedAt (is_port place.entry) end (exit_status status) (E.contents messages.old) (E.contents messages.new)) }
     ensures bound { IsStatusUpTo 1 result }
 {
     match end {

@@ -7,6 +7,8 @@ ghost use Rattle.gc_subcommands.specs.Refusing.{end_seen};
 ghost use Rattle.gc_subcommands.specs.declared.reads.TheConstants.{MOST_READS};
 ghost use Rattle.gc_lines.specs.Answering.{ports_of, HasEnded};
 ghost use Rattle.gc_messages.specs.Statuses.{IsStatusUpTo};
+ghost use Rattle.gc_subcommands.specs.Rules.{check_rules};
+ghost use Rattle.gc_words.specs.Tables.{HasArguments};
 
 use crate::reads::MOST_READS;
 use clap::Command;
@@ -27,7 +29,9 @@ const ARGUMENTS: &[Argument<'static>] = &[Argument {
 }];
 
 /// The subcommand `check` for clap, with this name: its help and its arguments. `Err`: memory ran out.
-pub fn check_command<'a>(alloc: Global, name: &'a str) -> Result<Command<'a>, AllocError> {
+pub fn check_command<'a>(alloc: Global, name: &'a str) -> Result<Command<'a>, AllocError>
+    ensures { IfOk result (λ command. HasArguments name.now check_rules command) }
+{
     command_of(
         alloc,
         name,

@@ -3,9 +3,13 @@
 ghost use Rattle.std.specs.Prelude.{◌≡◌, ◌≤◌, IfOk};
 ghost use Rattle.std.specs.Process.{exit_status};
 ghost use Rattle.gc_subcommands.specs.Drills.{TellsDrillWithin, TellsDrill, PlaysScene, ReadsWholeSource};
+ghost use Rattle.gc_subcommands.specs.Jobs.{IsDrilling};
 ghost use Rattle.gc_subcommands.specs.Refusing.{end_seen};
 ghost use Rattle.gc_lines.specs.Answering.{ports_of};
 ghost use Rattle.gc_messages.specs.Statuses.{IsStatusUpTo};
+ghost use Rattle.gc_subcommands.specs.Rules.{drill_rules};
+ghost use Rattle.gc_words.specs.Tables.{HasArguments};
+ghost use Rattle.gc_words.specs.Words.{words_of};
 
 use crate::scene::{Staged, instrument_of};
 use clap::{ArgMatches, Command};
@@ -14,7 +18,7 @@ use gc_engines::{Playable, run_drill_on};
 use gc_lines::{Sink, Source};
 use gc_messages::{refuse_numbers, report_end};
 use gc_words::help::EVENTS;
-use gc_words::{Argument, FLAG, SCENE, Takes, command_of};
+use gc_words::{Argument, FLAG, SCENE, Takes, byte_or, command_of, has_flag, text_in};
 use std::alloc::{AllocError, Global};
 use std::fs::Files;
 use std::io::{self, Write};
@@ -48,7 +52,9 @@ const ARGUMENTS: &[Argument<'static>] = &[
 ];
 
 /// The subcommand `drill` for clap, with this name: its help and its arguments. `Err`: memory ran out.
-pub fn drill_command<'a>(alloc: Global, name: &'a str) -> Result<Command<'a>, AllocError> {
+pub fn drill_command<'a>(alloc: Global, name: &'a str) -> Result<Command<'a>, AllocError>
+    ensures { IfOk result (λ command. HasArguments name.now drill_rules command) }
+{
     command_of(
         alloc,
         name,
@@ -58,13 +64,14 @@ pub fn drill_command<'a>(alloc: Global, name: &'a str) -> Result<Command<'a>, Al
     )
 }
 
-/// What the words of `drill` ask for. clap gives a missing width its default, though no clause of clap's says so: else it would
-/// be 0, which `drill_scene` refuses.
-pub fn drilling_of<'a>(words: &ArgMatches<'a>) -> Drilling<'a> {
+/// What the words of `drill` ask for. clap gives a missing width its default: else it would be 0, which `drill_scene` refuses.
+pub fn drilling_of<'a>(words: &ArgMatches<'a>) -> Drilling<'a>
+    ensures { IsDrilling (words_of words.now) result }
+{
     Drilling {
-        scene: words.get_str("scene"),
-        totals: words.get_flag("totals"),
-        width: words.get_one::<u8>("width").unwrap_or(0),
+        scene: text_in(words, "scene"),
+        totals: has_flag(words, "totals"),
+        width: byte_or(words, "width", 0),
     }
 }
 
@@ -112,7 +119,7 @@ pub fn drill_scene<R: Files, S: Source, K: Sink, E: Write>(
 }
 
 // Plays the schedule of the source on an instrument, and reports how that ended, with status 0 or 1; with status 2 it refuses a
-// width that isn't 1 to 7, before anything of the source is read. clap refuses it first, though no clause of clap's says so.
+// width that isn't 1 to 7, before anything of the source is read. clap refuses it first.
 fn drill_within<I: Playable, S: Source, K: Sink, E: Write>(
     alloc: Global,
     instrument: I,

@@ -6,6 +6,8 @@ ghost use Rattle.gc_subcommands.specs.Serves.{TellsExec, IsDoneAtEnd, FailsByPor
 ghost use Rattle.gc_subcommands.specs.Refusing.{end_seen};
 ghost use Rattle.gc_lines.specs.Answering.{ports_of};
 ghost use Rattle.gc_messages.specs.Statuses.{IsStatusUpTo};
+ghost use Rattle.gc_subcommands.specs.Rules.{exec_rules};
+ghost use Rattle.gc_words.specs.Tables.{HasArguments};
 
 use crate::reads::MOST_READS;
 use crate::scene::{Staged, instrument_of};
@@ -24,7 +26,9 @@ use std::process::ExitCode;
 const ARGUMENTS: &[Argument<'static>] = &[SCENE];
 
 /// The subcommand `exec` for clap, with this name: its help and its arguments. `Err`: memory ran out.
-pub fn exec_command<'a>(alloc: Global, name: &'a str) -> Result<Command<'a>, AllocError> {
+pub fn exec_command<'a>(alloc: Global, name: &'a str) -> Result<Command<'a>, AllocError>
+    ensures { IfOk result (λ command. HasArguments name.now exec_rules command) }
+{
     command_of(
         alloc,
         name,

@@ -6,6 +6,8 @@ ghost use Rattle.gc_subcommands.specs.Asked.{TellsLoop, TellsLooped};
 ghost use Rattle.gc_subcommands.specs.Refusing.{end_seen};
 ghost use Rattle.gc_lines.specs.Answering.{ports_of};
 ghost use Rattle.gc_messages.specs.Statuses.{IsStatusUpTo};
+ghost use Rattle.gc_subcommands.specs.Rules.{loop_rules};
+ghost use Rattle.gc_words.specs.Tables.{HasArguments};
 
 use crate::asked::report_asked;
 use crate::reads::MOST_READS;
@@ -26,7 +28,9 @@ use std::rt::Files;
 const ARGUMENTS: &[Argument<'static>] = &[SCENE];
 
 /// The subcommand `loop` for clap, with this name: its help and its arguments. `Err`: memory ran out.
-pub fn loop_command<'a>(alloc: Global, name: &'a str) -> Result<Command<'a>, AllocError> {
+pub fn loop_command<'a>(alloc: Global, name: &'a str) -> Result<Command<'a>, AllocError>
+    ensures { IfOk result (λ command. HasArguments name.now loop_rules command) }
+{
     command_of(
         alloc,
         name,

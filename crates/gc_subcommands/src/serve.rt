@@ -1,12 +1,22 @@
 //! `geocom serve`: its words, and an instrument on a port or on a device. The places of standard streams that are closed (file
 //! descriptors 0 to 2) are filled first, so that no socket or device takes one.
 
-ghost use Rattle.std.specs.Prelude.{◌≡◌, ◌≤◌, true, None, IfOk};
+ghost use Rattle.std.specs.Prelude.{◌≡◌, ◌≤◌, ◌⊎◌, true, None, IfErr, IfOk, IfSome};
 ghost use Rattle.std.specs.Process.{exit_status};
+ghost use Rattle.gc_ask.specs.Keeping.{KeepsServing};
+ghost use Rattle.gc_ask.specs.Places.{IsFaultOfPlace};
 ghost use Rattle.gc_subcommands.specs.Asked.{TellsServed};
+ghost use Rattle.gc_subcommands.specs.Jobs.{IsIdle, IsServed, IsServing};
+ghost use Rattle.gc_subcommands.specs.Served.{KeepsAt, ServesAsAsked, ServesAt, ServesOrRefuses, TellsServe};
+ghost use Rattle.gc_scenes.specs.Slow.{HearsSometime, slow_restarted};
 ghost use Rattle.gc_messages.specs.Ends.{is_port};
+ghost use Rattle.gc_messages.specs.Refusals.{Refuses, range_line};
 ghost use Rattle.gc_messages.specs.Statuses.{IsStatusUpTo};
+ghost use Rattle.gc_subcommands.specs.Rules.{serve_rules};
+ghost use Rattle.gc_words.specs.Tables.{HasArguments};
 ghost use Rattle.gc_messages.specs.Streams.{ReportsClosed};
+ghost use Rattle.gc_words.specs.Chosen.{GivesPlace};
+ghost use Rattle.gc_words.specs.Words.{words_of};
 
 use crate::reads::MOST_READS;
 use crate::scene::{Staged, Timed, instrument_of};
@@ -20,7 +30,9 @@ use gc_messages::{Noting, Standard, refuse_numbers, report_end, report_end_at};
 use gc_scenes::SlowInstrument;
 use gc_texts::RunFault;
 use gc_words::help::CONNECTIONS;
-use gc_words::{Argument, FLAG, PLACE, SCENE, Takes, command_of, named_place};
+use gc_words::{
+    Argument, FLAG, PLACE, SCENE, Takes, command_of, has_flag, named_place, text_in, u32_in, u32_or,
+};
 use std::alloc::{AllocError, Global};
 use std::fs::File;
 use std::io::{self, Write};
@@ -79,7 +91,9 @@ const ARGUMENTS: &[Argument<'static>] = &[
 ];
 
 /// The subcommand `serve` for clap, with this name: its help and its arguments. `Err`: memory ran out.
-pub fn serve_command<'a>(alloc: Global, name: &'a str) -> Result<Command<'a>, AllocError> {
+pub fn serve_command<'a>(alloc: Global, name: &'a str) -> Result<Command<'a>, AllocError>
+    ensures { IfOk result (λ command. HasArguments name.now serve_rules command) }
+{
     command_of(
         alloc,
         name,
@@ -90,24 +104,36 @@ pub fn serve_command<'a>(alloc: Global, name: &'a str) -> Result<Command<'a>, Al
 }
 
 /// What the words of `serve` ask for. `None`: they name no place, or an address without `--any-address`.
-pub fn serving_of<'a>(words: &ArgMatches<'a>) -> Option<Serving<'a>> {
-    match named_place(words) {
-        None => None,
-        Some(Place::Host(_)) if !words.get_flag("any-address") => None,
-        Some(place) => Some(Serving {
-            scene: words.get_str("scene"),
-            place,
-            connections: words.get_one::<u32>("connections"),
-            idle: idle_of(words),
-        }),
+pub fn serving_of<'a>(words: &ArgMatches<'a>) -> Option<Serving<'a>>
+    ensures { IfSome result (λ serving. IsServing (words_of words.now) serving) }
+{
+    let place = served_place(words)?;
+    Some(Serving {
+        scene: text_in(words, "scene"),
+        place,
+        connections: u32_in(words, "connections"),
+        idle: idle_of(words),
+    })
+}
+
+// The place that the words of `serve` name. `None`: they name none, or an address without `--any-address`.
+fn served_place<'a>(words: &ArgMatches<'a>) -> Option<Place<'a>>
+    ensures named { IfSome result (λ place. GivesPlace (words_of words.now) place) }
+    ensures served { IfSome result (λ place. IsServed (words_of words.now) place) }
+{
+    match named_place(words)? {
+        Place::Host(_) if !has_flag(words, "any-address") => None,
+        place => Some(place),
     }
 }
 
 // After how many seconds a connection is idle, where the place is to be kept; else `None`. clap gives a missing number its
-// default, though no clause of clap's says so: else it would be 0, which `keep_place` refuses.
-fn idle_of(words: &ArgMatches) -> Option<u32> {
-    if words.get_flag("keep") {
-        Some(words.get_one::<u32>("idle").unwrap_or(0))
+// default: else it would be 0, which `keep_place` refuses.
+fn idle_of(words: &ArgMatches) -> Option<u32>
+    ensures { IsIdle (words_of words.now) result }
+{
+    if has_flag(words, "keep") {
+        Some(u32_or(words, "idle", 0))
     } else {
         None
     }
@@ -122,8 +148,7 @@ fn idle_of(words: &ArgMatches) -> Option<u32> {
 /// the scene, or that of a number out of its range couldn't be written.
 ///
 /// Where a scene is refused, further lines say what is at fault in it, in which file, and what the system refused; and after some
-/// faults a second line gives the place and the reason, unless the place is a port of 127.0.0.1 (`report_end_at`). No clause says
-/// what is served.
+/// faults a second line gives the place and the reason, unless the place is a port of 127.0.0.1 (`report_end_at`).
 pub fn serve_with_places_filled<
     R: Net<Listener = TcpListener, Stream = TcpStream> + Clock + Files<File = File>,
     E: Write,
@@ -138,6 +163,10 @@ pub fn serve_with_places_filled<
     // out of its range, and nothing else.
     ensures port { is_port serving.entry.place ≡ true → serving.entry.scene ≡ None → serving.entry.idle ≡ None → standard.messages ≡ true
         → IfOk result (λ status. TellsServed (exit_status status) (E.contents messages.old) (E.contents messages.new)) }
+
+    // Either nothing was served, which is reported, or each connection that was served had the replies of the scene's instrument to its
+    // lines, in order.
+    ensures served { IfOk result (λ status. TellsServe standard serving.entry (exit_status status) (E.contents messages.old) (E.contents messages.new)) }
     ensures bound { IsStatusUpTo 2 result }
 {
     let noting = Noting::new(rt);
@@ -159,6 +188,7 @@ fn report_unfilled<R, E: Write>(
 ) -> io::Result<ExitCode>
     ensures port { is_port place.entry ≡ true
         → IfOk result (λ status. ReportsClosed standard (exit_status status) (E.contents messages.old) (E.contents messages.new)) }
+    ensures status { IfOk result (λ status. exit_status status ≡ 1) }
     ensures bound { IsStatusUpTo 1 result }
 {
     if standard.messages {
@@ -175,6 +205,7 @@ fn serve_with_scene<
 >(rt: &Noting<'_, R>, alloc: Global, serving: Serving<'_>, messages: &mut E) -> io::Result<ExitCode>
     ensures port { is_port serving.entry.place ≡ true → serving.entry.scene ≡ None → serving.entry.idle ≡ None
         → IfOk result (λ status. TellsServed (exit_status status) (E.contents messages.old) (E.contents messages.new)) }
+    ensures served { IfOk result (λ status. ServesOrRefuses serving.entry (exit_status status) (E.contents messages.old) (E.contents messages.new)) }
     ensures bound { IsStatusUpTo 2 result }
 {
     match instrument_of::<Timed, Noting<'_, R>>(rt, alloc, serving.scene) {
@@ -202,6 +233,8 @@ fn serve_slow<
 ) -> io::Result<ExitCode>
     ensures port { is_port serving.entry.place ≡ true → serving.entry.idle ≡ None
         → IfOk result (λ status. TellsServed (exit_status status) (E.contents messages.old) (E.contents messages.new)) }
+    ensures served { IfOk result (λ status. (exit_status status ≡ 1)
+        ⊎ ServesAsAsked HearsSometime slow_restarted serving.entry slow (exit_status status) (E.contents messages.old) (E.contents messages.new)) }
     ensures bound { IsStatusUpTo 2 result }
 {
     let Ok(clock) = BusyClock::new(rt, &slow) else {
@@ -225,6 +258,8 @@ fn serve_or_keep<
 ) -> io::Result<ExitCode>
     ensures port { is_port serving.entry.place ≡ true → serving.entry.idle ≡ None
         → IfOk result (λ status. TellsServed (exit_status status) (E.contents messages.old) (E.contents messages.new)) }
+    ensures served { IfOk result (λ status.
+        ServesAsAsked I.answers I.restarted serving.entry instrument (exit_status status) (E.contents messages.old) (E.contents messages.new)) }
     ensures bound { IsStatusUpTo 2 result }
 {
     let Serving {
@@ -241,14 +276,7 @@ fn serve_or_keep<
             &mut instrument,
             messages,
         ),
-        Some(idle) => {
-            let keeping = Keeping {
-                connections,
-                idle,
-                max_reads: MOST_READS,
-            };
-            keep_place(rt, place, keeping, &mut instrument, messages)
-        }
+        Some(idle) => keep_place(rt, place, connections, idle, &mut instrument, messages),
     }
 }
 
@@ -285,6 +313,8 @@ fn serve_place<
 ) -> io::Result<ExitCode>
     ensures port { is_port place.entry ≡ true
         → IfOk result (λ status. TellsServed (exit_status status) (E.contents messages.old) (E.contents messages.new)) }
+    ensures served { IfOk result (λ status. Refuses range_line (exit_status status) (E.contents messages.old) (E.contents messages.new)
+        ⊎ ServesAt I.answers I.restarted place.entry connections instrument.old (exit_status status) (E.contents messages.old) (E.contents messages.new)) }
     ensures bound { IsStatusUpTo 2 result }
 {
     if !is_in_range(connections) {
@@ -304,9 +334,8 @@ fn serve_place<
 }
 
 // Keeps a port, an address or a device: goes on after a connection that fails (`--keep`), and reports how that ended. It refuses
-// with status 2 port 0, and a number of connections or a `keeping.idle` out of its range, the latter also of a device, which
-// doesn't use it.
-// The status is 0 also where the line of a connection's fault couldn't be written.
+// with status 2 port 0, and a number of connections or an `idle` out of its range, the latter also of a device, which doesn't use
+// it. The status is 0 also where the line of a connection's fault couldn't be written.
 fn keep_place<
     'c,
     R: Net<Listener = TcpListener, Stream = TcpStream> + Clock + Files<File = File>,
@@ -315,24 +344,52 @@ fn keep_place<
 >(
     rt: &'c Noting<'_, R>,
     place: Place<'_>,
-    keeping: Keeping,
+    connections: Option<u32>,
+    idle: u32,
     instrument: &mut I,
     messages: &mut E,
 ) -> io::Result<ExitCode>
-    ensures { IsStatusUpTo 2 result }
+    ensures served { IfOk result (λ status. Refuses range_line (exit_status status) (E.contents messages.old) (E.contents messages.new)
+        ⊎ KeepsAt I.answers I.restarted place.entry connections instrument.old (exit_status status) (E.contents messages.old) (E.contents messages.new)) }
+    ensures bound { IsStatusUpTo 2 result }
 {
-    let idle = keeping.idle;
-    if idle == 0 || idle > LONGEST_IDLE || !is_in_range(keeping.connections.unwrap_or(1)) {
+    if idle == 0 || idle > LONGEST_IDLE || !is_in_range(connections.unwrap_or(1)) {
         return refuse_numbers(messages);
     }
-    let kept = match endpoint_of(place) {
-        None => return refuse_numbers(messages),
-        Some(Endpoint::Address(address)) => keep_tcp(rt, address, keeping, instrument, messages),
-        Some(Endpoint::Device(path)) => keep_device(rt, path, keeping, instrument, messages),
+    let Some(endpoint) = endpoint_of(place) else {
+        return refuse_numbers(messages);
     };
-    match kept {
+    let keeping = Keeping {
+        connections,
+        idle,
+        max_reads: MOST_READS,
+    };
+    match keep_endpoint(rt, endpoint, keeping, instrument, messages) {
         Ok(_) => Ok(ExitCode::SUCCESS),
         Err(fault) => report_end_at(place, Err(fault), rt, messages),
+    }
+}
+
+// Keeps an address or a device, and returns whether the lines of all faults were written. `Err`: it couldn't be had.
+fn keep_endpoint<
+    'c,
+    R: Net<Listener = TcpListener, Stream = TcpStream> + Clock + Files<File = File>,
+    I: Simulates<'c>,
+    E: Write,
+>(
+    rt: &'c Noting<'_, R>,
+    endpoint: Endpoint<'_>,
+    keeping: Keeping,
+    instrument: &mut I,
+    messages: &mut E,
+) -> Result<bool, RunFault>
+    ensures kept { IfOk result (λ all_written. KeepsServing I.answers I.restarted keeping.max_reads keeping.connections instrument.old all_written
+        (E.contents messages.old) (E.contents messages.new)) }
+    ensures fault { IfErr result (λ fault. (messages.new ≡ messages.old) × IsFaultOfPlace fault) }
+{
+    match endpoint {
+        Endpoint::Address(address) => keep_tcp(rt, address, keeping, instrument, messages),
+        Endpoint::Device(path) => keep_device(rt, path, keeping, instrument, messages),
     }
 }
 

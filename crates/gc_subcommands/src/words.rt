@@ -1,7 +1,11 @@
 //! Which subcommand the words of the command line ask for.
 
-ghost use Rattle.std.specs.Prelude.{◌≡◌};
-ghost use Rattle.gc_subcommands.specs.Jobs.{station_job};
+ghost use Rattle.std.specs.Prelude.{◌≡◌, codes, map, IfOk, Some};
+ghost use Rattle.std.specs.String.{string_bytes};
+ghost use Rattle.clap.specs.Simple.{subcommand_rows_of};
+ghost use Rattle.gc_subcommands.specs.Jobs.{AsksSubcommand, IsJobOf, name_of, station_job, subcommand_named, subcommands};
+ghost use Rattle.gc_subcommands.specs.Program.{AreSubcommands, IsBareProgram, IsJobOfWords, IsSubcommand};
+ghost use Rattle.gc_words.specs.Words.{words_of};
 
 use crate::ask::ask_command;
 use crate::check::check_command;
@@ -13,8 +17,8 @@ use clap::{ArgMatches, Command, Error};
 use gc_links::Place;
 use gc_words::help::SCENES_AND_FAULTS;
 use gc_words::{
-    Choice, Recording, Rehearsal, Settings, Site, VERSION, log_of, named_place, recording_of,
-    rehearsal_of, rehearse_command, station_command, station_of,
+    Choice, Recording, Rehearsal, Settings, Site, VERSION, has_flag, log_of, named_place,
+    recording_of, rehearsal_of, rehearse_command, station_command, station_of, text_in,
 };
 use std::alloc::{AllocError, Global};
 
@@ -35,8 +39,8 @@ pub enum Job<'a> {
     Client(ClientJob<'a>),
     /// The word for the place is no place: none to serve a simulator on where `serves` is set, else none of an instrument.
     Nowhere { serves: bool },
-    /// A number is missing that has a default, or is none of its type. clap fills the first in and refuses the second, though no
-    /// clause of clap's says so. Either is reported as a number out of its range.
+    /// A number is missing that has a default, or is none of its type. clap fills the first in and refuses the second, so this
+    /// doesn't come. It would be reported as a number out of its range.
     NumberMissing,
     /// A station's run would end for want of an answer before its second cycle is due.
     StaleTooSoon,
@@ -93,7 +97,9 @@ const SUBCOMMANDS: [Subcommand; 8] = [
 
 impl Subcommand {
     // The name of the subcommand, by which it is asked for.
-    fn name<'a>(self) -> &'a str {
+    fn name<'a>(self) -> &'a str
+        ensures { result.now ≡ name_of self }
+    {
         match self {
             Subcommand::Exec => "exec",
             Subcommand::Check => "check",
@@ -107,7 +113,9 @@ impl Subcommand {
     }
 
     /// The subcommand of this name, if there is one.
-    pub fn named(name: &str) -> Option<Subcommand> {
+    pub fn named(name: &str) -> Option<Subcommand>
+        ensures { result ≡ subcommand_named name.now }
+    {
         SUBCOMMANDS
             .iter()
             .copied()
@@ -128,7 +136,9 @@ impl Subcommand {
     }
 
     // The subcommand for clap, with its help and its arguments. `Err`: memory ran out.
-    fn command<'a>(self, alloc: Global) -> Result<Command<'a>, AllocError> {
+    fn command<'a>(self, alloc: Global) -> Result<Command<'a>, AllocError>
+        ensures { IfOk result (λ command. IsSubcommand self command) }
+    {
         match self {
             Subcommand::Exec => exec_command(alloc, self.name()),
             Subcommand::Check => check_command(alloc, self.name()),
@@ -142,17 +152,19 @@ impl Subcommand {
     }
 
     // What the words behind the subcommand's name ask for, or why that can't be done.
-    fn job<'a>(self, words: &ArgMatches<'a>) -> Job<'a> {
+    fn job<'a>(self, words: &ArgMatches<'a>) -> Job<'a>
+        ensures { IsJobOf (Some (name_of self, words_of words.now)) result }
+    {
         match self {
             Subcommand::Exec => Job::Exec {
-                scene: words.get_str("scene"),
+                scene: text_in(words, "scene"),
             },
             Subcommand::Check => Job::Check {
-                log: words.get_flag("log"),
+                log: has_flag(words, "log"),
             },
             Subcommand::Drill => Job::Drill(drilling_of(words)),
             Subcommand::Loop => Job::Client(ClientJob::Loop {
-                scene: words.get_str("scene"),
+                scene: text_in(words, "scene"),
             }),
             Subcommand::Serve => serve_job(words),
             Subcommand::Ask => ask_job(words),
@@ -165,7 +177,11 @@ impl Subcommand {
 /// What the words of a command line ask for. The first word is the program's name. `Err`: the words don't parse, as without a
 /// subcommand, or ask for the help or the version, or memory ran out.
 // A loop makes the subcommands: the proof of a chain of `.subcommand(..)?` grows faster than the chain.
-pub fn job_of<'a>(alloc: Global, words: &'a [String]) -> Result<Job<'a>, Error> {
+pub fn job_of<'a>(alloc: Global, words: &'a [String]) -> Result<Job<'a>, Error>
+    // The job is what the words ask for: each value is the number or text that they give for the argument of its name, or that
+    // argument's default.
+    ensures { IfOk result (λ job. IsJobOfWords (map string_bytes words.now) job) }
+{
     let subcommands = subcommands_of(alloc)?;
     let matches = geocom(alloc)
         .subcommands(subcommands)?
@@ -174,7 +190,9 @@ pub fn job_of<'a>(alloc: Global, words: &'a [String]) -> Result<Job<'a>, Error> 
 }
 
 // The command line of the program for clap, with no subcommand yet.
-fn geocom<'a>(alloc: Global) -> Command<'a> {
+fn geocom<'a>(alloc: Global) -> Command<'a>
+    ensures { IsBareProgram result }
+{
     Command::new(alloc, "geocom")
         .version(VERSION)
         .about(
@@ -186,7 +204,9 @@ fn geocom<'a>(alloc: Global) -> Command<'a> {
 }
 
 // The subcommands for clap, in the order of the help. `Err`: memory ran out.
-fn subcommands_of<'a>(alloc: Global) -> Result<Vec<Command<'a>>, AllocError> {
+fn subcommands_of<'a>(alloc: Global) -> Result<Vec<Command<'a>>, AllocError>
+    ensures { IfOk result (λ commands. AreSubcommands subcommands commands.items) }
+{
     let mut subcommands = Vec::new(alloc);
     for subcommand in SUBCOMMANDS {
         subcommands.push(subcommand.command(alloc)?)?;
@@ -194,19 +214,30 @@ fn subcommands_of<'a>(alloc: Global) -> Result<Vec<Command<'a>>, AllocError> {
     Ok(subcommands)
 }
 
-// What the words that clap has parsed ask for. clap refuses words without a subcommand, and an unknown one, so the last line
-// isn't reached.
-fn parsed_job<'a>(matches: &ArgMatches<'a>) -> Job<'a> {
-    if let Some((name, words)) = matches.subcommand() {
-        if let Some(subcommand) = Subcommand::named(name) {
-            return subcommand.job(words);
-        }
+// What the words that clap has parsed ask for. clap refuses words without a subcommand, so the last line isn't reached.
+fn parsed_job<'a>(matches: &ArgMatches<'a>) -> Job<'a>
+    ensures { AsksSubcommand (subcommand_rows_of matches.now) → IsJobOf (subcommand_rows_of matches.now) result }
+{
+    match matches.subcommand() {
+        Some((name, words)) => named_job(name, words),
+        None => Job::Exec { scene: None },
     }
-    Job::Exec { scene: None }
+}
+
+// What the words behind the name of a subcommand ask for. clap refuses an unknown name, so the last line isn't reached.
+fn named_job<'a>(name: &str, words: &ArgMatches<'a>) -> Job<'a>
+    ensures { (subcommand : Subcommand) → name_of subcommand ≡ name.now → IsJobOf (Some (name.now, words_of words.now)) result }
+{
+    match Subcommand::named(name) {
+        Some(subcommand) => subcommand.job(words),
+        None => Job::Exec { scene: None },
+    }
 }
 
 // A simulator that is served. `Nowhere`: the words name no place for one, or an address without `--any-address`.
-fn serve_job<'a>(words: &ArgMatches<'a>) -> Job<'a> {
+fn serve_job<'a>(words: &ArgMatches<'a>) -> Job<'a>
+    ensures { IsJobOf (Some (codes "serve", words_of words.now)) result }
+{
     match serving_of(words) {
         Some(serving) => Job::Serve(serving),
         None => Job::Nowhere { serves: true },
@@ -214,7 +245,9 @@ fn serve_job<'a>(words: &ArgMatches<'a>) -> Job<'a> {
 }
 
 // Commands that are asked at a place. `Nowhere`: the words name none.
-fn ask_job<'a>(words: &ArgMatches<'a>) -> Job<'a> {
+fn ask_job<'a>(words: &ArgMatches<'a>) -> Job<'a>
+    ensures { IsJobOf (Some (codes "ask", words_of words.now)) result }
+{
     match named_place(words) {
         Some(place) => Job::Client(ClientJob::Ask { place }),
         None => Job::Nowhere { serves: false },
@@ -223,9 +256,11 @@ fn ask_job<'a>(words: &ArgMatches<'a>) -> Job<'a> {
 
 // A station at a place, with its records and its log in files where the words name them; with `--check` only the outline of what
 // it would do. `Nowhere`: the words name no place. `NumberMissing`: a number is missing or none of its type, which clap doesn't
-// let happen, though no clause of clap's says so. `StaleTooSoon`: the run would end for want of an answer before its second cycle
+// let happen. `StaleTooSoon`: the run would end for want of an answer before its second cycle
 // is due.
-fn station_job<'a>(words: &ArgMatches<'a>) -> Job<'a> {
+fn station_job<'a>(words: &ArgMatches<'a>) -> Job<'a>
+    ensures { IsJobOf (Some (codes "station", words_of words.now)) result }
+{
     let Some(place) = named_place(words) else {
         return Job::Nowhere { serves: false };
     };
@@ -235,9 +270,9 @@ fn station_job<'a>(words: &ArgMatches<'a>) -> Job<'a> {
     let site = Site {
         place,
         log: log_of(words),
-        until: words.get_str("until"),
+        until: text_in(words, "until"),
     };
-    station_job_at(site, station, recording_of(words), words.get_flag("check"))
+    station_job_at(site, station, recording_of(words), has_flag(words, "check"))
 }
 
 // A station at a site, with these settings and records, or with `checks` only the outline of what it would do. `StaleTooSoon`: the
@@ -266,7 +301,9 @@ fn station_job_at<'a>(
 }
 
 // A rehearsal. `NumberMissing` and `StaleTooSoon` are as for a station.
-fn rehearse_job<'a>(words: &ArgMatches<'a>) -> Job<'a> {
+fn rehearse_job<'a>(words: &ArgMatches<'a>) -> Job<'a>
+    ensures { IsJobOf (Some (codes "rehearse", words_of words.now)) result }
+{
     let Some(rehearsal) = rehearsal_of(words) else {
         return Job::NumberMissing;
     };

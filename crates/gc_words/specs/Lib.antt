@@ -1,1 +1,5 @@
+pub mod Chosen
+pub mod Options
 pub mod Stations
+pub mod Tables
+pub mod Words

@@ -1,8 +1,10 @@
 -- The settings of a station whose rows go into a file, of one whose run begins, and of one that is refused: this project's own.
-use Rattle.std.specs.Prelude.{ℕ, Bool, true, ◌&&◌, nat_lt}
+use Rattle.std.specs.Prelude.{ℕ, Bool, true, ◌&&◌, nat_lt, if◌then◌else◌}
 use Rattle.gc_rows.specs.declared.record.Form.{Form}
 use Rattle.gc_rows.specs.declared.record.Form.TheVariants.{Lines, Csv, Columns, Json}
 use Rattle.gc_words.specs.declared.choice.Choice.{Choice}
+use Rattle.gc_words.specs.declared.choice.Watch.{Watch}
+use Rattle.gc_words.specs.declared.choice.Watch.TheVariants as watch
 use Rattle.gc_words.specs.declared.settings.Settings.{Settings}
 
 -- the form of rows that go into a file: the one that was asked for, but comma-separated values in place of `Lines`
@@ -24,3 +26,13 @@ begun_at run station = record station { layout = record station.layout { run = r
 -- whether the run would end for want of an answer before a second cycle is due: `stale` isn't 0, and is below `every`
 abbrev pub is_stale_too_soon : Choice → Bool
 is_stale_too_soon choice = nat_lt 0 choice.stale && nat_lt choice.stale choice.every
+
+-- who watches, if somebody reads the messages at a terminal (`at_terminal`): who reads lines then sits there
+abbrev pub watch_shown : (at_terminal : Bool) → Watch → Watch
+watch_shown at_terminal watch.Nobody = watch.Nobody
+watch_shown at_terminal watch.Lines = if at_terminal then watch.Terminal else watch.Lines
+watch_shown at_terminal watch.Terminal = watch.Terminal
+
+-- these settings, with a status line if somebody reads the messages at a terminal, unless the choice has no signs of life
+abbrev pub with_status_line : (at_terminal : Bool) → Settings → Settings
+with_status_line at_terminal station = record station { choice = record station.choice { watch = watch_shown at_terminal station.choice.watch } }

@@ -1,6 +1,12 @@
 //! The arguments of subcommands as tables, and the loops that hand them to clap. A default is in its row alone: clap fills it
 //! in.
 
+ghost use Rattle.std.specs.Prelude.{◌≡◌, IfOk, IfSome, map};
+ghost use Rattle.gc_words.specs.Chosen.{GivesPlace};
+ghost use Rattle.gc_words.specs.Tables.{HasArguments, HasRule, HaveRules, action_for, option_rule, parser_for, positional_rule, rule_of_row};
+ghost use Rattle.gc_words.specs.Words.{words_of};
+
+use crate::given::text_in;
 use clap::builder::ValueParser;
 use clap::{Arg, ArgAction, ArgMatches, Command};
 use gc_links::{Place, place_of};
@@ -51,8 +57,10 @@ pub const PLACE: Argument<'static> = Argument {
 };
 
 /// The place that the argument WHERE names. `None`: there is no such argument, or it names no place.
-pub fn named_place<'a>(words: &ArgMatches<'a>) -> Option<Place<'a>> {
-    place_of(words.get_str("where")?)
+pub fn named_place<'a>(words: &ArgMatches<'a>) -> Option<Place<'a>>
+    ensures { IfSome result (λ place. GivesPlace (words_of words.now) place) }
+{
+    place_of(text_in(words, "where")?)
 }
 
 /// The option that names the file of a scene.
@@ -73,7 +81,9 @@ pub fn command_of<'a>(
     about: &'a str,
     after_help: &'a str,
     table: &[Argument<'a>],
-) -> Result<Command<'a>, AllocError> {
+) -> Result<Command<'a>, AllocError>
+    ensures { IfOk result (λ command. HasArguments name.now (map rule_of_row table.now) command) }
+{
     let args = args_of(alloc, table)?;
     Command::new(alloc, name)
         .about(about)
@@ -82,7 +92,9 @@ pub fn command_of<'a>(
 }
 
 // clap's arguments for the rows of a table, in their order. `Err`: memory ran out.
-fn args_of<'a>(alloc: Global, table: &[Argument<'a>]) -> Result<Vec<Arg<'a>>, AllocError> {
+fn args_of<'a>(alloc: Global, table: &[Argument<'a>]) -> Result<Vec<Arg<'a>>, AllocError>
+    ensures { IfOk result (λ args. HaveRules (map rule_of_row table.now) args.items) }
+{
     let mut args = Vec::new(alloc);
     for row in table {
         args.push(arg_of(alloc, row)?)?;
@@ -92,7 +104,9 @@ fn args_of<'a>(alloc: Global, table: &[Argument<'a>]) -> Result<Vec<Arg<'a>>, Al
 
 // clap's argument for a row: a positional one, or an option. Of the row of a positional one clap gets the name, the value's name
 // and the help alone. `Err`: memory ran out.
-fn arg_of<'a>(alloc: Global, row: &Argument<'a>) -> Result<Arg<'a>, AllocError> {
+fn arg_of<'a>(alloc: Global, row: &Argument<'a>) -> Result<Arg<'a>, AllocError>
+    ensures { IfOk result (λ arg. HasRule (rule_of_row row.now) arg) }
+{
     match row.takes {
         Takes::Positional => Ok(positional_of(alloc, row)),
         _ => option_of(alloc, row),
@@ -100,7 +114,9 @@ fn arg_of<'a>(alloc: Global, row: &Argument<'a>) -> Result<Arg<'a>, AllocError> 
 }
 
 // A required argument without a name before it.
-fn positional_of<'a>(alloc: Global, row: &Argument<'a>) -> Arg<'a> {
+fn positional_of<'a>(alloc: Global, row: &Argument<'a>) -> Arg<'a>
+    ensures { HasRule (positional_rule row.now) result }
+{
     Arg::new(alloc, row.name)
         .value_names(row.value_name)
         .required(true)
@@ -109,7 +125,9 @@ fn positional_of<'a>(alloc: Global, row: &Argument<'a>) -> Arg<'a> {
 
 // An argument with two hyphens before it. There is no branch, because a branch on a live builder makes the proof costly: an
 // empty list adds nothing. `Err`: memory ran out.
-fn option_of<'a>(alloc: Global, row: &Argument<'a>) -> Result<Arg<'a>, AllocError> {
+fn option_of<'a>(alloc: Global, row: &Argument<'a>) -> Result<Arg<'a>, AllocError>
+    ensures { IfOk result (λ arg. HasRule (option_rule row.now) arg) }
+{
     Arg::new(alloc, row.name)
         .long(row.name)
         .help(row.help)
@@ -122,7 +140,9 @@ fn option_of<'a>(alloc: Global, row: &Argument<'a>) -> Result<Arg<'a>, AllocErro
 }
 
 // How clap takes an option: as a flag, or with a value.
-fn action_of(takes: Takes) -> ArgAction {
+fn action_of(takes: Takes) -> ArgAction
+    ensures { result ≡ action_for takes }
+{
     match takes {
         Takes::Nothing => ArgAction::SetTrue,
         _ => ArgAction::Set,
@@ -130,7 +150,9 @@ fn action_of(takes: Takes) -> ArgAction {
 }
 
 // What the value of an option may be.
-fn parser_of<'a>(takes: Takes) -> ValueParser<'a> {
+fn parser_of<'a>(takes: Takes) -> ValueParser<'a>
+    ensures { result ≡ parser_for takes }
+{
     match takes {
         Takes::Nothing => ValueParser::Bool,
         Takes::Positional | Takes::Text => ValueParser::String,

@@ -1,9 +1,14 @@
 //! The choice: what an operator chooses beside the text, and by which options.
 
-ghost use Rattle.std.specs.Prelude.{◌≡◌};
-ghost use Rattle.gc_words.specs.Stations.{is_stale_too_soon};
+ghost use Rattle.std.specs.Prelude.{◌≡◌, ◌^◌, ◌-◌, codes, IfOk, IfSome, IsSome};
+ghost use Rattle.gc_words.specs.Chosen.{GivesSeconds, GivesTimes, HasNumbers, IsChosen, form_for};
+ghost use Rattle.gc_words.specs.Stations.{is_stale_too_soon, watch_shown};
+ghost use Rattle.gc_words.specs.Options.{station_rules};
+ghost use Rattle.gc_words.specs.Tables.{HasArguments};
+ghost use Rattle.gc_words.specs.Words.{words_of, has_flag, HasNumber};
 
 use crate::arguments::{Argument, FLAG, PLACE, Takes, command_of};
+use crate::given::{byte_in, has_flag, text_in, u32_in, u64_in};
 use crate::help::STATION;
 use crate::layout::Layout;
 use crate::settings::Settings;
@@ -85,7 +90,9 @@ const ARGUMENTS: &[Argument<'static>] = &[
 ];
 
 /// The subcommand `station` for clap, with this name: its help and its arguments. `Err`: memory ran out.
-pub fn station_command<'a>(alloc: Global, name: &'a str) -> Result<Command<'a>, AllocError> {
+pub fn station_command<'a>(alloc: Global, name: &'a str) -> Result<Command<'a>, AllocError>
+    ensures { IfOk result (λ command. HasArguments name.now station_rules command) }
+{
     command_of(
         alloc,
         name,
@@ -104,6 +111,25 @@ pub enum Watch {
     Lines,
     /// Somebody at a terminal: the same lines, and below them one that is written over.
     Terminal,
+}
+
+impl Watch {
+    /// Who watches, if somebody reads the messages at a terminal (`at_terminal`): who reads lines then sits there.
+    pub(crate) fn shown(self, at_terminal: bool) -> Watch
+        ensures { result ≡ watch_shown at_terminal self }
+    {
+        match self {
+            Watch::Nobody => Watch::Nobody,
+            Watch::Lines => {
+                if at_terminal {
+                    Watch::Terminal
+                } else {
+                    Watch::Lines
+                }
+            }
+            Watch::Terminal => Watch::Terminal,
+        }
+    }
 }
 
 /// What an operator chooses. Times are in milliseconds.
@@ -145,8 +171,11 @@ impl Choice {
 
 /// The settings of a station that the options ask for, without the paths of files, and for a run that hasn't begun. A flag or a
 /// text that the subcommand doesn't have counts as not given. `None`: a number is missing, or doesn't fit its type. In fact clap
-/// fills in the default of a missing number and refuses one outside its bounds, but no clause of clap's says so.
-pub fn station_of(words: &ArgMatches) -> Option<Settings> {
+/// fills in the default of a missing number and refuses one outside its bounds.
+pub fn station_of(words: &ArgMatches) -> Option<Settings>
+    ensures chosen { IfSome result (λ station. IsChosen (words_of words.now) station) }
+    ensures only { HasNumbers (words_of words.now) → IsSome result }
+{
     Some(Settings {
         layout: Layout {
             form: form_of(words),
@@ -154,16 +183,16 @@ pub fn station_of(words: &ArgMatches) -> Option<Settings> {
             run: 0,
         },
         choice: Choice {
-            width: words.get_one::<u8>("width")?,
-            deadline: words.get_one::<u64>("deadline")?,
-            chained: !words.get_flag("unchained"),
-            every: words.get_one::<u64>("every")?.saturating_mul(SECOND),
-            cycles: times_of(words.get_one::<u64>("cycles")?, u64::MAX),
-            quiet: words.get_one::<u64>("quiet")?,
-            retries: times_of(words.get_one::<u32>("retries")?, u32::MAX),
-            stale: words.get_one::<u64>("stale")?.saturating_mul(SECOND),
-            watched: words.get_str("until").is_some(),
-            watch: if words.get_flag("silent") {
+            width: byte_in(words, "width")?,
+            deadline: u64_in(words, "deadline")?,
+            chained: !has_flag(words, "unchained"),
+            every: seconds_in(words, "every")?,
+            cycles: cycles_in(words)?,
+            quiet: u64_in(words, "quiet")?,
+            retries: retries_in(words)?,
+            stale: seconds_in(words, "stale")?,
+            watched: text_in(words, "until").is_some(),
+            watch: if has_flag(words, "silent") {
                 Watch::Nobody
             } else {
                 Watch::Lines
@@ -173,23 +202,42 @@ pub fn station_of(words: &ArgMatches) -> Option<Settings> {
 }
 
 // The form of records that the options ask for; lines without such an option. `columns` includes what `csv` asks for.
-fn form_of(words: &ArgMatches) -> Form {
-    if words.get_flag("json") {
+fn form_of(words: &ArgMatches) -> Form
+    ensures { result ≡ form_for (has_flag (words_of words.now) (codes "json")) (has_flag (words_of words.now) (codes "columns")) (has_flag (words_of words.now) (codes "csv")) }
+{
+    if has_flag(words, "json") {
         Form::Json
-    } else if words.get_flag("columns") {
+    } else if has_flag(words, "columns") {
         Form::Columns
-    } else if words.get_flag("csv") {
+    } else if has_flag(words, "csv") {
         Form::Csv
     } else {
         Form::Lines
     }
 }
 
-// How many times something is done: the chosen number, or `endless` for 0, which stands for no end.
-fn times_of<N: Copy + PartialEq + Default>(chosen: N, endless: N) -> N {
-    if chosen == N::default() {
-        endless
-    } else {
-        chosen
-    }
+// The time that an option gives in seconds, in milliseconds. `None`: there is none, or it is no number of 64 bits.
+fn seconds_in(words: &ArgMatches, name: &str) -> Option<u64>
+    ensures found { IfSome result (λ time. GivesSeconds (words_of words.now) name.now time) }
+    ensures only { HasNumber (words_of words.now) name.now 64 → IsSome result }
+{
+    Some(u64_in(words, name)?.saturating_mul(SECOND))
+}
+
+// How many cycles are measured; the greatest number for 0, which stands for no end.
+fn cycles_in(words: &ArgMatches) -> Option<u64>
+    ensures found { IfSome result (λ times. GivesTimes (words_of words.now) (codes "cycles") (2 ^ 64 - 1) times) }
+    ensures only { HasNumber (words_of words.now) (codes "cycles") 64 → IsSome result }
+{
+    let number = u64_in(words, "cycles")?;
+    Some(if number == 0 { u64::MAX } else { number })
+}
+
+// How many times in a row it reconnects; the greatest number for 0, which stands for no end.
+fn retries_in(words: &ArgMatches) -> Option<u32>
+    ensures found { IfSome result (λ times. GivesTimes (words_of words.now) (codes "retries") (2 ^ 32 - 1) times) }
+    ensures only { HasNumber (words_of words.now) (codes "retries") 32 → IsSome result }
+{
+    let number = u32_in(words, "retries")?;
+    Some(if number == 0 { u32::MAX } else { number })
 }

@@ -3,6 +3,7 @@
 
 mod arguments;
 mod choice;
+mod given;
 pub mod help;
 mod layout;
 mod rehearsal;
@@ -13,6 +14,7 @@ mod version;
 
 pub use arguments::{Argument, FLAG, PLACE, SCENE, Takes, command_of, named_place};
 pub use choice::{Choice, Watch, station_command, station_of};
+pub use given::{byte_in, byte_or, has_flag, text_in, u32_in, u32_or, u64_in, u64_or};
 pub use layout::Layout;
 pub use rehearsal::{DAY, Rehearsal, rehearsal_of, rehearse_command};
 pub use settings::Settings;

@@ -1,8 +1,15 @@
 //! A rehearsal: what the words of `rehearse` say. Its options of a station are those of `station` (`shared.rt`), but for
 //! `every` and `cycles`, which have other bounds and defaults.
 
+ghost use Rattle.std.specs.Prelude.{◌≡◌, IfOk, IfSome, IsSome};
+ghost use Rattle.gc_words.specs.Chosen.{HasRehearsalNumbers, IsRehearsal, cycles_a_night};
+ghost use Rattle.gc_words.specs.Options.{rehearse_rules};
+ghost use Rattle.gc_words.specs.Tables.{HasArguments};
+ghost use Rattle.gc_words.specs.Words.{words_of};
+
 use crate::arguments::{Argument, FLAG, SCENE, Takes, command_of};
 use crate::choice::station_of;
+use crate::given::{text_in, u64_in};
 use crate::help::REHEARSAL;
 use crate::settings::Settings;
 use crate::shared::{COLUMNS, CSV, DEADLINE, JSON, QUIET, RETRIES, STALE, UNCHAINED, WIDTH};
@@ -66,7 +73,9 @@ const ARGUMENTS: &[Argument<'static>] = &[
 ];
 
 /// The subcommand `rehearse` for clap, with this name: its help and its arguments. `Err`: memory ran out.
-pub fn rehearse_command<'a>(alloc: Global, name: &'a str) -> Result<Command<'a>, AllocError> {
+pub fn rehearse_command<'a>(alloc: Global, name: &'a str) -> Result<Command<'a>, AllocError>
+    ensures { IfOk result (λ command. HasArguments name.now rehearse_rules command) }
+{
     command_of(
         alloc,
         name,
@@ -89,24 +98,29 @@ pub struct Rehearsal<'a> {
 }
 
 /// What the words of `rehearse` say. `None`, as of `station_of`: a number is missing, or doesn't fit its type.
-pub fn rehearsal_of<'a>(words: &ArgMatches<'a>) -> Option<Rehearsal<'a>> {
+pub fn rehearsal_of<'a>(words: &ArgMatches<'a>) -> Option<Rehearsal<'a>>
+    ensures chosen { IfSome result (λ rehearsal. IsRehearsal (words_of words.now) rehearsal) }
+    ensures only { HasRehearsalNumbers (words_of words.now) → IsSome result }
+{
     let station = station_of(words)?;
     Some(Rehearsal {
-        scene: words.get_str("scene"),
-        line: words.get_str("line"),
-        nights: words.get_one::<u64>("nights")?,
-        cycles: cycles_of(words.get_one::<u64>("cycles")?, station.choice.every),
-        seed: words.get_one::<u64>("seed")?,
+        scene: text_in(words, "scene"),
+        line: text_in(words, "line"),
+        nights: u64_in(words, "nights")?,
+        cycles: cycles_of(u64_in(words, "cycles")?, station.choice.every),
+        seed: u64_in(words, "seed")?,
         station,
     })
 }
 
 // How many cycles a night has: the chosen number, or, for 0, as many as are due in a day.
-fn cycles_of(chosen: u64, every: u64) -> u64 {
+fn cycles_of(chosen: u64, every: u64) -> u64
+    ensures { result ≡ cycles_a_night chosen every }
+{
     if chosen > 0 {
         return chosen;
     }
-    // clap refuses 0 seconds for `--every`, though no clause of clap's says so.
+    // clap refuses 0 seconds for `--every`.
     if every == 0 {
         return 0;
     }

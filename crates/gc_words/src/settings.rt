@@ -1,9 +1,9 @@
 //! The settings of a station.
 
 ghost use Rattle.std.specs.Prelude.{◌≡◌};
-ghost use Rattle.gc_words.specs.Stations.{form_of_rows, for_file, begun_at};
+ghost use Rattle.gc_words.specs.Stations.{form_of_rows, for_file, begun_at, with_status_line};
 
-use crate::choice::{Choice, Watch};
+use crate::choice::Choice;
 use crate::layout::Layout;
 use gc_links::Moment;
 use gc_rows::Form;
@@ -18,11 +18,11 @@ pub struct Settings {
 impl Settings {
     /// These settings, with a status line below the signs of life if somebody reads the messages at a terminal (`at_terminal`),
     /// unless the choice has no signs of life.
-    pub fn with_status_line(self, at_terminal: bool) -> Settings {
+    pub fn with_status_line(self, at_terminal: bool) -> Settings
+        ensures { result ≡ with_status_line at_terminal self }
+    {
         let mut settings = self;
-        if at_terminal && self.choice.watch == Watch::Lines {
-            settings.choice.watch = Watch::Terminal;
-        }
+        settings.choice.watch = self.choice.watch.shown(at_terminal);
         settings
     }
 

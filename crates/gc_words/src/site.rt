@@ -1,6 +1,11 @@
 //! Where a station works: the place, and the files of its log and of its records.
 
+ghost use Rattle.std.specs.Prelude.{codes};
+ghost use Rattle.gc_words.specs.Chosen.{IsLog, IsLogBound, IsRecording};
+ghost use Rattle.gc_words.specs.Words.{words_of};
+
 use crate::arguments::{Argument, FLAG, Takes};
+use crate::given::{has_flag, text_in, u64_or};
 use clap::ArgMatches;
 use gc_links::Place;
 
@@ -32,12 +37,21 @@ pub struct LogPlace<'a> {
 }
 
 /// The log that the words of `station` ask for. `None`: they ask for none. Without `--log-bytes` it has no bound.
-pub fn log_of<'a>(words: &ArgMatches<'a>) -> Option<LogPlace<'a>> {
-    let path = words.get_str("log")?;
+pub fn log_of<'a>(words: &ArgMatches<'a>) -> Option<LogPlace<'a>>
+    ensures { IsLog (words_of words.now) result }
+{
+    let path = text_in(words, "log")?;
     Some(LogPlace {
         path,
-        most: words.get_one::<u64>("log-bytes").unwrap_or(u64::MAX),
+        most: log_bound_of(words),
     })
+}
+
+// The most bytes of a log; the greatest `u64` without `--log-bytes`.
+fn log_bound_of(words: &ArgMatches) -> u64
+    ensures { IsLogBound (words_of words.now) result }
+{
+    u64_or(words, "log-bytes", u64::MAX)
 }
 
 /// The path of the file to which records are appended, and whether each is to be on the disk before the next command is sent.
@@ -48,10 +62,12 @@ pub struct Recording<'a> {
 }
 
 /// The file of records that the words of `station` ask for. `None`: they ask for none.
-pub fn recording_of<'a>(words: &ArgMatches<'a>) -> Option<Recording<'a>> {
-    let path = words.get_str("append")?;
+pub fn recording_of<'a>(words: &ArgMatches<'a>) -> Option<Recording<'a>>
+    ensures { IsRecording (words_of words.now) result }
+{
+    let path = text_in(words, "append")?;
     Some(Recording {
         path,
-        sync: words.get_flag("sync"),
+        sync: has_flag(words, "sync"),
     })
 }

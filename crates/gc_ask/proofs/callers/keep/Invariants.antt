@@ -1,10 +1,10 @@
 use Rattle.std.proofs.Common.{◌≤◌}
-use Rattle.gc_ask.specs.Keeping.{ServesCallers}
+use Rattle.gc_ask.specs.Keeping.{KeepsCallers}
 use Rattle.gc_ask.proofs.callers.keep.Given as goal
 
--- `at` callers were served, as `ServesCallers` says
+-- `at` callers were served, as `KeepsCallers` says
 abbrev pub invariant-loop-at : goal.invariant-loop-at
 invariant-loop-at g l = record {
   within : l.at ≤ l.most;
-  kept : ServesCallers l.at l.all_written (g.C.Callers.served l.initial.callers) (g.C.Callers.served l.callers) (g.E.Write.contents l.initial.messages) (g.E.Write.contents l.messages);
+  kept : KeepsCallers g.C.Callers.serves g.C.Callers.served l.at l.all_written l.initial.callers l.callers (g.E.Write.contents l.initial.messages) (g.E.Write.contents l.messages);
 }

@@ -6,3 +6,9 @@ returns-clause-port g c at =
     IfOk-weaker c.report_asked_at-ended.result _ _
     (λ status told. record { end = c.ask_at-end.result; ends = c.ask_at-end.ensures.asks; tells = told })
     (c.report_asked_at-ended.ensures.port at)
+
+pub returns-clause-told : goal.returns-clause-told
+returns-clause-told g c =
+    IfOk-weaker c.report_asked_at-ended.result _ _
+    (λ status told. record { end = c.ask_at-end.result; asks = c.ask_at-end.ensures.asks; tells = told })
+    c.report_asked_at-ended.ensures.told

@@ -1,0 +1,109 @@
+-- Which job the words ask for.
+use Rattle.std.proofs.Common.{◌≡◌, ◌∙◌, ℕ, Bool, true, false, List, [], ◌∷◌, Option, Some, None, refl, sym, subst, ap, codes, inl, find, option_map}
+use Rattle.std.specs.Prelude.{Box, is_some}
+use Rattle.std.proofs.lemmas.Slice.Eq.{bytes_eq-Decides}
+use Rattle.std.specs.Str.{bytes_eq}
+use Rattle.std.specs.Box.{box_value}
+use Rattle.clap.specs.Simple.{subcommand_rows}
+use Rattle.clap.specs.Walk.{Text}
+use Rattle.clap.specs.declared.parser.matches.ArgMatches.TheViews.{out-SubCommand}
+use Rattle.clap.specs.declared.parser.matches.SubCommand.{SubCommand}
+use Rattle.gc_links.specs.declared.place.Place.{Place}
+use Rattle.gc_subcommands.specs.Jobs.{IsJobOf, name_of, station_job, subcommand_named, subcommands}
+use Rattle.gc_subcommands.specs.declared.words.ClientJob.TheVariants as kind
+use Rattle.gc_subcommands.specs.declared.words.Job.{Job}
+use Rattle.gc_subcommands.specs.declared.words.Job.TheVariants as job
+use Rattle.gc_subcommands.specs.declared.words.Subcommand.{Subcommand}
+use Rattle.gc_subcommands.specs.declared.words.Subcommand.TheVariants as subcommand
+use Rattle.gc_words.specs.Chosen.{IsChosen, IsRecording, IsSite}
+use Rattle.gc_words.specs.Stations.{is_stale_too_soon}
+use Rattle.gc_words.specs.Words.{Words, has_flag}
+use Rattle.gc_words.specs.declared.settings.Settings.{Settings}
+use Rattle.gc_words.specs.declared.site.Recording.{Recording}
+use Rattle.gc_words.specs.declared.site.Site.{Site}
+
+-- each subcommand is found by its name
+pub named_again : (s : Subcommand) → subcommand_named (name_of s) ≡ Some s
+named_again subcommand.Exec = refl
+named_again subcommand.Check = refl
+named_again subcommand.Drill = refl
+named_again subcommand.Loop = refl
+named_again subcommand.Serve = refl
+named_again subcommand.Ask = refl
+named_again subcommand.Station = refl
+named_again subcommand.Rehearse = refl
+
+-- what is found passes the test
+found_passes : {X : Type 0} (test : X → Bool) (xs : List X) (x : X) → find test xs ≡ Some x → test x ≡ true
+found_passes {X} test [] x is =
+    let bad : ◌≡◌ {A = Option X} None (Some x) = is in
+    cc
+found_passes {X} test (y ∷ ys) x is = go (test y) refl (found_passes test ys x)
+  where
+    go : (b : Bool) → test y ≡ b → (find test ys ≡ Some x → test x ≡ true) → test x ≡ true
+    go true passes later =
+        let same : Some y ≡ Some x = rw passes at is in
+        let y_is : y ≡ x = cc in
+        subst (λ z. test z ≡ true) y_is passes
+    go false fails later = later (rw fails at is)
+
+-- a subcommand has the name by which it is found
+pub named_so : (name : Text) (s : Subcommand) → subcommand_named name ≡ Some s → name_of s ≡ name
+named_so name s is = (bytes_eq-Decides (name_of s) name).0 (found_passes (λ known. bytes_eq (name_of known) name) subcommands s is)
+
+-- what a station of these words is to do is what they ask for
+pub station_asked : (words : Words) (site : Site) (station : Settings) (recording : Option Recording) (checks : Bool) → IsSite words site
+    → IsChosen words station → IsRecording words recording → has_flag words (codes "check") ≡ checks
+    → IsJobOf (Some (codes "station", words)) (station_job site station recording checks)
+station_asked words site station recording checks at_site chosen recorded flag = go (is_stale_too_soon station.choice) refl checks flag
+  where
+    go : (stale : Bool) → is_stale_too_soon station.choice ≡ stale → (checks : Bool) → has_flag words (codes "check") ≡ checks
+        → IsJobOf (Some (codes "station", words)) (station_job site station recording checks)
+    go true stale checks flag =
+        rw stale (inl (record {
+          words = words;
+          named = refl;
+          is = record {
+            station = station;
+            planned = record { place = site.place; given = at_site.place; chosen = chosen };
+            stale = stale;
+          };
+        }))
+    go false fresh true flag =
+        rw fresh (record {
+          words = words;
+          named = refl;
+          is = record {
+            station = station;
+            planned = record { place = site.place; given = at_site.place; chosen = chosen };
+            is = refl;
+            checks = flag;
+            fresh = fresh;
+          };
+        })
+    go false fresh false flag =
+        rw fresh (record {
+          words = words;
+          named = refl;
+          is = record { at_site = at_site; chosen = chosen; recorded = recorded; measures = flag; fresh = fresh };
+        })
+
+-- a subcommand that was found has one name
+pub one_name : (a b : Text) (u v : Words) (asked : Option (Text × Words)) → asked ≡ Some (a, u) → asked ≡ Some (b, v) → a ≡ b
+one_name a b u v asked first second =
+    let pair : ◌≡◌ {A = Text × Words} (a, u) (b, v) = cc in
+    ap (λ p. p.0) pair
+
+module _ {Z : Type 0} (name : Text) (words : Words) where
+  -- the name and the words that a getter gives are those that clap found
+  pub found_subcommand : (sub : Option (Box SubCommand Z)) → Some name ≡ option_map (λ b. (out-SubCommand (box_value b)).name.now) sub
+      → Some words ≡ option_map (λ found. found.1) (subcommand_rows sub) → subcommand_rows sub ≡ Some (name, words)
+  found_subcommand None named rows =
+      let bad : ◌≡◌ {A = Option Text} (Some name) None = named in
+      cc
+  found_subcommand (Some b) named rows = cc
+
+  -- a getter that gives nothing found no subcommand
+  pub none_found : (sub : Option (Box SubCommand Z)) → false ≡ is_some sub → subcommand_rows sub ≡ Some (name, words) → ⊥
+  none_found None none found = cc
+  none_found (Some b) none found = cc

@@ -1,0 +1,2 @@
+mod Getters
+mod TableLemmas

@@ -1,0 +1,117 @@
+-- What the words of `station` and of `rehearse` choose, each value by the name of its option: this project's own.
+use Rattle.std.specs.Prelude.{◌≡◌, ℕ, ◌*◌, ◌/◌, ◌^◌, ◌-◌, Bool, true, false, not, List, Option, Some, None, min, is_some, option_map, if◌then◌else◌, nat_eq, codes}
+use Rattle.gc_links.specs.Places.{NamesPlace}
+use Rattle.gc_links.specs.declared.place.Place.{Place}
+use Rattle.gc_rows.specs.declared.record.Form.{Form}
+use Rattle.gc_rows.specs.declared.record.Form.TheVariants as form
+use Rattle.gc_words.specs.Words.{Words, text_in, has_flag, GivesNumber, HasNumber, IsNumberOr}
+use Rattle.gc_words.specs.declared.choice.Watch.{Watch}
+use Rattle.gc_words.specs.declared.choice.Watch.TheVariants as watch
+use Rattle.gc_words.specs.declared.rehearsal.Rehearsal.{Rehearsal}
+use Rattle.gc_words.specs.declared.settings.Settings.{Settings}
+use Rattle.gc_words.specs.declared.site.LogPlace.{LogPlace}
+use Rattle.gc_words.specs.declared.site.Recording.{Recording}
+use Rattle.gc_words.specs.declared.site.Site.{Site}
+
+-- the option of this name gives seconds, which are so many milliseconds; the greatest number of 64 bits if they are more
+pub record GivesSeconds (words : Words) (name : List ℕ) (milliseconds : ℕ) : Type 0 where
+  pub seconds : ℕ
+  pub gives : GivesNumber words name seconds
+  pub is : milliseconds ≡ min (seconds * 1000) (2 ^ 64 - 1)
+
+-- how many times something is done for this number: 0 stands for no end, which is the greatest number, `endless`
+abbrev pub times_for : (endless number : ℕ) → ℕ
+times_for endless number = if nat_eq number 0 then endless else number
+
+-- the option of this name says how many times something is done, where 0 stands for no end
+pub record GivesTimes (words : Words) (name : List ℕ) (endless times : ℕ) : Type 0 where
+  pub number : ℕ
+  pub gives : GivesNumber words name number
+  pub is : times ≡ times_for endless number
+
+-- who watches a station: nobody with `--silent`, and otherwise somebody who reads lines
+abbrev pub watch_for : (silent : Bool) → Watch
+watch_for silent = if silent then watch.Nobody else watch.Lines
+
+-- the form of records: that of the first of these flags that is set, and lines without one
+abbrev pub form_for : (json columns csv : Bool) → Form
+form_for json columns csv = if json then form.Json else if columns then form.Columns else if csv then form.Csv else form.Lines
+
+-- the words choose these settings of a station: each option gives the value of its own name, in its unit, and the run hasn't begun
+pub record IsChosen (words : Words) (station : Settings) : Type 0 where
+  pub width : GivesNumber words (codes "width") station.choice.width
+  pub deadline : GivesNumber words (codes "deadline") station.choice.deadline
+  pub unchained : station.choice.chained ≡ not (has_flag words (codes "unchained"))
+  pub every : GivesSeconds words (codes "every") station.choice.every
+  pub cycles : GivesTimes words (codes "cycles") (2 ^ 64 - 1) station.choice.cycles
+  pub quiet : GivesNumber words (codes "quiet") station.choice.quiet
+  pub retries : GivesTimes words (codes "retries") (2 ^ 32 - 1) station.choice.retries
+  pub stale : GivesSeconds words (codes "stale") station.choice.stale
+  pub until : station.choice.watched ≡ is_some (text_in words (codes "until"))
+  pub silent : station.choice.watch ≡ watch_for (has_flag words (codes "silent"))
+  pub form : station.layout.form ≡ form_for (has_flag words (codes "json")) (has_flag words (codes "columns")) (has_flag words (codes "csv"))
+  pub headed : station.layout.headed ≡ false
+  pub run : station.layout.run ≡ 0
+
+-- each number that the settings of a station need is given, and fits its type
+pub record HasNumbers (words : Words) : Type 0 where
+  pub width : HasNumber words (codes "width") 8
+  pub deadline : HasNumber words (codes "deadline") 64
+  pub every : HasNumber words (codes "every") 64
+  pub cycles : HasNumber words (codes "cycles") 64
+  pub quiet : HasNumber words (codes "quiet") 64
+  pub retries : HasNumber words (codes "retries") 32
+  pub stale : HasNumber words (codes "stale") 64
+
+-- the argument WHERE names this place
+pub record GivesPlace (words : Words) (place : Place) : Type 0 where
+  pub word : List ℕ
+  pub given : text_in words (codes "where") ≡ Some word
+  pub names : NamesPlace word place
+
+-- the most bytes of a log: the number of `--log-bytes`, or, if it isn't given, the greatest number of 64 bits, which is no bound
+abbrev pub IsLogBound : Words → ℕ → Type 0
+IsLogBound words most = IsNumberOr words (codes "log-bytes") 64 (2 ^ 64 - 1) most
+
+-- the words ask for this log: the path is that of `--log`, and none is kept without it
+abbrev pub IsLog : Words → Option LogPlace → Type 0
+IsLog words None = text_in words (codes "log") ≡ None
+IsLog words (Some log) = (text_in words (codes "log") ≡ Some log.path.now) × IsLogBound words log.most
+
+-- the words name this site: the place by WHERE, the log by `--log`, and the file that asks for the end by `--until`
+pub record IsSite (words : Words) (site : Site) : Type 0 where
+  pub place : GivesPlace words site.place
+  pub log : IsLog words site.log
+  pub until : option_map (λ path. path.now) site.until ≡ text_in words (codes "until")
+
+-- the words ask for this file of records: the path is that of `--append`, and none is written without it; with `--sync` each row
+-- is on the disk before the next command
+abbrev pub IsRecording : Words → Option Recording → Type 0
+IsRecording words None = text_in words (codes "append") ≡ None
+IsRecording words (Some recording) =
+    (text_in words (codes "append") ≡ Some recording.path.now) × (recording.sync ≡ has_flag words (codes "sync"))
+
+-- how many cycles a night has: the number that was chosen, or for 0 as many as are due in a day, one each `every` milliseconds
+abbrev pub cycles_a_night : (number every : ℕ) → ℕ
+cycles_a_night number every = if nat_eq number 0 then (if nat_eq every 0 then 0 else 86400000 / every) else number
+
+-- `--cycles` of a rehearsal says how many cycles a night has
+pub record GivesNightCycles (words : Words) (every cycles : ℕ) : Type 0 where
+  pub number : ℕ
+  pub gives : GivesNumber words (codes "cycles") number
+  pub is : cycles ≡ cycles_a_night number every
+
+-- the words of `rehearse` ask for this rehearsal: each option gives the value of its own name
+pub record IsRehearsal (words : Words) (rehearsal : Rehearsal) : Type 0 where
+  pub scene : option_map (λ path. path.now) rehearsal.scene ≡ text_in words (codes "scene")
+  pub line : option_map (λ path. path.now) rehearsal.line ≡ text_in words (codes "line")
+  pub nights : GivesNumber words (codes "nights") rehearsal.nights
+  pub cycles : GivesNightCycles words rehearsal.station.choice.every rehearsal.cycles
+  pub seed : GivesNumber words (codes "seed") rehearsal.seed
+  pub station : IsChosen words rehearsal.station
+
+-- each number that a rehearsal needs is given, and fits its type
+pub record HasRehearsalNumbers (words : Words) : Type 0 where
+  pub station : HasNumbers words
+  pub nights : HasNumber words (codes "nights") 64
+  pub seed : HasNumber words (codes "seed") 64
