@@ -1,6 +1,10 @@
 mod AtLink
+mod Both
+mod Hearing
+mod HandingBack
 mod LostTimes
 mod Measured
+mod TextRead
 mod Unbegun
 mod Wants
 mod Reached

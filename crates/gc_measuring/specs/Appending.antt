@@ -1,11 +1,13 @@
 -- A run that appends to a file, and what is left of it.
-use Rattle.std.specs.Prelude.{List, [], Option, Some, None}
+use Rattle.std.specs.Prelude.{◌≡◌, ℕ, ◌⊎◌, Bool, List, [], Option, Some, None}
 use Rattle.gc_links.specs.Acts.{Act}
 use Rattle.gc_messages.specs.declared.following.Followed.{Followed}
 use Rattle.gc_messages.specs.declared.streams.Streams.{Streams}
-use Rattle.gc_measuring.specs.Telling.{AppendingRun, acts_of, stage}
+use Rattle.gc_measuring.specs.Telling.{AppendingRun, HoldsOfFiled, MeasuresAllAtLink, RefusesFile, ReportsAtSite, Stage, Views, acts_of, stage}
 use Rattle.gc_measuring.specs.declared.recording.Appended.{Appended}
 use Rattle.gc_station.specs.Keeping.{Snapshot}
+use Rattle.gc_words.specs.Stations.{for_file}
+use Rattle.gc_words.specs.declared.settings.Settings.{Settings}
 
 -- the file that the run left, if there is one
 abbrev pub file_of : {R : Type 0} → Option (Appended R) → Option (Followed R)
@@ -22,3 +24,17 @@ acts_in (Some left) = acts_of left.link
 abbrev pub appending_run : {R S K E : Type 0} → (old new : Streams S K E) → (turns turns' : List Snapshot) → (left : Option (Appended R)) → AppendingRun S (Followed R) K E
 appending_run old new turns turns' left =
     record { before = stage old (Some []) turns; after = stage new (acts_in left) turns'; file = file_of left }
+
+-- a run over a file, of which `IsBegun` holds as the run began, from `old` to `new`, is reported with this status (`ReportsAtSite`);
+-- and with status 0 all commands of a text were measured
+pub record AppendsTo {S F E : Type 0} (IsBegun : F → Type 0) (views : Views S F E) (has_log : Bool) (station : Settings) (old new : Stage S F E) (status : ℕ) : Type 0 where
+  pub begun : IsBegun old.streams.output
+  pub told : ReportsAtSite views has_log (for_file station) old new status
+  pub done : status ≡ 0 → MeasuresAllAtLink views (for_file station) old new
+
+-- a file of records can't be had, which is reported (`RefusesFile`); or a run appended to the file, of which `IsBegun` holds as the
+-- run began, and which is handed back as the run left it (`AppendsTo`)
+abbrev pub AppendsToFile : {S F K E : Type 0} → (IsBegun : F → Type 0) → Views S F E → (has_log : Bool) → Settings → AppendingRun S F K E → (status : ℕ) → Type 0
+AppendsToFile IsBegun views has_log station whole status =
+    RefusesFile views.shown whole.before.streams whole.after.streams status
+    ⊎ HoldsOfFiled views.sink whole (λ old new. AppendsTo IsBegun views has_log station old new status)

@@ -7,4 +7,5 @@ pub mod Recording
 pub mod Stops
 pub mod TaskTexts
 pub mod Telling
+pub mod Texts
 pub mod Wanted

@@ -1,17 +1,20 @@
 -- How a file of records is opened, and what is reported of that: this project's own.
-use Rattle.std.specs.Prelude.{ℕ, Bool, List, [], ◌++◌, Option, Result, OnOk, codes}
+use Rattle.std.specs.Prelude.{ℕ, List, [], ◌++◌, Option, Result, OnOk, codes}
 use Rattle.std.specs.Io.KnownBytes.{Appends}
-use Rattle.gc_files.specs.Sinks.{IsOpenedAs, torn_in}
+use Rattle.gc_files.specs.Sinks.{torn_in}
 use Rattle.gc_files.specs.declared.appending.Appending.{Ghosts}
 use Rattle.gc_files.specs.declared.rows_file.RowsFile.{RowsFile}
 use Rattle.gc_files.specs.declared.system.Unfit.{Unfit}
 use Rattle.gc_files.specs.declared.system.Unfit.TheVariants.{Unopened, Held, Foreign, Failed}
+use Rattle.gc_messages.specs.Following.{IsOpenedAt}
+use Rattle.gc_messages.specs.declared.following.Followed.{Followed}
 use Rattle.gc_messages.specs.Repairs.{copied_line, torn_line}
 use Rattle.gc_rows.specs.Records.{head_text, form_sign}
 use Rattle.gc_texts.specs.Faults.{run_fault_text, fault_line}
 use Rattle.gc_texts.specs.declared.fault.RunFault.{RunFault}
 use Rattle.gc_texts.specs.declared.fault.RunFault.TheVariants.{RecordsUnopened, RecordsHeld, RecordsForeign, Output}
 use Rattle.gc_words.specs.Stations.{form_of_rows}
+use Rattle.gc_words.specs.declared.site.Recording.{Recording}
 use Rattle.gc_words.specs.declared.settings.Settings.{Settings}
 
 -- the fault that is reported if a path can't be used as a file of records
@@ -39,9 +42,11 @@ unfit_text why = fault_line (run_fault_text (fault_of_unfit why)) ++ rotation_li
 abbrev pub opened_lines : (copied torn : ℕ) → List ℕ
 opened_lines copied torn = copied_line copied ++ torn_line torn
 
--- the file was opened for rows in the station's form, each of which is to be synced (`true`) or not
-abbrev pub IsOpenedFor : {F : Type 0} {D : Ghosts F} → Settings → (sync : Bool) → RowsFile F D → Type 0
-IsOpenedFor station sync file = IsOpenedAs (head_text (form_of_rows station.layout.form)) (form_sign (form_of_rows station.layout.form)) sync file
+-- the file is at the path of this recording, and was just opened for rows in the station's form, each of which is to be synced if the
+-- recording asks for that
+abbrev pub IsBegunAt : {R : Type 0} → Recording → Settings → Followed R → Type 0
+IsBegunAt recording station followed =
+    IsOpenedAt recording.path.now (head_text (form_of_rows station.layout.form)) (form_sign (form_of_rows station.layout.form)) recording.sync followed
 
 -- the messages, which were `old` and are now `new`, got a report of the file's opening, if it could be written (`told`): a
 -- number of copied rows, of which no more is said, and how many bytes of a torn row were cut off

@@ -3,6 +3,7 @@ use Rattle.std.specs.Prelude.{◌≡◌, ℕ, ◌<◌, ◌≤◌, ◌⊎◌, Boo
 use Rattle.gc_words.specs.declared.choice.Choice.{Choice}
 use Rattle.gc_measuring.specs.declared.stop.Stop.{Stop}
 use Rattle.gc_measuring.specs.declared.stop.Stop.TheVariants.{Text, Empty, Line}
+use Rattle.gc_messages.specs.Transcripts.{Hearing, HeardBytes}
 use Rattle.gc_texts.specs.LineForms.{line_at}
 use Rattle.gc_texts.specs.Tasks.{TasksSeen, IsTasks, TaskFault, tasks_seen}
 use Rattle.gc_texts.specs.Troubles.{IsTrouble}
@@ -41,6 +42,25 @@ pub record GivesTasks (given : List ℕ) (old new : Input) (choice : Choice) (al
   pub are : IsTasks given choice.deadline choice.chained all
   pub some : all.setup < length all.tasks
 
+-- a text that was read whole is a station's text with these tasks and names, and has at least one task of the cycle, after those of
+-- the setup, as `GivesTasks` says
+pub record HasTasks (text : List ℕ) (choice : Choice) (all : TasksSeen) : Type 0 where
+  pub are : IsTasks text choice.deadline choice.chained all
+  pub some : all.setup < length all.tasks
+
+-- a text that was read whole is a station's text without a command of a cycle, as `HasNoCommand` says
+pub record HasSetupAlone (text : List ℕ) : Type 0 where
+  pub deadline : ℕ
+  pub chained : Bool
+  pub all : TasksSeen
+  pub are : IsTasks text deadline chained all
+  pub none : length all.tasks ≤ all.setup
+
+-- a text that was read whole is no station's text, or memory was refused for its tasks, or it has no command of a cycle, and this
+-- stop says which
+abbrev pub HasNoTasks : (text : List ℕ) → Stop → Type 0
+HasNoTasks text stop = ((fault : RunFault) × TaskFault text fault × IsStopFor text fault stop) ⊎ (HasSetupAlone text × (stop ≡ Empty))
+
 -- reading took a source from `old` to `new`, and gave the tasks of a station's text, which has the defaults of this choice
 abbrev pub ReadsTasks : (old new : Input) → Choice → Tasks → Type 0
 ReadsTasks old new choice all = GaveBytes old new (λ given. GivesTasks given old new choice (tasks_seen all))
@@ -49,6 +69,15 @@ ReadsTasks old new choice all = GaveBytes old new (λ given. GivesTasks given ol
 abbrev pub ReadsNoTasks : (old new : Input) → Stop → Type 0
 ReadsNoTasks old new stop = GaveBytes old new (λ given. RefusesTasks given old new stop)
 
--- a source gave a text that a station with this choice can measure
-abbrev pub IsCheckable : Choice → (old new : Input) → Type 0
-IsCheckable choice old new = GaveBytes old new (λ given. (all : TasksSeen) × GivesTasks given old new choice all)
+-- the reads of a source gave exactly this text, to its end, and it is a station's text with these tasks, which has the defaults of
+-- this choice
+abbrev pub HearsTasks : (old new : Hearing) → Choice → (text : List ℕ) → Tasks → Type 0
+HearsTasks old new choice text tasks = HeardBytes old new (λ given. (given ≡ text) × GivesTasks given old.input new.input choice (tasks_seen tasks))
+
+-- the reads of a source gave no tasks, for the reason that this stop says
+abbrev pub HearsNoTasks : (old new : Hearing) → Stop → Type 0
+HearsNoTasks old new stop = HeardBytes old new (λ given. RefusesTasks given old.input new.input stop)
+
+-- what the reads of a source gave is, to its end, a text that a station with this choice can measure
+abbrev pub IsCheckable : Choice → (old new : Hearing) → Type 0
+IsCheckable choice old new = HeardBytes old new (λ given. (all : TasksSeen) × GivesTasks given old.input new.input choice all)

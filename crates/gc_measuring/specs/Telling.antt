@@ -15,7 +15,8 @@ use Rattle.gc_files.specs.declared.system.Unfit.{Unfit}
 use Rattle.gc_lines.specs.declared.ports.Source.{Ghosts as Source}
 use Rattle.gc_lines.specs.declared.ports.Sink.{Ghosts as Sink}
 use Rattle.gc_links.specs.Acts.{Act}
-use Rattle.gc_links.specs.declared.telling.Telling.{Telling}
+use Rattle.gc_links.specs.declared.history.History.{History}
+use Rattle.gc_links.specs.declared.watched.Watched.{Watched}
 use Rattle.gc_station.specs.Keeping.{Snapshot}
 use Rattle.gc_station.specs.Runs.{FailsAtOutput}
 use Rattle.gc_station.specs.declared.tally.Tally.{Tally}
@@ -30,9 +31,14 @@ ports_seen source sink shown streams acts turns =
     record { input = input_of source streams.input; acts = acts; taken = sink.taken streams.output; messages = shown streams.messages; turns = turns }
 
 -- the acts that a link recorded, if there is one
-abbrev pub acts_of : {L : Type 0} → Option (Telling L) → Option (List Act)
+abbrev pub acts_of : {R : Type 0} → Option (Watched R) → Option (List Act)
 acts_of None = None
 acts_of (Some link) = Some link.history.acts
+
+-- the acts of a link's history, if there is one
+abbrev pub acts_noted : Option History → Option (List Act)
+acts_noted None = None
+acts_noted (Some history) = Some history.acts
 
 -- how the ports of a run are seen: its source and its sink by the ghost members of their traits; `lasts` says whether all that
 -- the sink took lasts, and `shown` gives what was written on the messages, if that is known

@@ -4,18 +4,18 @@
 ghost use Rattle.std.specs.Prelude.{◌≡◌, IfOk};
 ghost use Rattle.std.specs.Process.{exit_status};
 ghost use Rattle.gc_measuring.specs.TaskTexts.{IsCheckable};
-ghost use Rattle.gc_texts.specs.WholeTexts.{input_of};
 ghost use Rattle.gc_messages.specs.Statuses.{IsStatusUpTo};
+ghost use Rattle.gc_messages.specs.Transcripts.{hearing_of};
 
 use crate::bound::{outline_bound, report_tight_deadlines};
 use crate::counts::report_end_of_run;
 use crate::plan::{commands_per_cycle, plan_of};
 use crate::sendings::{repeats_before, report_long_chains};
 use crate::stop::Stop;
-use crate::task_text::read_task_text;
+use crate::task_text::hear_task_text;
 use gc_lines::{Sink, Source, write_whole};
 use gc_messages::{
-    Streams, report_blanks, report_odd_angles, report_unasked, report_unused_names,
+    Heard, Streams, report_blanks, report_odd_angles, report_unasked, report_unused_names,
     report_unwatched,
 };
 use gc_station::Plan;
@@ -38,15 +38,15 @@ use std::process::ExitCode;
 pub fn check_task_text<S: Source, K: Sink, E: Write>(
     alloc: Global,
     choice: Choice,
-    mut streams: Streams<S, K, E>,
-) -> (Streams<S, K, E>, io::Result<ExitCode>)
+    mut streams: Streams<Heard<S>, K, E>,
+) -> (Streams<Heard<S>, K, E>, io::Result<ExitCode>)
     ensures bound { IsStatusUpTo 1 result.1 }
 
-    // Status 0 only if the source gave a text that a station with this choice measures.
+    // Status 0 only if what the input gave, to its end, is a text that a station with this choice measures.
     ensures done { IfOk result.1 (λ status. exit_status status ≡ 0
-        → IsCheckable choice (input_of S.Source streams.input) (input_of S.Source result.0.input)) }
+        → IsCheckable choice (hearing_of S.Source streams.input) (hearing_of S.Source result.0.input)) }
 {
-    let end = match read_task_text(alloc, &mut streams.input, &choice) {
+    let end = match hear_task_text(alloc, &mut streams.input, &choice) {
         Ok((tasks, text)) => {
             let plan = plan_of(choice, tasks.setup, tasks.tasks.as_slice());
             let _ = report_doubts(text.as_slice(), &tasks, &plan, &mut streams.messages);

@@ -1,24 +1,29 @@
 //! A station that appends its records, as rows, to a file that outlasts the program.
 
-ghost use Rattle.std.specs.Prelude.{◌≡◌, [], IfOk, OnErr};
+ghost use Rattle.std.specs.Prelude.{◌≡◌, IfOk, IfSome, OnErr};
 ghost use Rattle.std.specs.Io.KnownBytes.{Appends};
 ghost use Rattle.std.specs.Option.{is_some};
 ghost use Rattle.std.specs.Process.{exit_status};
 ghost use Rattle.gc_lines.specs.Ports.{WritesIfOk};
-ghost use Rattle.gc_measuring.specs.Recording.{IsOpenedFor, ReportsOpening, fault_of_unfit, opened_lines, rotation_line, unfit_text};
-ghost use Rattle.gc_measuring.specs.Appending.{appending_run};
-ghost use Rattle.gc_measuring.specs.Telling.{AppendsAll, ReportsAppending, views_by};
-ghost use Rattle.gc_files.specs.Sinks.{steps_in};
+ghost use Rattle.gc_links.specs.LinksMeant.{IsMeantAt};
+ghost use Rattle.gc_links.specs.Placed.{place_seen};
+ghost use Rattle.gc_links.specs.Seeing.{path_at};
+ghost use Rattle.gc_measuring.specs.Recording.{IsBegunAt, ReportsOpening, fault_of_unfit, opened_lines, rotation_line, unfit_text};
+ghost use Rattle.gc_measuring.specs.Appending.{AppendsToFile, appending_run};
+ghost use Rattle.gc_measuring.specs.Telling.{AppendsAll, ReportsAppending, acts_noted, acts_of, views_by};
+ghost use Rattle.gc_measuring.specs.Texts.{ReadsAndAppends};
+ghost use Rattle.gc_files.specs.Rows.{appended};
+ghost use Rattle.gc_messages.specs.Following.{bytes_in};
 ghost use Rattle.gc_messages.specs.Statuses.{IsStatusUpTo};
 
 use crate::counts::report_end_of_run;
 use crate::spot::Spot;
-use crate::station::{measure_at, text_at};
+use crate::station::{history_of, measure_at, text_at};
 use crate::stop::Stop;
-use gc_files::{RowsFile, RowsOptions, SystemFile, Unfit, open_at};
+use gc_files::{Past, RowsOptions, Unfit};
 use gc_lines::{Durable, FromReader, Sink, Source};
-use gc_links::{PlacedLink, Telling, Watched};
-use gc_messages::{Followed, Streams, report_copied, report_torn};
+use gc_links::{History, Watched};
+use gc_messages::{Followed, Heard, Streams, report_copied, report_torn};
 use gc_rows::{head, sign};
 use gc_station::Kept;
 use gc_texts::RunFault;
@@ -67,48 +72,56 @@ fn write_rotation<E: Write>(why: Unfit, messages: &mut E) -> io::Result<()>
     }
 }
 
-// Opens the file of a station's records at `recording.path`, for rows in `form_of_rows` of the station, each of which is synced
-// if `recording.sync` is set. Writes how many rows were copied and how many bytes of an incomplete row were cut off, if any were.
-// Returns the file, and whether this could be written. `Err`: why the file can't be had; then there is no message.
-fn open_records<R: Files<File = File>, E: Write>(
-    rt: &R,
+// Opens the file of the records of the station at `spot`, at `recording.path`, for rows in `form_of_rows` of the station, each of
+// which is synced if `recording.sync` is set. Writes how many rows were copied and how many bytes of an incomplete row were cut off,
+// if any were. Returns the file, and whether this could be written. `Err`: why the file can't be had; then there is no message.
+fn open_records<'a, R: Files<File = File>, E: Write>(
+    rt: &'a R,
     alloc: Global,
-    recording: Recording<'_>,
-    station: Settings,
+    spot: Spot<'a>,
+    recording: Recording<'a>,
     messages: &mut E,
-) -> Result<(RowsFile<SystemFile>, io::Result<()>), Unfit>
-    ensures fresh { IfOk result (λ opened. steps_in opened.0 ≡ []) }
-    ensures asked { IfOk result (λ opened. IsOpenedFor station recording.entry.sync opened.0) }
-    ensures told { IfOk result (λ opened. ReportsOpening opened.0 opened.1 (E.contents messages.old) (E.contents messages.new)) }
+) -> Result<(Followed<'a, R>, io::Result<()>), Unfit>
+    ensures begun { IfOk result (λ opened. IsBegunAt recording.entry spot.entry.station opened.0) }
+    ensures told { IfOk result (λ opened. ReportsOpening opened.0.rows opened.1 (E.contents messages.old) (E.contents messages.new)) }
     ensures untold { OnErr result (E.contents messages.new ≡ E.contents messages.old) }
 {
-    let form = station.form_of_rows();
+    let form = spot.station.form_of_rows();
     let options = RowsOptions {
         head: head(form),
         sign: sign(form),
         sync: recording.sync,
     };
-    let (rows, copied) = open_at(rt, alloc, recording.path, options)?;
-    let told = report_opened(copied, rows.torn(), messages);
-    Ok((rows, told))
+    let (followed, copied) = Followed::open(rt, alloc, recording.path, options, spot.noticed)?;
+    let told = report_opened(copied, followed.rows.torn(), messages);
+    Ok((followed, told))
 }
 
 /// What is left of a run that appended to a file: the file, and the link, if there was one.
 #[derive(Drop)]
 pub struct Appended<'a, R> {
     pub file: Followed<'a, R>,
-    pub link: Option<Telling<Watched<'a, R, PlacedLink<'a, R>>>>,
+    pub link: Option<Watched<'a, R>>,
 }
 
-impl<'a, R: Files<File = File>> Appended<'a, R> {
+impl<'a, R: Net<Listener = TcpListener, Stream = TcpStream> + Clock + Files<File = File>> Appended<
+    'a,
+    R,
+> {
     /// Closes the link, and then ends the appending, as [`Followed::end`] does: if the file was opened with `sync`, the path
     /// still leads to it, and all that it holds is on the disk, if need be after one more sync, this removes the mark by which
     /// the next start would copy the file. The mark stays if the path can't be followed, the system refuses to remove the mark,
-    /// or memory runs out.
-    pub fn end(self) {
+    /// or memory runs out. Returns the history of the link, if there was one, and what was done to the file, which proofs alone
+    /// can read.
+    pub fn end(self) -> (Option<History>, Past)
+        ensures acts { acts_noted result.0 ≡ acts_of self.entry.link }
+        ensures rows { appended result.1.steps ≡ bytes_in self.entry.file }
+    {
         let Appended { file, link } = self;
-        drop(link);
+        let history = history_of(link);
+        let past = file.past();
         file.end();
+        (history, past)
     }
 }
 
@@ -153,14 +166,23 @@ pub fn append_at<
         (views_by S.Source ⟦<Followed<'a, R> as Sink>⟧ ⟦<Followed<'a, R> as Durable>⟧.is_durable E.contents) spot.entry.station
         (appending_run streams result.0 kept.old.turns kept.new.turns result.2)) }
 
+    // Both, of a run that began on the file at the recording's path, which was just opened for rows in the station's form, to be
+    // synced if the recording asks for that.
+    ensures begun { IfOk result.1 (λ status. AppendsToFile (IsBegunAt recording.entry spot.entry.station)
+        (views_by S.Source ⟦<Followed<'a, R> as Sink>⟧ ⟦<Followed<'a, R> as Durable>⟧.is_durable E.contents)
+        (is_some spot.entry.site.log) spot.entry.station
+        (appending_run streams result.0 kept.old.turns kept.new.turns result.2) (exit_status status)) }
+
     // Nothing is written on the output.
     ensures output { result.0.output ≡ streams.output }
+
+    // The acts of the link that is handed back are what the system's calls did, at the site's place.
+    ensures place { IfSome result.2 (λ left. IfSome left.link (λ link. ∥ IsMeantAt (place_seen spot.entry.site.place) (path_at spot.entry.site.until) link ∥₁)) }
     ensures bound { IsStatusUpTo 1 result.1 }
 {
-    match open_records(rt, alloc, recording, spot.station, &mut streams.messages) {
+    match open_records(rt, alloc, spot, recording, &mut streams.messages) {
         // If the messages on the opening can't be written, the station measures all the same.
-        Ok((rows, _)) => {
-            let followed = Followed::new(rt, alloc, recording.path, rows, spot.noticed);
+        Ok((followed, _)) => {
             let (filed, output) = streams.with_output(followed);
             let station = spot.station.for_file();
             let spot = Spot { station, ..spot };
@@ -189,13 +211,21 @@ pub fn append_text_at<
     alloc: Global,
     spot: Spot<'a>,
     recording: Recording<'a>,
-    mut streams: Streams<S, K, E>,
+    mut streams: Streams<Heard<S>, K, E>,
     kept: &mut Kept,
 ) -> (
-    Streams<S, K, E>,
+    Streams<Heard<S>, K, E>,
     io::Result<ExitCode>,
     Option<Appended<'a, R>>,
 )
+    // Either the text was refused, which is reported with status 1, and there is no file and no link. Or the input gave a text to
+    // its end, and the run over exactly this text ended, and is told, as `append_at` says; with status 0 all commands were measured,
+    // and the file that is handed back has their rows.
+    ensures told { IfOk result.1 (λ status. ReadsAndAppends (IsBegunAt recording.entry spot.entry.station) S.Source ⟦<FromReader<&'a [u8]> as Source>⟧
+        (views_by ⟦<FromReader<&'a [u8]> as Source>⟧ ⟦<Followed<'a, R> as Sink>⟧ ⟦<Followed<'a, R> as Durable>⟧.is_durable E.contents)
+        (is_some spot.entry.site.log) spot.entry.station
+        (appending_run streams result.0 kept.old.turns kept.new.turns result.2) (exit_status status)) }
+
     // Nothing is written on the output.
     ensures output { result.0.output ≡ streams.output }
     ensures bound { IsStatusUpTo 1 result.1 }

@@ -1,29 +1,35 @@
 //! A station at a place: it opens its log and its link, measures, and reports how that ended.
 
-ghost use Rattle.std.specs.Prelude.{◌≡◌, [], Some, false, IfOk, IfErr};
+ghost use Rattle.std.specs.Prelude.{◌≡◌, [], Some, Ok, false, IfOk, IfErr, IfSome, OnOk};
 ghost use Rattle.std.specs.Option.{is_some};
 ghost use Rattle.std.specs.Process.{exit_status};
+ghost use Rattle.gc_links.specs.LinksMeant.{IsMeantAt};
+ghost use Rattle.gc_links.specs.Placed.{place_seen};
+ghost use Rattle.gc_links.specs.Seeing.{path_at};
 ghost use Rattle.gc_measuring.specs.Stops.{fault_without_link, IsFaultWithoutLink};
-ghost use Rattle.gc_measuring.specs.Telling.{ReportsMeasuring, MeasuresAll, ReportsAtSite, MeasuresAllAtLink, CannotBegin, acts_of, stage, views_by};
+ghost use Rattle.gc_measuring.specs.Telling.{ReportsMeasuring, MeasuresAll, ReportsAtSite, MeasuresAllAtLink, CannotBegin, acts_noted, acts_of, stage, views_by};
+ghost use Rattle.gc_measuring.specs.Texts.{ReadsAndMeasures, ReadsTaskText, RefusesTaskText};
 ghost use Rattle.gc_messages.specs.Statuses.{IsStatusUpTo};
+ghost use Rattle.gc_messages.specs.Transcripts.{hearing_of};
 
 use crate::counts::report_end_of_run;
 use crate::logging::{LogSink, log_at, measure_logged};
 use crate::measure::run_station_text;
 use crate::spot::Spot;
 use crate::stop::Stop;
-use crate::task_text::read_task_text;
+use crate::task_text::hear_task_text;
 use gc_ask::fault_of_unusable;
 use gc_files::{RowsFile, SystemFile};
 use gc_lines::{Durable, FromReader, Source};
-use gc_links::{Link, Moment, Place, PlacedLink, Telling, Unusable, Watched};
+use gc_links::{History, Link, LinkRecord, Unusable, Watched};
 use gc_logs::Logged;
-use gc_messages::{Noticing, Streams};
+use gc_messages::{Heard, Noticing, Streams};
 use gc_station::{Kept, Tally};
 use gc_texts::RunFault;
+use gc_words::Site;
 use std::alloc::Global;
 use std::fs::File;
-use std::io::{self, Write};
+use std::io::{self, ErrorKind, Write};
 use std::net::{Net, TcpListener, TcpStream};
 use std::process::ExitCode;
 use std::rt::Files;
@@ -33,13 +39,19 @@ use std::time::Clock;
 pub(crate) fn text_at<S: Source, K, E: Write>(
     alloc: Global,
     spot: Spot<'_>,
-    streams: &mut Streams<S, K, E>,
+    streams: &mut Streams<Heard<S>, K, E>,
 ) -> Result<Vec<u8>, io::Result<ExitCode>>
+    ensures read { IfOk result (λ text. ReadsTaskText (hearing_of S.Source streams.old.input) (hearing_of S.Source streams.new.input) spot.entry.station.choice text.items) }
+    ensures untold { OnOk result (streams.new.messages ≡ streams.old.messages) }
+    ensures refused { IfErr result (λ ended. IfOk ended (λ status. RefusesTaskText S.Source E.contents streams.old streams.new (exit_status status))) }
     ensures output { streams.new.output ≡ streams.old.output }
     ensures bound { IfErr result (λ ended. IsStatusUpTo 1 ended) }
 {
-    match read_task_text(alloc, &mut streams.input, &spot.station.choice) {
-        Ok((_, text)) => Ok(text),
+    match hear_task_text(alloc, &mut streams.input, &spot.station.choice) {
+        Ok((tasks, text)) => {
+            drop(tasks);
+            Ok(text)
+        }
         Err(stop) => {
             spot.note_fault(stop.fault());
             Err(report_end_of_run(Err(stop), &mut streams.messages))
@@ -59,14 +71,23 @@ pub fn measure_text_at<
     rt: &'a R,
     alloc: Global,
     spot: Spot<'a>,
-    mut streams: Streams<S, K, E>,
+    mut streams: Streams<Heard<S>, K, E>,
     kept: &mut Kept,
-) -> (Streams<S, K, E>, io::Result<ExitCode>)
+) -> (
+    Streams<Heard<S>, K, E>,
+    io::Result<ExitCode>,
+    Option<Watched<'a, R>>,
+)
+    // Either the text was refused, which is reported with status 1, and there is no link. Or the input gave a text to its end, and
+    // the run over exactly this text ended, and is told, as `measure_at` says; with status 0 all commands were measured.
+    ensures told { IfOk result.1 (λ status. ReadsAndMeasures S.Source
+        (views_by ⟦<FromReader<&'a [u8]> as Source>⟧ K.Sink K.is_durable E.contents) (is_some spot.entry.site.log) spot.entry.station
+        (stage streams (Some []) kept.old.turns) (stage result.0 (acts_of result.2) kept.new.turns) (exit_status status)) }
     ensures bound { IsStatusUpTo 1 result.1 }
 {
     let text = match text_at(alloc, spot, &mut streams) {
         Ok(text) => text,
-        Err(ended) => return (streams, ended),
+        Err(ended) => return (streams, ended, None),
     };
     let Streams {
         input,
@@ -78,7 +99,7 @@ pub fn measure_text_at<
         output,
         messages,
     };
-    let (left, ended, _) = measure_at(rt, alloc, spot, read, kept);
+    let (left, ended, link) = measure_at(rt, alloc, spot, read, kept);
     let Streams {
         input: _,
         output,
@@ -89,7 +110,7 @@ pub fn measure_text_at<
         output,
         messages,
     };
-    (streams, ended)
+    (streams, ended, link)
 }
 
 /// Measures at a site, and reports how the run ended: with status 0 by the counts, or with status 1 by the fault (`Err`: the
@@ -114,7 +135,7 @@ pub fn measure_at<
 ) -> (
     Streams<S, K, E>,
     io::Result<ExitCode>,
-    Option<Telling<Watched<'a, R, PlacedLink<'a, R>>>>,
+    Option<Watched<'a, R>>,
 )
     // The messages report whether the log isn't complete, and then, with the status, how the run ended. Either the text was refused,
     // or the output failed before the records, or the text's commands were measured: the link that is handed back has recorded
@@ -128,37 +149,77 @@ pub fn measure_at<
     ensures done { IfOk result.1 (λ status. exit_status status ≡ 0
         → MeasuresAllAtLink (views_by S.Source K.Sink K.is_durable E.contents) spot.entry.station
         (stage streams (Some []) kept.old.turns) (stage result.0 (acts_of result.2) kept.new.turns)) }
+
+    // The acts of the link that is handed back are what the system's calls did, at the site's place.
+    ensures place { IfSome result.2 (λ link. ∥ IsMeantAt (place_seen spot.entry.site.place) (path_at spot.entry.site.until) link ∥₁) }
     ensures bound { IsStatusUpTo 1 result.1 }
 {
-    let Opened { link, moment, log } = match open_link_and_log(rt, spot) {
+    let Opened { link, log } = match open_link_and_log(rt, spot) {
         Ok(opened) => opened,
         Err(fault) => {
             let ended = report_end_of_run(Err(Stop::Run(fault)), &mut streams.messages);
             return (streams, ended, None);
         }
     };
+    let moment = link.began();
     let station = spot.station.begun(moment);
     let spot = Spot { station, ..spot };
-    let told = Telling::new(Watched::new(rt, link, spot.site.until));
-    let mut link = Noticing::new(told, spot.noticed, spot.reason);
+    let mut link = Noticing::new(link, spot.noticed, spot.reason);
     match log {
         None => {
             let (streams, ended) = measure_over(alloc, &mut link, spot, streams, kept);
-            (streams, ended, Some(link.into_link()))
+            let (ended, link) = hand_back(spot.site, ended, link.into_link());
+            (streams, ended, link)
         }
         Some(log) => {
             let mut logged = Logged::new(link, log, moment.utc);
             let (streams, ended) = measure_logged(alloc, &mut logged, spot, streams, kept);
-            (streams, ended, Some(logged.into_link().into_link()))
+            let (ended, link) = hand_back(spot.site, ended, logged.into_link().into_link());
+            (streams, ended, link)
         }
     }
 }
 
-// What a run measures over: a link, with the moment at which the run begins, and its log, if one is asked for.
+/// Closes a link, if there is one, and returns the history of its acts, which proofs alone can read.
+pub fn history_of<'a, R>(link: Option<Watched<'a, R>>) -> Option<History>
+    ensures { acts_noted result ≡ acts_of link.entry }
+{
+    match link {
+        Some(link) => {
+            let LinkRecord {
+                began: _,
+                history,
+                calls: _,
+                looks: _,
+            } = link.into_record();
+            Some(history)
+        }
+        None => None,
+    }
+}
+
+// The link after a run, and how the run's end was reported. No call of a link changes where it leads to; but what a run does with a
+// link is known by its acts alone, so this is compared. A link to another place, which there never is, isn't handed back, and
+// counts as a report that couldn't be written.
+fn hand_back<'a, R>(
+    site: Site<'a>,
+    ended: io::Result<ExitCode>,
+    link: Watched<'a, R>,
+) -> (io::Result<ExitCode>, Option<Watched<'a, R>>)
+    ensures same { IfOk result.0 (λ status. (ended ≡ Ok status) × (result.1 ≡ Some link.entry)) }
+    ensures place { IfSome result.1 (λ link. ∥ IsMeantAt (place_seen site.entry.place) (path_at site.entry.until) link ∥₁) }
+{
+    if link.is_for(site.place, site.until) {
+        (ended, Some(link))
+    } else {
+        (Err(io::Error::from(ErrorKind::Other)), None)
+    }
+}
+
+// What a run measures over: a link, and its log, if one is asked for.
 #[derive(Drop)]
 struct Opened<'a, R> {
-    link: PlacedLink<'a, R>,
-    moment: Moment,
+    link: Watched<'a, R>,
     log: Option<LogSink<'a, RowsFile<SystemFile>>>,
 }
 
@@ -169,11 +230,12 @@ fn open_link_and_log<
     R: Net<Listener = TcpListener, Stream = TcpStream> + Clock + Files<File = File>,
 >(rt: &'a R, spot: Spot<'a>) -> Result<Opened<'a, R>, RunFault>
     ensures logged { IfOk result (λ opened. is_some opened.log ≡ is_some spot.entry.site.log) }
+    ensures fresh { IfOk result (λ opened. opened.link.history.acts ≡ []) }
     ensures fault { IfErr result (λ fault. CannotBegin (is_some spot.entry.site.log) fault) }
 {
     let log = log_at(rt, spot.noticed, spot.site.log)?;
-    match link_at(rt, spot.site.place) {
-        Ok((link, moment)) => Ok(Opened { link, moment, log }),
+    match link_at(rt, spot.site) {
+        Ok(link) => Ok(Opened { link, log }),
         Err(fault) => {
             spot.note_fault(fault);
             Err(fault)
@@ -181,22 +243,18 @@ fn open_link_and_log<
     }
 }
 
-// A link to a place, and the moment at which a run over it begins; or the fault if there is no link: what is wrong with the
-// device, or that the clock can't be read.
+// The link of a site, whose clock was read; or the fault if there is no link: what is wrong with the device, or that the clock
+// can't be read.
 fn link_at<'a, R: Net<Listener = TcpListener, Stream = TcpStream> + Clock + Files<File = File>>(
     rt: &'a R,
-    place: Place<'a>,
-) -> Result<(PlacedLink<'a, R>, Moment), RunFault>
-    ensures { IfErr result (λ fault. IsFaultWithoutLink fault) }
+    site: Site<'a>,
+) -> Result<Watched<'a, R>, RunFault>
+    ensures fresh { IfOk result (λ link. link.history.acts ≡ []) }
+    ensures fault { IfErr result (λ fault. IsFaultWithoutLink fault) }
 {
-    let mut link = match PlacedLink::new(rt, place) {
-        Ok(link) => link,
-        Err(reason) => return Err(fault_without_link(reason)),
-    };
-    match link.now() {
-        Ok(moment) => Ok((link, moment)),
-        // The clock can't be read.
-        Err(_) => Err(fault_without_link(None)),
+    match Watched::new(rt, site.place, site.until) {
+        Ok(link) => Ok(link),
+        Err(reason) => Err(fault_without_link(reason)),
     }
 }
 

@@ -1,13 +1,16 @@
 //! A station's text, read whole from a source.
 
 ghost use Rattle.std.specs.Prelude.{◌≡◌, ◌+◌, ◌≤◌, IfOk, IfErr};
-ghost use Rattle.gc_measuring.specs.TaskTexts.{IsStopFor, ReadsNoTasks, ReadsTasks};
+ghost use Rattle.gc_measuring.specs.TaskTexts.{HasNoTasks, HasTasks, HearsNoTasks, HearsTasks, IsStopFor, ReadsNoTasks, ReadsTasks};
+ghost use Rattle.gc_messages.specs.Transcripts.{hearing_of};
 ghost use Rattle.gc_station.specs.Watching.{places_of, watched_of};
+ghost use Rattle.gc_texts.specs.Tasks.{tasks_seen};
 ghost use Rattle.gc_texts.specs.WholeTexts.{input_of};
 ghost use Rattle.gc_texts.specs.declared.text.TheConstants.{TEXT_LIMIT};
 
 use crate::stop::Stop;
 use gc_lines::Source;
+use gc_messages::{Heard, hear_text};
 use gc_station::Watches;
 use gc_texts::{RunFault, Tasks, line_at, read_tasks, read_text, trouble_of};
 use gc_words::Choice;
@@ -26,10 +29,35 @@ pub fn read_task_text<S: Source>(
     ensures refused { IfErr result (λ stop. ReadsNoTasks (input_of S.Source source.old) (input_of S.Source source.new) stop) }
     ensures bounded { S.reads source.new ≤ S.reads source.old + (TEXT_LIMIT + 1) }
 {
-    let text = match read_text(alloc, source) {
-        Ok(text) => text,
-        Err(fault) => return Err(Stop::Text(fault)),
-    };
+    match read_text(alloc, source) {
+        Ok(text) => tasks_of(alloc, text, choice),
+        Err(fault) => Err(Stop::Text(fault)),
+    }
+}
+
+/// As [`read_task_text`], from a source that notes what its reads gave: the text is exactly that.
+pub fn hear_task_text<S: Source>(
+    alloc: Global,
+    source: &mut Heard<S>,
+    choice: &Choice,
+) -> Result<(Tasks, Vec<u8>), Stop>
+    ensures found { IfOk result (λ all. HearsTasks (hearing_of S.Source source.old) (hearing_of S.Source source.new) choice.now all.1.items all.0) }
+    ensures refused { IfErr result (λ stop. HearsNoTasks (hearing_of S.Source source.old) (hearing_of S.Source source.new) stop) }
+    ensures bounded { S.reads source.new.source ≤ S.reads source.old.source + (TEXT_LIMIT + 1) }
+{
+    match hear_text(alloc, source) {
+        Ok(text) => tasks_of(alloc, text, choice),
+        Err(fault) => Err(Stop::Text(fault)),
+    }
+}
+
+// The tasks and names of a station's text that was read whole, with the text itself, which is handed back. It fails with the faults of
+// `read_tasks` (`Text`), with the field at fault for a faulty line (`Line`), and with `Empty` if the text has no command of a cycle.
+fn tasks_of(alloc: Global, text: Vec<u8>, choice: &Choice) -> Result<(Tasks, Vec<u8>), Stop>
+    ensures found { IfOk result (λ all. HasTasks text.items choice.now (tasks_seen all.0)) }
+    ensures same { IfOk result (λ all. all.1.items ≡ text.items) }
+    ensures refused { IfErr result (λ stop. HasNoTasks text.items stop) }
+{
     match read_tasks(alloc, text.as_slice(), choice.deadline, choice.chained) {
         Ok(tasks) => {
             if tasks.tasks.len() <= tasks.setup {

@@ -1,10 +1,10 @@
 //! How an end is reported: the exit status, and a line for a refusal or a fault.
 
-ghost use Rattle.std.specs.Prelude.{◌≡◌, true, IfOk};
+ghost use Rattle.std.specs.Prelude.{◌≡◌, true, false, IfOk};
 ghost use Rattle.std.specs.Process.{exit_status};
 ghost use Rattle.gc_lines.specs.Answering.{serve_fault_text};
 ghost use Rattle.gc_texts.specs.Faults.{run_fault_text, Tells};
-ghost use Rattle.gc_messages.specs.Ends.{is_port};
+ghost use Rattle.gc_messages.specs.Ends.{is_port, TellsAt};
 ghost use Rattle.gc_messages.specs.Refusals.{Refuses, refusal_line, range_line, stale_line, place_line};
 ghost use Rattle.gc_messages.specs.Statuses.{IsStatusUpTo};
 
@@ -85,6 +85,9 @@ pub fn report_end_at<R, E: Write>(
     // For a port the messages are exactly the line of the fault, if there was one.
     ensures port { is_port place.entry ≡ true
         → IfOk result (λ status. Tells run_fault_text end (exit_status status) (E.contents messages.old) (E.contents messages.new)) }
+
+    // For any place the status is 0 and nothing was written where the run ended well, and else the status is 1.
+    ensures told { IfOk result (λ status. TellsAt (is_port place.entry) end (exit_status status) (E.contents messages.old) (E.contents messages.new)) }
     ensures bound { IsStatusUpTo 1 result }
 {
     match place {
@@ -101,7 +104,8 @@ fn report_with_reason<R, E: Write>(
     rt: &Noting<'_, R>,
     messages: &mut E,
 ) -> io::Result<ExitCode>
-    ensures { IsStatusUpTo 1 result }
+    ensures told { IfOk result (λ status. TellsAt false end (exit_status status) (E.contents messages.old) (E.contents messages.new)) }
+    ensures bound { IsStatusUpTo 1 result }
 {
     let ended = report_end(end, messages);
     if let Err(fault) = end {

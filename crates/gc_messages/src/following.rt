@@ -1,12 +1,14 @@
 //! A file of rows that is looked for at its path: if it was moved or deleted, rows go on in a new one at that path.
 
-ghost use Rattle.std.specs.Prelude.{◌≡◌, [], true, Some, OnOk};
-ghost use Rattle.gc_files.specs.Sinks.{has_failed, is_durable, steps_in};
-ghost use Rattle.gc_lines.specs.Ports.{Fails};
+ghost use Rattle.std.specs.Prelude.{◌≡◌, ◌<◌, [], length, true, Some, IfOk, OnOk};
+ghost use Rattle.std.specs.Io.KnownBytes.{Keeps};
+ghost use Rattle.gc_files.specs.Rows.{appended};
+ghost use Rattle.gc_files.specs.Sinks.{asks_sync, has_failed, is_durable, steps_in};
+ghost use Rattle.gc_lines.specs.Ports.{Fails, TakesBytes};
 
 use crate::files::FilesSeen;
 use crate::oddity::{Noticed, note_files};
-use gc_files::{Done, Past, RowsFile, SystemFile, end_at, open_at};
+use gc_files::{Done, Past, RowsFile, RowsOptions, SystemFile, Unfit, end_at, open_at};
 use gc_lines::{Durable, PortFailed, Sink};
 use std::alloc::Global;
 use std::cell::Cell;
@@ -30,27 +32,37 @@ pub struct Followed<'a, R> {
 }
 
 impl<'a, R: Files<File = File>> Followed<'a, R> {
-    ghost use Rattle.gc_messages.specs.Following.{bytes_in};
+    ghost use Rattle.gc_messages.specs.Following.{IsOpenedAt, bytes_in, path_of};
 
-    /// A file of rows that was opened at this path. What becomes of it is noted in `noticed`.
-    pub fn new(
+    /// Opens a file of rows at this path, with these options, as [`open_at`] does. What becomes of it is noted in `noticed`.
+    /// Returns also how many rows were copied as it was opened. `Err`: why the path can't be used.
+    pub fn open(
         rt: &'a R,
         alloc: Global,
         path: &'a str,
-        rows: RowsFile<SystemFile>,
+        options: RowsOptions,
         noticed: &'a Cell<Noticed>,
-    ) -> Followed<'a, R>
-        ensures is { result.rows ≡ rows }
-        ensures fresh { steps_in rows ≡ [] → bytes_in result ≡ [] }
+    ) -> Result<(Followed<'a, R>, u64), Unfit>
+        // The file is at this path, was opened with these options, and nothing was appended to it yet.
+        ensures opened { IfOk result (λ opened. IsOpenedAt path.now options.head.now options.sign.now options.sync opened.0) }
     {
-        Followed {
+        let (rows, copied) = open_at(rt, alloc, path, options)?;
+        let followed = Followed {
             rt,
             alloc,
             path,
             rows,
             earlier: Past::new(),
             noticed,
-        }
+        };
+        Ok((followed, copied))
+    }
+
+    /// What was done to all of these files since each was opened, one after the other, which proofs alone can read.
+    pub fn past(&self) -> Past
+        ensures { appended result.steps ≡ bytes_in self.now }
+    {
+        self.earlier.then(&Done::All(self.rows.past()))
     }
 
     /// Ends the appending to the file that takes the rows now, as `end_at` does: if the path leads to that file, and all that it
@@ -78,9 +90,12 @@ impl<'a, R: Files<File = File>> Followed<'a, R> {
     // Lets the rows go on in a new file at the path, into which this many rows were copied as it was opened, notes that, and
     // syncs the new file. `Err`: that sync failed; the new file takes the rows all the same.
     fn go_on_in(&mut self, rows: RowsFile<SystemFile>, copied: u64) -> Result<(), PortFailed>
-        requires { steps_in rows ≡ [] }
+        requires fresh { steps_in rows ≡ [] }
+        requires sync { asks_sync rows ≡ asks_sync self.old.rows }
         ensures is_durable { OnOk result (is_durable self.new.rows ≡ true) }
         ensures same { bytes_in self.new ≡ bytes_in self.old }
+        ensures path { path_of self.new ≡ path_of self.old }
+        ensures sync { asks_sync self.new.rows ≡ asks_sync self.old.rows }
         ensures fails { Fails (has_failed rows) (has_failed self.new.rows) result }
     {
         let files = self.noticed.get().files;
@@ -99,15 +114,22 @@ impl<'a, R: Files<File = File>> Followed<'a, R> {
     }
 }
 
+// No call changes the path, nor whether the file was opened with `sync`.
 impl<'a, R: Files<File = File>> Sink for Followed<'a, R> {
-    ghost use Rattle.gc_messages.specs.Following.{bytes_in};
+    ghost use Rattle.gc_messages.specs.Following.{bytes_in, path_of};
 
     ghost taken = { λ f. Some (bytes_in f) };
 
     ghost failed = { λ f. has_failed f.rows };
 
     // Writes into the file that takes the rows now. `Err`: that file failed, now or before.
-    fn write(&mut self, bytes: &[u8]) -> Result<usize, PortFailed> {
+    fn write(&mut self, bytes: &[u8]) -> Result<usize, PortFailed>
+        requires { 0 < length bytes.now }
+        ensures bytes { TakesBytes (Some (bytes_in self.old)) (Some (bytes_in self.new)) result bytes.now }
+        ensures fails { Fails (has_failed self.old.rows) (has_failed self.new.rows) result }
+        ensures path { path_of self.new ≡ path_of self.old }
+        ensures sync { asks_sync self.new.rows ≡ asks_sync self.old.rows }
+    {
         self.rows.write(bytes)
     }
 
@@ -117,6 +139,8 @@ impl<'a, R: Files<File = File>> Sink for Followed<'a, R> {
 }
 
 impl<'a, R: Files<File = File>> Durable for Followed<'a, R> {
+    ghost use Rattle.gc_messages.specs.Following.{bytes_in, path_of};
+
     ghost is_durable = { λ f. is_durable f.rows };
 
     // Syncs the file, as `RowsFile` does: without effect if it was opened without `sync`. Then looks whether the path leads to
@@ -124,7 +148,13 @@ impl<'a, R: Files<File = File>> Durable for Followed<'a, R> {
     // too; else they go on in the old one, and it is noted that the path leads astray. If the path leads to the file again, that
     // is noted. `Err`: the file failed, now or before, and the path isn't looked at; or the new file failed, which takes the rows
     // then.
-    fn sync(&mut self) -> Result<(), PortFailed> {
+    fn sync(&mut self) -> Result<(), PortFailed>
+        ensures is_durable { OnOk result (is_durable self.new.rows ≡ true) }
+        ensures same { Keeps (Some (bytes_in self.old)) (Some (bytes_in self.new)) }
+        ensures fails { Fails (has_failed self.old.rows) (has_failed self.new.rows) result }
+        ensures path { path_of self.new ≡ path_of self.old }
+        ensures sync { asks_sync self.new.rows ≡ asks_sync self.old.rows }
+    {
         self.rows.sync()?;
         if self.rows.file().is_at(self.rt, self.path) {
             self.note_astray(false);

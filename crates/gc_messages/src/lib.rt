@@ -1,11 +1,12 @@
 //! The messages of the program: how an end is reported, with the system's reason, and what is noticed of a line, of its
-//! connection and of files; and the standard streams, one of which takes them.
+//! connection and of files; the standard streams, one of which takes them; and what went through a stream, as proofs see it.
 #![tactic(auto)]
 
 mod blanks;
 mod ending;
 mod files;
 mod following;
+mod heard;
 mod lossy;
 mod noting;
 mod oddity;
@@ -13,6 +14,8 @@ mod rate_limit;
 mod short_text;
 mod standard;
 mod streams;
+mod told;
+mod transcript;
 mod turns;
 mod unasked;
 
@@ -23,6 +26,7 @@ pub use ending::{
 };
 pub use files::{FilesNews, FilesSeen, FilesTold, LogSeen, MINUTE, report_copied, report_torn};
 pub use following::Followed;
+pub use heard::{Heard, hear_text};
 pub use lossy::Lossy;
 pub use noting::Noting;
 pub use oddity::{Noticed, Noticing, Oddities, note_files};
@@ -30,5 +34,7 @@ pub use rate_limit::RateLimit;
 pub use short_text::ShortText;
 pub use standard::{Places, Standard};
 pub use streams::Streams;
+pub use told::Told;
+pub use transcript::{Piece, Transcript};
 pub use turns::report_odd_angles;
 pub use unasked::{report_unasked, report_unused_names, report_unwatched};

@@ -1,7 +1,7 @@
 //! The three standard streams: which of them are open, and what takes the places of those that aren't. A socket that is opened
 //! while a stream is closed may take that stream's place, and gets then what is written to the stream.
 
-ghost use Rattle.std.specs.Prelude.{◌≡◌, IfOk};
+ghost use Rattle.std.specs.Prelude.{◌≡◌, true, IfOk, IsOk};
 ghost use Rattle.std.specs.Process.{exit_status};
 ghost use Rattle.gc_messages.specs.Streams.{are_open, ReportsClosed};
 ghost use Rattle.gc_messages.specs.Statuses.{IsStatusUpTo};
@@ -49,7 +49,10 @@ impl Standard {
     /// Opens `/dev/null` for each stream that is closed. It takes that stream's place, because the system gives a file the lowest
     /// place that is free, and holds it until the result is dropped. `Err`: `/dev/null` couldn't be opened for one of the closed
     /// streams, and no place stays taken.
-    pub fn fill<R: Files>(self, rt: &R) -> io::Result<Places<R::File>> {
+    pub fn fill<R: Files>(self, rt: &R) -> io::Result<Places<R::File>>
+        // If all three streams are open, there is nothing to fill.
+        ensures filled { are_open self ≡ true → IsOk result }
+    {
         Ok(Places {
             input: null_for(rt, self.input)?,
             output: null_for(rt, self.output)?,
@@ -87,7 +90,9 @@ fn is_open<F: AsFd>(stream: &F) -> bool {
 
 // `/dev/null`, which takes all and gives nothing, for a stream that is closed, and `None` for one that is open. `Err`: it couldn't be
 // opened.
-fn null_for<R: Files>(rt: &R, is_open: bool) -> io::Result<Option<R::File>> {
+fn null_for<R: Files>(rt: &R, is_open: bool) -> io::Result<Option<R::File>>
+    ensures { is_open ≡ true → IsOk result }
+{
     if is_open {
         return Ok(None);
     }

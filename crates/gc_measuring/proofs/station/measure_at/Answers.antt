@@ -5,6 +5,7 @@ use Rattle.std.proofs.lemmas.Result.{IfOk-weaker}
 use Rattle.gc_measuring.specs.declared.stop.Stop.TheVariants.{Run}
 use Rattle.gc_measuring.specs.Telling.{acts_of, stage}
 use Rattle.gc_measuring.proofs.AtLink.{measures_at_link, measures_all_at_link}
+use Rattle.gc_measuring.proofs.HandingBack.{measures_handed_back, reports_handed_back}
 use Rattle.gc_measuring.proofs.Unbegun.{sink_is_as_it_was}
 use Rattle.gc_measuring.proofs.station.measure_at.Goals as goal
 
@@ -34,47 +35,55 @@ returns-in-Err-clause-told g c =
 pub returns-in-None-clause-told : goal.returns-in-None-clause-told
 returns-in-None-clause-told g c =
     let new = stage c.measure_over-streams.result.0 (acts_of (Some c.into_link.result)) c.measure_over-streams.new.kept.turns in
-    IfOk-weaker c.measure_over-streams.result.1 _ _
+    reports_handed_back _ _ _ _ _ _ c.measure_over-streams.result.1 c.hand_back-ended.result.0
+    c.into_link.result c.hand_back-ended.result.1 c.hand_back-ended.ensures.same
+    (IfOk-weaker c.measure_over-streams.result.1 _ _
     (λ status t. record {
       end = t.end;
       between = t.between;
       is_lost = false;
       logged = λ lost. absurd (false≢true lost);
       ran =
-          inl (measures_at_link _ c.args.spot.station _ new c.measure_over-streams.new.link.link.history.acts c.in-Ok.opened.moment.utc _ _ (ap (λ l. Some l.history.acts) c.into_link.ensures) t);
+          inl (measures_at_link _ c.args.spot.station _ new c.measure_over-streams.new.link.link.history.acts c.began-moment.result.utc _ _ (ap (λ l. Some l.history.acts) c.into_link.ensures) t);
       fails = t.fails;
       tells = t.tells;
     })
-    (rw (c.new-link.ensures, c.new-told.ensures, c.begun-station.ensures) at c.measure_over-streams.ensures.told)
+    (rw (c.new-link.ensures, c.in-Ok.ensures.fresh, c.begun-station.ensures) at c.measure_over-streams.ensures.told))
 
 pub returns-in-None-clause-done : goal.returns-in-None-clause-done
 returns-in-None-clause-done g c =
     let new = stage c.measure_over-streams.result.0 (acts_of (Some c.into_link.result)) c.measure_over-streams.new.kept.turns in
-    IfOk-weaker c.measure_over-streams.result.1 _ _
-    (λ status d zero. measures_all_at_link _ c.args.spot.station _ new c.measure_over-streams.new.link.link.history.acts c.in-Ok.opened.moment.utc
+    measures_handed_back _ _ _ _ _ c.measure_over-streams.result.1
+    c.hand_back-ended.result.0 c.into_link.result c.hand_back-ended.result.1 c.hand_back-ended.ensures.same
+    (IfOk-weaker c.measure_over-streams.result.1 _ _
+    (λ status d zero. measures_all_at_link _ c.args.spot.station _ new c.measure_over-streams.new.link.link.history.acts c.began-moment.result.utc
     (ap (λ l. Some l.history.acts) c.into_link.ensures) (d zero))
-    (rw (c.new-link.ensures, c.new-told.ensures, c.begun-station.ensures) at c.measure_over-streams.ensures.done)
+    (rw (c.new-link.ensures, c.in-Ok.ensures.fresh, c.begun-station.ensures) at c.measure_over-streams.ensures.done))
 
 pub returns-in-Some-clause-told : goal.returns-in-Some-clause-told
 returns-in-Some-clause-told g c =
     let new = stage c.measure_logged-streams.result.0 (acts_of (Some c.into_link-in-Some-2.result)) c.measure_logged-streams.new.kept.turns in
-    IfOk-weaker c.measure_logged-streams.result.1 _ _
+    reports_handed_back _ _ _ _ _ _ c.measure_logged-streams.result.1
+    c.hand_back-ended-in-Some.result.0 c.into_link-in-Some-2.result c.hand_back-ended-in-Some.result.1 c.hand_back-ended-in-Some.ensures.same
+    (IfOk-weaker c.measure_logged-streams.result.1 _ _
     (λ status t. record {
       end = t.end;
       between = t.between;
       is_lost = _;
       logged = λ _. sym c.in-Ok.ensures.logged ∙ ap is_some c.in-Some.is;
-      ran = inl (measures_at_link _ c.args.spot.station _ new c.measure_logged-streams.new.logged.link.link.history.acts c.in-Ok.opened.moment.utc _ _
+      ran = inl (measures_at_link _ c.args.spot.station _ new c.measure_logged-streams.new.logged.link.link.history.acts c.began-moment.result.utc _ _
           (ap (λ l. Some l.history.acts) (c.into_link-in-Some-2.ensures ∙ ap (λ n. n.link) c.into_link-in-Some.ensures)) t);
       fails = t.fails;
       tells = t.tells;
     })
-    (rw (c.new-logged.ensures, c.new-link.ensures, c.new-told.ensures, c.begun-station.ensures) at c.measure_logged-streams.ensures.told)
+    (rw (c.new-logged.ensures, c.new-link.ensures, c.in-Ok.ensures.fresh, c.begun-station.ensures) at c.measure_logged-streams.ensures.told))
 
 pub returns-in-Some-clause-done : goal.returns-in-Some-clause-done
 returns-in-Some-clause-done g c =
     let new = stage c.measure_logged-streams.result.0 (acts_of (Some c.into_link-in-Some-2.result)) c.measure_logged-streams.new.kept.turns in
-    IfOk-weaker c.measure_logged-streams.result.1 _ _
-    (λ status d zero. measures_all_at_link _ c.args.spot.station _ new c.measure_logged-streams.new.logged.link.link.history.acts c.in-Ok.opened.moment.utc
+    measures_handed_back _ _ _ _ _ c.measure_logged-streams.result.1
+    c.hand_back-ended-in-Some.result.0 c.into_link-in-Some-2.result c.hand_back-ended-in-Some.result.1 c.hand_back-ended-in-Some.ensures.same
+    (IfOk-weaker c.measure_logged-streams.result.1 _ _
+    (λ status d zero. measures_all_at_link _ c.args.spot.station _ new c.measure_logged-streams.new.logged.link.link.history.acts c.began-moment.result.utc
     (ap (λ l. Some l.history.acts) (c.into_link-in-Some-2.ensures ∙ ap (λ n. n.link) c.into_link-in-Some.ensures)) (d zero))
-    (rw (c.new-logged.ensures, c.new-link.ensures, c.new-told.ensures, c.begun-station.ensures) at c.measure_logged-streams.ensures.done)
+    (rw (c.new-logged.ensures, c.new-link.ensures, c.in-Ok.ensures.fresh, c.begun-station.ensures) at c.measure_logged-streams.ensures.done))

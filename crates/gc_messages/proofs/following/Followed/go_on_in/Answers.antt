@@ -8,4 +8,4 @@ pub returns-clause-same : goal.returns-clause-same
 returns-clause-same g c =
     appended_after_leaving c.args.self.now.earlier.steps _ (steps_in c.args.self.now.rows) _ _ _
     (c.then-self.ensures ∙ ap (λ s. c.args.self.now.earlier.steps ++ s) c.past.ensures.is)
-    refl (ap appended c.requires) c.sync.ensures.same
+    refl (ap appended c.requires.fresh) c.sync.ensures.same
