@@ -4,6 +4,7 @@
 mod asking;
 mod program;
 mod system;
+mod traces;
 
 pub use gc_ask::{ask_at, ask_tcp, loop_tcp, run_ask, run_loop, serve_tcp};
 pub use gc_engines::{read_schedule, run_check, run_drill, run_drill_width, run_exec};
@@ -16,3 +17,4 @@ pub use gc_station::Tally;
 pub use gc_texts::{Command, RunFault, Trouble, read_commands};
 pub use gc_words::{Choice, Layout, Settings, Watch};
 pub use program::run_program;
+pub use traces::{Acted, Traces};

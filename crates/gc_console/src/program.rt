@@ -1,18 +1,26 @@
 //! The command line of `geocom`: which subcommand runs, and the exit status if none does.
 
-ghost use Rattle.std.specs.Prelude.{◌≡◌, ◌≤◌, ◌⊎◌, IfOk};
+ghost use Rattle.std.specs.Prelude.{◌≡◌, ◌≤◌, ◌⊎◌, [], map, IfOk};
 ghost use Rattle.std.specs.Io.KnownBytes.{Appends};
 ghost use Rattle.std.specs.Process.{exit_status};
+ghost use Rattle.std.specs.String.{string_bytes};
+ghost use Rattle.std.specs.Vec.Iter.{into_iter_items};
 ghost use Rattle.gc_texts.specs.declared.fault.RunFault.{RunFault};
 ghost use Rattle.gc_texts.specs.Faults.{run_fault_text, fault_line};
+ghost use Rattle.gc_console.specs.Programs.{AreReadFrom, DoesProgram, DoesWords};
+ghost use Rattle.gc_console.specs.Stations.{DoesAsked, DoesOver, seeing_by};
 ghost use Rattle.gc_messages.specs.Statuses.{IsStatusUpTo};
+ghost use Rattle.gc_lines.specs.Answering.{ports_of};
+ghost use Rattle.gc_console.specs.Subcommands.{DoesCheck, DoesDrill, DoesExec, EndsFrom, opening, opening_ports};
 
 use crate::system::System;
+use crate::traces::{Acted, Traces};
 use clap::Error;
 use clap::error::ErrorKind;
-use gc_lines::{FromReader, ReadAhead, ToWriter};
+use gc_lines::{Durable, FromReader, ReadAhead, Sink, Source, ToWriter};
 use gc_messages::{
-    Noting, Standard, Streams, refuse_numbers, refuse_place, refuse_stale, report_end,
+    Followed, Heard, Lossy, Noting, Standard, Streams, Told, refuse_numbers, refuse_place,
+    refuse_stale, report_end,
 };
 use gc_nights::rehearse;
 use gc_subcommands::check::check;
@@ -42,18 +50,25 @@ use std::time::Clock;
 /// `standard` says which of the three streams are open. If one isn't, `station`, `ask` and `loop` only report it, and `serve`
 /// fills its place.
 pub fn run_program<
+    'a,
     R: Net<Listener = TcpListener, Stream = TcpStream> + Clock + Files<File = File>,
     I: Read + Drop,
     O: Write + Drop,
     E: Write + Drop,
 >(
-    rt: &R,
+    rt: &'a R,
     alloc: Global,
     standard: Standard,
     words: io::Result<Args>,
     mut streams: Streams<I, O, E>,
-) -> io::Result<ExitCode>
-    ensures { IsStatusUpTo 2 result }
+) -> (io::Result<ExitCode>, Traces)
+    // What was done is what the words ask for. If they ask for a station, and the streams are open: over exactly the text that the input
+    // gave, by exactly the settings that the words give, it ran over the acts that the traces have, and its file took exactly the rows that
+    // they have; or the text was refused, or the file couldn't be had, and nothing was sent.
+    ensures done { IfOk result.0 (λ status. DoesProgram E (seeing_by ⟦<FromReader<I> as Source>⟧ ⟦<FromReader<&'a [u8]> as Source>⟧ ⟦<Told<ToWriter<O>> as Sink>⟧ ⟦<Told<ToWriter<O>> as Durable>⟧.is_durable
+        ⟦<Followed<'a, Noting<'a, R>> as Sink>⟧ ⟦<Followed<'a, Noting<'a, R>> as Durable>⟧.is_durable ⟦<Lossy<E> as Write>⟧.contents)
+        standard (I.remaining streams.input) (λ args. map string_bytes (into_iter_items args)) words result.1 (exit_status status)) }
+    ensures bound { IsStatusUpTo 2 result.0 }
 {
     let system = System {
         rt,
@@ -62,7 +77,10 @@ pub fn run_program<
     };
     match all_words(alloc, words) {
         Ok(words) => system.run_words(words, streams),
-        Err(error) => refuse_unreadable(&error, &mut streams.messages),
+        Err(error) => (
+            refuse_unreadable(&error, &mut streams.messages),
+            Traces::nothing(),
+        ),
     }
 }
 
@@ -70,42 +88,55 @@ impl<'a, R: Net<Listener = TcpListener, Stream = TcpStream> + Clock + Files<File
     'a,
     R,
 > {
-    // Runs what these words ask for, or answers words that ask for no run of a subcommand.
+    // Runs what these words ask for, or answers words that ask for no run of a subcommand. Returns what was noted of a client's run.
     fn run_words<I: Read + Drop, O: Write + Drop, E: Write + Drop>(
         &self,
         words: Vec<String>,
         mut streams: Streams<I, O, E>,
-    ) -> io::Result<ExitCode>
-        ensures { IsStatusUpTo 2 result }
+    ) -> (io::Result<ExitCode>, Traces)
+        ensures done { IfOk result.0 (λ status. DoesWords E (seeing_by ⟦<FromReader<I> as Source>⟧ ⟦<FromReader<&'a [u8]> as Source>⟧ ⟦<Told<ToWriter<O>> as Sink>⟧ ⟦<Told<ToWriter<O>> as Durable>⟧.is_durable
+            ⟦<Followed<'a, Noting<'a, R>> as Sink>⟧ ⟦<Followed<'a, Noting<'a, R>> as Durable>⟧.is_durable ⟦<Lossy<E> as Write>⟧.contents)
+            self.entry.now.standard (I.remaining streams.input) (map string_bytes words.items) result.1 (exit_status status)) }
+        ensures bound { IsStatusUpTo 2 result.0 }
     {
         match job_of(self.alloc, words.as_slice()) {
             Ok(job) => self.run_job(job, streams),
             Err(error) => {
                 let reads = reads_a_text(words.as_slice());
-                answer_words(&error, reads, &mut streams.output, &mut streams.messages)
+                let ended = answer_words(&error, reads, &mut streams.output, &mut streams.messages);
+                (ended, Traces::nothing())
             }
         }
     }
 
     // Runs the job over the streams, and reports how that ended; or reports, with status 2, why the words name no job that can be
-    // run.
+    // run. Returns what was noted of a client's run.
     fn run_job<I: Read + Drop, O: Write + Drop, E: Write + Drop>(
         &self,
         job: Job<'_>,
         mut streams: Streams<I, O, E>,
-    ) -> io::Result<ExitCode>
-        ensures { IsStatusUpTo 2 result }
+    ) -> (io::Result<ExitCode>, Traces)
+        ensures done { IfOk result.0 (λ status. DoesAsked E (seeing_by ⟦<FromReader<I> as Source>⟧ ⟦<FromReader<&'a [u8]> as Source>⟧ ⟦<Told<ToWriter<O>> as Sink>⟧ ⟦<Told<ToWriter<O>> as Durable>⟧.is_durable
+            ⟦<Followed<'a, Noting<'a, R>> as Sink>⟧ ⟦<Followed<'a, Noting<'a, R>> as Durable>⟧.is_durable ⟦<Lossy<E> as Write>⟧.contents)
+            self.entry.now.standard (I.remaining streams.input) job.entry result.1 (exit_status status)) }
+        ensures bound { IsStatusUpTo 2 result.0 }
     {
         match job {
-            Job::Exec { scene } => self.run_exec_job(scene, streams),
-            Job::Check { log } => run_check_job(log, streams),
-            Job::Drill(drilling) => self.run_drill_job(drilling, streams),
-            Job::Serve(serving) => self.run_serve_job(serving, streams),
-            Job::Rehearse(rehearsal) => self.run_rehearse_job(rehearsal, streams),
+            Job::Exec { scene } => (self.run_exec_job(scene, streams), Traces::nothing()),
+            Job::Check { log } => (run_check_job(log, streams), Traces::nothing()),
+            Job::Drill(drilling) => (self.run_drill_job(drilling, streams), Traces::nothing()),
+            Job::Serve(serving) => (self.run_serve_job(serving, streams), Traces::nothing()),
+            Job::Rehearse(rehearsal) => (
+                self.run_rehearse_job(rehearsal, streams),
+                Traces::nothing(),
+            ),
             Job::Client(job) => self.run_client_job(job, streams),
-            Job::Nowhere { serves } => refuse_place(serves, &mut streams.messages),
-            Job::NumberMissing => refuse_numbers(&mut streams.messages),
-            Job::StaleTooSoon => refuse_stale(&mut streams.messages),
+            Job::Nowhere { serves } => (
+                refuse_place(serves, &mut streams.messages),
+                Traces::nothing(),
+            ),
+            Job::NumberMissing => (refuse_numbers(&mut streams.messages), Traces::nothing()),
+            Job::StaleTooSoon => (refuse_stale(&mut streams.messages), Traces::nothing()),
         }
     }
 
@@ -115,7 +146,9 @@ impl<'a, R: Net<Listener = TcpListener, Stream = TcpStream> + Clock + Files<File
         scene: Option<&str>,
         streams: Streams<I, O, E>,
     ) -> io::Result<ExitCode>
-        ensures { IsStatusUpTo 1 result }
+        ensures did { IfOk result (λ status. EndsFrom (DoesExec scene.entry)
+            (opening (I.remaining streams.input) (O.contents streams.output) (E.contents streams.messages)) (exit_status status)) }
+        ensures bound { IsStatusUpTo 1 result }
     {
         let mut ports = as_ports_ahead(streams);
         exec_scene(
@@ -134,7 +167,9 @@ impl<'a, R: Net<Listener = TcpListener, Stream = TcpStream> + Clock + Files<File
         drilling: Drilling<'_>,
         streams: Streams<I, O, E>,
     ) -> io::Result<ExitCode>
-        ensures { IsStatusUpTo 2 result }
+        ensures did { IfOk result (λ status. EndsFrom (DoesDrill drilling.entry)
+            (opening (I.remaining streams.input) (O.contents streams.output) (E.contents streams.messages)) (exit_status status)) }
+        ensures bound { IsStatusUpTo 2 result }
     {
         let mut ports = as_ports(streams);
         drill_scene(
@@ -178,24 +213,71 @@ impl<'a, R: Net<Listener = TcpListener, Stream = TcpStream> + Clock + Files<File
         )
     }
 
-    // Runs `loop`, `ask` or `station`, and reports how that ended.
+    // Runs `loop`, `ask` or `station`, and reports how that ended. Returns what was noted of the streams, and of a station's link and
+    // file.
     fn run_client_job<I: Read + Drop, O: Write + Drop, E: Write + Drop>(
         &self,
         job: ClientJob<'_>,
         streams: Streams<I, O, E>,
-    ) -> io::Result<ExitCode>
-        ensures { IsStatusUpTo 2 result }
+    ) -> (io::Result<ExitCode>, Traces)
+        ensures done { IfOk result.0 (λ status. DoesOver E (seeing_by ⟦<FromReader<I> as Source>⟧ ⟦<FromReader<&'a [u8]> as Source>⟧ ⟦<Told<ToWriter<O>> as Sink>⟧ ⟦<Told<ToWriter<O>> as Durable>⟧.is_durable
+            ⟦<Followed<'a, Noting<'a, R>> as Sink>⟧ ⟦<Followed<'a, Noting<'a, R>> as Durable>⟧.is_durable ⟦<Lossy<E> as Write>⟧.contents)
+            self.entry.now.standard (I.remaining streams.input) job.entry result.1 (exit_status status)) }
+        ensures bound { IsStatusUpTo 2 result.0 }
     {
-        let (ports, ended) = self.run_asking(job, as_ports(streams));
-        drop(ports);
-        ended
+        let (ports, ended, acted) = self.run_asking(job, as_noted_ports(streams));
+        (ended, traces_of(ports, acted))
+    }
+}
+
+// Lets the ports of a run go. Returns what was noted of them, with what was noted of a station.
+fn traces_of<I: Drop, O: Drop, E: Drop>(
+    ports: Streams<Heard<I>, Told<O>, E>,
+    acted: Acted,
+) -> Traces
+    ensures heard { result.heard ≡ ports.input.heard }
+    ensures told { result.told ≡ ports.output.told }
+    ensures acted { result.acted ≡ acted }
+{
+    let Streams {
+        input,
+        output,
+        messages: _,
+    } = ports;
+    let Heard { source: _, heard } = input;
+    let Told { sink: _, told } = output;
+    Traces { heard, told, acted }
+}
+
+// These streams, with the input as a source and the output as a sink, of which it is noted what they give and take.
+fn as_noted_ports<I: Read, O: Write, E>(
+    streams: Streams<I, O, E>,
+) -> Streams<Heard<FromReader<I>>, Told<ToWriter<O>>, E>
+    ensures bytes { ⟦<FromReader<I> as Source>⟧.remaining result.input.source ≡ I.remaining streams.input }
+    ensures reads { ⟦<FromReader<I> as Source>⟧.reads result.input.source ≡ 0 }
+    ensures unheard { result.input.heard.bytes ≡ [] }
+    ensures untold { result.output.told.bytes ≡ [] }
+{
+    let Streams {
+        input,
+        output,
+        messages,
+    } = streams;
+    Streams {
+        input: Heard::new(FromReader::new(input)),
+        output: Told::new(ToWriter::new(output)),
+        messages,
     }
 }
 
 // These streams, with the input as a source and the output as a sink.
 fn as_ports<I: Read, O: Write, E>(
     streams: Streams<I, O, E>,
-) -> Streams<FromReader<I>, ToWriter<O>, E> {
+) -> Streams<FromReader<I>, ToWriter<O>, E>
+    ensures ports { ports_of ⟦<FromReader<I> as Source>⟧ result.input ⟦<ToWriter<O> as Sink>⟧ result.output
+        ≡ opening_ports (I.remaining streams.input) (O.contents streams.output) }
+    ensures messages { result.messages ≡ streams.messages }
+{
     let Streams {
         input,
         output,
@@ -211,7 +293,11 @@ fn as_ports<I: Read, O: Write, E>(
 // As `as_ports`, with an input that is read ahead.
 fn as_ports_ahead<I: Read, O: Write, E>(
     streams: Streams<I, O, E>,
-) -> Streams<FromReader<ReadAhead<I>>, ToWriter<O>, E> {
+) -> Streams<FromReader<ReadAhead<I>>, ToWriter<O>, E>
+    ensures ports { ports_of ⟦<FromReader<ReadAhead<I>> as Source>⟧ result.input ⟦<ToWriter<O> as Sink>⟧ result.output
+        ≡ opening_ports (I.remaining streams.input) (O.contents streams.output) }
+    ensures messages { result.messages ≡ streams.messages }
+{
     let Streams {
         input,
         output,
@@ -229,7 +315,9 @@ fn run_check_job<I: Read + Drop, O: Write + Drop, E: Write + Drop>(
     log: bool,
     streams: Streams<I, O, E>,
 ) -> io::Result<ExitCode>
-    ensures { IsStatusUpTo 1 result }
+    ensures did { IfOk result (λ status. EndsFrom (DoesCheck log)
+        (opening (I.remaining streams.input) (O.contents streams.output) (E.contents streams.messages)) (exit_status status)) }
+    ensures bound { IsStatusUpTo 1 result }
 {
     let mut ports = as_ports_ahead(streams);
     check(
@@ -299,7 +387,9 @@ fn refuse_unparsed<E: Write>(error: &Error, reads: bool, messages: &mut E) -> io
 }
 
 // The words of the command line in a vector. It fails if one isn't UTF-8, or if memory ran out.
-fn all_words(alloc: Global, words: io::Result<Args>) -> io::Result<Vec<String>> {
+fn all_words(alloc: Global, words: io::Result<Args>) -> io::Result<Vec<String>>
+    ensures { IfOk result (λ all. AreReadFrom into_iter_items words all.items) }
+{
     Ok(words?.collect(alloc)?)
 }
 

@@ -134,7 +134,9 @@ impl<'a, 'b> Run<'a, 'b> {
             messages: &mut said.messages,
         };
         let standard = standard_of(&self.case);
-        said.status = run_program(rt, self.alloc, standard, self.words(), streams).ok();
+        said.status = run_program(rt, self.alloc, standard, self.words(), streams)
+            .0
+            .ok();
     }
 
     // The program's name and the words of the case after it. `Err`: the error that the program gets in their place, because the

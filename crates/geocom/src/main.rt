@@ -8,7 +8,8 @@ use std::{env, io};
 // Runs the program with the system's words, over its streams, net, clock and files, and returns the exit status. `Err`: as
 // `run_program` says.
 fn main(rt: HostRuntime) -> io::Result<ExitCode> {
-    run_program(
+    // What is noted of the run is for proofs alone.
+    let (ended, _) = run_program(
         &rt,
         rt.alloc(),
         Standard::look(&rt.stdin(), &rt.stdout(), &rt.stderr()),
@@ -18,5 +19,6 @@ fn main(rt: HostRuntime) -> io::Result<ExitCode> {
             output: rt.stdout(),
             messages: rt.stderr(),
         },
-    )
+    );
+    ended
 }

@@ -1,0 +1,13 @@
+use Rattle.std.proofs.Common.{ap}
+use Rattle.std.specs.Process.{exit_status}
+use Rattle.gc_console.proofs.Begun.{ends_from, exec_did}
+use Rattle.gc_console.specs.Subcommands.{DoesExec}
+use Rattle.gc_console.proofs.system.System.run_exec_job.Goals as goal
+
+pub returns-clause-did : goal.returns-clause-did
+returns-clause-did g c =
+    let made = c.as_ports_ahead-ports.ensures in
+    let run = c.exec_scene.ensures in
+    ends_from c.exec_scene.result exit_status (DoesExec c.args.scene) _ _ _ _ _ _ _ made.ports (ap g.E.Write.contents made.messages)
+    (exec_did c.exec_scene.result exit_status c.args.scene _ _ _ _ run.told run.done
+    (λ none. run.fault none (ap (λ ports. ports.source_failed) made.ports) (ap (λ ports. ports.sink_failed) made.ports)))
