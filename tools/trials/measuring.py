@@ -45,7 +45,7 @@ def rows_of(written):
         assert all((row[name] != "") == has_reply for name in ("rc_com", "rc")), row
         assert has_reply or row["values"] == "", row
         assert (row["quality"] != "") == (row["outcome"] == "answered"), row
-        assert row["quality"] != "ok" or (row["rc_com"], row["rc"]) == ("0", "0"), row
+        assert row["quality"] != "ok" or int(row["rc_com"]) == int(row["rc"]) == 0, row
         assert (row["sent"] == "") == (row["outcome"] in UNSENT), row
         assert row["run"] <= (row["sent"] or row["run"]) and row["sent"] <= row["time"], row
     assert len({row["run"] for row in rows}) <= 1, f"one run began at {sorted({row['run'] for row in rows})}"
