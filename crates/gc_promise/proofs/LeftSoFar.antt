@@ -11,6 +11,7 @@ use Rattle.gc_files.specs.Rows.{has_feed, whole}
 use Rattle.gc_messages.specs.Following.{bytes_in}
 use Rattle.gc_texts.specs.Cuts.{Lacks}
 use Rattle.gc_texts.specs.Logs.{escaped}
+use Rattle.gc_rows.specs.Columns.{row_fields}
 use Rattle.gc_rows.specs.Records.{record_text}
 use Rattle.gc_rows.specs.Rows.{behind_comma, field_text, fields_behind_commas, is_special, row_of, within_quotes}
 use Rattle.gc_rows.specs.declared.record.Form.{Form}
@@ -25,13 +26,13 @@ use Rattle.gc_promise.specs.SoFar.{own_lines_so_far, own_or_damaged_so_far}
 use Rattle.gc_promise.specs.Objects.{AreTyped, IsTyped}
 use Rattle.gc_promise.specs.Tables.{Answers, AreReadAs, records_in, table_form}
 use Rattle.gc_promise.proofs.Objected.{all_unbroken, each_line, line_of_record, objects_one_for_one, one_line}
-use Rattle.gc_promise.proofs.Owning.{in_table, record_fields}
+use Rattle.gc_promise.proofs.Owning.{in_table}
 use Rattle.gc_promise.proofs.Pieces.{feed_behind_first, tail_whole, whole_rest}
 use Rattle.gc_promise.proofs.Reading.{each_reads}
 use Rattle.gc_promise.proofs.Tabled.{one_reads, row, rows_one_for_one}
 use Rattle.gc_promise.proofs.Unbroken.{escaped_lacks, quote_lacks}
 use Rattle.gc_promise.proofs.SoFar.{answered_amid_damage, answered_so_far}
-use Rattle.gc_promise.proofs.Written.{IsAnswered, target_in, when_in}
+use Rattle.gc_promise.proofs.Written.{IsAnswered, entry_of}
 
 -- Lines.
 
@@ -154,19 +155,18 @@ module _ {R : Type 0} (CanAnswer : Answers) (reads : Asked → List ℕ → Read
   module _ (columns : Bool) (form : survey.layout.form ≡ table_form columns) where
     -- a record's row in a table, without its line feed
     abbrev row_line_of : Record → List ℕ
-    row_line_of r = row_text (record_fields survey.layout columns survey.names r)
+    row_line_of r = row_text (row_fields columns (entry_of survey r))
 
     -- the text of a record is that, and a line feed
     row_text_ends : (r : Record) → text_by survey r ≡ row_line_of r ++ 10 ∷ []
     row_text_ends r =
-        let when = when_in survey r in
-        let text = target_in survey r in
-        ap (λ (f : Form). record_text f when text r.command r.end) form ∙ in_table columns when text r.command r.end ∙ row_ends (record_fields survey.layout columns survey.names r)
+        let entry = entry_of survey r in
+        ap (λ (f : Form). record_text f entry) form ∙ in_table columns entry ∙ row_ends (row_fields columns entry)
 
     -- it has no other one
     rows_lack : (records : List Record) → AllByRecursion (Lacks 10) (map row_line_of records)
     rows_lack [] = tt
-    rows_lack (r ∷ records) = (row_lacks (record_fields survey.layout columns survey.names r), rows_lack records)
+    rows_lack (r ∷ records) = (row_lacks (row_fields columns (entry_of survey r)), rows_lack records)
 
     -- what is left is a table's
     pub left_table : IsLeftTableSoFar CanAnswer columns reads m left

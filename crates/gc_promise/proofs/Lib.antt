@@ -1,15 +1,12 @@
-mod Plain
 mod Reading
 mod Setting
-mod Names
 mod Taken
 mod Owning
 mod Endings
 mod Judged
 mod Written
 mod Tabled
-mod Apart
-mod Finding
+mod Shown
 mod Unbroken
 mod Objected
 mod Damaged

@@ -1,126 +1,59 @@
 -- Lines of JSON that a station wrote of a run: what is in the object of an answer is what a line says that may have answered its
 -- command. In the field that line is the object's own.
-use Rattle.std.proofs.Common.{◌≡◌, ℕ, ◌<◌, true, List, [], ◌∷◌, ◌++◌, map, Option, Some, None, if◌then◌else◌, refl, sym, ap, ◌∙◌, subst, append-nil}
+use Rattle.std.proofs.Common.{◌≡◌, ℕ, ◌<◌, true, List, [], ◌∷◌, ◌++◌, map, Some, if◌then◌else◌, refl, ap, ◌∙◌, subst, append-nil}
 use Rattle.std.specs.Prelude.{codes, slice_get, Bool, false, ◌==◌}
 use Rattle.std.specs.List.{AllByRecursion, flat_map}
 use Rattle.std.proofs.lemmas.Bool.{cond_both}
 use Rattle.std.proofs.lemmas.List.Elements.{All-from_recursion}
-use Rattle.gc_lines.specs.Numbers.{IsSmallNumber}
-use Rattle.gc_lines.specs.Replies.{ReplyFields}
-use Rattle.gc_catalogue.specs.Asked.{IsAskedReading}
-use Rattle.gc_catalogue.specs.declared.answer.Answer.{Answer}
+use Rattle.json.specs.Find.{get_member}
+use Rattle.gc_values.proofs.Every.{every_front as all_front}
 use Rattle.gc_catalogue.specs.declared.answer.Reading.{Reading}
-use Rattle.gc_catalogue.specs.declared.answer.Reading.TheVariants as reading
 use Rattle.gc_catalogue.specs.declared.asked.Asked.{Asked}
 use Rattle.gc_texts.specs.Cuts.{Lacks}
-use Rattle.gc_texts.specs.Endings.{End, Answered, Unreadable, Elsewhere, Disagree, Late, Lost, Skipped, Missed, word_of}
-use Rattle.gc_texts.specs.Logs.{AreBytes, escaped}
+use Rattle.gc_texts.specs.Logs.{AreBytes}
 use Rattle.gc_texts.specs.Names.{name_text}
 use Rattle.gc_texts.specs.Stamps.{stamp_text}
-use Rattle.gc_texts.specs.declared.wish.Wish.{Wish}
 use Rattle.gc_texts.specs.declared.name.Name.{Name}
-use Rattle.gc_texts.specs.declared.quality.Quality.{Quality}
-use Rattle.gc_rows.specs.JsonLines.{members_after_run, members_text, string_text}
+use Rattle.gc_rows.specs.Columns.{Entry, cells_in, columns_after_run, members_after_run}
+use Rattle.gc_rows.specs.JsonLines.{members_text, string_text}
 use Rattle.gc_rows.specs.Laws.{record_read}
+use Rattle.gc_rows.specs.Lookup.{text_of}
 use Rattle.gc_rows.specs.Records.{head_text, record_text}
-use Rattle.gc_rows.specs.Rows.{code_of, com_of}
 use Rattle.gc_rows.specs.declared.record.Form.{Form}
 use Rattle.gc_rows.specs.declared.record.Form.TheVariants.{Json}
-use Rattle.gc_rows.specs.declared.when.When.{When}
+use Rattle.gc_rows.proofs.Fit.{each_fit}
 use Rattle.gc_rows.proofs.JsonLines.{feed_apart, object_reads_back}
+use Rattle.gc_rows.proofs.Lookup.{records_read_back}
 use Rattle.gc_rows.proofs.Members.{each_member_plain}
-use Rattle.gc_station.specs.Qualities.{answer_in}
+use Rattle.gc_files.specs.Runs as rows
 use Rattle.gc_links.specs.Acts.{Act}
 use Rattle.gc_station.specs.Records.{Record, texts_of}
 use Rattle.gc_station.specs.Scopes.{AreReadings}
 use Rattle.gc_measuring.specs.Measuring.{Survey, front_text, text_by}
 use Rattle.gc_field.specs.Instrument.{AnyState}
-use Rattle.gc_promise.specs.Fields.{IsQuantity, quantity_in, shown_as}
-use Rattle.gc_files.specs.Runs as rows
 use Rattle.gc_promise.specs.Objects.{AreObjects, AreTyped, IsObject, IsTyped, ObjectsAreTheirOwn}
 use Rattle.gc_promise.specs.Tables.{Answers, AreOneForOne, IsStationRun, StationRun, acts_in, own_lines, records_in, records_of_run, scope_of}
-use Rattle.gc_promise.proofs.Finding.{at_member, member_attempt, member_cycle, member_fault, member_name, member_outcome, member_place, member_procedure, member_quality, member_quantity, member_rc, member_rc_com, member_run, member_sent, member_stands, member_target, member_time, member_values, zeros_gone}
-use Rattle.gc_promise.proofs.Judged.{no_value_if_none, value_if_some}
-use Rattle.gc_promise.proofs.Names.{answer_to}
-use Rattle.gc_values.proofs.Every.{every_front as all_front}
-use Rattle.gc_promise.proofs.Tabled.{nothing_in, shown_nothing}
+use Rattle.gc_promise.proofs.Shown.{has_its_texts}
 use Rattle.gc_promise.proofs.Taken.{run_took}
 use Rattle.gc_promise.proofs.Unbroken.{line_text, line_unbroken}
-use Rattle.gc_promise.proofs.Written.{HasItsTexts, IsAnswered, all_written, answered_in_field, one_for_one, target_in, when_in, written_by}
-
--- Quantities.
-
-module _ (when : When) (text : List ℕ) (command : Wish) (name : List ℕ) (is : IsQuantity name) where
-  module _ (fields : ReplyFields) (told : Reading) (is_told : IsAskedReading command.call fields told) where
-    -- if the command is answered, with the answer of the reading `told` as its values, the object has the quantity of this name
-    -- of `told`, escaped, as `shown_as` has it
-    stands : (end : End) (quality : Quality) (values : Option Answer) (line : List ℕ) → end ≡ Answered quality values line → values ≡ answer_in told
-        → at_member when text command end name ≡ shown_as quality (escaped (quantity_in command.call told name))
-    stands end quality values line e has = ap (λ (x : End). at_member when text command x name) e ∙ by_values values has where
-      -- the lemma above, by the values of the answer
-      by_values : (values : Option Answer) → values ≡ answer_in told → at_member when text command (Answered quality values line) name ≡ shown_as quality (escaped (quantity_in command.call told name))
-      by_values (Some answer) has =
-          let value : told ≡ reading.Value answer = value_if_some told answer (sym has) in
-          member_quantity when text command (Answered quality (Some answer) line) name is
-          ∙ member_stands command.call name is quality answer line (answer_to command.call fields answer (subst (IsAskedReading command.call fields) value is_told))
-          ∙ ap (λ (x : Reading). shown_as quality (escaped (quantity_in command.call x name))) (sym value)
-      by_values None has =
-          member_quantity when text command (Answered quality None line) name is
-          ∙ sym (shown_nothing quality (escaped (quantity_in command.call told name)) (nothing_in command.call name told (no_value_if_none told (sym has))))
-
-  -- if the command didn't end as `Answered`, the object has nothing under this name of a quantity
-  none_stands : (end : End) → ((quality : Quality) (answer : Option Answer) (line : List ℕ) → end ≡ Answered quality answer line → ⊥) → at_member when text command end name ≡ []
-  none_stands (Answered quality answer line) other = absurd (other quality answer line refl)
-  none_stands (Unreadable line fault) other = member_quantity when text command (Unreadable line fault) name is
-  none_stands (Elsewhere line) other = member_quantity when text command (Elsewhere line) name is
-  none_stands (Disagree line) other = member_quantity when text command (Disagree line) name is
-  none_stands Late other = member_quantity when text command Late name is
-  none_stands Lost other = member_quantity when text command Lost name is
-  none_stands Skipped other = member_quantity when text command Skipped name is
-  none_stands Missed other = member_quantity when text command Missed name is
+use Rattle.gc_promise.proofs.Written.{HasItsTexts, IsAnswered, all_written, answered_in_field, entry_of, one_for_one, written_by}
 
 -- An object.
 
 module _ (survey : Survey) (r : Record) where
   -- the text under a name in the record's object
   abbrev at : List ℕ → List ℕ
-  at name = at_member (when_in survey r) (target_in survey r) r.command r.end name
+  at name = text_of (get_member name (record_read survey.layout.run (members_after_run (entry_of survey r))))
 
   -- under these names the record's object has what `HasItsTexts` says
   object_stands : HasItsTexts survey true at r
-  object_stands =
-      let when = when_in survey r in
-      let text = target_in survey r in
-      record {
-        is_of = record {
-          command = record {
-            sent = member_sent when text r.command r.end;
-            time = member_time when text r.command r.end;
-            cycle = member_cycle when text r.command r.end;
-            place = member_place when text r.command r.end;
-            target = member_target when text r.command r.end;
-            procedure = member_procedure when text r.command r.end;
-            outcome = member_outcome when text r.command r.end;
-            fault = member_fault when text r.command r.end;
-          };
-          attempt = member_attempt when text r.command r.end;
-          run = member_run when text r.command r.end;
-          name = member_name when text r.command r.end;
-        };
-        quality = member_quality when text r.command r.end;
-        rc_com = λ line n answered is. subst (λ (t : List ℕ). IsSmallNumber t n) (sym (member_rc_com when text r.command r.end line answered)) (zeros_gone (com_of line) n is);
-        rc = λ line n answered is. subst (λ (t : List ℕ). IsSmallNumber t n) (sym (member_rc when text r.command r.end line answered)) (zeros_gone (code_of line) n is);
-        values = λ line answered. member_values when text r.command r.end line answered;
-        quantities = λ shows fields told is_told quality values line is has name quantity.
-            stands when text r.command name quantity fields told is_told r.end quality values line is has;
-        none = λ shows other name quantity. none_stands when text r.command name quantity r.end (λ quality answer line e. other (ap word_of e));
-      }
+  object_stands = has_its_texts survey r true true at (records_read_back.object (entry_of survey r))
 
 -- Lines.
 
 -- the text of a record is its line and a line feed
-line_ends : (when : When) (text : List ℕ) (command : Wish) (end : End) → record_text Json when text command end ≡ line_text when text command end ++ 10 ∷ []
-line_ends when text command end = feed_apart (codes "{\"run\":" ++ string_text (stamp_text when.run)) (members_text (members_after_run when text command end))
+line_ends : (r : Entry) → record_text Json r ≡ line_text r.when.run (cells_in columns_after_run r) ++ 10 ∷ []
+line_ends r = feed_apart (codes "{\"run\":" ++ string_text (stamp_text r.when.run)) (members_text (members_after_run r))
 
 -- if each text is a line and a line feed, the texts joined are the lines joined, each with its line feed
 pub each_line : {X : Type 0} (text line : X → List ℕ) → ((x : X) → text x ≡ line x ++ 10 ∷ []) → (xs : List X) → flat_map text xs ≡ rows.row_lines (map line xs)
@@ -142,26 +75,26 @@ module _ (CanAnswer : Answers) (reads : Asked → List ℕ → Reading) (are : A
     (form : survey.layout.form ≡ Json) (small : AreTyped survey (records_in survey reads acts)) where
   -- the line of a record of the run, without its line feed
   abbrev pub line_of_record : Record → List ℕ
-  line_of_record r = line_text (when_in survey r) (target_in survey r) r.command r.end
+  line_of_record r = line_text survey.layout.run (cells_in columns_after_run (entry_of survey r))
 
   -- the text of a record of the run is its line and a line feed
   pub one_line : (r : Record) → text_by survey r ≡ line_of_record r ++ 10 ∷ []
-  one_line r =
-      let when = when_in survey r in
-      let text = target_in survey r in
-      ap (λ (f : Form). record_text f when text r.command r.end) form ∙ line_ends when text r.command r.end
+  one_line r = ap (λ (f : Form). record_text f (entry_of survey r)) form ∙ line_ends (entry_of survey r)
+
+  -- the name of a record's target is of bytes
+  name_of_bytes : (r : Record) → AreBytes (entry_of survey r).name
+  name_of_bytes r = name_bytes r.command.target survey.names small.names
 
   -- the line of each record that was written whole is its object
   pub objects_by : (written others : List Record) → records_in survey reads acts ≡ written ++ others → (n : ℕ) (r : Record) → slice_get written n ≡ Some r
       → IsObject CanAnswer survey (scope_of survey reads) acts n (line_of_record r) r
   objects_by written others order n r got =
-      let when = when_in survey r in
-      let text = target_in survey r in
+      let entry = entry_of survey r in
       let bounds = all_written (IsTyped survey.layout.run) (records_in survey reads acts) written others order small.each n r got in
-      let members = each_member_plain when text r.command r.end bounds.0 (name_bytes r.command.target survey.names small.names) bounds.1 bounds.2 in
+      let members = each_member_plain entry bounds.0 (name_of_bytes r) bounds.1 bounds.2 in
       record {
-        members = record_read when.run (members_after_run when text r.command r.end);
-        reads_as = object_reads_back when.run (members_after_run when text r.command r.end) small.run members;
+        members = record_read survey.layout.run (members_after_run entry);
+        reads_as = object_reads_back survey.layout.run (members_after_run entry) small.run members;
         is_by = written_by CanAnswer reads are survey acts is true (at survey r) r (object_stands survey r) written others order n got;
       }
 
@@ -170,10 +103,10 @@ module _ (CanAnswer : Answers) (reads : Asked → List ℕ → Reading) (are : A
       → AllByRecursion (Lacks 10) (map line_of_record rs)
   all_unbroken [] bounds = tt
   all_unbroken (r ∷ rs) bounds =
-      let when = when_in survey r in
-      let text = target_in survey r in
-      let members = each_member_plain when text r.command r.end bounds.0.0 (name_bytes r.command.target survey.names small.names) bounds.0.1 bounds.0.2 in
-      (line_unbroken when text r.command r.end bounds.0.2 members, all_unbroken rs bounds.1)
+      let entry = entry_of survey r in
+      let fit = each_fit entry bounds.0.0 (name_of_bytes r) bounds.0.1 bounds.0.2 in
+      let members = each_member_plain entry bounds.0.0 (name_of_bytes r) bounds.0.1 bounds.0.2 in
+      (line_unbroken survey.layout.run (cells_in columns_after_run entry) fit members, all_unbroken rs bounds.1)
 
   -- so have those of the first ones of the run's records
   pub written_unbroken : (written others : List Record) → records_in survey reads acts ≡ written ++ others → AllByRecursion (Lacks 10) (map line_of_record written)

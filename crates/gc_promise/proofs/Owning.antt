@@ -1,6 +1,6 @@
 -- The rows of a run in the field are their own: what is in a row of an answer was made by the instrument on executing the
 -- very request of the row's cycle and place.
-use Rattle.std.proofs.Common.{◌≡◌, ℕ, ◌<◌, Bool, true, false, List, [], ◌∷◌, length, Option, Some, Result, Ok, Err, refl, sym, subst, ap, ◌∙◌, arith}
+use Rattle.std.proofs.Common.{◌≡◌, ℕ, ◌<◌, Bool, true, false, List, [], ◌∷◌, length, Option, None, Some, Result, Ok, Err, refl, sym, subst, ap, ◌∙◌, arith}
 use Rattle.std.specs.Prelude.{codes}
 use Rattle.std.specs.List.{AllByRecursion}
 use Rattle.gc_lines.specs.Numbers.{IsSmallNumber}
@@ -13,14 +13,15 @@ use Rattle.gc_catalogue.specs.declared.answer.Reading.TheVariants.{Unreadable as
 use Rattle.gc_catalogue.proofs.AskedRules.{each_asked_reply}
 use Rattle.gc_client.specs.Rule.{heard, id_in}
 use Rattle.gc_instrument.specs.State.{KeptReply}
+use Rattle.gc_values.specs.declared.fault.ValueFault.{ValueFault}
 use Rattle.gc_texts.specs.Endings.{End, fault_of, line_of}
 use Rattle.gc_texts.specs.Names.{name_text}
 use Rattle.gc_texts.specs.declared.tasks.Task.{Task}
-use Rattle.gc_texts.specs.declared.wish.Wish.{Wish}
 use Rattle.gc_texts.specs.declared.name.Name.{Name}
 use Rattle.gc_rows.specs.Records.{record_text}
-use Rattle.gc_rows.specs.Rows.{row_of, row_fields, com_of, code_of, fault_field, values_of}
-use Rattle.gc_rows.specs.declared.when.When.{When}
+use Rattle.gc_rows.specs.Cells.{Bytes, Code, field_of}
+use Rattle.gc_rows.specs.Columns.{Entry, bytes_content, fault_content, line_content, moment_content, row_fields}
+use Rattle.gc_rows.specs.Rows.{row_of, com_of, code_of, fault_field, moment_text, values_of}
 use Rattle.gc_rows.proofs.Columns.{reply_columns}
 use Rattle.gc_rows.proofs.Rows.{rows_read_back}
 use Rattle.gc_links.specs.Acts.{Act}
@@ -31,7 +32,7 @@ use Rattle.gc_station.specs.Scopes.{AreReadings, Reads, Scope}
 use Rattle.gc_station.specs.declared.plan.Plan.{Plan}
 use Rattle.gc_station.proofs.Answers.{answers_true}
 use Rattle.gc_words.specs.declared.layout.Layout.{Layout}
-use Rattle.gc_measuring.specs.Measuring.{text_in, when_of}
+use Rattle.gc_measuring.specs.Measuring.{entry_in, text_in}
 use Rattle.gc_field.specs.World.{Ends}
 use Rattle.gc_field.specs.Begin.{UnderWay}
 use Rattle.gc_field.specs.Instrument.{AnyState}
@@ -44,7 +45,6 @@ use Rattle.gc_promise.specs.Tables.{table_form}
 use Rattle.gc_promise.proofs.Endings.{is_unreadable}
 use Rattle.gc_station.specs.Moments.{IsAsRead}
 use Rattle.gc_station.proofs.Moments.{all_read, came_at}
-use Rattle.gc_promise.proofs.Names.{by_line}
 
 -- a line from which an id is heard (`heard`) reads as a reply
 pub heard_is_reply : (line : List ℕ) (id : ℕ) → heard line ≡ Some id → (r : ReplyFields) × IsReply line r
@@ -54,40 +54,57 @@ heard_is_reply line id h = by_read (reply_at line) refl where
   by_read (Ok r) e = (r, reply_found line r e)
   by_read (Err f) e = let none = ap id_in e in absurd (cc)
 
-module _ (columns : Bool) (when : When) (name : List ℕ) (command : Wish) (end : End) where
-  -- a row has more than one field
-  pub two_fields : 1 < length (row_fields columns when name command end)
-  two_fields = omega arith
+-- a row has more than one field
+pub two_fields : (columns : Bool) (r : Entry) → 1 < length (row_fields columns r)
+two_fields columns r = omega arith
 
-  -- under any name a row has what it has with the line that ended the command
-  same_by_line : (key line : List ℕ) → line_of end ≡ Some line → column key (row_fields columns when name command end) ≡ column key (by_line when name command end columns (Some line))
-  same_by_line key line e = ap (λ o. column key (by_line when name command end columns o)) e
+-- the field of a moment is its text; empty if there is none
+moment_field : (o : Option ℕ) → field_of (moment_content o) ≡ moment_text o
+moment_field None = refl
+moment_field (Some utc) = refl
+
+-- the field of bytes is these bytes
+bytes_field : (bytes : List ℕ) → field_of (bytes_content bytes) ≡ bytes
+bytes_field [] = refl
+bytes_field (b ∷ bs) = refl
+
+-- the field of a fault is its number; empty if there is none
+number_field : (o : Option ValueFault) → field_of (fault_content o) ≡ fault_field o
+number_field None = refl
+number_field (Some fault) = refl
 
 -- the text of a record in a table is the row of its fields
-pub in_table : (columns : Bool) (when : When) (name : List ℕ) (command : Wish) (end : End)
-    → record_text (table_form columns) when name command end ≡ row_of (row_fields columns when name command end)
-in_table false when name command end = refl
-in_table true when name command end = refl
+pub in_table : (columns : Bool) (r : Entry) → record_text (table_form columns) r ≡ row_of (row_fields columns r)
+in_table false r = refl
+in_table true r = refl
 
 -- the fields of a record's row
 abbrev pub record_fields : Layout → Bool → List Name → Record → List (List ℕ)
-record_fields layout columns names r = row_fields columns (when_of layout.run r) (name_text r.command.target names) r.command r.end
+record_fields layout columns names r = row_fields columns (entry_in layout names r)
 
 -- if this line, a reply, ended the record's command in time, the fields of the record's row say what the record and the line
 -- say
 fields_say : (layout : Layout) (columns : Bool) (names : List Name) (r : Record) (line : List ℕ) → line_of r.end ≡ Some line
     → (reply : ReplyFields) × IsReply line reply → FieldsSay layout names (record_fields layout columns names r) r line
 fields_say layout columns names r line answered reply =
-    let when = when_of layout.run r in
-    let name = name_text r.command.target names in
+    let fields = record_fields layout columns names r in
     let said = reply_columns line reply.0 reply.1 in
-    let rc_com : column (codes "rc_com") (row_fields columns when name r.command r.end) ≡ com_of line = same_by_line columns when name r.command r.end (codes "rc_com") line answered in
-    let rc : column (codes "rc") (row_fields columns when name r.command r.end) ≡ code_of line = same_by_line columns when name r.command r.end (codes "rc") line answered in
-    let values : column (codes "values") (row_fields columns when name r.command r.end) ≡ values_of line = same_by_line columns when name r.command r.end (codes "values") line answered in
+    let rc_com : column (codes "rc_com") fields ≡ com_of line = ap (λ o. field_of (line_content (λ l. Code (com_of l)) o)) answered in
+    let rc : column (codes "rc") fields ≡ code_of line = ap (λ o. field_of (line_content (λ l. Code (code_of l)) o)) answered in
+    let values : column (codes "values") fields ≡ values_of line = ap (λ o. field_of (line_content (λ l. Bytes (values_of l)) o)) answered in
     record {
       run = refl;
-      command = record { sent = refl; time = refl; cycle = refl; place = refl; target = refl; procedure = refl; outcome = refl; fault = refl };
-      name = refl;
+      command = record {
+        sent = moment_field r.sent;
+        time = refl;
+        cycle = refl;
+        place = refl;
+        target = refl;
+        procedure = refl;
+        outcome = refl;
+        fault = number_field (fault_of r.end);
+      };
+      name = bytes_field (name_text r.command.target names);
       says = record {
         reply = reply.0;
         is_reply = reply.1;
@@ -106,7 +123,8 @@ fields_fault reads are layout columns names r line answered reply as_read unread
     let same : e.0 ≡ line = same_Some e.0 line (ap line_of (sym e.2) ∙ answered) in
     let by_line : reads r.command.call line ≡ DoesntRead e.1 = subst (λ (l : List ℕ). reads r.command.call l ≡ DoesntRead e.1) same (as_read e.0 e.1 e.2) in
     let says : reading.0 ≡ DoesntRead e.1 = sym (are r.command.call line reading.0 (record { reply = reply.0; is_reply = reply.1; is_reading = reading.1 })) ∙ by_line in
-    (reply.0, reply.1, e.1, subst (IsAskedReading r.command.call reply.0) says reading.1, ap (λ (end : End). fault_field (fault_of end)) e.2)
+    let number = number_field (fault_of r.end) ∙ ap (λ (end : End). fault_field (fault_of end)) e.2 in
+    (reply.0, reply.1, e.1, subst (IsAskedReading r.command.call reply.0) says reading.1, number)
 
 -- if a record's answer is justified, and a reply in time ended its command, its row is that of the reply's line
 row_of_reply : (layout : Layout) (columns : Bool) (names : List Name) → layout.form ≡ table_form columns → (plan : Plan) (commands : List Task) (scope : Scope) (acts : List Act) (r : Record)
@@ -115,12 +133,11 @@ row_of_reply layout columns names form plan commands scope acts r came line answ
     let justified = came line answered in
     let fields = record_fields layout columns names r in
     let row : text_in layout names r ≡ row_of fields =
-    ap (λ f. record_text f (when_of layout.run r) (name_text r.command.target names) r.command r.end) form
-    ∙ in_table columns (when_of layout.run r) (name_text r.command.target names) r.command r.end in
+    ap (λ f. record_text f (entry_in layout names r)) form ∙ in_table columns (entry_in layout names r) in
     record {
       fields = fields;
       row = row;
-      reads_back = λ behind. rw row (rows_read_back.row fields (two_fields columns (when_of layout.run r) (name_text r.command.target names) r.command r.end) behind);
+      reads_back = λ behind. rw row (rows_read_back.row fields (two_fields columns (entry_in layout names r)) behind);
       says = fields_say layout columns names r line answered (heard_is_reply line _ justified.reply.id);
     }
 

@@ -61,7 +61,7 @@ number_end = (numbered_of_bytes, ((omega (arith, ints), omega (arith, ints)), tt
 
 -- the endings of all records of this run are of bytes
 all_of_bytes : AllByRecursion (λ (r : Record). IsEndOfBytes r.end) records
-all_of_bytes = (tt, (tt, (tt, (tt, (tt, (tt, (tt, (tt, (tt, (tt, (tt, (tt, (tt, (tt, (points_end, (chained_end, (elsewhere_of_bytes, (number_end, (empty_of_bytes, (tt, (tt, tt)))))))))))))))))))))
+all_of_bytes = let none : Unit {0} × Unit {0} = (tt, tt) in (none, (none, (none, (none, (none, (none, (none, (none, (none, (none, (none, (none, (none, (none, (points_end, (chained_end, ((elsewhere_of_bytes, tt), (number_end, ((empty_of_bytes, tt), (none, (none, tt)))))))))))))))))))))
 
 -- whether a number is below 2^64
 abbrev is_small : ℕ → Bool

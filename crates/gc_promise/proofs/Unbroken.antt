@@ -1,32 +1,19 @@
 -- A line of JSON has no line feed within.
-use Rattle.std.proofs.Common.{◌≡◌, ◌≢◌, ℕ, ◌+◌, ◌/◌, ◌%◌, ◌==◌, ◌||◌, Bool, true, false, List, [], ◌∷◌, ◌++◌, Option, Some, None, refl, subst, arith}
+use Rattle.std.proofs.Common.{◌≡◌, ◌≢◌, ℕ, ◌+◌, ◌/◌, ◌%◌, ◌==◌, ◌||◌, Bool, true, false, List, [], ◌∷◌, ◌++◌, subst, arith}
 use Rattle.std.specs.Prelude.{codes, nat_lt}
 use Rattle.std.specs.List.{AllByRecursion, flat_map}
 use Rattle.std.proofs.lemmas.Bool.{cond_both}
-use Rattle.gc_values.specs.ValueFault.{value_fault_number}
-use Rattle.gc_values.specs.declared.value.Value.{Value}
 use Rattle.gc_values.specs.declared.value.Value.TheVariants as value
-use Rattle.gc_catalogue.specs.Answers.{answer_fields}
-use Rattle.gc_catalogue.specs.declared.answer.Answer.{Answer}
-use Rattle.gc_catalogue.specs.declared.asked.Asked.{Asked}
-use Rattle.gc_catalogue.specs.declared.asked.Asked.TheVariants.{Table, Raw}
 use Rattle.gc_texts.specs.Cuts.{Lacks}
-use Rattle.gc_texts.specs.declared.quality.Quality.TheVariants.{Fine, Warning, Unconfirmed, Refused}
-use Rattle.gc_texts.specs.Endings.{End, Answered, Unreadable, Elsewhere, Disagree, Late, Lost, Skipped, Missed, quality_of, quality_text}
 use Rattle.gc_texts.specs.Logs.{escape, escaped, hex_digit, is_unescaped}
 use Rattle.gc_texts.specs.Stamps.{stamp_text}
-use Rattle.gc_texts.specs.declared.wish.Wish.{Wish}
-use Rattle.gc_rows.specs.JsonLines.{Member, Text, Number, Texts, behind_backslash, comma_where, ending_members, item_members, members_after_run, last_members, list_text, member_text, members_text, members_after_ending, answer_members, attempt_members, quantity_members, reply_members, sent_members, string_text, strings_text, value_members, values_members, members_from, command_members, when_members, without_zeros, quality_members}
-use Rattle.gc_rows.specs.Items.{split_items}
-use Rattle.gc_rows.specs.Laws.{ArePlainMembers, IsEndOfBytes, IsPlainName, IsReplyOfBytes}
-use Rattle.gc_rows.specs.Quantities.{column_of, quantity_name, quantity_text}
-use Rattle.gc_rows.specs.Rows.{code_of, com_of, procedure_of, values_of}
-use Rattle.gc_rows.specs.declared.when.When.{When}
-use Rattle.gc_rows.proofs.Columns.{lacks_both, reply_columns}
-use Rattle.gc_texts.specs.Cuts.{before, behind}
+use Rattle.gc_rows.specs.Cells.{Blank, Bytes, Cell, Code, Content, Items, Moment, Quantity, Whole, members_in, members_of}
+use Rattle.gc_rows.specs.JsonLines.{Member, Text, Number, Texts, behind_backslash, comma_where, list_text, member_text, members_text, string_text, strings_text, without_zeros}
+use Rattle.gc_rows.proofs.Fit.{AreFit, IsFit}
+use Rattle.gc_rows.specs.Laws.{ArePlainMembers, IsPlainName}
+use Rattle.gc_rows.proofs.Columns.{lacks_both}
 use Rattle.gc_station.proofs.Lists.{all_append}
-use Rattle.gc_promise.proofs.Finding.{double_plain, signed_plain, zeros_gone}
-use Rattle.gc_promise.proofs.Plain.{NeedsNoEscape, decimal_plain, number_plain}
+use Rattle.gc_rows.proofs.Plain.{NeedsNoEscape, boolean_plain, decimal_plain, double_plain, number_plain, signed_plain, zeros_gone}
 
 -- Texts.
 
@@ -120,115 +107,35 @@ members_lack (Texts name texts ∷ ms) are plain =
     lacks_both 10 (member_text (Texts name texts)) (members_text ms)
     (lacks_both 10 ((codes ",\"" ++ name) ++ codes "\":") (list_text texts) (named_lacks name are.0.0) (list_lacks texts)) (members_lack ms are.1 plain.1)
 
--- the member on the moment at which a command was sent has plain digits
-sent_plain : (sent : Option ℕ) → AllByRecursion HasPlainDigits (sent_members sent)
-sent_plain None = tt
-sent_plain (Some utc) = (tt, tt)
+-- the members of a cell that holds what is fit have plain digits
+content_digits : (name : List ℕ) (content : Content) → IsFit content → AllByRecursion HasPlainDigits (members_in name content)
+content_digits name Blank is = tt
+content_digits name (Bytes bytes) is = (tt, tt)
+content_digits name (Moment utc) is = (tt, tt)
+content_digits name (Whole n) is = (decimal_plain n, tt)
+content_digits name (Code digits) is = (number_plain (without_zeros digits) (zeros_gone digits is.0 is.1).digits, tt)
+content_digits name (Quantity (value.Double d) came) is = (double_plain d, (tt, tt))
+content_digits name (Quantity (value.Long n) came) is = (signed_plain n, (tt, tt))
+content_digits name (Quantity (value.Short n) came) is = (signed_plain n, (tt, tt))
+content_digits name (Quantity (value.Byte n) came) is = (decimal_plain n, (tt, tt))
+content_digits name (Quantity (value.Bool b) came) is = (boolean_plain b, (tt, tt))
+content_digits name (Quantity (value.Text bytes) came) is = (tt, tt)
+content_digits name (Items items) is = (tt, tt)
 
--- the members on when and where have plain digits
-when_plain : (when : When) → AllByRecursion HasPlainDigits (when_members when)
-when_plain when = all_append HasPlainDigits (sent_members when.stamp.sent) _ (sent_plain when.stamp.sent) (tt, (decimal_plain when.stamp.cycle, (decimal_plain when.stamp.turn.place, tt)))
+-- the members of cells that hold what is fit have plain digits
+cells_digits : (cells : List Cell) → AreFit cells → AllByRecursion HasPlainDigits (members_of cells)
+cells_digits [] are = tt
+cells_digits (c ∷ cells) are = all_append HasPlainDigits (members_in c.name c.content) (members_of cells) (content_digits c.name c.content are.0) (cells_digits cells are.1)
 
--- the members on a command have plain digits
-command_digits_plain : (command : Wish) (name : List ℕ) → AllByRecursion HasPlainDigits (command_members command name)
-command_digits_plain command [] = (decimal_plain command.target, (decimal_plain (procedure_of command.call), tt))
-command_digits_plain command (b ∷ bs) = (decimal_plain command.target, (tt, (decimal_plain (procedure_of command.call), tt)))
+-- the line of JSON of cells, after that of the run's beginning, without its line feed
+abbrev pub line_text : (run : ℕ) → List Cell → List ℕ
+line_text run cells = (codes "{\"run\":" ++ string_text (stamp_text run)) ++ (members_text (members_of cells) ++ codes "}")
 
--- the members on a reply of bytes have plain digits
-reply_plain : (line : List ℕ) → IsReplyOfBytes line → AllByRecursion HasPlainDigits (reply_members (Some line))
-reply_plain line is =
-    let said = reply_columns line is.0 is.1 in
-    let first = zeros_gone (com_of line) is.0.rc_com said.rc_com in
-    let second = zeros_gone (code_of line) is.0.rc said.rc in
-    (number_plain (without_zeros (com_of line)) first.digits, (number_plain (without_zeros (code_of line)) second.digits, (tt, tt)))
-
--- the members on how a command ended have plain digits
-ending_plain : (end : End) → IsEndOfBytes end → AllByRecursion HasPlainDigits (ending_members end)
-ending_plain (Answered quality (Some answer) line) is = (tt, reply_plain line is.0)
-ending_plain (Answered quality None line) is = (tt, reply_plain line is)
-ending_plain (Unreadable line fault) is = (tt, (decimal_plain (value_fault_number fault), reply_plain line is))
-ending_plain (Elsewhere line) is = (tt, reply_plain line is)
-ending_plain (Disagree line) is = (tt, reply_plain line is)
-ending_plain Late is = (tt, tt)
-ending_plain Lost is = (tt, tt)
-ending_plain Skipped is = (tt, tt)
-ending_plain Missed is = (tt, tt)
-
--- escaping changes nothing in the text of a truth value
-boolean_plain : (b : Bool) → NeedsNoEscape (quantity_text (value.Bool b))
-boolean_plain true = refl
-boolean_plain false = refl
-
--- the members for a value have plain digits
-value_plain : (name : List ℕ) (v : Value) (came : List ℕ) → AllByRecursion HasPlainDigits (value_members name v came)
-value_plain name (value.Double d) came = (double_plain d, (tt, tt))
-value_plain name (value.Long n) came = (signed_plain n, (tt, tt))
-value_plain name (value.Short n) came = (signed_plain n, (tt, tt))
-value_plain name (value.Byte n) came = (decimal_plain n, (tt, tt))
-value_plain name (value.Bool b) came = (boolean_plain b, (tt, tt))
-value_plain name (value.Text bytes) came = (tt, tt)
-
--- the members for values, from a column on, have plain digits
-values_plain : (column : ℕ) (vs : List Value) (came : List ℕ) → AllByRecursion HasPlainDigits (values_members column vs came)
-values_plain column [] came = tt
-values_plain column (v ∷ vs) came =
-    all_append HasPlainDigits (value_members (quantity_name column) v (before 44 came)) (values_members (column + 1) vs (behind 44 came)) (value_plain (quantity_name column) v (before 44 came))
-    (values_plain (column + 1) vs (behind 44 came))
-
--- the members for values, from a column on if there is one, have plain digits
-from_plain : (column : Option ℕ) (vs : List Value) (came : List ℕ) → AllByRecursion HasPlainDigits (members_from column vs came)
-from_plain (Some first) vs came = values_plain first vs came
-from_plain None vs came = tt
-
--- the member for a reply's items has no digits
-items_plain : (items : Option (List (List ℕ))) → AllByRecursion HasPlainDigits (item_members items)
-items_plain None = tt
-items_plain (Some texts) = (tt, tt)
-
--- the members for an answer's quantities or items have plain digits
-columns_plain : (asked : Asked) (answer : Answer) (line : List ℕ) → AllByRecursion HasPlainDigits (answer_members asked answer line)
-columns_plain (Table call) answer line = from_plain (column_of call answer) (answer_fields answer).values (values_of line)
-columns_plain (Raw raw) answer line = items_plain (split_items (values_of line))
-
--- the members for quantities or items have plain digits
-quantities_plain : (call : Asked) (end : End) → AllByRecursion HasPlainDigits (quantity_members call end)
-quantities_plain call (Answered Unconfirmed (Some answer) line) = tt
-quantities_plain call (Answered Fine (Some answer) line) = columns_plain call answer line
-quantities_plain call (Answered Warning (Some answer) line) = columns_plain call answer line
-quantities_plain call (Answered Refused (Some answer) line) = columns_plain call answer line
-quantities_plain call end = tt
-
--- a member for a quality has no digits
-quality_member_plain : (word : List ℕ) → AllByRecursion HasPlainDigits (quality_members word)
-quality_member_plain [] = tt
-quality_member_plain (b ∷ bs) = (tt, tt)
-
--- the members after all others have plain digits
-last_plain : (when : When) (end : End) → AllByRecursion HasPlainDigits (last_members when end)
-last_plain when end =
-    all_append HasPlainDigits (quality_members (quality_text (quality_of end))) (attempt_members when) (quality_member_plain (quality_text (quality_of end)))
-    (decimal_plain when.stamp.turn.attempt, tt)
-
--- all members of a record have plain digits, if its ending is of bytes
-members_plain : (when : When) (name : List ℕ) (command : Wish) (end : End) → IsEndOfBytes end → AllByRecursion HasPlainDigits (members_after_run when name command end)
-members_plain when name command end is =
-    let rest = ending_members end ++ members_after_ending when command.call end in
-    all_append HasPlainDigits (when_members when) (command_members command name ++ rest) (when_plain when)
-    (all_append HasPlainDigits (command_members command name) rest (command_digits_plain command name)
-    (all_append HasPlainDigits (ending_members end) (members_after_ending when command.call end) (ending_plain end is)
-    (all_append HasPlainDigits (quantity_members command.call end) (last_members when end) (quantities_plain command.call end) (last_plain when end))))
-
--- the line of a record without its line feed
-abbrev pub line_text : When → List ℕ → Wish → End → List ℕ
-line_text when name command end = (codes "{\"run\":" ++ string_text (stamp_text when.run)) ++ (members_text (members_after_run when name command end) ++ codes "}")
-
--- if a record's ending is of bytes, and its members are plain, its line (`line_text`) has no line feed
-pub line_unbroken : (when : When) (name : List ℕ) (command : Wish) (end : End) → IsEndOfBytes end → ArePlainMembers (members_after_run when name command end)
-    → Lacks 10 (line_text when name command end)
-line_unbroken when name command end is are =
+-- if cells hold what is fit, and their members are plain, their line has no line feed
+pub line_unbroken : (run : ℕ) (cells : List Cell) → AreFit cells → ArePlainMembers (members_of cells) → Lacks 10 (line_text run cells)
+line_unbroken run cells fit are =
     let front : Lacks 10 (codes "{\"run\":") =
     ((λ e. omega (arith, e)), ((λ e. omega (arith, e)), ((λ e. omega (arith, e)), ((λ e. omega (arith, e)), ((λ e. omega (arith, e)), ((λ e. omega (arith, e)), ((λ e. omega (arith, e)), tt))))))) in
-    lacks_both 10 (codes "{\"run\":" ++ string_text (stamp_text when.run)) (members_text (members_after_run when name command end) ++ codes "}")
-    (lacks_both 10 (codes "{\"run\":") (string_text (stamp_text when.run)) front (string_lacks (stamp_text when.run)))
-    (lacks_both 10 (members_text (members_after_run when name command end)) (codes "}") (members_lack (members_after_run when name command end) are (members_plain when name command end is))
-    ((λ e. omega (arith, e)), tt))
+    lacks_both 10 (codes "{\"run\":" ++ string_text (stamp_text run)) (members_text (members_of cells) ++ codes "}")
+    (lacks_both 10 (codes "{\"run\":") (string_text (stamp_text run)) front (string_lacks (stamp_text run)))
+    (lacks_both 10 (members_text (members_of cells)) (codes "}") (members_lack (members_of cells) are (cells_digits cells fit)) ((λ e. omega (arith, e)), tt))

@@ -15,11 +15,10 @@ use Rattle.gc_catalogue.proofs.AskedRules.{each_asked_reply}
 use Rattle.gc_instrument.specs.State.{KeptReply}
 use Rattle.gc_texts.specs.Endings.{End, Answered, word_of, fault_of, quality_of, quality_text, line_of}
 use Rattle.gc_texts.specs.Logs.{escaped}
-use Rattle.gc_texts.specs.Names.{name_text}
 use Rattle.gc_texts.specs.Qualities.{quality_word}
 use Rattle.gc_texts.specs.declared.quality.Quality.{Quality}
+use Rattle.gc_rows.specs.Columns.{Entry}
 use Rattle.gc_rows.specs.Rows.{code_of, com_of, fault_field, values_of}
-use Rattle.gc_rows.specs.declared.when.When.{When}
 use Rattle.gc_rows.proofs.Columns.{reply_columns}
 use Rattle.gc_links.specs.Acts.{Act}
 use Rattle.gc_station.specs.Answers.{AnswerIsJustified}
@@ -32,7 +31,7 @@ use Rattle.gc_station.proofs.Answers.{answers_true}
 use Rattle.gc_station.proofs.EachRun.{of_tasks}
 use Rattle.gc_station.proofs.Lists.{all_at}
 use Rattle.gc_station.proofs.Nearly.{qualities_as_listed}
-use Rattle.gc_measuring.specs.Measuring.{Survey, when_of}
+use Rattle.gc_measuring.specs.Measuring.{Survey, entry_in}
 use Rattle.gc_field.specs.World.{Ends}
 use Rattle.gc_field.specs.Instrument.{IsAnInstrument, AnyState}
 use Rattle.gc_field.specs.Runs.{IsOwnAnswer}
@@ -51,13 +50,9 @@ use Rattle.gc_station.proofs.Moments.{came_at, one_added}
 use Rattle.gc_promise.proofs.Owning.{heard_is_reply}
 use Rattle.gc_promise.proofs.Setting.{never_sent, set_to}
 
--- the moments, the cycle, the place and the turn of a record of this survey
-abbrev pub when_in : Survey → Record → When
-when_in survey r = when_of survey.layout.run r
-
--- the name of the target of a record of this survey
-abbrev pub target_in : Survey → Record → List ℕ
-target_in survey r = name_text r.command.target survey.names
+-- what is written of a record of this survey
+abbrev pub entry_of : Survey → Record → Entry
+entry_of survey r = entry_in survey.layout survey.names r
 
 -- what holds of all elements of `xs` holds of the one at a place among the first of them (`written`)
 pub all_written : {X : Type 0} (P : X → Type 0) (xs written others : List X) → xs ≡ written ++ others → AllByRecursion P xs → (n : ℕ) (x : X) → slice_get written n ≡ Some x → P x

@@ -52,17 +52,22 @@ OfEachHarmedRun {State = State} Holds =
 abbrev pub own_or_damaged_lines : {State : Type 0} → Ends State → (reads : Asked → List ℕ → Reading) → HarmedRun State → Answers
 own_or_damaged_lines ends reads x place r line = HasItsAnswer ends x.run.survey.tasks (parts_of_run reads x.run) x.happened (sent_until (records_of_run reads x.run) place) r line
 
--- what a sink took of a run is a table, whose rows are by lines that are own or damaged: of each run that is written as a table
+-- if run `x` is written as a table, what its sink took is a table, whose rows are by lines that are own or damaged
+abbrev pub HasTableOwnOrDamaged : {State : Type 0} → Ends State → (reads : Asked → List ℕ → Reading) → HarmedRun State → Type 0
+HasTableOwnOrDamaged ends reads x = (columns : Bool) → x.run.survey.layout.form ≡ table_form columns → IsTable (own_or_damaged_lines ends reads x) columns reads x.run x.had
+
+-- so it is of each run over a line that damages (`OfEachHarmedRun`)
 abbrev pub TablesAreOwnOrDamaged : Type 0 → Type 0
-TablesAreOwnOrDamaged State =
-    OfEachHarmedRun {State = State} (λ ends kept reads x.
-    (columns : Bool) → x.run.survey.layout.form ≡ table_form columns → IsTable (own_or_damaged_lines ends reads x) columns reads x.run x.had)
+TablesAreOwnOrDamaged State = OfEachHarmedRun {State = State} (λ ends kept reads x. HasTableOwnOrDamaged ends reads x)
 
 -- the same of lines of JSON, if the run's records are in the types of the program (`AreTyped`)
+abbrev pub HasObjectsOwnOrDamaged : {State : Type 0} → Ends State → (reads : Asked → List ℕ → Reading) → HarmedRun State → Type 0
+HasObjectsOwnOrDamaged ends reads x =
+    x.run.survey.layout.form ≡ Json → AreTyped x.run.survey (records_of_run reads x.run) → AreObjects (own_or_damaged_lines ends reads x) reads x.run x.had
+
+-- so it is of each run over a line that damages
 abbrev pub ObjectsAreOwnOrDamaged : Type 0 → Type 0
-ObjectsAreOwnOrDamaged State =
-    OfEachHarmedRun {State = State} (λ ends kept reads x.
-    x.run.survey.layout.form ≡ Json → AreTyped x.run.survey (records_of_run reads x.run) → AreObjects (own_or_damaged_lines ends reads x) reads x.run x.had)
+ObjectsAreOwnOrDamaged State = OfEachHarmedRun {State = State} (λ ends kept reads x. HasObjectsOwnOrDamaged ends reads x)
 
 -- the row of the record at a place in a table is that of this line, which is own or damaged, and has the moment of the read that brought it,
 -- and the fault for which it doesn't read
@@ -72,17 +77,23 @@ pub record IsRowOfOwnOrDamaged {State : Type 0} (ends : Ends State) (reads : Ask
   pub fault : SayFault is_of.fields r line
   pub answer : own_or_damaged_lines ends reads x place r line
 
--- the row of each record of a run whose command a reply in time ended is so, however much of it was written
-abbrev pub RowsAreOwnOrDamaged : Type 0 → Type 0
-RowsAreOwnOrDamaged State =
-    OfEachHarmedRun {State = State} (λ ends kept reads x.
+-- if run `x` is written as a table, the row of each of its records whose command a reply in time ended is so, however much of it was written
+abbrev pub HasRowsOwnOrDamaged : {State : Type 0} → Ends State → (reads : Asked → List ℕ → Reading) → HarmedRun State → Type 0
+HasRowsOwnOrDamaged ends reads x =
     (columns : Bool) → x.run.survey.layout.form ≡ table_form columns → (place : ℕ) (r : Record) → slice_get (records_of_run reads x.run) place ≡ Some r
-    → (line : List ℕ) → line_of r.end ≡ Some line → IsRowOfOwnOrDamaged ends reads x place r line)
+    → (line : List ℕ) → line_of r.end ≡ Some line → IsRowOfOwnOrDamaged ends reads x place r line
 
--- no more records of a run, and so of its rows, are of requests that were settled by lines that came damaged than such lines came
+-- so it is of each run over a line that damages
+abbrev pub RowsAreOwnOrDamaged : Type 0 → Type 0
+RowsAreOwnOrDamaged State = OfEachHarmedRun {State = State} (λ ends kept reads x. HasRowsOwnOrDamaged ends reads x)
+
+-- no more records of run `x`, and so of its rows, are of requests that were settled by lines that came damaged than such lines came
+abbrev pub AreFewByDamagedLines : {State : Type 0} → Ends State → (reads : Asked → List ℕ → Reading) → HarmedRun State → Type 0
+AreFewByDamagedLines ends reads x = AreFewRecordsByDamagedLines ends x.run.survey.tasks (parts_of_run reads x.run) x.happened (records_of_run reads x.run)
+
+-- so it is of each run over a line that damages
 abbrev pub RowsByDamagedLinesAreFew : Type 0 → Type 0
-RowsByDamagedLinesAreFew State =
-    OfEachHarmedRun {State = State} (λ ends kept reads x. AreFewRecordsByDamagedLines ends x.run.survey.tasks (parts_of_run reads x.run) x.happened (records_of_run reads x.run))
+RowsByDamagedLinesAreFew State = OfEachHarmedRun {State = State} (λ ends kept reads x. AreFewByDamagedLines ends reads x)
 
 -- a run in the field, as one over a line that damages
 abbrev pub undamaged_run : {State : Type 0} → Ends State → FieldRun State → HarmedRun State

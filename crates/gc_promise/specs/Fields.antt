@@ -1,7 +1,6 @@
 -- What is in a row of a table, or in an object, under each name: this project's own. Both are given by the function from a name
 -- to the text under it, so that one definition serves both. Where the line of a row's reply comes from is left to a parameter.
-use Rattle.std.specs.Prelude.{◌≡◌, ◌⊎◌, ℕ, Bool, true, false, List, [], ◌∷◌, Some, nat_eq, if◌then◌else◌, slice_get, codes}
-use Rattle.std.specs.Cmp.Lexicographic.{pointwise}
+use Rattle.std.specs.Prelude.{◌≡◌, ◌⊎◌, ℕ, Bool, true, false, List, [], Some, if◌then◌else◌, slice_get, codes}
 use Rattle.std.specs.Fmt.{decimal}
 use Rattle.gc_lines.specs.Numbers.{IsSmallNumber}
 use Rattle.gc_lines.specs.Replies.{ReplyFields, IsReply}
@@ -24,6 +23,7 @@ use Rattle.gc_texts.specs.declared.codes.Codes.{Codes}
 use Rattle.gc_texts.specs.declared.quality.Quality.{Quality}
 use Rattle.gc_texts.specs.declared.quality.Quality.TheVariants.{Fine, Warning, Unconfirmed, Refused}
 use Rattle.gc_texts.specs.declared.tasks.Task.{Task}
+pub use Rattle.gc_rows.specs.Lookup.{under}
 use Rattle.gc_rows.specs.Rows.{fault_field, moment_text, procedure_of, value_texts}
 use Rattle.gc_rows.specs.Quantities.{quantity_names}
 use Rattle.gc_rows.specs.ProcedureQuantities.{quantities_returned}
@@ -36,13 +36,6 @@ use Rattle.gc_measuring.specs.Measuring.{Survey}
 use Rattle.gc_station.specs.Moments.{CameAt, HasItsMoment}
 use Rattle.gc_values.specs.ValueFault.{value_fault_number}
 use Rattle.gc_values.specs.declared.fault.ValueFault.{ValueFault}
-
--- the field that is under a name, in a row whose fields are under these names; an empty one if there is no such name or
--- no field for it
-abbrev pub under : (name : List ℕ) → (names fields : List (List ℕ)) → List ℕ
-under name [] fields = []
-under name (n ∷ names) [] = []
-under name (n ∷ names) (field ∷ fields) = if pointwise nat_eq n name then field else under name names fields
 
 -- the row says of its record's command, however that ended, when the request was sent and when the command ended, the cycle, the
 -- place of the turn, the target, the procedure, the outcome, and the number of the fault of an unreadable reply. Nothing is under

@@ -127,13 +127,17 @@ pub record IsCrashHistory (calls : List Step) (x : CrashHistory) : Type 0 where
   pub opens : OpensFile x.head (content (life_begun x)) x.opening
   pub is_found : MayBeLeft (later_by (x.opening ++ calls) (life_begun x)) x.found
 
--- a run that appends to a file which syncs (`IsRunMoment`) is killed at any moment, or the machine crashes (`IsCrashHistory`).
--- Whatever is found then, the next start makes of it the table that was there at first, after it rows of the earlier runs, and
--- then the rows that are left of this run: where `reads` gives what replies say of their calls (`AreReadings`)
-abbrev pub RowsOutlastCrashes : Type 0 → Type 0
-RowsOutlastCrashes R = (m : RunMoment R) → IsRunMoment m → ForEachReadings (λ reads. (x : CrashHistory) → IsCrashHistory m.calls x
+-- a run is killed at a moment, or the machine crashes (`IsCrashHistory`). Whatever is found then, the next start makes of it the table
+-- that was there at first, after it rows of the earlier runs, and then the rows that are left of this run: where `reads` gives what
+-- replies say of their calls (`AreReadings`)
+abbrev pub OutlastsCrashes : {R : Type 0} → RunMoment R → Type 0
+OutlastsCrashes m = ForEachReadings (λ reads. (x : CrashHistory) → IsCrashHistory m.calls x
     → (counts : List ℕ) × (left : List ℕ) × AreRowCounts x.earlier counts × AreLeft m reads left
     × (opened_table x.head x.found ≡ (opened_table x.head x.first ++ rows_of x.earlier counts) ++ left))
+
+-- so it is at each moment of a run that appends to a file which syncs (`IsRunMoment`)
+abbrev pub RowsOutlastCrashes : Type 0 → Type 0
+RowsOutlastCrashes R = (m : RunMoment R) → IsRunMoment m → OutlastsCrashes m
 
 -- Over failed syncs, too.
 
@@ -167,11 +171,14 @@ pub record IsFileHistory (calls : List Step) (x : FileHistory) : Type 0 where
   pub happened_after : ArePossibleEvents IsTrusted x.head (sides_left x calls) (doubt_ended x.ending false) x.later
   pub is_found : IsFound (sides_after (sides_left x calls) x.later) x.found
 
--- after events, in a file that isn't in doubt, a run that syncs (`IsRunMoment`) ends at any moment, by a kill or by a sync that
--- fails, and other events follow (`IsFileHistory`). Whatever is found then, the next start makes of it the table that was there
--- at first, rows of the earlier runs, the rows that are left of this run, and rows of the later ones: where `reads` gives what
--- replies say of their calls (`AreReadings`)
-abbrev pub RowsOutlastFailures : Type 0 → Type 0
-RowsOutlastFailures R = (m : RunMoment R) → IsRunMoment m → ForEachReadings (λ reads. (x : FileHistory) → IsFileHistory m.calls x
+-- after events, in a file that isn't in doubt, a run ends at a moment, by a kill or by a sync that fails, and other events follow
+-- (`IsFileHistory`). Whatever is found then, the next start makes of it the table that was there at first, rows of the earlier runs, the
+-- rows that are left of this run, and rows of the later ones: where `reads` gives what replies say of their calls (`AreReadings`)
+abbrev pub OutlastsFailures : {R : Type 0} → RunMoment R → Type 0
+OutlastsFailures m = ForEachReadings (λ reads. (x : FileHistory) → IsFileHistory m.calls x
     → (counts : List ℕ) × (left : List ℕ) × (counts' : List ℕ) × AreRowCounts (runs_of x.earlier) counts × AreLeft m reads left × AreRowCounts (runs_of x.later) counts'
     × (opened_table x.head x.found ≡ ((opened_table x.head x.first ++ rows_of (runs_of x.earlier) counts) ++ left) ++ rows_of (runs_of x.later) counts'))
+
+-- so it is at each moment of a run that syncs (`IsRunMoment`)
+abbrev pub RowsOutlastFailures : Type 0 → Type 0
+RowsOutlastFailures R = (m : RunMoment R) → IsRunMoment m → OutlastsFailures m

@@ -17,7 +17,7 @@ use Rattle.gc_promise.specs.Damaged.{OfEachHarmedRun, own_or_damaged_lines}
 use Rattle.gc_promise.specs.Fields.{IsRowBy, under}
 use Rattle.gc_promise.specs.Lasting.{AreLeft, RunMoment}
 use Rattle.gc_promise.specs.Objects.{AreTyped, IsObject}
-use Rattle.gc_promise.specs.Tables.{Answers, AreOneForOne, AreReadAs, OfEachFieldRun, acts_in, own_lines, records_of_run, scope_of, table_form}
+use Rattle.gc_promise.specs.Tables.{Answers, AreOneForOne, AreReadAs, OfEachFieldRun, StationRun, acts_in, own_lines, records_of_run, scope_of, table_form}
 
 -- `left` is what is left of a run after a moment: with what went into files before this one, it is the texts of the first ones of the
 -- run's records, each whole
@@ -47,26 +47,29 @@ pub record AreLeftObjects {R : Type 0} (CanAnswer : Answers) (reads : Asked → 
   pub unbroken : AllByRecursion (Lacks 10) lines
   pub one_for_one : AreOneForOne (λ n line r. IsObject CanAnswer m.run.survey (scope_of m.run.survey reads) (acts_in m.run) n line r) lines records
 
--- of each run in the field: what is left of it after any moment (`AreLeft`) are rows, and each is its own
+-- if a run is written as a table, what is left of it after any moment (`AreLeft`) are rows, each by a line that may have answered its
+-- record
+abbrev pub LeavesTable : (R : Type 0) → Answers → (reads : Asked → List ℕ → Reading) → StationRun → Type 0
+LeavesTable R CanAnswer reads run =
+    (columns : Bool) → run.survey.layout.form ≡ table_form columns → (m : RunMoment R) (left : List ℕ) → m.run ≡ run → AreLeft m reads left → IsLeftTable CanAnswer columns reads m left
+
+-- the same of lines of JSON, if the run's records are in the types of the program (`AreTyped`)
+abbrev pub LeavesObjects : (R : Type 0) → Answers → (reads : Asked → List ℕ → Reading) → StationRun → Type 0
+LeavesObjects R CanAnswer reads run =
+    run.survey.layout.form ≡ Json → AreTyped run.survey (records_of_run reads run) → (m : RunMoment R) (left : List ℕ) → m.run ≡ run → AreLeft m reads left → AreLeftObjects CanAnswer reads m left
+
+-- of each run in the field that is written as a table: what is left of it are rows, and each is its own
 abbrev pub LeftTablesAreTheirOwn : (R State : Type 0) → Type 0
-LeftTablesAreTheirOwn R State =
-    OfEachFieldRun {State = State} (λ ends kept reads x. (columns : Bool) → x.run.survey.layout.form ≡ table_form columns →
-    (m : RunMoment R) (left : List ℕ) → m.run ≡ x.run → AreLeft m reads left → IsLeftTable (own_lines ends AnyState kept reads x) columns reads m left)
+LeftTablesAreTheirOwn R State = OfEachFieldRun {State = State} (λ ends kept reads x. LeavesTable R (own_lines ends AnyState kept reads x) reads x.run)
 
--- the same of lines of JSON, if the run's records are in the types of the program (`AreTyped`)
+-- the same of lines of JSON
 abbrev pub LeftObjectsAreTheirOwn : (R State : Type 0) → Type 0
-LeftObjectsAreTheirOwn R State =
-    OfEachFieldRun {State = State} (λ ends kept reads x. x.run.survey.layout.form ≡ Json → AreTyped x.run.survey (records_of_run reads x.run) →
-    (m : RunMoment R) (left : List ℕ) → m.run ≡ x.run → AreLeft m reads left → AreLeftObjects (own_lines ends AnyState kept reads x) reads m left)
+LeftObjectsAreTheirOwn R State = OfEachFieldRun {State = State} (λ ends kept reads x. LeavesObjects R (own_lines ends AnyState kept reads x) reads x.run)
 
--- of each run over a line that damages: what is left of it after any moment (`AreLeft`) are rows by lines that are own or damaged
+-- of each run over a line that damages, if it is written as a table: what is left of it are rows by lines that are own or damaged
 abbrev pub LeftTablesAreOwnOrDamaged : (R State : Type 0) → Type 0
-LeftTablesAreOwnOrDamaged R State =
-    OfEachHarmedRun {State = State} (λ ends kept reads x. (columns : Bool) → x.run.survey.layout.form ≡ table_form columns →
-    (m : RunMoment R) (left : List ℕ) → m.run ≡ x.run → AreLeft m reads left → IsLeftTable (own_or_damaged_lines ends reads x) columns reads m left)
+LeftTablesAreOwnOrDamaged R State = OfEachHarmedRun {State = State} (λ ends kept reads x. LeavesTable R (own_or_damaged_lines ends reads x) reads x.run)
 
--- the same of lines of JSON, if the run's records are in the types of the program (`AreTyped`)
+-- the same of lines of JSON
 abbrev pub LeftObjectsAreOwnOrDamaged : (R State : Type 0) → Type 0
-LeftObjectsAreOwnOrDamaged R State =
-    OfEachHarmedRun {State = State} (λ ends kept reads x. x.run.survey.layout.form ≡ Json → AreTyped x.run.survey (records_of_run reads x.run) →
-    (m : RunMoment R) (left : List ℕ) → m.run ≡ x.run → AreLeft m reads left → AreLeftObjects (own_or_damaged_lines ends reads x) reads m left)
+LeftObjectsAreOwnOrDamaged R State = OfEachHarmedRun {State = State} (λ ends kept reads x. LeavesObjects R (own_or_damaged_lines ends reads x) reads x.run)

@@ -1,6 +1,6 @@
 -- What a station wrote of a run as lines of JSON, as they are read: this project's own. Texts are taken to be
 -- bytes, and numbers to have 64 bits, as those of the program do.
-use Rattle.std.specs.Prelude.{◌≡◌, ℕ, ◌<◌, ◌^◌, true, List, [], ◌++◌, Option, Some}
+use Rattle.std.specs.Prelude.{◌≡◌, ℕ, ◌<◌, ◌^◌, true, List, ◌++◌, Option, Some}
 use Rattle.std.specs.List.{AllByRecursion}
 use Rattle.json.specs.Find.{get_member}
 use Rattle.json.specs.Json as json
@@ -13,6 +13,7 @@ use Rattle.gc_texts.specs.Cuts.{Lacks}
 use Rattle.gc_texts.specs.Logs.{AreBytes}
 use Rattle.gc_texts.specs.declared.name.Name.{Name}
 use Rattle.gc_rows.specs.Laws.{IsEndOfBytes, FitsIn64Bits}
+pub use Rattle.gc_rows.specs.Lookup.{text_of}
 use Rattle.gc_rows.specs.declared.record.Form.TheVariants.{Json}
 use Rattle.gc_links.specs.Acts.{Act}
 use Rattle.gc_station.specs.Records.{Record}
@@ -33,12 +34,6 @@ pub record AreTyped (survey : Survey) (records : List Record) : Type 0 where
   pub run : survey.layout.run < 2 ^ 64
   pub names : AllByRecursion (λ (name : Name). AreBytes name.text.items) survey.names
   pub each : AllByRecursion (IsTyped survey.layout.run) records
-
--- the digits of a number or the bytes of a string; empty if there is neither
-abbrev pub text_of : Option json.Json → List ℕ
-text_of (Some (json.number digits)) = digits
-text_of (Some (json.string bytes)) = bytes
-text_of _ = []
 
 -- a line is the object of the record at a place among those of a run of this survey with these acts: the toolchain's reader of JSON takes it
 -- for an object, whose members are the record's, by a line that may have answered it
@@ -61,9 +56,12 @@ pub record AreObjects (CanAnswer : Answers) (reads : Asked → List ℕ → Read
 abbrev pub AreOwnObjects : {State : Type 0} → Ends State → (Good : State → Type 0) → (kept : State → Option KeptReply) → (reads : Asked → List ℕ → Reading) → FieldRun State → Type 0
 AreOwnObjects ends Good kept reads x = AreObjects (own_lines ends Good kept reads x) reads x.run x.had
 
+-- if run `x` is written as lines of JSON, and its records are in the types of the program (`AreTyped`), what its sink took are its own
+-- objects
+abbrev pub HasOwnObjects : {State : Type 0} → Ends State → (kept : State → Option KeptReply) → (reads : Asked → List ℕ → Reading) → FieldRun State → Type 0
+HasOwnObjects ends kept reads x = x.run.survey.layout.form ≡ Json → AreTyped x.run.survey (records_of_run reads x.run) → AreOwnObjects ends AnyState kept reads x
+
 -- what a sink took of a run in the field are the run's own objects, of each run that is written as lines of JSON
 -- (`OfEachFieldRun`), if its records are in the types of the program (`AreTyped`)
 abbrev pub ObjectsAreTheirOwn : Type 0 → Type 0
-ObjectsAreTheirOwn State =
-    OfEachFieldRun {State = State} (λ ends kept reads x.
-    x.run.survey.layout.form ≡ Json → AreTyped x.run.survey (records_of_run reads x.run) → AreOwnObjects ends AnyState kept reads x)
+ObjectsAreTheirOwn State = OfEachFieldRun {State = State} (λ ends kept reads x. HasOwnObjects ends kept reads x)

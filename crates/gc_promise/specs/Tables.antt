@@ -169,7 +169,10 @@ pub record IsTable (CanAnswer : Answers) (columns : Bool) (reads : Asked → Lis
 abbrev pub IsOwnTable : {State : Type 0} → Ends State → (Good : State → Type 0) → (kept : State → Option KeptReply) → (columns : Bool) → (reads : Asked → List ℕ → Reading) → FieldRun State → Type 0
 IsOwnTable ends Good kept columns reads x = IsTable (own_lines ends Good kept reads x) columns reads x.run x.had
 
+-- if run `x` is written as a table, what its sink took is its own table
+abbrev pub HasOwnTable : {State : Type 0} → Ends State → (kept : State → Option KeptReply) → (reads : Asked → List ℕ → Reading) → FieldRun State → Type 0
+HasOwnTable ends kept reads x = (columns : Bool) → x.run.survey.layout.form ≡ table_form columns → IsOwnTable ends AnyState kept columns reads x
+
 -- what a sink took of a run in the field is the run's own table, of each run that is written as a table (`OfEachFieldRun`)
 abbrev pub TablesAreTheirOwn : Type 0 → Type 0
-TablesAreTheirOwn State =
-    OfEachFieldRun {State = State} (λ ends kept reads x. (columns : Bool) → x.run.survey.layout.form ≡ table_form columns → IsOwnTable ends AnyState kept columns reads x)
+TablesAreTheirOwn State = OfEachFieldRun {State = State} (λ ends kept reads x. HasOwnTable ends kept reads x)

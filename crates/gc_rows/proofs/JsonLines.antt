@@ -1,11 +1,10 @@
 -- Lines of JSON: the members of one, and what a reader of JSON makes of it. `escape` and `print` are those of the library's
 -- writer of JSON, and `document` is its reader.
-use Rattle.std.proofs.Common.{◌≡◌, ◌<◌, ◌≤◌, ◌^◌, ◌==◌, ◌++◌, ◌∷◌, ◌∙◌, [], ℕ, ◌+◌, suc, List, length, drop, get_or, Bool, Some, true, false, inl, inr, refl, sym, ap, subst, arith, append_assoc, append-nil}
+use Rattle.std.proofs.Common.{◌≡◌, ◌<◌, ◌≤◌, ◌^◌, ◌==◌, ◌++◌, ◌∷◌, ◌∙◌, [], ℕ, ◌+◌, suc, List, length, drop, get_or, Bool, Some, true, false, inl, inr, refl, sym, ap, subst, arith, append_assoc}
 use Rattle.std.specs.Prelude.{◌||◌, codes, max, nat_lt}
 use Rattle.std.specs.List.{AllByRecursion, flat_map}
 use Rattle.std.proofs.Math.Nat.{zero-max}
 use Rattle.std.proofs.lemmas.Bool.{cases_Bool, lt-ltb}
-use Rattle.std.proofs.lemmas.Grind.{flat_map-append}
 use Rattle.std.proofs.lemmas.List.{drop_more}
 use Rattle.std.proofs.lemmas.List.Elements.{recursion_from_All}
 use Rattle.gc_values.proofs.Every.{every_weaker as all_on}
@@ -16,40 +15,12 @@ use Rattle.json.specs.Token.{Token, end_array}
 use Rattle.json.specs.Tree.{ItemsHaveNumbers, MembersHaveNumbers, items_depth, items_tokens, json_tokens, members_depth, members_tokens}
 use Rattle.json.proofs.Printed.Strings.{escape_byte_plain}
 use Rattle.json.proofs.Printed.Trees.{document-print}
-use Rattle.gc_rows.specs.JsonLines.{Member, Text, Number, Texts, behind_backslash, string_text, number_member, comma_where, strings_text, list_text, member_text, members_text}
+use Rattle.gc_rows.specs.JsonLines.{Member, Text, Number, Texts, behind_backslash, string_text, comma_where, strings_text, list_text, members_text}
 use Rattle.gc_rows.specs.Laws.{IsPlainName, ArePlainMembers, texts_read, members_read, record_read, JsonLinesReadBack}
 use Rattle.gc_texts.specs.Logs.{escaped, AreBytes, IsPrintableByte}
 use Rattle.gc_texts.specs.Stamps.{stamp_text}
 use Rattle.gc_texts.proofs.Logs.{IsOfBytes, bytes_by_recursion, bytes_by_places}
 use Rattle.gc_texts.proofs.LogStamps.{escaped_prints, stamp_prints}
-
--- the target, the members of the name and the procedure, appended to `old` one after the other, are `old` and then the members
--- of a command
-pub command_members_text : (old target procedure : List ℕ) (name : List Member)
-    → ((old ++ number_member (codes "target") target) ++ members_text name) ++ number_member (codes "procedure") procedure
-    ≡ old ++ members_text (Number (codes "target") target ∷ (name ++ Number (codes "procedure") procedure ∷ []))
-command_members_text old target procedure name =
-    let t = number_member (codes "target") target in
-    let p = number_member (codes "procedure") procedure in
-    let n = members_text name in
-    let last : members_text (name ++ Number (codes "procedure") procedure ∷ []) ≡ n ++ p =
-    flat_map-append member_text name (Number (codes "procedure") procedure ∷ []) ∙ ap (λ l. n ++ l) (append-nil p) in
-    append_assoc (old ++ t) n p ∙ append_assoc old t (n ++ p) ∙ ap (λ l. old ++ (t ++ l)) (sym last)
-
--- the members of the quality and then the attempt, appended to `old`, are `old` and then the members after all others
-pub last_members_text : (old attempt : List ℕ) (quality : List Member)
-    → (old ++ members_text quality) ++ number_member (codes "attempt") attempt ≡ old ++ members_text (quality ++ Number (codes "attempt") attempt ∷ [])
-last_members_text old attempt quality =
-    let a = number_member (codes "attempt") attempt in
-    let q = members_text quality in
-    let last : members_text (quality ++ Number (codes "attempt") attempt ∷ []) ≡ q ++ a =
-    flat_map-append member_text quality (Number (codes "attempt") attempt ∷ []) ∙ ap (λ l. q ++ l) (append-nil a) in
-    append_assoc old q a ∙ ap (λ l. old ++ l) (sym last)
-
--- appending a, b and c to `old` one after the other is appending them as one text, with nothing after them
-pub three_appended : (old a b c : List ℕ) → ((old ++ a) ++ b) ++ c ≡ old ++ (a ++ (b ++ (c ++ [])))
-three_appended old a b c =
-    append_assoc (old ++ a) b c ∙ append_assoc old a (b ++ c) ∙ ap (λ l. old ++ (a ++ (b ++ l))) (sym (append-nil c))
 
 -- a double quote and a backslash are escaped as a writer of JSON escapes them
 marked_as_json : (b : ℕ) → IsPrintableByte b → ((b == 34) || (b == 92)) ≡ true → behind_backslash b ≡ escape_byte b

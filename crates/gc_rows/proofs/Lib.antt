@@ -1,6 +1,11 @@
 pub mod Columns
+pub mod Plain
+pub mod PlainNames
 pub mod Rows
 pub mod JsonLines
+pub mod Lookup
+pub mod Spreading
 pub mod Items
+pub mod Fit
 pub mod Members
 pub mod ProcedureQuantities

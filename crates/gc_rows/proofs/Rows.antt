@@ -13,6 +13,7 @@ use Rattle.csv.specs.Writing as csv
 use Rattle.csv.specs.Writing.{default_writer, fields_text, is_blank, needs_byte, row_text}
 use Rattle.csv.specs.declared.parser.State.TheVariants.{StartRecord}
 use Rattle.csv.proofs.RoundTrip.{read-write-many}
+use Rattle.gc_rows.specs.declared.quantity.TheConstants.{QUANTITIES}
 use Rattle.gc_rows.specs.Laws.{ReadsBackAs, RowsReadBack, RowsArePrintable}
 use Rattle.gc_texts.specs.Logs.{escaped, AreBytes, IsPrintable, IsPrintableByte}
 use Rattle.gc_rows.specs.Quantities.{quantity_text}
@@ -21,17 +22,15 @@ use Rattle.gc_values.specs.declared.value.Value.{Value}
 use Rattle.gc_texts.proofs.LogStamps.{escaped_prints}
 use Rattle.gc_texts.proofs.Logs.{bytes_by_recursion, escaped_injective}
 
--- after `front`, the texts of the items of four lists, one list after the other, are those of the lists joined
-pub four_written : {X : Type 0} (text : X → List ℕ) (front : List ℕ) (ws hs es qs : List X)
-    → (((front ++ flat_map text ws) ++ flat_map text hs) ++ flat_map text es) ++ flat_map text qs ≡ front ++ flat_map text (ws ++ (hs ++ (es ++ qs)))
-four_written text front ws hs es qs =
-    let w = flat_map text ws in
-    let h = flat_map text hs in
-    let e = flat_map text es in
-    let q = flat_map text qs in
-    let joined : flat_map text (ws ++ (hs ++ (es ++ qs))) ≡ w ++ (h ++ (e ++ q)) =
-    flat_map-append text ws (hs ++ (es ++ qs)) ∙ ap (λ l. w ++ l) (flat_map-append text hs (es ++ qs) ∙ ap (λ l. h ++ l) (flat_map-append text es qs)) in
-    append_assoc ((front ++ w) ++ h) e q ∙ append_assoc (front ++ w) h (e ++ q) ∙ append_assoc front w (h ++ (e ++ q)) ∙ ap (λ l. front ++ l) (sym joined)
+-- after `front`, the texts of the items of three lists, one list after the other, are those of the lists joined
+pub three_written : {X : Type 0} (text : X → List ℕ) (front : List ℕ) (xs ys zs : List X)
+    → ((front ++ flat_map text xs) ++ flat_map text ys) ++ flat_map text zs ≡ front ++ flat_map text (xs ++ (ys ++ zs))
+three_written text front xs ys zs =
+    let x = flat_map text xs in
+    let y = flat_map text ys in
+    let z = flat_map text zs in
+    append_assoc (front ++ x) y z ∙ append_assoc front x (y ++ z)
+    ∙ ap (λ l. front ++ l) (sym (flat_map-append text xs (ys ++ zs) ∙ ap (λ l. x ++ l) (flat_map-append text ys zs)))
 
 -- empty fields, each after a comma, are as many commas
 blanks_text : (n : ℕ) → fields_behind_commas (replicate n []) ≡ replicate n 44
@@ -46,12 +45,12 @@ values_text (v ∷ vs) = ap (λ l. value_behind_comma v ++ l) (values_text vs)
 -- `first` commas, values as `value_behind_comma` writes them, and a comma for each further column are, after any bytes, the
 -- values in their columns
 pub spread_text : (old : List ℕ) (first : ℕ) (values : List Value)
-    → ((old ++ replicate first 44) ++ flat_map value_behind_comma values) ++ replicate (24 - first - length values) 44
+    → ((old ++ replicate first 44) ++ flat_map value_behind_comma values) ++ replicate (QUANTITIES - first - length values) 44
     ≡ old ++ fields_behind_commas (spread first (map quantity_text values))
 spread_text old first values =
     let texts = map quantity_text values in
     let front : List (List ℕ) = replicate first [] in
-    let left = 24 - first - length values in
+    let left = QUANTITIES - first - length values in
     let back : List (List ℕ) = replicate left [] in
     let joined : fields_behind_commas (front ++ (texts ++ back)) ≡ fields_behind_commas front ++ (fields_behind_commas texts ++ fields_behind_commas back) =
     flat_map-append behind_comma front (texts ++ back) ∙ ap (λ l. fields_behind_commas front ++ l) (flat_map-append behind_comma texts back) in
@@ -61,7 +60,7 @@ spread_text old first values =
     ∙ append_assoc (old ++ fields_behind_commas front) (fields_behind_commas texts) (fields_behind_commas back)
     ∙ append_assoc old (fields_behind_commas front) (fields_behind_commas texts ++ fields_behind_commas back)
     ∙ ap (λ l. old ++ l) (sym joined)
-    ∙ ap (λ n. old ++ fields_behind_commas (front ++ (texts ++ replicate (24 - first - n) []))) (sym (length-map values quantity_text))
+    ∙ ap (λ n. old ++ fields_behind_commas (front ++ (texts ++ replicate (QUANTITIES - first - n) []))) (sym (length-map values quantity_text))
 
 -- `or` of three tests is the same grouped the other way, and with `false` added twice
 or_regrouped : (x y z : Bool) → ((x || y) || z) ≡ (((x || (y || z)) || false) || false)

@@ -1,5 +1,5 @@
 -- Laws of the rows: this project's own, as the rows are.
-use Rattle.std.specs.Prelude.{◌≡◌, ◌≢◌, ◌<◌, ◌≤◌, ◌^◌, ℕ, List, [], ◌∷◌, ◌++◌, length, map, true, false, None, Some, IfSome, codes}
+use Rattle.std.specs.Prelude.{◌≡◌, ◌≢◌, ◌<◌, ◌≤◌, ◌^◌, ℕ, List, [], ◌∷◌, ◌++◌, length, map, true, false, Some, IfSome, codes}
 use Rattle.std.specs.List.{AllByRecursion, flat_map}
 use Rattle.csv.specs.Machine.{next_record}
 use Rattle.csv.specs.Reading.{default_config, records_from}
@@ -7,7 +7,7 @@ use Rattle.json.specs.Json as json
 use Rattle.json.specs.Json.{document}
 use Rattle.json.specs.Print.{IsNumber}
 use Rattle.csv.specs.declared.parser.State.TheVariants.{StartRecord}
-use Rattle.gc_texts.specs.Endings.{End, Answered, Unreadable, Elsewhere, Disagree}
+use Rattle.gc_texts.specs.Endings.{End, line_of}
 use Rattle.gc_catalogue.specs.Answers.{IsFittingAnswer}
 use Rattle.gc_catalogue.specs.declared.answer.Answer.{Answer}
 use Rattle.gc_catalogue.specs.declared.answer.Answer.TheVariants as answers
@@ -16,12 +16,12 @@ use Rattle.gc_values.specs.Params.{IsParams}
 use Rattle.gc_lines.specs.Replies.{ReplyFields, IsReply}
 use Rattle.gc_rows.specs.Records.{head_text, header}
 use Rattle.gc_rows.specs.Items.{items_of}
-use Rattle.gc_rows.specs.JsonLines.{Member, Text, Number, Texts, json_line, members_after_run}
+use Rattle.gc_rows.specs.JsonLines.{Member, Text, Number, Texts, json_line}
+use Rattle.gc_rows.specs.Columns.{Entry, answer_of, members_after_run}
 use Rattle.gc_rows.specs.Rows.{com_of, code_of, values_of, row_of}
 use Rattle.gc_rows.specs.declared.record.Form.TheVariants.{Csv, Columns}
 use Rattle.gc_texts.specs.Logs.{AreBytes, escaped, IsPrintable}
 use Rattle.gc_texts.specs.Stamps.{stamp_text}
-use Rattle.gc_texts.specs.declared.wish.Wish.{Wish}
 use Rattle.gc_rows.specs.declared.when.When.{When}
 
 -- the columns cut from a reply's line give its fields: `rc_com` and `rc` are the numbers of the reply's codes in digits, and `values` its
@@ -111,12 +111,7 @@ IsAnswerOfBytes answer = IsFittingAnswer answer
 -- the reply's line of an ending, if there is one, reads as a reply and is of bytes, and the ending's answer, if there is one,
 -- holds numbers within their ranges, and bytes (`IsReplyOfBytes`, `IsAnswerOfBytes`)
 abbrev pub IsEndOfBytes : End → Type 0
-IsEndOfBytes (Answered quality (Some answer) line) = IsReplyOfBytes line × IsAnswerOfBytes answer
-IsEndOfBytes (Answered quality None line) = IsReplyOfBytes line
-IsEndOfBytes (Unreadable line fault) = IsReplyOfBytes line
-IsEndOfBytes (Elsewhere line) = IsReplyOfBytes line
-IsEndOfBytes (Disagree line) = IsReplyOfBytes line
-IsEndOfBytes _ = Unit {0}
+IsEndOfBytes end = IfSome (line_of end) IsReplyOfBytes × IfSome (answer_of end) IsAnswerOfBytes
 
 -- the moments at which a record's command was sent and ended, its cycle, its place and its attempt have at most 64 bits each
 pub record FitsIn64Bits (when : When) : Type 0 where
@@ -131,6 +126,4 @@ pub record FitsIn64Bits (when : When) : Type 0 where
 -- such a line
 abbrev pub RecordsHavePlainMembers : Type 0
 RecordsHavePlainMembers =
-    (when : When) (name : List ℕ) (command : Wish) (end : End)
-    → FitsIn64Bits when → AreBytes name → command.target < 2 ^ 64 → IsEndOfBytes end
-    → ArePlainMembers (members_after_run when name command end)
+    (r : Entry) → FitsIn64Bits r.when → AreBytes r.name → r.command.target < 2 ^ 64 → IsEndOfBytes r.end → ArePlainMembers (members_after_run r)

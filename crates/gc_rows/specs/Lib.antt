@@ -2,6 +2,9 @@ pub mod Quantities
 pub mod Items
 pub mod Rows
 pub mod JsonLines
+pub mod Cells
+pub mod Columns
 pub mod Records
 pub mod Laws
 pub mod ProcedureQuantities
+pub mod Lookup

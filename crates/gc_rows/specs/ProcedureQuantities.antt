@@ -6,12 +6,9 @@ use Rattle.gc_catalogue.specs.Calls.{call_fields}
 use Rattle.gc_catalogue.specs.declared.answer.Answer.{Answer}
 use Rattle.gc_catalogue.specs.declared.call.Call.{Call}
 use Rattle.gc_values.specs.declared.value.Value.{Value}
-use Rattle.gc_texts.specs.Endings.{End}
 use Rattle.gc_rows.specs.Quantities.{column_of, column_of_whole, quantity_name}
 use Rattle.gc_rows.specs.Records.{header}
-use Rattle.gc_rows.specs.Rows.{row_fields}
-use Rattle.gc_texts.specs.declared.wish.Wish.{Wish}
-use Rattle.gc_rows.specs.declared.when.When.{When}
+use Rattle.gc_rows.specs.Columns.{Entry, row_fields}
 
 -- the names of the two measured angles
 abbrev pub angle_names : List (List ℕ)
@@ -78,6 +75,4 @@ WholesHaveTheirNames =
 
 -- however a command ended, its row has a field for each name of the header, and no other
 abbrev pub RowsFillTheirColumns : Type 0
-RowsFillTheirColumns =
-    (columns : Bool) (when : When) (name : List ℕ) (command : Wish) (end : End)
-    → length (row_fields columns when name command end) ≡ length (header columns)
+RowsFillTheirColumns = (has_quantities : Bool) (r : Entry) → length (row_fields has_quantities r) ≡ length (header has_quantities)

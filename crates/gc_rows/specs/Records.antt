@@ -1,19 +1,17 @@
--- Records: how a command ended, with its moments, as a line, as a row of comma-separated values, or as a line of JSON. The words and
--- the columns are this project's own.
-use Rattle.std.specs.Prelude.{ℕ, Bool, true, false, List, [], ◌∷◌, ◌++◌, Option, None, Some, codes}
+-- Records: how a command ended, with its moments, as a line, as a row of comma-separated values, or as a line of JSON. The words are
+-- this project's own.
+use Rattle.std.specs.Prelude.{ℕ, Bool, true, false, List, [], ◌∷◌, ◌++◌, map, Option, None, Some, codes}
 use Rattle.std.specs.Fmt.{decimal}
 use Rattle.gc_values.specs.ValueFault.{value_fault_number}
 use Rattle.gc_values.specs.declared.fault.ValueFault.{ValueFault}
-use Rattle.gc_texts.specs.declared.wish.Wish.{Wish}
 use Rattle.gc_rows.specs.declared.record.EndedCommand.{EndedCommand}
 use Rattle.gc_rows.specs.declared.record.Form.{Form}
 use Rattle.gc_rows.specs.declared.record.Form.TheVariants.{Lines, Csv, Columns, Json}
-use Rattle.gc_rows.specs.declared.when.When.{When}
-use Rattle.gc_texts.specs.Endings.{End, ending_seen, word_of, fault_of, line_of}
-use Rattle.gc_rows.specs.JsonLines.{json_line, members_after_run}
+use Rattle.gc_texts.specs.Endings.{End, word_of, fault_of, line_of}
+use Rattle.gc_rows.specs.Columns.{Entry, entry_seen, run_column, first_columns, row_columns, row_fields, members_after_run}
+use Rattle.gc_rows.specs.JsonLines.{json_line}
 use Rattle.gc_texts.specs.Logs.{escaped}
-use Rattle.gc_rows.specs.Quantities.{quantity_names}
-use Rattle.gc_rows.specs.Rows.{row_of, row_fields}
+use Rattle.gc_rows.specs.Rows.{row_of}
 use Rattle.gc_texts.specs.Stamps.{stamp_text}
 
 -- a space and the number of a fault; empty if there is no fault
@@ -32,36 +30,29 @@ abbrev pub ending_text : End → List ℕ
 ending_text end = codes " " ++ word_of end ++ spaced_fault (fault_of end) ++ spaced_line (line_of end)
 
 -- the line of a record: when its command ended, the command's place, its target, and how it ended
-abbrev pub record_line : When → Wish → End → List ℕ
-record_line when command end =
-    stamp_text when.stamp.utc ++ codes " " ++ decimal when.stamp.turn.place ++ codes " " ++ decimal command.target ++ ending_text end ++ codes "\n"
+abbrev pub record_line : Entry → List ℕ
+record_line r =
+    stamp_text r.when.stamp.utc ++ codes " " ++ decimal r.when.stamp.turn.place ++ codes " " ++ decimal r.command.target ++ ending_text r.end ++ codes "\n"
 
--- a record in this form, by its moments, the target's name, the command, and how that ended. In the form `Lines` there is neither
--- the name nor the moment at which the command was sent
-abbrev pub record_text : Form → When → List ℕ → Wish → End → List ℕ
-record_text Lines when name command end = record_line when command end
-record_text Csv when name command end = row_of (row_fields false when name command end)
-record_text Columns when name command end = row_of (row_fields true when name command end)
-record_text Json when name command end = json_line when.run (members_after_run when name command end)
+-- the record of an entry in this form. In the form `Lines` there is neither the target's name nor the moment at which the command was
+-- sent
+abbrev pub record_text : Form → Entry → List ℕ
+record_text Lines r = record_line r
+record_text Csv r = row_of (row_fields false r)
+record_text Columns r = row_of (row_fields true r)
+record_text Json r = json_line r.when.run (members_after_run r)
 
 -- the record of a command that ended, in this form
 abbrev pub record_of : Form → EndedCommand → List ℕ
-record_of form ended = record_text form ended.when ended.name.now ended.command.now (ending_seen ended.ending)
+record_of form ended = record_text form (entry_seen ended)
 
 -- the names of the columns before the quantities
 abbrev pub first_names : List (List ℕ)
-first_names =
-    codes "run" ∷ codes "sent" ∷ codes "time" ∷ codes "cycle" ∷ codes "place" ∷ codes "target" ∷ codes "name" ∷ codes "procedure"
-    ∷ codes "outcome" ∷ codes "fault" ∷ codes "rc_com" ∷ codes "rc" ∷ codes "values" ∷ []
+first_names = map (λ c. c.name) (run_column ∷ first_columns)
 
--- the names of the columns after all others
-abbrev pub last_names : List (List ℕ)
-last_names = codes "quality" ∷ codes "attempt" ∷ []
-
--- the names of the columns of a row: with those of the quantities, if the row has columns for these (`columns`), or without them
-abbrev pub header : (columns : Bool) → List (List ℕ)
-header false = first_names ++ last_names
-header true = first_names ++ (quantity_names ++ last_names)
+-- the names of the columns of a row, with those of the quantities or without
+abbrev pub header : (has_quantities : Bool) → List (List ℕ)
+header has_quantities = map (λ c. c.name) (row_columns has_quantities)
 
 -- what comes before all records: the names of the columns as a row, or nothing in the forms that have no columns
 abbrev pub head_text : Form → List ℕ

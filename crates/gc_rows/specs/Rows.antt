@@ -1,6 +1,6 @@
--- Rows: a record as a row of comma-separated values. The columns are this project's own, and how a field is quoted is RFC
--- 4180's. Each field is printable ASCII: other bytes are written as `\x` and two digits, and so is a backslash.
-use Rattle.std.specs.Prelude.{ℕ, ◌≡◌, ◌+◌, ◌-◌, ◌≤◌, ◌==◌, ◌||◌, Bool, true, false, List, [], ◌∷◌, ◌++◌, length, map, replicate, Option, Some, None, if◌then◌else◌, codes}
+-- Rows: a record as a row of comma-separated values. How a field is quoted is RFC 4180's. Each field is printable ASCII: other
+-- bytes are written as `\x` and two digits, and so is a backslash.
+use Rattle.std.specs.Prelude.{ℕ, ◌≡◌, ◌+◌, ◌-◌, ◌≤◌, ◌==◌, ◌||◌, Bool, List, [], ◌∷◌, ◌++◌, length, map, replicate, Option, Some, None, if◌then◌else◌, codes}
 use Rattle.std.specs.Fmt.{decimal}
 use Rattle.std.specs.List.{flat_map, list_any}
 use Rattle.gc_catalogue.specs.Answers.{answer_fields}
@@ -8,17 +8,13 @@ pub use Rattle.gc_catalogue.specs.Asked.{procedure_of}
 use Rattle.gc_catalogue.specs.declared.answer.Answer.{Answer}
 use Rattle.gc_catalogue.specs.declared.asked.Asked.{Asked}
 use Rattle.gc_catalogue.specs.declared.asked.Asked.TheVariants.{Table, Raw}
+use Rattle.gc_values.specs.declared.value.Value.{Value}
 use Rattle.gc_values.specs.ValueFault.{value_fault_number}
 use Rattle.gc_values.specs.declared.fault.ValueFault.{ValueFault}
-use Rattle.gc_values.specs.declared.value.Value.{Value}
-use Rattle.gc_texts.specs.declared.quality.Quality.{Quality}
-use Rattle.gc_texts.specs.declared.quality.Quality.TheVariants.{Unconfirmed}
-use Rattle.gc_texts.specs.declared.wish.Wish.{Wish}
-use Rattle.gc_rows.specs.declared.row.ReplyTexts.{ReplyTexts}
-use Rattle.gc_rows.specs.declared.when.When.{When}
-use Rattle.gc_texts.specs.Endings.{End, Answered, word_of, fault_of, line_of, quality_of, quality_text}
+use Rattle.gc_rows.specs.declared.cell.ReplyTexts.{ReplyTexts}
 use Rattle.gc_texts.specs.Cuts.{before, behind}
 use Rattle.gc_texts.specs.Logs.{escaped}
+use Rattle.gc_rows.specs.declared.quantity.TheConstants.{QUANTITIES}
 use Rattle.gc_rows.specs.Quantities.{column_of, quantity_text}
 use Rattle.gc_texts.specs.Stamps.{stamp_text}
 
@@ -78,76 +74,31 @@ abbrev pub moment_text : Option ℕ → List ℕ
 moment_text None = []
 moment_text (Some utc) = stamp_text utc
 
--- the fields that say when a command was sent and ended, and which command of its run it was
-abbrev pub when_fields : When → List (List ℕ)
-when_fields when = moment_text when.stamp.sent ∷ stamp_text when.stamp.utc ∷ decimal when.stamp.cycle ∷ decimal when.stamp.turn.place ∷ []
-
--- the fields of a command's target, the target's name, and the number of the procedure
-abbrev pub command_fields : Wish → List ℕ → List (List ℕ)
-command_fields command name = decimal command.target ∷ name ∷ decimal (procedure_of command.call) ∷ []
-
 -- the number of a fault in digits; empty if there is no fault
 abbrev pub fault_field : Option ValueFault → List ℕ
 fault_field None = []
 fault_field (Some fault) = decimal (value_fault_number fault)
 
--- the fields of a reply's line: its communication code, its return code, and its values; three empty fields if there is no line
-abbrev pub reply_fields : Option (List ℕ) → List (List ℕ)
-reply_fields None = [] ∷ [] ∷ [] ∷ []
-reply_fields (Some line) = com_of line ∷ code_of line ∷ values_of line ∷ []
-
--- the fields that say how a command ended: its word, its fault, and the three of the reply's line
-abbrev pub ending_fields : End → List (List ℕ)
-ending_fields end = word_of end ∷ fault_field (fault_of end) ∷ reply_fields (line_of end)
+-- the texts of an answer's values, in order
+abbrev pub value_texts : Answer → List (List ℕ)
+value_texts answer = map quantity_text (answer_fields answer).values
 
 -- a value of an answer as a field (`quantity_text`), after a comma
 abbrev pub value_behind_comma : Value → List ℕ
 value_behind_comma value = behind_comma (quantity_text value)
 
--- the texts in 24 columns, if they fit: one after the other, the first in column `first`, counted from 0, and the other columns are
--- empty
+-- the texts in the columns of quantities, if they fit: one after the other, the first in column `first`, counted from 0, and the other
+-- columns are empty
 abbrev pub spread : (first : ℕ) → (texts : List (List ℕ)) → List (List ℕ)
-spread first texts = replicate first [] ++ (texts ++ replicate (24 - first - length texts) [])
+spread first texts = replicate first [] ++ (texts ++ replicate (QUANTITIES - first - length texts) [])
 
--- the texts of an answer's values, in order
-abbrev pub value_texts : Answer → List (List ℕ)
-value_texts answer = map quantity_text (answer_fields answer).values
-
--- the texts in 24 columns from this column on (`spread`); all columns are empty if there is none
+-- the texts from this column of quantities on (`spread`); all columns are empty if there is none
 abbrev pub columns_from : Option ℕ → (texts : List (List ℕ)) → List (List ℕ)
 columns_from (Some first) texts = spread first texts
-columns_from None texts = replicate 24 []
+columns_from None texts = replicate QUANTITIES []
 
 -- the quantities of an answer to `asked`, each in its column; all columns are empty if the answer has no quantity, or the procedure
 -- isn't in the table
 abbrev pub answer_columns : Asked → Answer → List (List ℕ)
 answer_columns (Table call) answer = columns_from (column_of call answer) (value_texts answer)
-answer_columns (Raw raw) answer = replicate 24 []
-
--- the quantities of an answer of this quality, each in its column; all columns are empty if the answer is unconfirmed
-abbrev pub counted_columns : Quality → Asked → Answer → List (List ℕ)
-counted_columns Unconfirmed asked answer = replicate 24 []
-counted_columns _ asked answer = answer_columns asked answer
-
--- the quantities of the answer that an ending has, each in its column; all columns are empty if the ending isn't `Answered`, has no
--- answer (`None`), or one that is unconfirmed
-abbrev pub quantity_fields : Asked → End → List (List ℕ)
-quantity_fields asked (Answered quality (Some answer) line) = counted_columns quality asked answer
-quantity_fields asked _ = replicate 24 []
-
--- the fields after all others: the quality of the command's answer, empty if the ending isn't `Answered`, and the attempt: of the
--- command's chain or, for a command of the setup, of the setup
-abbrev pub last_fields : When → End → List (List ℕ)
-last_fields when end = quality_text (quality_of end) ∷ decimal when.stamp.turn.attempt ∷ []
-
--- the fields after those that say how the command ended: the quantities, if a row has columns for them (`columns`), and the last fields
-abbrev pub fields_after_ending : (columns : Bool) → When → Asked → End → List (List ℕ)
-fields_after_ending true when asked end = quantity_fields asked end ++ last_fields when end
-fields_after_ending false when asked end = last_fields when end
-
--- the fields of a record's row: when its run began, when its command was sent and ended, and which one of the run it was; the target, its
--- name and the procedure; how the command ended; if `columns` asks for them, a field for each quantity; and last the quality of the answer
--- and the attempt
-abbrev pub row_fields : (columns : Bool) → When → List ℕ → Wish → End → List (List ℕ)
-row_fields columns when name command end =
-    stamp_text when.run ∷ (when_fields when ++ (command_fields command name ++ (ending_fields end ++ fields_after_ending columns when command.call end)))
+answer_columns (Raw raw) answer = replicate QUANTITIES []

@@ -1,65 +1,42 @@
 //! Lines of JSON: a record as one object. Its quantities are members by their names, as numbers and as the reply wrote them; the values
 //! of a procedure that isn't in the table are one list of items.
 
-ghost use Rattle.std.specs.Prelude.{◌≡◌, ℕ, ◌+◌, ◌*◌, ◌≤◌, ◌<◌, ◌++◌, codes, false, length, option_map, Some};
+ghost use Rattle.std.specs.Prelude.{◌≡◌, ℕ, ◌+◌, ◌*◌, ◌≤◌, ◌<◌, ◌++◌, codes, false, length, map};
 ghost use Rattle.std.specs.List.{flat_map};
 ghost use Rattle.arrayvec.specs.ArrayVec.{array_vec_len};
 ghost use Rattle.gc_catalogue.specs.Answers.{answer_fields};
 ghost use Rattle.gc_rows.specs.Items.{split_items};
 ghost use Rattle.gc_values.specs.Params.{total_length};
 ghost use Rattle.gc_texts.specs.Endings.{ending_seen};
-ghost use Rattle.gc_texts.specs.Logs.{escaped};
-ghost use Rattle.gc_rows.specs.declared.json_line.TheConstants.{NAME_ROOM, TEXT_ROOM, NUMBER_ROOM, SENT_ROOM, WHEN_ROOM, COMMAND_ROOM, REPLY_ROOM, ENDING_ROOM, OWN_ROOM, VALUE_ROOM, STRINGS_ROOM, LIST_ROOM, ANSWER_ROOM, LAST_ROOM, AFTER_ENDING_ROOM};
-ghost use Rattle.gc_rows.specs.JsonLines.{behind_backslash, member_front, string_text, text_member, number_member, comma_where, strings_text, texts_member, item_members, members_text, without_zeros, sent_members, when_members, text_if_any, command_members, fault_members, reply_members, ending_members, value_members, values_members, members_from, answer_members, quantity_members, attempt_members, last_members, members_after_ending};
+ghost use Rattle.gc_rows.specs.declared.cell.TheConstants.{NAME_ROOM};
+ghost use Rattle.gc_rows.specs.declared.quantity.TheConstants.{QUANTITIES};
+ghost use Rattle.gc_rows.specs.declared.json_line.TheConstants.{TEXT_ROOM, OWN_ROOM, VALUE_ROOM, STRINGS_ROOM, LIST_ROOM, ANSWER_ROOM};
+ghost use Rattle.gc_rows.specs.Cells.{AreShort, IsShortContent, cell_seen, content_seen, member_room, members_in, members_of, members_room};
+ghost use Rattle.gc_rows.specs.Columns.{answer_cells, cells_from, end_cells, items_content, line_items, split_content, value_cells};
+ghost use Rattle.gc_rows.specs.JsonLines.{behind_backslash, member_front, string_text, text_member, number_member, comma_where, strings_text, texts_member, members_text, without_zeros, value_members};
 ghost use Rattle.gc_rows.specs.Quantities.{column_of};
 ghost use Rattle.gc_rows.specs.Records.{record_of};
 ghost use Rattle.gc_rows.specs.Rows.{Adds};
 ghost use Rattle.gc_rows.specs.declared.record.Form.TheVariants.{Json};
 
+use crate::cell::{Cell, Content, NAME_ROOM, first_cells, last_cells, texts_of};
 use crate::quantity::{
     MOST_VALUES, QUANTITY_ROOM, answer_values, column_of, quantity_name, quantity_text,
 };
 use crate::record::EndedCommand;
-use crate::row::texts_of;
-use crate::when::When;
 use arrayvec::ArrayVec;
 use gc_catalogue::{Answer, Asked, Call};
 use gc_lines::{Line, append};
-use gc_texts::{Ending, Quality, STAMP_ROOM, Wish, before, behind, escaped, stamp_text};
-use gc_values::{Items, Value, ValueFault, split};
+use gc_texts::{Ending, Quality, before, behind, escaped, stamp_text};
+use gc_values::{Items, Value, split};
 use itoa::Buffer;
 
 /// The most bytes of a line of JSON.
 pub(crate) const JSON_ROOM: usize = 40_960;
 
-// The most bytes of a member's name of at most 37 bytes, with a comma before it, within quotes, and with a colon after.
-const NAME_ROOM: usize = 1 + 2 + 37 + 1;
-
 // The most bytes of a member that is a string, besides those within its quotes. Each byte that the string holds takes at most
 // eight: it may be escaped as four, and each of these come after a backslash.
 const TEXT_ROOM: usize = NAME_ROOM + 2;
-
-// The most bytes of a member that is a word of at most 16 bytes.
-const WORD_ROOM: usize = TEXT_ROOM + 8 * 16;
-
-// The most bytes of a member that is a number of at most 20 digits.
-const NUMBER_ROOM: usize = NAME_ROOM + 20;
-
-// The most bytes of the member `sent`, which is a moment.
-const SENT_ROOM: usize = TEXT_ROOM + 8 * STAMP_ROOM;
-
-// The most bytes of the members that say when a command was sent and ended, and which one of its run it was: two moments and two
-// numbers.
-const WHEN_ROOM: usize = 2 * SENT_ROOM + 2 * NUMBER_ROOM;
-
-// The most bytes of the members of a command: its target, a name of at most 64 bytes, and the procedure's number.
-const COMMAND_ROOM: usize = TEXT_ROOM + 8 * 64 + 2 * NUMBER_ROOM;
-
-// The most bytes of the members of a reply's line of 512 bytes: two codes as they are, and its values as a string.
-const REPLY_ROOM: usize = 2 * (NAME_ROOM + 512) + TEXT_ROOM + 8 * 512;
-
-// The most bytes of the members that say how a command ended: a word, a fault's number, and those of the reply's line.
-const ENDING_ROOM: usize = WORD_ROOM + NUMBER_ROOM + REPLY_ROOM;
 
 // The most bytes of a value's members besides what the reply wrote of it: those of a text, which is one member. The names of a
 // number, and the number itself, have fewer.
@@ -77,12 +54,6 @@ const LIST_ROOM: usize = NAME_ROOM + 2 + STRINGS_ROOM;
 
 // The most bytes of the members of an answer, which are those of its values, or the list of its items.
 const ANSWER_ROOM: usize = MOST_VALUES * VALUE_ROOM;
-
-// The most bytes of the members after all others: the quality, which is a word, and the attempt.
-const LAST_ROOM: usize = WORD_ROOM + NUMBER_ROOM;
-
-// The most bytes of the members after how a command ended: those of its answer and the last ones.
-const AFTER_ENDING_ROOM: usize = ANSWER_ROOM + LAST_ROOM;
 
 // Appends a text with a backslash before each double quote and each backslash.
 fn append_behind_backslashes<const N: usize>(line: &mut ArrayVec<u8, N>, text: &[u8])
@@ -144,60 +115,6 @@ fn append_number<const N: usize>(line: &mut ArrayVec<u8, N>, name: &[u8], digits
     append(line, digits);
 }
 
-// Appends the member that says when a command was sent; nothing if it wasn't.
-fn append_sent<const N: usize>(line: &mut ArrayVec<u8, N>, sent: Option<u64>)
-    requires { array_vec_len line.old + SENT_ROOM ≤ N }
-    ensures { Adds line.old.items line.new.items (members_text (sent_members sent)) SENT_ROOM }
-{
-    if let Some(utc) = sent {
-        append_text(line, b"sent", &stamp_text(utc));
-    }
-}
-
-// Appends the members that say when a command was sent and ended, and which command of its run it was.
-fn append_when<const N: usize>(line: &mut ArrayVec<u8, N>, when: &When)
-    requires { array_vec_len line.old + WHEN_ROOM ≤ N }
-    ensures { Adds line.old.items line.new.items (members_text (when_members when.now)) WHEN_ROOM }
-{
-    let mut digits = Buffer::new();
-    append_sent(line, when.stamp.sent);
-    append_text(line, b"time", &stamp_text(when.stamp.utc));
-    append_number(line, b"cycle", digits.format(when.stamp.cycle).as_bytes());
-    append_number(
-        line,
-        b"place",
-        digits.format(when.stamp.turn.place).as_bytes(),
-    );
-}
-
-// Appends a member that is a string of these bytes, as `append_text` does; nothing if there are no bytes.
-fn append_text_if_any<const N: usize>(line: &mut ArrayVec<u8, N>, name: &[u8], bytes: &[u8])
-    requires named { length name.now ≤ 32 }
-    requires short { length bytes.now ≤ 514 }
-    requires room { array_vec_len line.old + 8 * length bytes.now + TEXT_ROOM ≤ N }
-    ensures { Adds line.old.items line.new.items (members_text (text_if_any name.now bytes.now)) (8 * length bytes.now + TEXT_ROOM) }
-{
-    if !bytes.is_empty() {
-        append_text(line, name, bytes);
-    }
-}
-
-// Appends the members of a command's target, the target's name, and the number of the procedure.
-fn append_command<const N: usize>(line: &mut ArrayVec<u8, N>, command: &Wish, name: &[u8])
-    requires short { length name.now ≤ 64 }
-    requires room { array_vec_len line.old + COMMAND_ROOM ≤ N }
-    ensures { Adds line.old.items line.new.items (members_text (command_members command.now name.now)) COMMAND_ROOM }
-{
-    let mut digits = Buffer::new();
-    append_number(line, b"target", digits.format(command.target).as_bytes());
-    append_text_if_any(line, b"name", name);
-    append_number(
-        line,
-        b"procedure",
-        digits.format(command.call.number()).as_bytes(),
-    );
-}
-
 // Digits without leading zeros; of zeros alone the last stays, and no digits stay none.
 fn without_zeros(digits: &[u8]) -> &[u8]
     ensures is { result.now ≡ without_zeros digits.now }
@@ -209,50 +126,32 @@ fn without_zeros(digits: &[u8]) -> &[u8]
     }
 }
 
-// Appends the member of a fault's number; nothing if there is no fault.
-fn append_fault<const N: usize>(line: &mut ArrayVec<u8, N>, fault: Option<ValueFault>)
-    requires { array_vec_len line.old + NUMBER_ROOM ≤ N }
-    ensures { Adds line.old.items line.new.items (members_text (fault_members fault)) NUMBER_ROOM }
+// Appends the member of a cell; nothing if it is blank.
+fn append_content<const N: usize>(line: &mut ArrayVec<u8, N>, name: &[u8], content: Content<'_>)
+    requires named { length name.now ≤ 32 }
+    requires short { IsShortContent 514 (content_seen content) }
+    requires room { array_vec_len line.old + member_room (content_seen content) ≤ N }
+    ensures { Adds line.old.items line.new.items (members_text (members_in name.now (content_seen content.entry))) (member_room (content_seen content.entry)) }
 {
-    if let Some(fault) = fault {
-        append_number(
-            line,
-            b"fault",
-            Buffer::new().format(fault.number()).as_bytes(),
-        );
+    match content {
+        Content::Blank => {}
+        Content::Bytes(bytes) => append_text(line, name, bytes),
+        Content::Moment(utc) => append_text(line, name, &stamp_text(utc)),
+        Content::Whole(n) => append_number(line, name, Buffer::new().format(n).as_bytes()),
+        Content::Code(digits) => append_number(line, name, without_zeros(digits)),
     }
 }
 
-// Appends the members of a reply's line: its communication code and its return code, as numbers without leading zeros, and its values, as
-// a string.
-fn append_reply_texts<const N: usize>(line: &mut ArrayVec<u8, N>, reply: &Line)
-    requires { array_vec_len line.old + REPLY_ROOM ≤ N }
-    ensures { Adds line.old.items line.new.items (members_text (reply_members (Some reply.now.items))) REPLY_ROOM }
+// Appends the members of cells.
+fn append_cells<const N: usize>(line: &mut ArrayVec<u8, N>, cells: &[Cell<'_>])
+    requires short { AreShort (map cell_seen cells.now) }
+    requires room { array_vec_len line.old + members_room (map cell_seen cells.now) ≤ N }
+    ensures { Adds line.old.items line.new.items (members_text (members_of (map cell_seen cells.now))) (members_room (map cell_seen cells.now)) }
 {
-    let texts = texts_of(reply);
-    append_number(line, b"rc_com", without_zeros(texts.com));
-    append_number(line, b"rc", without_zeros(texts.code));
-    append_text(line, b"values", texts.values);
-}
-
-// Appends the members of a reply's line, as `append_reply_texts`; nothing if there is no line.
-fn append_reply<const N: usize>(line: &mut ArrayVec<u8, N>, reply: Option<&Line>)
-    requires { array_vec_len line.old + REPLY_ROOM ≤ N }
-    ensures { Adds line.old.items line.new.items (members_text (reply_members (option_map (λ l. l.now.items) reply.entry))) REPLY_ROOM }
-{
-    if let Some(reply) = reply {
-        append_reply_texts(line, reply);
+    if let Some((cell, others)) = cells.split_first() {
+        append_content(line, cell.0, cell.1);
+        append_cells(line, others);
     }
-}
-
-// Appends the members that say how a command ended: its word, its fault, and those of the reply's line.
-fn append_ending<const N: usize>(line: &mut ArrayVec<u8, N>, ending: Ending<'_>)
-    requires { array_vec_len line.old + ENDING_ROOM ≤ N }
-    ensures { Adds line.old.items line.new.items (members_text (ending_members (ending_seen ending.entry))) ENDING_ROOM }
-{
-    append_text(line, b"outcome", ending.word());
-    append_fault(line, ending.fault());
-    append_reply(line, ending.line());
 }
 
 // Appends the members of a value. A text gives one: its bytes as a string, under this name. Any other value gives two: the number
@@ -282,10 +181,10 @@ fn append_values<const N: usize>(
     values: &[Value],
     came: &[u8],
 )
-    requires fits { first + length values.now ≤ 24 }
+    requires fits { first + length values.now ≤ QUANTITIES }
     requires short { length came.now ≤ 512 }
     requires room { array_vec_len line.old + VALUE_ROOM * length values.now ≤ N }
-    ensures { Adds line.old.items line.new.items (members_text (values_members first values.now came.now)) (VALUE_ROOM * length values.now) }
+    ensures { Adds line.old.items line.new.items (members_text (members_of (value_cells first values.now came.now))) (VALUE_ROOM * length values.now) }
 {
     let mut column = first;
     let mut rest = came;
@@ -336,7 +235,7 @@ fn append_list<const N: usize>(line: &mut ArrayVec<u8, N>, texts: &Items<'_>)
 fn append_items<const N: usize>(line: &mut ArrayVec<u8, N>, values: &[u8])
     requires short { length values.now ≤ 512 }
     requires room { array_vec_len line.old + LIST_ROOM ≤ N }
-    ensures { Adds line.old.items line.new.items (members_text (item_members (split_items values.now))) LIST_ROOM }
+    ensures { Adds line.old.items line.new.items (members_text (members_in (codes "items") (split_content (split_items values.now)))) LIST_ROOM }
 {
     match split(values) {
         Ok(items) => append_list(line, &items),
@@ -354,7 +253,7 @@ fn append_columns<const N: usize>(
 )
     requires short { length came.now ≤ 512 }
     requires room { array_vec_len line.old + ANSWER_ROOM ≤ N }
-    ensures { Adds line.old.items line.new.items (members_text (members_from (column_of call.now answer.now) (answer_fields answer.now).values came.now)) ANSWER_ROOM }
+    ensures { Adds line.old.items line.new.items (members_text (members_of (cells_from (column_of call.now answer.now) (answer_fields answer.now).values came.now))) ANSWER_ROOM }
 {
     if let Some(first) = column_of(call, answer) {
         append_values(line, first, &answer_values(answer), came);
@@ -370,7 +269,7 @@ fn append_answer<const N: usize>(
     reply: &Line,
 )
     requires { array_vec_len line.old + ANSWER_ROOM ≤ N }
-    ensures { Adds line.old.items line.new.items (members_text (answer_members asked.now answer.now reply.now.items)) ANSWER_ROOM }
+    ensures { Adds line.old.items line.new.items (members_text (members_of (answer_cells asked.now answer.now reply.now.items) ++ members_in (codes "items") (line_items asked.now reply.now.items))) ANSWER_ROOM }
 {
     match asked {
         Asked::Table(call) => append_columns(line, call, answer, texts_of(reply).values),
@@ -382,37 +281,13 @@ fn append_answer<const N: usize>(
 // (`None`), or one that is unconfirmed.
 fn append_quantities<const N: usize>(line: &mut ArrayVec<u8, N>, asked: &Asked, ending: Ending<'_>)
     requires { array_vec_len line.old + ANSWER_ROOM ≤ N }
-    ensures { Adds line.old.items line.new.items (members_text (quantity_members asked.now (ending_seen ending.entry))) ANSWER_ROOM }
+    ensures { Adds line.old.items line.new.items (members_text (members_of (end_cells asked.now (ending_seen ending.entry)) ++ members_in (codes "items") (items_content asked.now (ending_seen ending.entry)))) ANSWER_ROOM }
 {
     match ending {
         Ending::Answered(Quality::Unconfirmed, ..) => {}
         Ending::Answered(_, Some(answer), reply) => append_answer(line, asked, answer, reply),
         _ => {}
     }
-}
-
-// Appends the member of the answer's quality, if the ending is `Answered`, and the one of the attempt: of the command's chain or,
-// for a command of the setup, of the setup.
-fn append_last<const N: usize>(line: &mut ArrayVec<u8, N>, when: &When, ending: Ending<'_>)
-    requires { array_vec_len line.old + LAST_ROOM ≤ N }
-    ensures { Adds line.old.items line.new.items (members_text (last_members when.now (ending_seen ending.entry))) LAST_ROOM }
-{
-    append_text_if_any(line, b"quality", ending.quality_text());
-    append_number(
-        line,
-        b"attempt",
-        Buffer::new().format(when.stamp.turn.attempt).as_bytes(),
-    );
-}
-
-// Appends the members after those of `append_ending`: the quantities or the items of a command's answer, and then the last members, which
-// are the quality and the attempt.
-fn append_after_ending<const N: usize>(line: &mut ArrayVec<u8, N>, ended: EndedCommand<'_>)
-    requires { array_vec_len line.old + AFTER_ENDING_ROOM ≤ N }
-    ensures { Adds line.old.items line.new.items (members_text (members_after_ending ended.entry.when ended.entry.command.now.call (ending_seen ended.entry.ending))) AFTER_ENDING_ROOM }
-{
-    append_quantities(line, &ended.command.call, ended.ending);
-    append_last(line, &ended.when, ended.ending);
 }
 
 /// The line of JSON of a command's record, with its line feed.
@@ -423,10 +298,9 @@ pub(crate) fn json_line(ended: EndedCommand<'_>) -> ArrayVec<u8, JSON_ROOM>
     let mut line = ArrayVec::new();
     append(&mut line, b"{\"run\":");
     append_string(&mut line, &stamp_text(ended.when.run));
-    append_when(&mut line, &ended.when);
-    append_command(&mut line, ended.command, ended.name);
-    append_ending(&mut line, ended.ending);
-    append_after_ending(&mut line, ended);
+    append_cells(&mut line, &first_cells(ended));
+    append_quantities(&mut line, &ended.command.call, ended.ending);
+    append_cells(&mut line, &last_cells(ended));
     append(&mut line, b"}\n");
     line
 }

@@ -1,6 +1,7 @@
 //! What is proved of the definitions themselves. The functions have no effect: their contracts are the laws.
 
 ghost use Rattle.gc_rows.specs.ProcedureQuantities.{QuantitiesHaveTheirNames, WholesHaveTheirNames, RowsFillTheirColumns};
+ghost use Rattle.gc_rows.specs.Lookup.{RecordsReadBack};
 ghost use Rattle.gc_rows.specs.Laws.{ColumnsAreFields, ItemsAreTheGrammars, RowsReadBack, RowsArePrintable, JsonLinesReadBack, RecordsHavePlainMembers};
 
 /// The columns `rc_com`, `rc` and `values` of a record are the fields of the reply's line: its communication code, its return
@@ -49,4 +50,11 @@ pub fn quantities_have_their_names()
 /// However a command ended, its row has as many fields as the header has names.
 pub fn rows_fill_their_columns()
     ensures { RowsFillTheirColumns }
+{}
+
+/// Under the name of a column a reader finds what the record holds there, in a row and in an object: bytes, escaped; a moment or a
+/// number as it is written; of a code the same number. No two members of an object have that name. (Of `items` this says only that
+/// they are no text.)
+pub fn records_read_back()
+    ensures { RecordsReadBack }
 {}

@@ -1,6 +1,7 @@
 //! The rows that a station writes: each record as a line, as comma-separated values, or as a line of JSON.
 #![tactic(auto)]
 
+mod cell;
 mod json_line;
 pub mod laws;
 mod quantity;

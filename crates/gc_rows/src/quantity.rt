@@ -4,6 +4,7 @@ ghost use Rattle.std.specs.Prelude.{◌≡◌, ◌+◌, ◌≤◌, length, IfSom
 ghost use Rattle.gc_catalogue.specs.Answers.{answer_fields};
 ghost use Rattle.gc_catalogue.specs.Structs.{date_values, station_values};
 ghost use Rattle.gc_rows.specs.Quantities.{column_of, column_of_whole, quantity_name, quantity_text};
+ghost use Rattle.gc_rows.specs.declared.quantity.TheConstants.{QUANTITIES};
 
 use arrayvec::ArrayVec;
 use gc_catalogue::{Answer, Call, DateTime, Station};
@@ -127,7 +128,7 @@ fn station_values(station: &Station) -> ArrayVec<Value, MOST_VALUES>
 /// order. `None` if the answer has no quantity.
 pub(crate) fn column_of(call: &Call, answer: &Answer) -> Option<usize>
     ensures is { result ≡ column_of call.now answer.now }
-    ensures fits { IfSome result (λ first. first + length (answer_fields answer.now).values ≤ 24) }
+    ensures fits { IfSome result (λ first. first + length (answer_fields answer.now).values ≤ QUANTITIES) }
 {
     match answer {
         Answer::Nothing => None,
@@ -146,7 +147,7 @@ pub(crate) fn column_of(call: &Call, answer: &Answer) -> Option<usize>
 // prism, of a number of places, or of a serial number. `None` for any other call: its number is no quantity.
 fn column_of_whole(call: &Call) -> Option<usize>
     ensures is { result ≡ column_of_whole call.now }
-    ensures fits { IfSome result (λ column. column + 1 ≤ 24) }
+    ensures fits { IfSome result (λ column. column + 1 ≤ QUANTITIES) }
 {
     match call {
         Call::GetFace => Some(9),

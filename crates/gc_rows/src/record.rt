@@ -45,21 +45,29 @@ pub enum Form {
     Json,
 }
 
+// The row of the columns' names, with its line feed. It has the names of quantities that are given, each with a comma after it.
+macro_rules! header {
+    ($($quantities:literal)?) => {
+        concat!(
+            "run,sent,time,cycle,place,target,name,procedure,outcome,fault,rc_com,rc,values,",
+            $($quantities,)?
+            "quality,attempt\n"
+        ).as_bytes()
+    };
+}
+
 /// What comes before all records in this form: a row of the columns' names, with its line feed, or nothing if the form has no columns.
 pub fn head(form: Form) -> &'static [u8]
     ensures { result.now ≡ head_text form }
 {
     match form {
         Form::Lines | Form::Json => b"",
-        Form::Csv => {
-            b"run,sent,time,cycle,place,target,name,procedure,outcome,fault,rc_com,rc,values,quality,attempt\n"
-        }
-        Form::Columns => {
-            b"run,sent,time,cycle,place,target,name,procedure,outcome,fault,rc_com,rc,values,\
-              hz_rad,v_rad,distance_m,mode,easting_m,northing_m,height_m,instrument_height_m,reflector_height_m,\
-              face,prism_type,temperature_c,places,release,version,subversion,serial,instrument,\
-              year,month,day,hour,minute,second,quality,attempt\n"
-        }
+        Form::Csv => header!(),
+        Form::Columns => header!(
+            "hz_rad,v_rad,distance_m,mode,easting_m,northing_m,height_m,instrument_height_m,reflector_height_m,\
+             face,prism_type,temperature_c,places,release,version,subversion,serial,instrument,\
+             year,month,day,hour,minute,second,"
+        ),
     }
 }
 

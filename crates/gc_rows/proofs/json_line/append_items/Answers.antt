@@ -1,6 +1,8 @@
 use Rattle.std.proofs.Common.{rules, Err, ap, sym, arith, append-nil, ◌++◌, ◌∙◌}
 use Rattle.std.specs.Prelude.{codes}
-use Rattle.gc_rows.specs.JsonLines.{texts_member, item_members, members_text}
+use Rattle.gc_rows.specs.Cells.{members_in}
+use Rattle.gc_rows.specs.Columns.{split_content}
+use Rattle.gc_rows.specs.JsonLines.{texts_member, members_text}
 use Rattle.gc_values.proofs.ItemBytes.{items_within_params}
 use Rattle.gc_rows.proofs.Items.{refused_is_none, few_are_split}
 use Rattle.gc_rows.proofs.json_line.append_items.Goals as goal
@@ -15,7 +17,7 @@ pub returns-in-Ok : goal.returns-in-Ok
 returns-in-Ok g c =
     record {
       text = c.append_list.ensures.text ∙ ap (λ l. c.args.line.now.items ++ l) (sym (append-nil (texts_member (codes "items") c.in-Ok.items)))
-          ∙ ap (λ o. c.args.line.now.items ++ members_text (item_members o)) (sym (few_are_split c.args.values.now c.in-Ok.items c.in-Ok.ensures.found.0 c.in-Ok.ensures.found.1));
+          ∙ ap (λ o. c.args.line.now.items ++ members_text (members_in (codes "items") (split_content o))) (sym (few_are_split c.args.values.now c.in-Ok.items c.in-Ok.ensures.found.0 c.in-Ok.ensures.found.1));
       room = c.append_list.ensures.room;
     }
 
@@ -23,6 +25,6 @@ pub returns-in-Err : goal.returns-in-Err
 returns-in-Err g c =
     let none = refused_is_none c.args.values.now c.in-Err.field-0 c.in-Err.ensures.faults (λ e. c.in-Err.ensures.open_quote.0 (ap Err e)) (λ e. c.in-Err.ensures.too_many.0 (ap Err e)) in
     record {
-      text = sym (append-nil c.args.line.now.items) ∙ ap (λ o. c.args.line.now.items ++ members_text (item_members o)) (sym none);
+      text = sym (append-nil c.args.line.now.items) ∙ ap (λ o. c.args.line.now.items ++ members_text (members_in (codes "items") (split_content o))) (sym none);
       room = omega arith;
     }

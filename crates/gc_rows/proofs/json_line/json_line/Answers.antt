@@ -1,23 +1,26 @@
-use Rattle.std.proofs.Common.{◌≡◌, ◌++◌, ap, rules, ◌∙◌}
+use Rattle.std.proofs.Common.{◌≡◌, ◌++◌, ap, rules, sym, ◌∙◌}
 use Rattle.std.specs.Prelude.{codes}
-use Rattle.gc_texts.specs.Endings.{ending_seen}
-use Rattle.gc_rows.specs.JsonLines.{string_text, member_text, members_text, when_members, command_members, ending_members, members_after_ending}
 use Rattle.gc_texts.specs.Stamps.{stamp_text}
-use Rattle.gc_rows.proofs.Rows.{four_written}
+use Rattle.gc_rows.specs.Cells.{members_in, members_of}
+use Rattle.gc_rows.specs.Columns.{cells_in, end_cells, entry_seen, first_columns, items_content, last_columns}
+use Rattle.gc_rows.specs.JsonLines.{member_text, members_text, string_text}
+use Rattle.gc_rows.proofs.Rows.{three_written}
+use Rattle.gc_rows.proofs.Spreading.{members_apart}
 use Rattle.gc_rows.proofs.json_line.json_line.Goals as goal
 
 pub returns : goal.returns
 returns c =
-    let when = c.args.ended.when in
-    let command = c.args.ended.command.now in
-    let name = c.args.ended.name.now in
-    let end = ending_seen c.args.ended.ending in
-    let front = codes "{\"run\":" ++ string_text (stamp_text when.run) in
-    let first : c.append_string.new.line.items ≡ front = search rules in
-    c.append-2.ensures ∙ ap (λ l. l ++ codes "}\n") (c.append_after_ending.ensures.text
-    ∙ ap (λ l. l ++ members_text (members_after_ending when command.call end)) (c.append_ending.ensures.text
-    ∙ ap (λ l. l ++ members_text (ending_members end)) (c.append_command.ensures.text
-    ∙ ap (λ l. l ++ members_text (command_members command name)) (c.append_when.ensures.text
-    ∙ ap (λ l. l ++ members_text (when_members when)) first))))
-    ∙ ap (λ l. l ++ codes "}\n")
-    (four_written member_text front (when_members when) (command_members command name) (ending_members end) (members_after_ending when command.call end))
+    let r = entry_seen c.args.ended in
+    let first = members_of (cells_in first_columns r) in
+    let answer = members_of (end_cells r.command.call r.end) ++ members_in (codes "items") (items_content r.command.call r.end) in
+    let last = members_of (cells_in last_columns r) in
+    let front = codes "{\"run\":" ++ string_text (stamp_text r.when.run) in
+    let begun : c.append_string.new.line.items ≡ front = search rules in
+    c.append-2.ensures ∙ ap (λ l. l ++ codes "}\n") (c.append_cells-2.ensures.text
+    ∙ ap (λ cells. c.append_quantities.new.line.items ++ members_text (members_of cells)) c.last_cells.ensures.is
+    ∙ ap (λ l. l ++ members_text last) (c.append_quantities.ensures.text
+    ∙ ap (λ l. l ++ members_text answer) (c.append_cells.ensures.text
+    ∙ ap (λ cells. c.append_string.new.line.items ++ members_text (members_of cells)) c.first_cells.ensures.is
+    ∙ ap (λ l. l ++ members_text first) begun))
+    ∙ three_written member_text front first answer last
+    ∙ ap (λ l. front ++ members_text l) (sym (members_apart r)))

@@ -1,5 +1,6 @@
--- Digits and moments appear unchanged in a field: the escapes of a field (`escaped`) change nothing in them.
-use Rattle.std.proofs.Common.{◌≡◌, ℕ, zero, suc, ◌+◌, ◌/◌, ◌%◌, ◌<◌, ◌≤◌, true, false, cond, List, [], ◌∷◌, ◌++◌, Option, Some, None, refl, ap, ◌∙◌, arith}
+-- Numbers and moments appear unchanged in a field: the escapes of a field (`escaped`) change nothing in them. A code without its zeros
+-- is the same number.
+use Rattle.std.proofs.Common.{◌≡◌, ℕ, Bool, zero, suc, ◌+◌, ◌/◌, ◌%◌, ◌<◌, ◌≤◌, true, false, cond, List, [], ◌∷◌, ◌++◌, Option, Some, None, refl, ap, ◌∙◌, arith}
 use Rattle.std.specs.Prelude.{◌==◌, ◌&&◌, codes, nat_lt, not}
 use Rattle.std.specs.Fmt.{decimal, digit_glyph, digits, digits_onto}
 use Rattle.std.specs.Str.Parse.{AllDigits}
@@ -10,8 +11,19 @@ use Rattle.gc_values.specs.Digits.{AreDigits}
 use Rattle.gc_texts.specs.Logs.{escape, escaped, hex_digit}
 use Rattle.gc_texts.specs.Stamps.{date_of, date_text, stamp_text, three_digits, time_text, two_digits}
 use Rattle.gc_rows.specs.Rows.{moment_text}
-use Rattle.gc_rows.proofs.Members.{same_digits}
 use Rattle.gc_texts.proofs.LogStamps.{date_within}
+use Rattle.std.proofs.Common.{ℤ, sym, subst}
+use Rattle.std.proofs.lemmas.Bool.{eqb-true}
+use Rattle.std.proofs.lemmas.Str.Parse.{digit_from_value}
+use Rattle.gc_lines.specs.Numbers.{IsSmallNumber}
+use Rattle.gc_values.specs.Whole.{signed_text}
+use Rattle.gc_values.specs.Written.{written}
+use Rattle.gc_values.specs.WrittenForm.{HasDecimalForm, HasWholeForm, minus_where}
+use Rattle.gc_values.specs.declared.decimal.Decimal.{Decimal}
+use Rattle.gc_values.specs.declared.value.Value.TheVariants as value
+use Rattle.gc_values.proofs.OneText.{whole_text_once, decimal_text_once}
+use Rattle.gc_rows.specs.JsonLines.{without_zeros}
+use Rattle.gc_rows.specs.Quantities.{quantity_text}
 
 -- escaping changes nothing in this text
 abbrev pub NeedsNoEscape : List ℕ → Type 0
@@ -29,6 +41,11 @@ digit_plain d low high =
 pub digits_plain : (ds : List ℕ) → AreDigits ds → NeedsNoEscape ds
 digits_plain [] are = refl
 digits_plain (d ∷ ds) are = ap (λ l. l ++ escaped ds) (digit_plain d are.0.0 are.0.1) ∙ ap (λ l. d ∷ l) (digits_plain ds are.1)
+
+-- digits as std has them (`AllDigits 10`) are digits as gc_values has them (`AreDigits`)
+pub same_digits : (ds : List ℕ) → AllDigits 10 ds → AreDigits ds
+same_digits [] h = tt
+same_digits (d ∷ ds) h = (digit_from_value d h.0, same_digits ds h.1)
 
 -- bytes that are digits, by `AllDigits`, are printed as they are
 pub number_plain : (ds : List ℕ) → AllDigits 10 ds → NeedsNoEscape ds
@@ -93,7 +110,7 @@ time_plain millis few =
     (plain_both seconds (46 ∷ rest) (two_plain (millis / 1_000 % 60) (omega arith)) (plain_both (46 ∷ []) rest refl (three_plain (millis % 1_000) (omega arith)))))))
 
 -- a stamp appears unchanged in a field
-stamp_plain : (utc : ℕ) → NeedsNoEscape (stamp_text utc)
+pub stamp_plain : (utc : ℕ) → NeedsNoEscape (stamp_text utc)
 stamp_plain utc =
     let days = utc / 86_400_000 in
     let date = date_text (date_of days) in
@@ -106,3 +123,55 @@ stamp_plain utc =
 pub moment_plain : (o : Option ℕ) → NeedsNoEscape (moment_text o)
 moment_plain None = refl
 moment_plain (Some utc) = stamp_plain utc
+
+-- escaping changes nothing in a minus sign, if there is one
+minus_plain : (negative : Bool) → NeedsNoEscape (minus_where negative)
+minus_plain true = refl
+minus_plain false = refl
+
+-- escaping changes nothing in a text in the form of a whole number
+whole_plain : (text : List ℕ) → HasWholeForm text → NeedsNoEscape text
+whole_plain text form =
+    subst NeedsNoEscape (sym form.text_is)
+    (plain_both (minus_where form.negative) form.digits (minus_plain form.negative) (digits_plain form.digits form.digits_are.are_digits))
+
+-- escaping changes nothing in a point (46) and digits after it
+point_plain : (ds : List ℕ) → AreDigits ds → NeedsNoEscape (46 ∷ ds)
+point_plain ds are = ap (λ (l : List ℕ). 46 ∷ l) (digits_plain ds are)
+
+-- escaping changes nothing in a text in the form of a decimal
+fraction_plain : (text : List ℕ) → HasDecimalForm text → NeedsNoEscape text
+fraction_plain text form =
+    subst NeedsNoEscape (sym form.text_is)
+    (plain_both (minus_where form.negative) (form.whole ++ 46 ∷ form.fraction) (minus_plain form.negative)
+    (plain_both form.whole (46 ∷ form.fraction) (digits_plain form.whole form.whole_is.are_digits) (point_plain form.fraction form.fraction_is.are_digits)))
+
+-- escaping changes nothing in the text of a whole number
+pub signed_plain : (n : ℤ) → NeedsNoEscape (signed_text n)
+signed_plain n = whole_plain (signed_text n) ((whole_text_once n (signed_text n)).0 refl).0
+
+-- escaping changes nothing in the text of a decimal
+pub double_plain : (d : Decimal) → NeedsNoEscape (quantity_text (value.Double d))
+double_plain d = fraction_plain (written d.digits d.scale) ((decimal_text_once d (written d.digits d.scale)).0 refl).0
+
+-- escaping changes nothing in the text of a truth value
+pub boolean_plain : (b : Bool) → NeedsNoEscape (quantity_text (value.Bool b))
+boolean_plain true = refl
+boolean_plain false = refl
+
+-- escaping changes nothing in the digits of a code
+pub code_plain : (digits : List ℕ) (n : ℕ) → IsSmallNumber digits n → NeedsNoEscape digits
+code_plain digits n is = number_plain digits is.digits
+
+-- digits that are the number n are that number also without their leading zeros
+pub zeros_gone : (ds : List ℕ) (n : ℕ) → IsSmallNumber ds n → IsSmallNumber (without_zeros ds) n
+zeros_gone [] n is = is
+zeros_gone (b ∷ []) n is = is
+zeros_gone (b ∷ c ∷ rest) n is =
+    cond_both (b == 48) (without_zeros (c ∷ rest)) (b ∷ c ∷ rest) (λ (l : List ℕ). IsSmallNumber l n)
+    (λ zero_first. zeros_gone (c ∷ rest) n (behind_zero (eqb-true b 48 zero_first) is)) (λ other. is) where
+      -- a number without a zero before it is the same number
+      behind_zero : b ≡ 48 → IsSmallNumber (b ∷ c ∷ rest) n → IsSmallNumber (c ∷ rest) n
+      behind_zero e h =
+          let at_zero : IsSmallNumber (48 ∷ c ∷ rest) n = subst (λ (x : ℕ). IsSmallNumber (x ∷ c ∷ rest) n) e h in
+          record { some = omega arith; few = let few = at_zero.few in omega (arith, few); digits = at_zero.digits.1; value = at_zero.value; bound = at_zero.bound }

@@ -1,0 +1,193 @@
+-- Columns: the names under which a record holds something, in their order, and what it holds under each. They are the columns of a
+-- row and the members of an object, and this project's own.
+use Rattle.std.specs.Prelude.{ℕ, ◌+◌, Bool, true, false, List, [], ◌∷◌, ◌++◌, map, Option, Some, None, codes}
+use Rattle.gc_catalogue.specs.Answers.{answer_fields}
+use Rattle.gc_catalogue.specs.declared.answer.Answer.{Answer}
+use Rattle.gc_catalogue.specs.declared.asked.Asked.{Asked}
+use Rattle.gc_catalogue.specs.declared.asked.Asked.TheVariants.{Table, Raw}
+use Rattle.gc_values.specs.ValueFault.{value_fault_number}
+use Rattle.gc_values.specs.declared.fault.ValueFault.{ValueFault}
+use Rattle.gc_values.specs.declared.value.Value.{Value}
+use Rattle.gc_texts.specs.Cuts.{before, behind}
+use Rattle.gc_texts.specs.Endings.{End, Answered, ending_seen, word_of, fault_of, line_of, quality_of, quality_text}
+use Rattle.gc_texts.specs.declared.quality.Quality.{Quality}
+use Rattle.gc_texts.specs.declared.quality.Quality.TheVariants.{Unconfirmed}
+use Rattle.gc_texts.specs.declared.wish.Wish.{Wish}
+use Rattle.gc_rows.specs.Cells.{Content, Blank, Bytes, Moment, Whole, Code, Quantity, Items, Cell, cell, fields_of, lookup, members_of}
+use Rattle.gc_rows.specs.Items.{split_items}
+use Rattle.gc_rows.specs.JsonLines.{Member}
+use Rattle.gc_rows.specs.Quantities.{column_of, quantity_name, quantity_names}
+use Rattle.gc_rows.specs.Rows.{com_of, code_of, values_of, procedure_of}
+use Rattle.gc_rows.specs.declared.record.EndedCommand.{EndedCommand}
+use Rattle.gc_rows.specs.declared.when.When.{When}
+
+-- an entry is what a record is written of: when a command was sent and ended, the name of its target, the command, and how it ended
+pub record Entry : Type 0 where
+  pub when : When
+  pub name : List ℕ
+  pub command : Wish
+  pub end : End
+
+-- a command that ended, as an entry
+abbrev pub entry_seen : EndedCommand → Entry
+entry_seen ended = record { when = ended.when; name = ended.name.now; command = ended.command.now; end = ending_seen ended.ending }
+
+-- a column: its name, and what the record of an entry holds under it
+pub record Column : Type 0 where
+  pub name : List ℕ
+  pub holds : Entry → Content
+
+-- the column of this name, under which a record holds this
+abbrev pub column : (name : List ℕ) → (holds : Entry → Content) → Column
+column name holds = record { name = name; holds = holds }
+
+-- What a record holds under its columns.
+
+-- a moment, if there is one
+abbrev pub moment_content : Option ℕ → Content
+moment_content None = Blank
+moment_content (Some utc) = Moment utc
+
+-- these bytes, if there are any
+abbrev pub bytes_content : List ℕ → Content
+bytes_content [] = Blank
+bytes_content (b ∷ bs) = Bytes (b ∷ bs)
+
+-- the number of a fault, if there is one
+abbrev pub fault_content : Option ValueFault → Content
+fault_content None = Blank
+fault_content (Some fault) = Whole (value_fault_number fault)
+
+-- what is cut from the reply's line (`cut`), if there is a line
+abbrev pub line_content : (cut : List ℕ → Content) → Option (List ℕ) → Content
+line_content cut None = Blank
+line_content cut (Some line) = cut line
+
+-- the answer that an ending has
+abbrev pub answer_of : End → Option Answer
+answer_of (Answered quality answer line) = answer
+answer_of _ = None
+
+-- an answer of this quality, if it isn't unconfirmed
+abbrev pub unless_unconfirmed : Quality → Option Answer → Option Answer
+unless_unconfirmed Unconfirmed answer = None
+unless_unconfirmed _ answer = answer
+
+-- the answer whose quantities or items a record has: that of the ending; none if it is unconfirmed
+abbrev pub counted_answer : End → Option Answer
+counted_answer (Answered quality answer line) = unless_unconfirmed quality answer
+counted_answer _ = None
+
+-- the cells of values, the first of which has the name of this column, and each other that of the next; `came` are the same values
+-- as the reply's line wrote them, with commas between them
+abbrev pub value_cells : (column : ℕ) → List Value → (came : List ℕ) → List Cell
+value_cells column [] came = []
+value_cells column (v ∷ vs) came = cell (quantity_name column) (Quantity v (before 44 came)) ∷ value_cells (column + 1) vs (behind 44 came)
+
+-- the cells of values from this column on (`value_cells`); none if there is no column
+abbrev pub cells_from : Option ℕ → List Value → (came : List ℕ) → List Cell
+cells_from (Some first) values came = value_cells first values came
+cells_from None values came = []
+
+-- the cells of the quantities of an answer to `asked`, which came in this line; none if the procedure isn't in the table
+abbrev pub answer_cells : Asked → Answer → (line : List ℕ) → List Cell
+answer_cells (Table call) answer line = cells_from (column_of call answer) (answer_fields answer).values (values_of line)
+answer_cells (Raw raw) answer line = []
+
+-- the cells of this answer in this line (`answer_cells`), if there are both
+abbrev pub cells_if : Asked → Option Answer → (line : Option (List ℕ)) → List Cell
+cells_if asked (Some answer) (Some line) = answer_cells asked answer line
+cells_if asked _ _ = []
+
+-- the cells of a record's quantities
+abbrev pub end_cells : Asked → End → List Cell
+end_cells asked end = cells_if asked (counted_answer end) (line_of end)
+
+-- a cell for each quantity: the one among these that has its name, or a blank one
+abbrev pub all_quantities : List Cell → List Cell
+all_quantities cells = map (λ name. cell name (lookup name cells)) quantity_names
+
+-- these items, if there are any
+abbrev pub split_content : Option (List (List ℕ)) → Content
+split_content None = Blank
+split_content (Some items) = Items items
+
+-- the items into which the values of this line split, if the procedure isn't in the table, and they split
+abbrev pub line_items : Asked → (line : List ℕ) → Content
+line_items (Table call) line = Blank
+line_items (Raw raw) line = split_content (split_items (values_of line))
+
+-- the items of this answer in this line (`line_items`), if there are both
+abbrev pub items_if_any : Asked → Option Answer → (line : Option (List ℕ)) → Content
+items_if_any asked (Some answer) (Some line) = line_items asked line
+items_if_any asked _ _ = Blank
+
+-- the items of a record
+abbrev pub items_content : Asked → End → Content
+items_content asked end = items_if_any asked (counted_answer end) (line_of end)
+
+-- The columns.
+
+-- the column of the moment at which a record's run began
+abbrev pub run_column : Column
+run_column = column (codes "run") (λ r. Moment r.when.run)
+
+-- the columns between `run` and the quantities
+abbrev pub first_columns : List Column
+first_columns =
+    column (codes "sent") (λ r. moment_content r.when.stamp.sent)
+    ∷ column (codes "time") (λ r. Moment r.when.stamp.utc)
+    ∷ column (codes "cycle") (λ r. Whole r.when.stamp.cycle)
+    ∷ column (codes "place") (λ r. Whole r.when.stamp.turn.place)
+    ∷ column (codes "target") (λ r. Whole r.command.target)
+    ∷ column (codes "name") (λ r. bytes_content r.name)
+    ∷ column (codes "procedure") (λ r. Whole (procedure_of r.command.call))
+    ∷ column (codes "outcome") (λ r. Bytes (word_of r.end))
+    ∷ column (codes "fault") (λ r. fault_content (fault_of r.end))
+    ∷ column (codes "rc_com") (λ r. line_content (λ line. Code (com_of line)) (line_of r.end))
+    ∷ column (codes "rc") (λ r. line_content (λ line. Code (code_of line)) (line_of r.end))
+    ∷ column (codes "values") (λ r. line_content (λ line. Bytes (values_of line)) (line_of r.end))
+    ∷ []
+
+-- the columns of the quantities, where a record has them
+abbrev pub quantity_columns : (has_quantities : Bool) → List Column
+quantity_columns true = map (λ name. column name (λ r. lookup name (end_cells r.command.call r.end))) quantity_names
+quantity_columns false = []
+
+-- the column of the items of an answer to a procedure that isn't in the table
+abbrev pub items_column : Column
+items_column = column (codes "items") (λ r. items_content r.command.call r.end)
+
+-- the columns after all others: the quality of the answer, and the attempt of the command's chain or, for a command of the setup, of
+-- the setup
+abbrev pub last_columns : List Column
+last_columns =
+    column (codes "quality") (λ r. bytes_content (quality_text (quality_of r.end)))
+    ∷ column (codes "attempt") (λ r. Whole r.when.stamp.turn.attempt)
+    ∷ []
+
+-- the columns of a row, with those of the quantities or without
+abbrev pub row_columns : (has_quantities : Bool) → List Column
+row_columns has_quantities = run_column ∷ (first_columns ++ (quantity_columns has_quantities ++ last_columns))
+
+-- the columns of an object after the first, which is `run`
+abbrev pub columns_after_run : List Column
+columns_after_run = first_columns ++ (quantity_columns true ++ items_column ∷ last_columns)
+
+-- the columns of an object
+abbrev pub object_columns : List Column
+object_columns = run_column ∷ columns_after_run
+
+-- Rows and objects.
+
+-- what a record holds in these columns
+abbrev pub cells_in : List Column → Entry → List Cell
+cells_in columns r = map (λ c. cell c.name (c.holds r)) columns
+
+-- the fields of a record's row
+abbrev pub row_fields : (has_quantities : Bool) → Entry → List (List ℕ)
+row_fields has_quantities r = fields_of (cells_in (row_columns has_quantities) r)
+
+-- the members of a record's object after the first, which is `run`
+abbrev pub members_after_run : Entry → List Member
+members_after_run r = members_of (cells_in columns_after_run r)
