@@ -1,24 +1,26 @@
 -- A subcommand that began over the standard streams: what its clauses say of the status of its end, together. `r` is its result.
-use Rattle.std.proofs.Common.{◌≡◌, ◌≤◌, ℕ, Bool, List, Option, None, Result, Ok, Err, IfOk, subst}
+use Rattle.std.proofs.Common.{◌≡◌, ◌≤◌, ℕ, Bool, List, Option, Some, None, Result, Ok, Err, IfOk, subst}
 use Rattle.gc_client.specs.declared.window.TheConstants.{WINDOW}
 use Rattle.gc_lines.specs.Answering.{Ports}
 use Rattle.gc_subcommands.specs.Drills.{PlaysScene, ReadsWholeSource, TellsDrill}
 use Rattle.gc_subcommands.specs.Refusing.{EndSeen, end_seen}
 use Rattle.gc_subcommands.specs.Serves.{FailsByPorts, IsDoneAtEnd, TellsChecking, TellsExec}
 use Rattle.gc_subcommands.specs.declared.drill.Drilling.{Drilling}
+use Rattle.gc_console.specs.declared.traces.Traces.{Traces}
 use Rattle.gc_console.specs.Subcommands.{DoesCheck, DoesDrill, DoesExec, EndsFrom, opening, opening_ports}
 
--- what is known of the ports and the messages at the start is what is known of the streams
-pub ends_from : {T E : Type 0} (r : Result T E) (status_of : T → ℕ) (Does : EndSeen → Type 0) (remaining taken before : Option (List ℕ)) (old new : Ports) (m told : Option (List ℕ))
-    → old ≡ opening_ports remaining taken → m ≡ before → IfOk r (λ x. Does (end_seen old new (status_of x) m told))
-    → IfOk r (λ x. EndsFrom Does (opening remaining taken before) (status_of x))
-ends_from (Ok x) status_of Does remaining taken before old new m told is same does = record {
+-- what is known of the ports and the messages at the start is what is known of the streams; and what the output took is what is noted
+pub ends_from : {T E : Type 0} (r : Result T E) (status_of : T → ℕ) (Does : EndSeen → Type 0) (remaining before : Option (List ℕ)) (traces : Traces) (old new : Ports)
+    (m told : Option (List ℕ)) → old ≡ opening_ports remaining → m ≡ before → new.taken ≡ Some traces.told.bytes
+    → IfOk r (λ x. Does (end_seen old new (status_of x) m told)) → IfOk r (λ x. EndsFrom Does (opening remaining before) traces (status_of x))
+ends_from (Ok x) status_of Does remaining before traces old new m told is same took does = record {
   new = new;
+  took = took;
   told = told;
   does = subst (λ (ports : Ports). Does (end_seen ports new (status_of x) before told)) is
       (subst (λ (b : Option (List ℕ)). Does (end_seen old new (status_of x) b told)) same does);
 }
-ends_from (Err e) status_of Does remaining taken before old new m told is same does = tt
+ends_from (Err e) status_of Does remaining before traces old new m told is same took does = tt
 
 -- the clauses of `exec`
 pub exec_did : {Name T E : Type 0} (r : Result T E) (status_of : T → ℕ) (scene : Option Name) (old new : Ports) (m told : Option (List ℕ))

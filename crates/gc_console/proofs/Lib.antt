@@ -1,2 +1,5 @@
 mod Begun
 mod Ends
+mod Left
+mod Unasked
+mod Unshown

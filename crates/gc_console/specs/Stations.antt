@@ -1,17 +1,22 @@
 -- What `geocom station` had done when it ended, by the job that its words named: this project's own. `old` and `new` are streams at its
 -- start and at its end, of whose input it is noted which bytes its reads gave. `acted` is what was noted of the link and the file, and
 -- `traces` of the whole program.
-use Rattle.std.specs.Prelude.{◌≡◌, ℕ, Bool, true, false, ◌⊎◌, List, [], Option, Some, None, option_map}
+use Rattle.std.specs.Prelude.{◌≡◌, ℕ, Bool, true, false, List, [], Option, Some, None, option_map, IfSome}
 use Rattle.std.specs.Option.{is_some}
 use Rattle.gc_files.specs.Rows.{appended}
 use Rattle.gc_files.specs.declared.past.Past.{Past}
+use Rattle.gc_lines.specs.Answering.{ports_of}
 use Rattle.gc_lines.specs.declared.ports.Sink.{Ghosts as Sink}
 use Rattle.gc_lines.specs.declared.ports.Source.{Ghosts as Source}
+use Rattle.gc_links.specs.Placed.{place_seen}
+use Rattle.gc_links.specs.Seeing.{path_at}
+use Rattle.gc_measuring.specs.Noted.{IsMeantRecord}
 use Rattle.gc_measuring.specs.Recording.{IsBegunAt}
 use Rattle.gc_measuring.specs.TaskTexts.{IsCheckable}
-use Rattle.gc_measuring.specs.Telling.{AppendingRun, Views, acts_noted, stage, views_by}
+use Rattle.gc_measuring.specs.Telling.{AppendingRun, Stage, Views, acts_noted, began_noted, stage, views_by}
 use Rattle.gc_measuring.specs.Texts.{ReadsAndAppends, ReadsAndMeasures}
-use Rattle.gc_messages.specs.Streams.{are_open}
+use Rattle.gc_messages.specs.Following.{path_of}
+use Rattle.gc_messages.specs.Streams.{are_open, ReportsClosed}
 use Rattle.gc_messages.specs.Transcripts.{hearing_of}
 use Rattle.gc_messages.specs.declared.following.Followed.{Followed}
 use Rattle.gc_messages.specs.declared.heard.Heard.{Heard}
@@ -19,21 +24,22 @@ use Rattle.gc_messages.specs.declared.standard.Standard.{Standard}
 use Rattle.gc_messages.specs.declared.streams.Streams.{Streams}
 use Rattle.gc_subcommands.specs.declared.words.ClientJob.{ClientJob}
 use Rattle.gc_subcommands.specs.declared.words.ClientJob.TheVariants as client
-use Rattle.gc_subcommands.specs.declared.words.Job.{Job}
-use Rattle.gc_subcommands.specs.declared.words.Job.TheVariants as asked
+use Rattle.gc_subcommands.specs.Refusing.{EndSeen, end_seen}
 use Rattle.gc_words.specs.Stations.{with_status_line}
 use Rattle.gc_words.specs.declared.settings.Settings.{Settings}
 use Rattle.gc_words.specs.declared.site.Recording.{Recording}
 use Rattle.gc_words.specs.declared.site.Site.{Site}
+use Rattle.gc_console.specs.Subcommands.{DoesAsk, DoesLoop, Opening}
 use Rattle.gc_console.specs.declared.traces.Acted.{Acted}
 use Rattle.gc_console.specs.declared.traces.Traces.{Traces}
 
 -- how the ports of a station are seen: its input by the ghost members of `source`; by `onto` a run over its text that writes on the
 -- output, and by `into` one that appends to a file. `begun` says what holds of a file that was just opened, for these records of a
--- station with these settings
+-- station with these settings, and `at` gives the path at which a file is
 pub record Seeing (S T F K E : Type 0) : Type 1 where
   pub source : Source S
   pub begun : Recording → Settings → F → Type 0
+  pub at : F → List ℕ
   pub onto : Views T K E
   pub into : Views T F E
 
@@ -42,7 +48,7 @@ pub record Seeing (S T F K E : Type 0) : Type 1 where
 abbrev pub seeing_by : {S T R K E : Type 0} → Source S → (over : Source T) → (sink : Sink K) → (lasts : K → Bool) → (file : Sink (Followed R)) → (file_lasts : Followed R → Bool)
     → (shown : E → Option (List ℕ)) → Seeing S T (Followed R) K E
 seeing_by source over sink lasts file file_lasts shown =
-    record { source = source; begun = IsBegunAt; onto = views_by over sink lasts shown; into = views_by over file file_lasts shown }
+    record { source = source; begun = IsBegunAt; at = path_of; onto = views_by over sink lasts shown; into = views_by over file file_lasts shown }
 
 -- no link was made, no act was seen, and there was no file
 pub record HasNoRun (acted : Acted) : Type 0 where
@@ -54,33 +60,50 @@ pub record HasNoRun (acted : Acted) : Type 0 where
 abbrev pub rows_noted : Past → Option (List ℕ)
 rows_noted past = Some (appended past.steps)
 
--- a station that writes its records on the output ended with this status: its text was refused, and there was no link; or the input
--- gave a text, and over exactly its commands the station ran: what its link recorded, its output took and its messages say is as
--- `ReadsAndMeasures` has it; with status 0 all commands were measured. There is no file
-pub record MeasuresOnto {S T F K E : Type 0} (seeing : Seeing S T F K E) (has_log : Bool) (station : Settings) (old new : Streams (Heard S) K E)
+-- a run of a station that began with these streams: there was no link yet, and no act was seen
+abbrev pub stage_before : {S K E : Type 0} → Streams S K E → Stage S K E
+stage_before streams = stage streams None (Some []) []
+
+-- a run of a station that ended with these streams, and of which this was noted
+abbrev pub stage_after : {S K E : Type 0} → Streams S K E → Acted → Stage S K E
+stage_after streams acted = stage streams (began_noted acted.link) (acts_noted acted.link) acted.kept.turns
+
+-- the acts of the link, if there was one, are what the system's calls did at this site's place, as both were noted (`IsMeantRecord`)
+abbrev pub ActsAt : Site → Acted → Type 0
+ActsAt site acted = IfSome acted.link (λ link. ∥ IsMeantRecord (place_seen site.place) (path_at site.until) link ∥₁)
+
+-- a station at this site that writes its records on the output ended with this status: its text was refused, and there was no link; or
+-- the input gave a text, and over exactly its commands the station ran: what its link recorded, its output took and its messages say is
+-- as `ReadsAndMeasures` has it; with status 0 all commands were measured. What the link recorded are the system's calls at the site's
+-- place (`ActsAt`). There is no file
+pub record MeasuresOnto {S T F K E : Type 0} (seeing : Seeing S T F K E) (site : Site) (station : Settings) (old new : Streams (Heard S) K E)
     (acted : Acted) (status : ℕ) : Type 0 where
-  pub ran : ReadsAndMeasures seeing.source seeing.onto has_log station (stage old (Some []) []) (stage new (acts_noted acted.link) acted.kept.turns) status
+  pub ran : ReadsAndMeasures seeing.source seeing.onto (is_some site.log) station (stage_before old) (stage_after new acted) status
+  pub place : ActsAt site acted
   pub file : acted.file ≡ None
 
 -- the run of a station that began with the streams `old`, had the streams `new` at its end, of which this was noted, and left this file
 abbrev pub run_into : {S F K E : Type 0} → (old new : Streams S K E) → Acted → (file : Option F) → AppendingRun S F K E
-run_into old new acted file = record { before = stage old (Some []) []; after = stage new (acts_noted acted.link) acted.kept.turns; file = file }
+run_into old new acted file = record { before = stage_before old; after = stage_after new acted; file = file }
 
--- a station that appends its records to a file ended with this status: its text was refused, and there was no link and no file; or the
--- file couldn't be had, and nothing was sent; or the input gave a text, and over exactly its commands the station ran: what its link
--- recorded, the file took and the messages say is as `ReadsAndAppends` has it; with status 0 all commands were measured, with their rows
--- in the file. The file took exactly the bytes that are noted of it (`rows`), and nothing was written on the output
-pub record AppendsInto {S T F K E : Type 0} (seeing : Seeing S T F K E) (recording : Recording) (has_log : Bool) (station : Settings) (old new : Streams (Heard S) K E)
+-- a station at this site that appends its records to a file ended with this status: its text was refused, and there was no link and no
+-- file; or the file couldn't be had, and nothing was sent; or the input gave a text, and over exactly its commands the station ran: what
+-- its link recorded, the file took and the messages say is as `ReadsAndAppends` has it; with status 0 all commands were measured, with
+-- their rows in the file. What the link recorded are the system's calls at the site's place (`ActsAt`). The file is at the recording's
+-- path, and took exactly the bytes that are noted of it (`rows`); and nothing was written on the output
+pub record AppendsInto {S T F K E : Type 0} (seeing : Seeing S T F K E) (recording : Recording) (site : Site) (station : Settings) (old new : Streams (Heard S) K E)
     (acted : Acted) (status : ℕ) : Type 0 where
   pub file : Option F
-  pub ran : ReadsAndAppends (seeing.begun recording station) seeing.source seeing.onto.source seeing.into has_log station (run_into old new acted file) status
+  pub ran : ReadsAndAppends (seeing.begun recording station) seeing.source seeing.onto.source seeing.into (is_some site.log) station (run_into old new acted file) status
+  pub place : ActsAt site acted
+  pub path : IfSome file (λ left. seeing.at left ≡ recording.path.now)
   pub rows : option_map seeing.into.sink.taken file ≡ option_map rows_noted acted.file
   pub output : new.output ≡ old.output
 
 -- a station ended with this status: it appended its records to a file if one was named, and else wrote them on the output
 abbrev pub Records : {S T F K E : Type 0} → Seeing S T F K E → Site → Option Recording → Settings → (old new : Streams (Heard S) K E) → Acted → (status : ℕ) → Type 0
-Records seeing site None station old new acted status = MeasuresOnto seeing (is_some site.log) station old new acted status
-Records seeing site (Some recording) station old new acted status = AppendsInto seeing recording (is_some site.log) station old new acted status
+Records seeing site None station old new acted status = MeasuresOnto seeing site station old new acted status
+Records seeing site (Some recording) station old new acted status = AppendsInto seeing recording site station old new acted status
 
 -- as `Records` says, of streams with messages of another kind, which may be lost: what the caller's own messages got isn't told.
 -- The station has read its caller's input, and written on its output (`begun`, `ended`)
@@ -94,33 +117,44 @@ pub record RecordsLossy {S T F K E M : Type 0} (seeing : Seeing S T F K M) (site
   pub written : new.output ≡ ended.output
   pub is : Records seeing site recording station begun ended acted status
 
+-- what is seen of a subcommand that began over these streams and ended with those, by the ghost members of their ports; `shown` gives what
+-- was written on the messages, if that is known
+abbrev pub ports_seen : {S K E : Type 0} → Source S → Sink K → (shown : E → Option (List ℕ)) → (old new : Streams (Heard S) K E) → (status : ℕ) → EndSeen
+ports_seen source sink shown old new status =
+    end_seen (ports_of source old.input.source sink old.output) (ports_of source new.input.source sink new.output) status (shown old.messages) (shown new.messages)
+
+-- a job without a link did this, and no station ran
+pub record DoesAlone (Does : Type 0) (acted : Acted) : Type 0 where
+  pub does : Does
+  pub none : HasNoRun acted
+
 -- what this job of a client did, over standard streams that are open. A station: what `RecordsLossy` says of the site, the settings and
 -- the file of the job; somebody at a terminal may watch it. An outline: with status 0 the input gave a text that a station of this choice
--- measures. Of the other jobs nothing is said here
-abbrev pub DoesJob : {S T F K E M : Type 0} → Seeing S T F K M → Standard → ClientJob → (old new : Streams (Heard S) K E) → Acted → (status : ℕ) → Type 0
-DoesJob seeing standard (client.Station site station recording) old new acted status =
+-- measures. `loop` and `ask`: what `DoesLoop` and `DoesAsk` say. Of these three no station ran
+abbrev pub DoesJob : {S T F K E M : Type 0} → Seeing S T F K M → (shown : E → Option (List ℕ)) → Standard → ClientJob → (old new : Streams (Heard S) K E) → Acted → (status : ℕ) → Type 0
+DoesJob seeing shown standard (client.Station site station recording) old new acted status =
     RecordsLossy seeing site recording (with_status_line standard.terminal station) old new acted status
-DoesJob seeing standard (client.Outline choice) old new acted status =
-    status ≡ 0 → IsCheckable choice (hearing_of seeing.source old.input) (hearing_of seeing.source new.input)
-DoesJob seeing standard job old new acted status = Unit {0}
+DoesJob seeing shown standard (client.Outline choice) old new acted status =
+    DoesAlone (status ≡ 0 → IsCheckable choice (hearing_of seeing.source old.input) (hearing_of seeing.source new.input)) acted
+DoesJob seeing shown standard (client.Loop scene) old new acted status =
+    DoesAlone (DoesLoop standard.output_terminal scene (ports_seen seeing.source seeing.onto.sink shown old new status)) acted
+DoesJob seeing shown standard (client.Ask place) old new acted status =
+    DoesAlone (DoesAsk standard.output_terminal place (ports_seen seeing.source seeing.onto.sink shown old new status)) acted
 
--- a client's job was done over an input that gives these bytes, if they are known, and had given none, and over an output of which no
--- byte was noted yet: if the standard streams are open, as `DoesJob` says, and else the job wasn't begun. The traces have exactly the
--- bytes that the input gave and those that the output took
-pub record DoesOver {S T F K M : Type 0} (E : Type 0) (seeing : Seeing S T F K M) (standard : Standard) (input : Option (List ℕ))
+-- a client's job was done over streams of which this is known at the start (`begun`): no read was answered yet, and nothing was written.
+-- If the standard streams are open, it did what `DoesJob` says, and else it wasn't begun, which is reported (`ReportsClosed`). The traces
+-- have exactly the bytes that the input gave and those that the output took
+pub record DoesOver {S T F K E M : Type 0} (seeing : Seeing S T F K M) (shown : E → Option (List ℕ)) (standard : Standard) (begun : Opening)
     (job : ClientJob) (traces : Traces) (status : ℕ) : Type 0 where
-  pub begun : Streams (Heard S) K E
-  pub ended : Streams (Heard S) K E
-  pub bytes : seeing.source.remaining begun.input.source ≡ input
-  pub reads : seeing.source.reads begun.input.source ≡ 0
-  pub unheard : begun.input.heard.bytes ≡ []
-  pub untold : seeing.onto.sink.taken begun.output ≡ Some []
-  pub heard : ended.input.heard.bytes ≡ traces.heard.bytes
-  pub told : seeing.onto.sink.taken ended.output ≡ Some traces.told.bytes
-  pub does : are_open standard ≡ true → DoesJob seeing standard job begun ended traces.acted status
-  pub closed : are_open standard ≡ false → (status ≡ 1) × HasNoRun traces.acted × (ended.input ≡ begun.input) × (ended.output ≡ begun.output)
-
--- the job that the words asked for was done, if it is a client's; of the other jobs nothing is said here
-abbrev pub DoesAsked : {S T F K M : Type 0} → (E : Type 0) → Seeing S T F K M → Standard → (input : Option (List ℕ)) → Job → Traces → (status : ℕ) → Type 0
-DoesAsked E seeing standard input (asked.Client job) traces status = DoesOver E seeing standard input job traces status
-DoesAsked E seeing standard input job traces status = Unit {0}
+  pub old : Streams (Heard S) K E
+  pub new : Streams (Heard S) K E
+  pub bytes : seeing.source.remaining old.input.source ≡ begun.remaining
+  pub reads : seeing.source.reads old.input.source ≡ 0
+  pub unheard : old.input.heard.bytes ≡ []
+  pub untold : seeing.onto.sink.taken old.output ≡ Some []
+  pub messages : shown old.messages ≡ begun.told
+  pub heard : new.input.heard.bytes ≡ traces.heard.bytes
+  pub told : seeing.onto.sink.taken new.output ≡ Some traces.told.bytes
+  pub does : are_open standard ≡ true → DoesJob seeing shown standard job old new traces.acted status
+  pub closed : are_open standard ≡ false
+      → ReportsClosed standard status (shown old.messages) (shown new.messages) × HasNoRun traces.acted × (new.input ≡ old.input) × (new.output ≡ old.output)

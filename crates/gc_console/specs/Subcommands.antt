@@ -1,6 +1,6 @@
 -- What a subcommand other than `station` had done when it ended, by what its words named: this project's own. What is seen of it
 -- (`EndSeen`) are its ports at its start and at its end, its status, and what the messages had taken by its start and by its end.
-use Rattle.std.specs.Prelude.{◌≡◌, ◌≤◌, ℕ, Bool, false, List, Option, None}
+use Rattle.std.specs.Prelude.{◌≡◌, ◌≤◌, ℕ, Bool, false, List, [], Option, Some, None}
 use Rattle.gc_ask.specs.Showing.{unless_shown}
 use Rattle.gc_client.specs.declared.window.TheConstants.{WINDOW}
 use Rattle.gc_lines.specs.Answering.{Ports}
@@ -13,29 +13,31 @@ use Rattle.gc_subcommands.specs.Served.{TellsServe}
 use Rattle.gc_subcommands.specs.Serves.{FailsByPorts, IsDoneAtEnd, TellsChecking, TellsExec}
 use Rattle.gc_subcommands.specs.declared.drill.Drilling.{Drilling}
 use Rattle.gc_subcommands.specs.declared.serve.Serving.{Serving}
+use Rattle.gc_console.specs.declared.traces.Traces.{Traces}
 
--- the standard streams before a program reads and writes: the bytes that its input gives, and those that its output and its messages
--- have taken, where they are known
+-- the standard streams before a program reads and writes: the bytes that its input gives, and those that its messages have taken, where
+-- they are known
 pub record Opening : Type 0 where
   pub remaining : Option (List ℕ)
-  pub taken : Option (List ℕ)
   pub told : Option (List ℕ)
 
 -- standard streams of which this is known
-abbrev pub opening : (remaining taken told : Option (List ℕ)) → Opening
-opening remaining taken told = record { remaining = remaining; taken = taken; told = told }
+abbrev pub opening : (remaining told : Option (List ℕ)) → Opening
+opening remaining told = record { remaining = remaining; told = told }
 
--- the ports over these streams before the first read and write: no read was answered, and no port has failed
-abbrev pub opening_ports : (remaining taken : Option (List ℕ)) → Ports
-opening_ports remaining taken =
-    record { remaining = remaining; reads = 0; ended = false; source_failed = false; taken = taken; sink_failed = false }
+-- the ports over these streams before the first read and write: no read was answered, no port has failed, and nothing was written yet
+-- that is noted of the output
+abbrev pub opening_ports : (remaining : Option (List ℕ)) → Ports
+opening_ports remaining =
+    record { remaining = remaining; reads = 0; ended = false; source_failed = false; taken = Some []; sink_failed = false }
 
--- a subcommand that began over these streams ended with this status, and `Does` says what it did. `new` are its ports at the end, and
--- `told` is what the messages had taken then
-pub record EndsFrom (Does : EndSeen → Type 0) (begun : Opening) (status : ℕ) : Type 0 where
+-- a subcommand that began over these streams ended with this status, and `Does` says what it did. `new` are its ports at the end, whose
+-- output has taken exactly the bytes of the traces, and `told` is what the messages had taken then
+pub record EndsFrom (Does : EndSeen → Type 0) (begun : Opening) (traces : Traces) (status : ℕ) : Type 0 where
   pub new : Ports
+  pub took : new.taken ≡ Some traces.told.bytes
   pub told : Option (List ℕ)
-  pub does : Does (end_seen (opening_ports begun.remaining begun.taken) new status begun.told told)
+  pub does : Does (end_seen (opening_ports begun.remaining) new status begun.told told)
 
 -- `exec` answered the requests of its input: the scene was refused, or its instrument, the simulator where none is named, answered the
 -- lines in order, and the output took exactly its replies. Status 0 exactly where the last read was the end of the input; without a

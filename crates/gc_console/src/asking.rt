@@ -1,11 +1,14 @@
 //! The subcommands that ask over a connection. None of them begins if a standard stream is closed.
 
-ghost use Rattle.std.specs.Prelude.{◌≡◌, true, false, None, Some, option_map, IfOk};
-ghost use Rattle.std.specs.Option.{is_some};
+ghost use Rattle.std.specs.Prelude.{◌≡◌, ℕ, true, false, List, Option, None, Some, option_map, IfOk, IfSome};
 ghost use Rattle.std.specs.Process.{exit_status};
-ghost use Rattle.gc_console.specs.Stations.{AppendsInto, DoesJob, HasNoRun, MeasuresOnto, Records, RecordsLossy, rows_noted, seeing_by};
-ghost use Rattle.gc_measuring.specs.Appending.{acts_in, file_of};
-ghost use Rattle.gc_measuring.specs.Telling.{acts_noted};
+ghost use Rattle.gc_console.specs.Stations.{AppendsInto, DoesJob, HasNoRun, MeasuresOnto, Records, RecordsLossy, ports_seen, rows_noted, seeing_by};
+ghost use Rattle.gc_console.specs.Subcommands.{DoesAsk, DoesLoop};
+ghost use Rattle.gc_links.specs.LinksMeant.{IsMeantAt};
+ghost use Rattle.gc_links.specs.Placed.{PlaceSeen};
+ghost use Rattle.gc_measuring.specs.Appending.{acts_in, began_in, file_of};
+ghost use Rattle.gc_measuring.specs.Noted.{IsMeantRecord};
+ghost use Rattle.gc_measuring.specs.Telling.{acts_noted, began_noted};
 ghost use Rattle.gc_words.specs.Stations.{with_status_line};
 ghost use Rattle.gc_messages.specs.Streams.{are_open, ReportsClosed};
 ghost use Rattle.gc_messages.specs.Statuses.{IsStatusUpTo};
@@ -15,9 +18,9 @@ use crate::traces::Acted;
 use gc_ask::Shown;
 use gc_files::Past;
 use gc_lines::{Durable, FromReader, Sink, Source};
-use gc_links::History;
-use gc_measuring::{Appended, Spot, append_text_at, check_task_text, history_of, measure_text_at};
-use gc_messages::{Followed, Heard, Lossy, Noticed, Noting, Streams};
+use gc_links::{LinkRecord, Place};
+use gc_measuring::{Appended, Spot, append_text_at, check_task_text, measure_text_at, record_of};
+use gc_messages::{Followed, Heard, Lossy, Noticed, Noting, Streams, Told};
 use gc_station::Kept;
 use gc_subcommands::ClientJob;
 use gc_subcommands::ask::ask_place;
@@ -40,18 +43,19 @@ impl<'a, R: Net<Listener = TcpListener, Stream = TcpStream> + Clock + Files<File
     pub(crate) fn run_asking<S: Source, K: Durable + Drop, E: Write>(
         &self,
         job: ClientJob<'_>,
-        mut streams: Streams<Heard<S>, K, E>,
-    ) -> (Streams<Heard<S>, K, E>, io::Result<ExitCode>, Acted)
+        mut streams: Streams<Heard<S>, Told<K>, E>,
+    ) -> (Streams<Heard<S>, Told<K>, E>, io::Result<ExitCode>, Acted)
         // If a stream is closed, that is reported with status 1 (without a line if the messages are closed), and input and output
         // weren't used; there was no run.
         ensures closed { are_open self.entry.now.standard ≡ false → IfOk result.1 (λ status. ReportsClosed self.entry.now.standard (exit_status status) (E.contents streams.messages) (E.contents result.0.messages)) }
         ensures untouched { are_open self.entry.now.standard ≡ false → (result.0.input ≡ streams.input) × (result.0.output ≡ streams.output) }
         ensures idle { are_open self.entry.now.standard ≡ false → HasNoRun result.2 }
 
-        // If all are open, the job was done: a station measured at the job's site, by its settings, into its file (`DoesJob`).
-        ensures done { are_open self.entry.now.standard ≡ true → IfOk result.1 (λ status. DoesJob (seeing_by S.Source ⟦<FromReader<&'a [u8]> as Source>⟧ K.Sink K.is_durable
+        // If all are open, the job was done: the commands of the input were asked at the job's place, or in this program, and the output
+        // has their settlements; or a station measured at the job's site, by its settings, into its file (`DoesJob`).
+        ensures done { are_open self.entry.now.standard ≡ true → IfOk result.1 (λ status. DoesJob (seeing_by S.Source ⟦<FromReader<&'a [u8]> as Source>⟧ ⟦<Told<K> as Sink>⟧ ⟦<Told<K> as Durable>⟧.is_durable
             ⟦<Followed<'a, Noting<'a, R>> as Sink>⟧ ⟦<Followed<'a, Noting<'a, R>> as Durable>⟧.is_durable ⟦<Lossy<E> as Write>⟧.contents)
-            self.entry.now.standard job.entry streams result.0 result.2 (exit_status status)) }
+            E.contents self.entry.now.standard job.entry streams result.0 result.2 (exit_status status)) }
         ensures bound { IsStatusUpTo 2 result.1 }
     {
         if !self.standard.are_open() {
@@ -66,23 +70,21 @@ impl<'a, R: Net<Listener = TcpListener, Stream = TcpStream> + Clock + Files<File
     fn run_open<S: Source, K: Durable + Drop, E: Write>(
         &self,
         job: ClientJob<'_>,
-        streams: Streams<Heard<S>, K, E>,
-    ) -> (Streams<Heard<S>, K, E>, io::Result<ExitCode>, Acted)
-        ensures done { IfOk result.1 (λ status. DoesJob (seeing_by S.Source ⟦<FromReader<&'a [u8]> as Source>⟧ K.Sink K.is_durable
+        streams: Streams<Heard<S>, Told<K>, E>,
+    ) -> (Streams<Heard<S>, Told<K>, E>, io::Result<ExitCode>, Acted)
+        ensures done { IfOk result.1 (λ status. DoesJob (seeing_by S.Source ⟦<FromReader<&'a [u8]> as Source>⟧ ⟦<Told<K> as Sink>⟧ ⟦<Told<K> as Durable>⟧.is_durable
             ⟦<Followed<'a, Noting<'a, R>> as Sink>⟧ ⟦<Followed<'a, Noting<'a, R>> as Durable>⟧.is_durable ⟦<Lossy<E> as Write>⟧.contents)
-            self.entry.now.standard job.entry streams result.0 result.2 (exit_status status)) }
+            E.contents self.entry.now.standard job.entry streams result.0 result.2 (exit_status status)) }
         ensures bound { IsStatusUpTo 1 result.1 }
     {
         match job {
             ClientJob::Loop { scene } => {
-                let shown = shown_of(streams, self.standard.output_terminal);
-                let (shown, ended) = loop_scene(self.rt, self.alloc, scene, shown);
-                (streams_of(shown), ended, Acted::nothing())
+                let (streams, ended) = self.run_loop(scene, streams);
+                (streams, ended, Acted::nothing())
             }
             ClientJob::Ask { place } => {
-                let shown = shown_of(streams, self.standard.output_terminal);
-                let (shown, ended) = ask_place(self.rt, self.alloc, place, shown);
-                (streams_of(shown), ended, Acted::nothing())
+                let (streams, ended) = self.run_ask(place, streams);
+                (streams, ended, Acted::nothing())
             }
             ClientJob::Outline { choice } => {
                 let (streams, ended) = check_task_text(self.alloc, choice, streams);
@@ -97,6 +99,37 @@ impl<'a, R: Net<Listener = TcpListener, Stream = TcpStream> + Clock + Files<File
                 self.measure(site, station, recording, streams)
             }
         }
+    }
+
+    // Asks the commands of the input of the instrument of a scene in this program, and reports how that ended. Replies are shown
+    // escaped if the output is a terminal. The streams are handed back.
+    fn run_loop<S: Source, K: Sink, E: Write>(
+        &self,
+        scene: Option<&str>,
+        streams: Streams<Heard<S>, Told<K>, E>,
+    ) -> (Streams<Heard<S>, Told<K>, E>, io::Result<ExitCode>)
+        ensures did { IfOk result.1 (λ status. DoesLoop self.entry.now.standard.output_terminal scene.entry
+            (ports_seen S.Source ⟦<Told<K> as Sink>⟧ E.contents streams result.0 (exit_status status))) }
+        ensures bound { IsStatusUpTo 1 result.1 }
+    {
+        let shown = shown_of(streams, self.standard.output_terminal);
+        let (shown, ended) = loop_scene(self.rt, self.alloc, scene, shown);
+        (streams_of(shown), ended)
+    }
+
+    // As `run_loop`, but asks the commands at a place.
+    fn run_ask<S: Source, K: Sink, E: Write>(
+        &self,
+        place: Place<'_>,
+        streams: Streams<Heard<S>, Told<K>, E>,
+    ) -> (Streams<Heard<S>, Told<K>, E>, io::Result<ExitCode>)
+        ensures did { IfOk result.1 (λ status. DoesAsk self.entry.now.standard.output_terminal place.entry
+            (ports_seen S.Source ⟦<Told<K> as Sink>⟧ E.contents streams result.0 (exit_status status))) }
+        ensures bound { IsStatusUpTo 1 result.1 }
+    {
+        let shown = shown_of(streams, self.standard.output_terminal);
+        let (shown, ended) = ask_place(self.rt, self.alloc, place, shown);
+        (streams_of(shown), ended)
     }
 
     // Measures at a site, and reports how that ended; after a fault also what the system refused last, and why, if that is noted. The
@@ -189,14 +222,14 @@ impl<
     ) -> (Streams<Heard<S>, K, E>, io::Result<ExitCode>, Acted)
         ensures told { IfOk result.1 (λ status. MeasuresOnto (seeing_by S.Source ⟦<FromReader<&'a [u8]> as Source>⟧ K.Sink K.is_durable
             ⟦<Followed<'a, Noting<'b, R>> as Sink>⟧ ⟦<Followed<'a, Noting<'b, R>> as Durable>⟧.is_durable E.contents)
-            (is_some spot.entry.site.log) spot.entry.station streams result.0 result.2 (exit_status status)) }
+            spot.entry.site spot.entry.station streams result.0 result.2 (exit_status status)) }
         ensures bound { IsStatusUpTo 1 result.1 }
     {
         // What is seen at each act, for proofs alone.
         let mut kept = Kept::new();
         let (streams, ended, link) = measure_text_at(self.rt, self.alloc, spot, streams, &mut kept);
         let acted = Acted {
-            link: history_of(link),
+            link: record_of(link),
             kept,
             file: None,
         };
@@ -213,7 +246,7 @@ impl<
     ) -> (Streams<Heard<S>, K, E>, io::Result<ExitCode>, Acted)
         ensures told { IfOk result.1 (λ status. AppendsInto (seeing_by S.Source ⟦<FromReader<&'a [u8]> as Source>⟧ K.Sink K.is_durable
             ⟦<Followed<'a, Noting<'b, R>> as Sink>⟧ ⟦<Followed<'a, Noting<'b, R>> as Durable>⟧.is_durable E.contents)
-            recording.entry (is_some spot.entry.site.log) spot.entry.station streams result.0 result.2 (exit_status status)) }
+            recording.entry spot.entry.site spot.entry.station streams result.0 result.2 (exit_status status)) }
         ensures bound { IsStatusUpTo 1 result.1 }
     {
         // What is seen at each act, for proofs alone.
@@ -226,12 +259,15 @@ impl<
     }
 }
 
-// Ends the appending of a run, if it had a file, and returns what was noted of its link and of the file.
+// Ends the appending of a run, if it had a file, and returns what is left of its link, and what was noted of the file.
 fn end_appending<
     'a,
     R: Net<Listener = TcpListener, Stream = TcpStream> + Clock + Files<File = File>,
->(appended: Option<Appended<'a, R>>) -> (Option<History>, Option<Past>)
+>(appended: Option<Appended<'a, R>>) -> (Option<LinkRecord>, Option<Past>)
     ensures acts { acts_noted result.0 ≡ acts_in appended.entry }
+    ensures began { began_noted result.0 ≡ began_in appended.entry }
+    ensures meant { (where_to : PlaceSeen) (until : Option (List ℕ)) → IfSome appended.entry (λ left. IfSome left.link (λ link. ∥ IsMeantAt where_to until link ∥₁))
+        → IfSome result.0 (λ link. ∥ IsMeantRecord where_to until link ∥₁) }
     ensures rows { option_map ⟦<Followed<'a, R> as Sink>⟧.taken (file_of appended.entry) ≡ option_map rows_noted result.1 }
 {
     match appended {
@@ -244,7 +280,12 @@ fn end_appending<
 }
 
 // These streams, with an output whose bytes are escaped if a terminal shows them.
-fn shown_of<S, K, E>(streams: Streams<S, K, E>, at_terminal: bool) -> Streams<S, Shown<K>, E> {
+fn shown_of<S, K, E>(streams: Streams<S, K, E>, at_terminal: bool) -> Streams<S, Shown<K>, E>
+    ensures input { result.input ≡ streams.input }
+    ensures inside { result.output.output ≡ streams.output }
+    ensures at_terminal { result.output.at_terminal ≡ at_terminal }
+    ensures messages { result.messages ≡ streams.messages }
+{
     let Streams {
         input,
         output,
@@ -261,7 +302,11 @@ fn shown_of<S, K, E>(streams: Streams<S, K, E>, at_terminal: bool) -> Streams<S,
 }
 
 // These streams without what `shown_of` added.
-fn streams_of<S, K, E>(shown: Streams<S, Shown<K>, E>) -> Streams<S, K, E> {
+fn streams_of<S, K, E>(shown: Streams<S, Shown<K>, E>) -> Streams<S, K, E>
+    ensures input { result.input ≡ shown.input }
+    ensures output { result.output ≡ shown.output.output }
+    ensures messages { result.messages ≡ shown.messages }
+{
     let Streams {
         input,
         output,

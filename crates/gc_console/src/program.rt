@@ -1,17 +1,20 @@
 //! The command line of `geocom`: which subcommand runs, and the exit status if none does.
 
-ghost use Rattle.std.specs.Prelude.{◌≡◌, ◌≤◌, ◌⊎◌, [], map, IfOk};
+ghost use Rattle.std.specs.Prelude.{◌≡◌, ◌≤◌, ◌⊎◌, false, [], map, IfOk};
+ghost use Rattle.clap.specs.Values.{kind_of};
+ghost use Rattle.clap.specs.declared.error.ErrorKind.{ErrorKind as Kind};
 ghost use Rattle.std.specs.Io.KnownBytes.{Appends};
+ghost use Rattle.std.specs.List.{list_any};
 ghost use Rattle.std.specs.Process.{exit_status};
 ghost use Rattle.std.specs.String.{string_bytes};
 ghost use Rattle.std.specs.Vec.Iter.{into_iter_items};
 ghost use Rattle.gc_texts.specs.declared.fault.RunFault.{RunFault};
 ghost use Rattle.gc_texts.specs.Faults.{run_fault_text, fault_line};
-ghost use Rattle.gc_console.specs.Programs.{AreReadFrom, DoesProgram, DoesWords};
-ghost use Rattle.gc_console.specs.Stations.{DoesAsked, DoesOver, seeing_by};
+ghost use Rattle.gc_console.specs.Programs.{AreReadFrom, DoesAsked, DoesProgram, DoesWords, IsAnswered, asks_for_text};
+ghost use Rattle.gc_console.specs.Stations.{DoesOver, HasNoRun, seeing_by};
 ghost use Rattle.gc_messages.specs.Statuses.{IsStatusUpTo};
 ghost use Rattle.gc_lines.specs.Answering.{ports_of};
-ghost use Rattle.gc_console.specs.Subcommands.{DoesCheck, DoesDrill, DoesExec, EndsFrom, opening, opening_ports};
+ghost use Rattle.gc_console.specs.Subcommands.{DoesCheck, DoesDrill, DoesExec, DoesServe, EndsFrom, opening, opening_ports};
 
 use crate::system::System;
 use crate::traces::{Acted, Traces};
@@ -42,7 +45,8 @@ use std::time::Clock;
 /// Runs a command line, whose first word is the program's name, over the net, the clock and the files of `rt`, and over
 /// `streams`. The exit status is 0 if it is done, or asked for help or the version; 1 after a fault, of which the messages have a
 /// line, and for some faults more, unless they are closed; and 2 for words that don't parse, or that ask for what can't be done.
-/// Where `words` is an error, that is reported: with status 1 if memory ran out, and else with status 2.
+/// Where `words` is an error, that is reported: with status 1 if memory ran out, and else with status 2. The clause `done` says of
+/// each subcommand what it read, what it wrote and when its status is 0.
 ///
 /// `Err`: the lines of a fault, or those on why the words are refused, couldn't be written. Any other message that can't be
 /// written is lost without an error, and so are the lines of a fault of a station that measures.
@@ -62,12 +66,25 @@ pub fn run_program<
     words: io::Result<Args>,
     mut streams: Streams<I, O, E>,
 ) -> (io::Result<ExitCode>, Traces)
-    // What was done is what the words ask for. If they ask for a station, and the streams are open: over exactly the text that the input
-    // gave, by exactly the settings that the words give, it ran over the acts that the traces have, and its file took exactly the rows that
-    // they have; or the text was refused, or the file couldn't be had, and nothing was sent.
-    ensures done { IfOk result.0 (λ status. DoesProgram E (seeing_by ⟦<FromReader<I> as Source>⟧ ⟦<FromReader<&'a [u8]> as Source>⟧ ⟦<Told<ToWriter<O>> as Sink>⟧ ⟦<Told<ToWriter<O>> as Durable>⟧.is_durable
+    // What was done is what the words ask for, and the status tells it. `result.1` has what the output took; of the messages it is said
+    // that they have the lines below, but they aren't handed back. Which bytes were read is tied to the input's reads for a station alone.
+    // - `exec`, `check`: the output took exactly the replies, or the verdicts, on what was read. Status 0: to the input's end.
+    // - `drill`: status 0 only if the input was read to its end, and the output took all that is written of its events.
+    // - `loop`, `ask`: the output took exactly the lines of the settlements; of a terminal that isn't known. Status 0: of all commands.
+    // - `serve`: each connection that was served had exactly the instrument's replies to its lines, in order; or none was served.
+    // - `station`: over exactly the text that the input gave, by exactly the settings that the words give, it ran over the acts that the
+    //   traces have, which are what the system's calls did at the place that the words name; and its output, or the file at the path that
+    //   they name, took exactly the rows that the traces have. Or the text was refused, or the file couldn't be had, and nothing was sent.
+    //   With `--check`: status 0 only if a station measures the text.
+    // - `rehearse`: the status is at most 1, and nothing more is said here.
+    // - `loop`, `ask` and `station` over a closed stream: that is reported, with status 1, and nothing was read or written else.
+    // - A place, a number or a `--stale` that is refused: status 2, and the line that says why.
+    // - No job: status 0 only if a word asks for help or version, and no message; status 1 and the line of a fault; or status 2.
+    // Only of a station do the traces have acts or rows.
+    ensures done { IfOk result.0 (λ status. DoesProgram (seeing_by ⟦<FromReader<I> as Source>⟧ ⟦<FromReader<&'a [u8]> as Source>⟧ ⟦<Told<ToWriter<O>> as Sink>⟧ ⟦<Told<ToWriter<O>> as Durable>⟧.is_durable
         ⟦<Followed<'a, Noting<'a, R>> as Sink>⟧ ⟦<Followed<'a, Noting<'a, R>> as Durable>⟧.is_durable ⟦<Lossy<E> as Write>⟧.contents)
-        standard (I.remaining streams.input) (λ args. map string_bytes (into_iter_items args)) words result.1 (exit_status status)) }
+        E.contents standard (opening (I.remaining streams.input) (E.contents streams.messages))
+        (λ args. map string_bytes (into_iter_items args)) words result.1 (exit_status status)) }
     ensures bound { IsStatusUpTo 2 result.0 }
 {
     let system = System {
@@ -94,16 +111,21 @@ impl<'a, R: Net<Listener = TcpListener, Stream = TcpStream> + Clock + Files<File
         words: Vec<String>,
         mut streams: Streams<I, O, E>,
     ) -> (io::Result<ExitCode>, Traces)
-        ensures done { IfOk result.0 (λ status. DoesWords E (seeing_by ⟦<FromReader<I> as Source>⟧ ⟦<FromReader<&'a [u8]> as Source>⟧ ⟦<Told<ToWriter<O>> as Sink>⟧ ⟦<Told<ToWriter<O>> as Durable>⟧.is_durable
+        ensures done { IfOk result.0 (λ status. DoesWords (seeing_by ⟦<FromReader<I> as Source>⟧ ⟦<FromReader<&'a [u8]> as Source>⟧ ⟦<Told<ToWriter<O>> as Sink>⟧ ⟦<Told<ToWriter<O>> as Durable>⟧.is_durable
             ⟦<Followed<'a, Noting<'a, R>> as Sink>⟧ ⟦<Followed<'a, Noting<'a, R>> as Durable>⟧.is_durable ⟦<Lossy<E> as Write>⟧.contents)
-            self.entry.now.standard (I.remaining streams.input) (map string_bytes words.items) result.1 (exit_status status)) }
+            E.contents self.entry.now.standard (opening (I.remaining streams.input) (E.contents streams.messages))
+            (map string_bytes words.items) result.1 (exit_status status)) }
         ensures bound { IsStatusUpTo 2 result.0 }
     {
         match job_of(self.alloc, words.as_slice()) {
             Ok(job) => self.run_job(job, streams),
             Err(error) => {
-                let reads = reads_a_text(words.as_slice());
-                let ended = answer_words(&error, reads, &mut streams.output, &mut streams.messages);
+                let ended = answer_words(
+                    &error,
+                    words.as_slice(),
+                    &mut streams.output,
+                    &mut streams.messages,
+                );
                 (ended, Traces::nothing())
             }
         }
@@ -116,20 +138,18 @@ impl<'a, R: Net<Listener = TcpListener, Stream = TcpStream> + Clock + Files<File
         job: Job<'_>,
         mut streams: Streams<I, O, E>,
     ) -> (io::Result<ExitCode>, Traces)
-        ensures done { IfOk result.0 (λ status. DoesAsked E (seeing_by ⟦<FromReader<I> as Source>⟧ ⟦<FromReader<&'a [u8]> as Source>⟧ ⟦<Told<ToWriter<O>> as Sink>⟧ ⟦<Told<ToWriter<O>> as Durable>⟧.is_durable
+        ensures done { IfOk result.0 (λ status. DoesAsked (seeing_by ⟦<FromReader<I> as Source>⟧ ⟦<FromReader<&'a [u8]> as Source>⟧ ⟦<Told<ToWriter<O>> as Sink>⟧ ⟦<Told<ToWriter<O>> as Durable>⟧.is_durable
             ⟦<Followed<'a, Noting<'a, R>> as Sink>⟧ ⟦<Followed<'a, Noting<'a, R>> as Durable>⟧.is_durable ⟦<Lossy<E> as Write>⟧.contents)
-            self.entry.now.standard (I.remaining streams.input) job.entry result.1 (exit_status status)) }
+            E.contents self.entry.now.standard (opening (I.remaining streams.input) (E.contents streams.messages))
+            job.entry result.1 (exit_status status)) }
         ensures bound { IsStatusUpTo 2 result.0 }
     {
         match job {
-            Job::Exec { scene } => (self.run_exec_job(scene, streams), Traces::nothing()),
-            Job::Check { log } => (run_check_job(log, streams), Traces::nothing()),
-            Job::Drill(drilling) => (self.run_drill_job(drilling, streams), Traces::nothing()),
+            Job::Exec { scene } => self.run_exec_job(scene, streams),
+            Job::Check { log } => run_check_job(log, streams),
+            Job::Drill(drilling) => self.run_drill_job(drilling, streams),
             Job::Serve(serving) => (self.run_serve_job(serving, streams), Traces::nothing()),
-            Job::Rehearse(rehearsal) => (
-                self.run_rehearse_job(rehearsal, streams),
-                Traces::nothing(),
-            ),
+            Job::Rehearse(rehearsal) => self.run_rehearse_job(rehearsal, streams),
             Job::Client(job) => self.run_client_job(job, streams),
             Job::Nowhere { serves } => (
                 refuse_place(serves, &mut streams.messages),
@@ -141,59 +161,64 @@ impl<'a, R: Net<Listener = TcpListener, Stream = TcpStream> + Clock + Files<File
     }
 
     // Answers requests as the instrument of the file `scene`, or as the simulator if none is named, and reports how that ended.
+    // Returns what was noted of the streams.
     fn run_exec_job<I: Read + Drop, O: Write + Drop, E: Write + Drop>(
         &self,
         scene: Option<&str>,
         streams: Streams<I, O, E>,
-    ) -> io::Result<ExitCode>
-        ensures did { IfOk result (λ status. EndsFrom (DoesExec scene.entry)
-            (opening (I.remaining streams.input) (O.contents streams.output) (E.contents streams.messages)) (exit_status status)) }
-        ensures bound { IsStatusUpTo 1 result }
+    ) -> (io::Result<ExitCode>, Traces)
+        ensures did { IfOk result.0 (λ status. EndsFrom (DoesExec scene.entry) (opening (I.remaining streams.input) (E.contents streams.messages)) result.1 (exit_status status)) }
+        ensures none { HasNoRun result.1.acted }
+        ensures bound { IsStatusUpTo 1 result.0 }
     {
-        let mut ports = as_ports_ahead(streams);
-        exec_scene(
+        let mut ports = as_noted_ports_ahead(streams);
+        let ended = exec_scene(
             self.rt,
             self.alloc,
             scene,
             &mut ports.input,
             &mut ports.output,
             &mut ports.messages,
-        )
+        );
+        (ended, traces_of(ports, Acted::nothing()))
     }
 
-    // Plays the schedule on the input, and reports how that ended.
+    // Plays the schedule on the input, and reports how that ended. Returns what was noted of the streams.
     fn run_drill_job<I: Read + Drop, O: Write + Drop, E: Write + Drop>(
         &self,
         drilling: Drilling<'_>,
         streams: Streams<I, O, E>,
-    ) -> io::Result<ExitCode>
-        ensures did { IfOk result (λ status. EndsFrom (DoesDrill drilling.entry)
-            (opening (I.remaining streams.input) (O.contents streams.output) (E.contents streams.messages)) (exit_status status)) }
-        ensures bound { IsStatusUpTo 2 result }
+    ) -> (io::Result<ExitCode>, Traces)
+        ensures did { IfOk result.0 (λ status. EndsFrom (DoesDrill drilling.entry) (opening (I.remaining streams.input) (E.contents streams.messages)) result.1 (exit_status status)) }
+        ensures none { HasNoRun result.1.acted }
+        ensures bound { IsStatusUpTo 2 result.0 }
     {
-        let mut ports = as_ports(streams);
-        drill_scene(
+        let mut ports = as_noted_ports(streams);
+        let ended = drill_scene(
             self.rt,
             self.alloc,
             drilling,
             &mut ports.input,
             &mut ports.output,
             &mut ports.messages,
-        )
+        );
+        (ended, traces_of(ports, Acted::nothing()))
     }
 
     // Rehearses the station whose text is on the input, and reports how that ended; after a fault also what the system refused
-    // last, and why, if that is noted.
+    // last, and why, if that is noted. Returns what was noted of the streams.
     fn run_rehearse_job<I: Read + Drop, O: Write + Drop, E: Write + Drop>(
         &self,
         rehearsal: Rehearsal<'_>,
         streams: Streams<I, O, E>,
-    ) -> io::Result<ExitCode>
-        ensures { IsStatusUpTo 1 result }
+    ) -> (io::Result<ExitCode>, Traces)
+        ensures none { HasNoRun result.1.acted }
+        ensures bound { IsStatusUpTo 1 result.0 }
     {
         let noting = Noting::new(self.rt);
-        let (mut ports, ended) = rehearse(&noting, self.alloc, rehearsal, as_ports(streams));
-        noting.report(self.standard, ended, &mut ports.messages)
+        let (mut ports, ended) = rehearse(&noting, self.alloc, rehearsal, as_noted_ports(streams));
+        let ended = noting.report(self.standard, ended, &mut ports.messages);
+        (ended, traces_of(ports, Acted::nothing()))
     }
 
     // Serves a simulator, and reports how that ended.
@@ -202,7 +227,8 @@ impl<'a, R: Net<Listener = TcpListener, Stream = TcpStream> + Clock + Files<File
         serving: Serving<'_>,
         mut streams: Streams<I, O, E>,
     ) -> io::Result<ExitCode>
-        ensures { IsStatusUpTo 2 result }
+        ensures did { IfOk result (λ status. DoesServe self.entry.now.standard serving.entry (E.contents streams.messages) (exit_status status)) }
+        ensures bound { IsStatusUpTo 2 result }
     {
         serve_with_places_filled(
             self.rt,
@@ -220,9 +246,10 @@ impl<'a, R: Net<Listener = TcpListener, Stream = TcpStream> + Clock + Files<File
         job: ClientJob<'_>,
         streams: Streams<I, O, E>,
     ) -> (io::Result<ExitCode>, Traces)
-        ensures done { IfOk result.0 (λ status. DoesOver E (seeing_by ⟦<FromReader<I> as Source>⟧ ⟦<FromReader<&'a [u8]> as Source>⟧ ⟦<Told<ToWriter<O>> as Sink>⟧ ⟦<Told<ToWriter<O>> as Durable>⟧.is_durable
+        ensures done { IfOk result.0 (λ status. DoesOver (seeing_by ⟦<FromReader<I> as Source>⟧ ⟦<FromReader<&'a [u8]> as Source>⟧ ⟦<Told<ToWriter<O>> as Sink>⟧ ⟦<Told<ToWriter<O>> as Durable>⟧.is_durable
             ⟦<Followed<'a, Noting<'a, R>> as Sink>⟧ ⟦<Followed<'a, Noting<'a, R>> as Durable>⟧.is_durable ⟦<Lossy<E> as Write>⟧.contents)
-            self.entry.now.standard (I.remaining streams.input) job.entry result.1 (exit_status status)) }
+            E.contents self.entry.now.standard (opening (I.remaining streams.input) (E.contents streams.messages))
+            job.entry result.1 (exit_status status)) }
         ensures bound { IsStatusUpTo 2 result.0 }
     {
         let (ports, ended, acted) = self.run_asking(job, as_noted_ports(streams));
@@ -257,6 +284,9 @@ fn as_noted_ports<I: Read, O: Write, E>(
     ensures reads { ⟦<FromReader<I> as Source>⟧.reads result.input.source ≡ 0 }
     ensures unheard { result.input.heard.bytes ≡ [] }
     ensures untold { result.output.told.bytes ≡ [] }
+    ensures ports { ports_of ⟦<Heard<FromReader<I>> as Source>⟧ result.input ⟦<Told<ToWriter<O>> as Sink>⟧ result.output
+        ≡ opening_ports (I.remaining streams.input) }
+    ensures messages { result.messages ≡ streams.messages }
 {
     let Streams {
         input,
@@ -270,12 +300,12 @@ fn as_noted_ports<I: Read, O: Write, E>(
     }
 }
 
-// These streams, with the input as a source and the output as a sink.
-fn as_ports<I: Read, O: Write, E>(
+// As `as_noted_ports`, with an input that is read ahead.
+fn as_noted_ports_ahead<I: Read, O: Write, E>(
     streams: Streams<I, O, E>,
-) -> Streams<FromReader<I>, ToWriter<O>, E>
-    ensures ports { ports_of ⟦<FromReader<I> as Source>⟧ result.input ⟦<ToWriter<O> as Sink>⟧ result.output
-        ≡ opening_ports (I.remaining streams.input) (O.contents streams.output) }
+) -> Streams<Heard<FromReader<ReadAhead<I>>>, Told<ToWriter<O>>, E>
+    ensures ports { ports_of ⟦<Heard<FromReader<ReadAhead<I>>> as Source>⟧ result.input ⟦<Told<ToWriter<O>> as Sink>⟧ result.output
+        ≡ opening_ports (I.remaining streams.input) }
     ensures messages { result.messages ≡ streams.messages }
 {
     let Streams {
@@ -283,69 +313,67 @@ fn as_ports<I: Read, O: Write, E>(
         output,
         messages,
     } = streams;
-    Streams {
-        input: FromReader::new(input),
-        output: ToWriter::new(output),
-        messages,
-    }
-}
-
-// As `as_ports`, with an input that is read ahead.
-fn as_ports_ahead<I: Read, O: Write, E>(
-    streams: Streams<I, O, E>,
-) -> Streams<FromReader<ReadAhead<I>>, ToWriter<O>, E>
-    ensures ports { ports_of ⟦<FromReader<ReadAhead<I>> as Source>⟧ result.input ⟦<ToWriter<O> as Sink>⟧ result.output
-        ≡ opening_ports (I.remaining streams.input) (O.contents streams.output) }
-    ensures messages { result.messages ≡ streams.messages }
-{
-    let Streams {
-        input,
-        output,
-        messages,
-    } = streams;
-    as_ports(Streams {
+    as_noted_ports(Streams {
         input: ReadAhead::new(input),
         output,
         messages,
     })
 }
 
-// Checks the log on the input if `log` is set, otherwise the stream on it, and reports how that ended.
+// Checks the log on the input if `log` is set, otherwise the stream on it, and reports how that ended. Returns what was noted of the
+// streams.
 fn run_check_job<I: Read + Drop, O: Write + Drop, E: Write + Drop>(
     log: bool,
     streams: Streams<I, O, E>,
-) -> io::Result<ExitCode>
-    ensures did { IfOk result (λ status. EndsFrom (DoesCheck log)
-        (opening (I.remaining streams.input) (O.contents streams.output) (E.contents streams.messages)) (exit_status status)) }
-    ensures bound { IsStatusUpTo 1 result }
+) -> (io::Result<ExitCode>, Traces)
+    ensures did { IfOk result.0 (λ status. EndsFrom (DoesCheck log) (opening (I.remaining streams.input) (E.contents streams.messages)) result.1 (exit_status status)) }
+    ensures none { HasNoRun result.1.acted }
+    ensures bound { IsStatusUpTo 1 result.0 }
 {
-    let mut ports = as_ports_ahead(streams);
-    check(
+    let mut ports = as_noted_ports_ahead(streams);
+    let ended = check(
         log,
         &mut ports.input,
         &mut ports.output,
         &mut ports.messages,
-    )
+    );
+    (ended, traces_of(ports, Acted::nothing()))
 }
 
-// Answers words that ask for no run of a subcommand: reports that memory ran out (status 1) or why they don't parse (status 2),
-// or writes the help or the version that they ask for (status 0, or 1 if the output fails). `reads` says whether they name a
-// subcommand that reads a text.
+// Answers words for which no subcommand runs: reports that memory ran out (status 1) or why they don't parse (status 2), or
+// writes the help or the version for which one of them asks (status 0, or 1 if the output fails).
 fn answer_words<O: Write, E: Write>(
     error: &Error,
-    reads: bool,
+    words: &[String],
     output: &mut O,
     messages: &mut E,
 ) -> io::Result<ExitCode>
-    ensures { IsStatusUpTo 2 result }
+    ensures answered { IfOk result (λ status. IsAnswered (exit_status status) (E.contents messages.old) (E.contents messages.new)) }
+    ensures asked { list_any (λ word. asks_for_text (string_bytes word)) words.now ≡ false → IfOk result (λ status. 1 ≤ exit_status status) }
+    ensures memory { kind_of error.now ≡ Kind.OutOfMemory → IfOk result (λ status. exit_status status ≡ 1) }
+    ensures bound { IsStatusUpTo 2 result }
 {
-    if error.kind() == ErrorKind::OutOfMemory {
+    if matches!(error.kind(), ErrorKind::OutOfMemory) {
         return report_out_of_memory(messages);
     }
-    if error.use_stderr() {
-        return refuse_unparsed(error, reads, messages);
+    if error.use_stderr() || !ask_for_text(words) {
+        return refuse_unparsed(error, reads_a_text(words), messages);
     }
     show(error, output, messages)
+}
+
+// Whether one of the words asks for the help or the version.
+fn ask_for_text(words: &[String]) -> bool
+    ensures { result ≡ list_any (λ word. asks_for_text (string_bytes word)) words.now }
+{
+    words.iter().any(|word| asks_for_text(word.as_str()))
+}
+
+// Whether this word asks for the help or the version.
+fn asks_for_text(word: &str) -> bool
+    ensures { result ≡ asks_for_text word.now }
+{
+    word == "--help" || word == "-h" || word == "--version" || word == "-V"
 }
 
 // Writes the help or the version (`text`) on the output, with status 0. If that fails, the fault `Output` is reported, with

@@ -4,15 +4,15 @@ ghost use Rattle.std.specs.Prelude.{◌≡◌, []};
 ghost use Rattle.gc_console.specs.Stations.{HasNoRun};
 
 use gc_files::Past;
-use gc_links::History;
+use gc_links::LinkRecord;
 use gc_messages::Transcript;
 use gc_station::Kept;
 
-/// What was noted of a station's run: the acts of its link, if there was one, what was seen at each of them, and what was done to
-/// the file of its rows, if there was one.
+/// What was noted of a station's run: what is left of its link, if there was one, what was seen at each of its acts, and what was
+/// done to the file of its rows, if there was one.
 #[derive(Drop)]
 pub struct Acted {
-    pub link: Option<History>,
+    pub link: Option<LinkRecord>,
     pub kept: Kept,
     pub file: Option<Past>,
 }

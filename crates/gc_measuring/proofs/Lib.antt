@@ -8,3 +8,4 @@ mod TextRead
 mod Unbegun
 mod Wants
 mod Reached
+mod Records

@@ -3,6 +3,7 @@ pub mod Bounds
 pub mod Choices
 pub mod Logging
 pub mod Measuring
+pub mod Noted
 pub mod Recording
 pub mod Stops
 pub mod TaskTexts

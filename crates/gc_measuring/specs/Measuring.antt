@@ -22,6 +22,7 @@ use Rattle.gc_station.specs.declared.plan.Plan.{Plan}
 use Rattle.gc_station.specs.declared.tally.Tally.{Tally}
 use Rattle.gc_texts.specs.Names.{name_text}
 use Rattle.gc_texts.specs.Tasks.{TasksSeen}
+use Rattle.gc_rows.specs.Columns.{Entry}
 use Rattle.gc_rows.specs.Records.{record_text, head_text}
 use Rattle.gc_texts.specs.declared.fault.RunFault.{RunFault}
 use Rattle.gc_texts.specs.declared.fault.RunFault.TheVariants.{Output}
@@ -33,9 +34,13 @@ use Rattle.gc_rows.specs.declared.when.When.{When}
 abbrev pub when_of : (run : ℕ) → Record → When
 when_of run r = record { run = run; stamp = record { sent = r.sent; utc = r.utc; cycle = r.cycle; place = r.place; turn = r.turn } }
 
+-- what a layout has of a record, where targets have these names
+abbrev pub entry_in : Layout → List Name → Record → Entry
+entry_in layout names r = record { when = when_of layout.run r; name = name_text r.command.target names; command = r.command; end = r.end }
+
 -- the text of a record in a layout, where targets have these names
 abbrev pub text_in : Layout → List Name → Record → List ℕ
-text_in layout names r = record_text layout.form (when_of layout.run r) (name_text r.command.target names) r.command r.end
+text_in layout names r = record_text layout.form (entry_in layout names r)
 
 -- what is to be written before the records: nothing if the sink has its header already
 abbrev pub front_text : Layout → List ℕ

@@ -15,7 +15,7 @@ use Rattle.gc_files.specs.declared.system.Unfit.{Unfit}
 use Rattle.gc_lines.specs.declared.ports.Source.{Ghosts as Source}
 use Rattle.gc_lines.specs.declared.ports.Sink.{Ghosts as Sink}
 use Rattle.gc_links.specs.Acts.{Act}
-use Rattle.gc_links.specs.declared.history.History.{History}
+use Rattle.gc_links.specs.declared.watched.LinkRecord.{LinkRecord}
 use Rattle.gc_links.specs.declared.watched.Watched.{Watched}
 use Rattle.gc_station.specs.Keeping.{Snapshot}
 use Rattle.gc_station.specs.Runs.{FailsAtOutput}
@@ -35,10 +35,20 @@ abbrev pub acts_of : {R : Type 0} → Option (Watched R) → Option (List Act)
 acts_of None = None
 acts_of (Some link) = Some link.history.acts
 
--- the acts of a link's history, if there is one
-abbrev pub acts_noted : Option History → Option (List Act)
+-- the moment at which a link was made, if there is one: milliseconds since 1970-01-01, UTC
+abbrev pub began_of : {R : Type 0} → Option (Watched R) → Option ℕ
+began_of None = None
+began_of (Some link) = Some link.began.utc
+
+-- the acts of a link that was closed, if there was one
+abbrev pub acts_noted : Option LinkRecord → Option (List Act)
 acts_noted None = None
-acts_noted (Some history) = Some history.acts
+acts_noted (Some link) = Some link.history.acts
+
+-- the moment at which a link that was closed was made, if there was one
+abbrev pub began_noted : Option LinkRecord → Option ℕ
+began_noted None = None
+began_noted (Some link) = Some link.began.utc
 
 -- how the ports of a run are seen: its source and its sink by the ghost members of their traits; `lasts` says whether all that
 -- the sink took lasts, and `shown` gives what was written on the messages, if that is known
@@ -52,16 +62,17 @@ pub record Views (S K E : Type 0) : Type 1 where
 abbrev pub views_by : {S K E : Type 0} → Source S → Sink K → (lasts : K → Bool) → (shown : E → Option (List ℕ)) → Views S K E
 views_by source sink lasts shown = record { source = source; sink = sink; lasts = lasts; shown = shown }
 
--- a run at one moment: its streams, the acts that its link recorded, if there is a link and they are known, and what was seen of
--- link and sink at each act so far (`turns`)
+-- a run at one moment: its streams; when its link was made (`began`) and the acts that it recorded, if there is a link and they are
+-- known; and what was seen of link and sink at each act so far (`turns`)
 pub record Stage (S K E : Type 0) : Type 0 where
   pub streams : Streams S K E
+  pub began : Option ℕ
   pub acts : Option (List Act)
   pub turns : List Snapshot
 
--- a run at the moment at which it has these streams, acts and turns
-abbrev pub stage : {S K E : Type 0} → Streams S K E → Option (List Act) → (turns : List Snapshot) → Stage S K E
-stage streams acts turns = record { streams = streams; acts = acts; turns = turns }
+-- a run at the moment at which it has these streams, this link and these turns
+abbrev pub stage : {S K E : Type 0} → Streams S K E → (began : Option ℕ) → Option (List Act) → (turns : List Snapshot) → Stage S K E
+stage streams began acts turns = record { streams = streams; began = began; acts = acts; turns = turns }
 
 -- the same moment, with these messages
 abbrev pub with_messages : {S K E : Type 0} → Stage S K E → E → Stage S K E
@@ -116,13 +127,14 @@ pub record IsUnbegun {S K E : Type 0} (has_log : Bool) (old new : Stage S K E) (
   pub acts : new.acts ≡ None
   pub turns : new.turns ≡ old.turns
 
--- a text was refused, or its commands were measured, from `old` to `new`, in a run that began at some moment (`run`), over a link
--- that has then recorded the acts `told`. All records last; nothing is said of that if the text was refused or the sink failed
+-- a text was refused, or its commands were measured, from `old` to `new`, in a run that began when its link was made (`run`); the link
+-- has then recorded the acts `told`. All records last; nothing is said of that if the text was refused or the sink failed
 pub record MeasuresAtLink {S K E : Type 0} (views : Views S K E) (station : Settings) (old new : Stage S K E) (end : Result Tally Stop)
     : Type 0 where
   pub told : List Act
   pub is : new.acts ≡ Some told
   pub run : ℕ
+  pub began : new.began ≡ Some run
   pub measured : MeasuresGiven (begun_at run station) (seen_at views old) (seen_at views new) end
   pub all_last : AllLast (views.lasts new.streams.output) end
 
@@ -139,11 +151,12 @@ pub record ReportsAtSite {S K E : Type 0} (views : Views S K E) (has_log : Bool)
   pub fails : SinkFailsAtOutput views old new end
   pub tells : ReportsLossAndEnd is_lost end status (views.shown between) (views.shown new.streams.messages)
 
--- as `MeasuresAll` says, of a run that began at some moment (`run`), over a link that has recorded the acts `told`
+-- as `MeasuresAll` says, of a run that began when its link was made (`run`), which has recorded the acts `told`
 pub record MeasuresAllAtLink {S K E : Type 0} (views : Views S K E) (station : Settings) (old new : Stage S K E) : Type 0 where
   pub told : List Act
   pub is : new.acts ≡ Some told
   pub run : ℕ
+  pub began : new.began ≡ Some run
   pub all : MeasuresAll views (begun_at run station) old new
 
 -- a file of records can't be had, which is reported with status 1, and nothing was read
@@ -176,7 +189,7 @@ pub record HoldsOfFiled {S F K E : Type 0} (sink : Sink F) (whole : AppendingRun
   pub begun : Streams S F E
   pub ended : Streams S F E
   pub filed : IsFiled sink whole begun ended
-  pub holds : Holds (stage begun whole.before.acts whole.before.turns) (stage ended whole.after.acts whole.after.turns)
+  pub holds : Holds (stage begun whole.before.began whole.before.acts whole.before.turns) (stage ended whole.after.began whole.after.acts whole.after.turns)
 
 -- the end of a run that appends to a file is reported, as `ReportsAtSite` says of the run's own streams. What had been written on
 -- its messages before it began, of the file's opening, isn't said

@@ -61,7 +61,7 @@ pub record HoldsOverText {S T K E : Type 0} (source : Source S) (over : Source T
   pub ended : Streams T K E
   pub over_text : IsOverText over text before.streams begun
   pub output : after.streams.output ≡ ended.output
-  pub holds : Holds (stage begun before.acts before.turns) (stage ended after.acts after.turns)
+  pub holds : Holds (stage begun before.began before.acts before.turns) (stage ended after.began after.acts after.turns)
 
 -- how a run at a site ended (`ReportsAtSite`), which left its caller these messages: and with status 0 all commands of its text were
 -- measured (`MeasuresAllAtLink`)

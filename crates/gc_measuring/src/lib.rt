@@ -29,6 +29,6 @@ pub use plan::{commands_per_cycle, plan_of};
 pub use recording::{Appended, append_at, append_text_at};
 pub use row::write_station_row;
 pub use spot::Spot;
-pub use station::{history_of, measure_at, measure_text_at};
+pub use station::{measure_at, measure_text_at, record_of};
 pub use stop::Stop;
 pub use task_text::{read_task_text, watches_of};

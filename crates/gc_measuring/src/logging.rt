@@ -174,13 +174,13 @@ pub(crate) fn measure_logged<L: Link, G: Sink, S: Source, K: Durable, E: Write>(
     // As without a log; but before the report of the end the messages say that the log isn't complete exactly if its sink has ended
     // or failed.
     ensures told { IfOk result.1 (λ status. ReportsMeasuring (views_by S.Source K.Sink K.is_durable E.contents) spot.entry.station
-        (stage streams (L.acts logged.old.link) kept.old.turns) (stage result.0 (L.acts logged.new.link) kept.new.turns)
+        (stage streams None (L.acts logged.old.link) kept.old.turns) (stage result.0 None (L.acts logged.new.link) kept.new.turns)
         (G.failed (sink_of logged.new)) (exit_status status)) }
 
     // Status 0 only if the source gave a text to its end, and the run over its commands is done, or its end was asked for.
     ensures done { IfOk result.1 (λ status. exit_status status ≡ 0
         → MeasuresAll (views_by S.Source K.Sink K.is_durable E.contents) spot.entry.station
-        (stage streams (L.acts logged.old.link) kept.old.turns) (stage result.0 (L.acts logged.new.link) kept.new.turns)) }
+        (stage streams None (L.acts logged.old.link) kept.old.turns) (stage result.0 None (L.acts logged.new.link) kept.new.turns)) }
     ensures bound { IsStatusUpTo 1 result.1 }
 {
     let (mut streams, end) = run_station_text(alloc, logged, spot, streams, u64::MAX, kept);

@@ -1,28 +1,29 @@
 //! A station that appends its records, as rows, to a file that outlasts the program.
 
-ghost use Rattle.std.specs.Prelude.{◌≡◌, IfOk, IfSome, OnErr};
+ghost use Rattle.std.specs.Prelude.{◌≡◌, ℕ, List, Option, Some, Ok, IfOk, IfSome, OnErr};
 ghost use Rattle.std.specs.Io.KnownBytes.{Appends};
 ghost use Rattle.std.specs.Option.{is_some};
 ghost use Rattle.std.specs.Process.{exit_status};
 ghost use Rattle.gc_lines.specs.Ports.{WritesIfOk};
 ghost use Rattle.gc_links.specs.LinksMeant.{IsMeantAt};
-ghost use Rattle.gc_links.specs.Placed.{place_seen};
+ghost use Rattle.gc_links.specs.Placed.{PlaceSeen, place_seen};
 ghost use Rattle.gc_links.specs.Seeing.{path_at};
 ghost use Rattle.gc_measuring.specs.Recording.{IsBegunAt, ReportsOpening, fault_of_unfit, opened_lines, rotation_line, unfit_text};
 ghost use Rattle.gc_measuring.specs.Appending.{AppendsToFile, appending_run};
-ghost use Rattle.gc_measuring.specs.Telling.{AppendsAll, ReportsAppending, acts_noted, acts_of, views_by};
+ghost use Rattle.gc_measuring.specs.Noted.{IsMeantRecord};
+ghost use Rattle.gc_measuring.specs.Telling.{AppendsAll, ReportsAppending, acts_noted, acts_of, began_noted, began_of, views_by};
 ghost use Rattle.gc_measuring.specs.Texts.{ReadsAndAppends};
 ghost use Rattle.gc_files.specs.Rows.{appended};
-ghost use Rattle.gc_messages.specs.Following.{bytes_in};
+ghost use Rattle.gc_messages.specs.Following.{bytes_in, path_of};
 ghost use Rattle.gc_messages.specs.Statuses.{IsStatusUpTo};
 
 use crate::counts::report_end_of_run;
 use crate::spot::Spot;
-use crate::station::{history_of, measure_at, text_at};
+use crate::station::{measure_at, record_of, text_at};
 use crate::stop::Stop;
 use gc_files::{Past, RowsOptions, Unfit};
 use gc_lines::{Durable, FromReader, Sink, Source};
-use gc_links::{History, Watched};
+use gc_links::{LinkRecord, Watched};
 use gc_messages::{Followed, Heard, Streams, report_copied, report_torn};
 use gc_rows::{head, sign};
 use gc_station::Kept;
@@ -30,7 +31,7 @@ use gc_texts::RunFault;
 use gc_words::{Recording, Settings};
 use std::alloc::Global;
 use std::fs::File;
-use std::io::{self, Write};
+use std::io::{self, ErrorKind, Write};
 use std::net::{Net, TcpListener, TcpStream};
 use std::process::ExitCode;
 use std::rt::Files;
@@ -111,17 +112,20 @@ impl<'a, R: Net<Listener = TcpListener, Stream = TcpStream> + Clock + Files<File
     /// Closes the link, and then ends the appending, as [`Followed::end`] does: if the file was opened with `sync`, the path
     /// still leads to it, and all that it holds is on the disk, if need be after one more sync, this removes the mark by which
     /// the next start would copy the file. The mark stays if the path can't be followed, the system refuses to remove the mark,
-    /// or memory runs out. Returns the history of the link, if there was one, and what was done to the file, which proofs alone
-    /// can read.
-    pub fn end(self) -> (Option<History>, Past)
+    /// or memory runs out. Returns what is left of the link, if there was one, as [`record_of`] does, and what was done to the
+    /// file, which proofs alone can read.
+    pub fn end(self) -> (Option<LinkRecord>, Past)
         ensures acts { acts_noted result.0 ≡ acts_of self.entry.link }
+        ensures began { began_noted result.0 ≡ began_of self.entry.link }
+        ensures meant { (where_to : PlaceSeen) (until : Option (List ℕ)) → IfSome self.entry.link (λ link. ∥ IsMeantAt where_to until link ∥₁)
+            → IfSome result.0 (λ left. ∥ IsMeantRecord where_to until left ∥₁) }
         ensures rows { appended result.1.steps ≡ bytes_in self.entry.file }
     {
         let Appended { file, link } = self;
-        let history = history_of(link);
+        let record = record_of(link);
         let past = file.past();
         file.end();
-        (history, past)
+        (record, past)
     }
 }
 
@@ -178,6 +182,9 @@ pub fn append_at<
 
     // The acts of the link that is handed back are what the system's calls did, at the site's place.
     ensures place { IfSome result.2 (λ left. IfSome left.link (λ link. ∥ IsMeantAt (place_seen spot.entry.site.place) (path_at spot.entry.site.until) link ∥₁)) }
+
+    // The file that is handed back is at the recording's path.
+    ensures path { IfSome result.2 (λ left. path_of left.file ≡ recording.entry.path.now) }
     ensures bound { IsStatusUpTo 1 result.1 }
 {
     match open_records(rt, alloc, spot, recording, &mut streams.messages) {
@@ -188,12 +195,32 @@ pub fn append_at<
             let spot = Spot { station, ..spot };
             let (filed, ended, link) = measure_at(rt, alloc, spot, filed, kept);
             let (streams, file) = filed.with_output(output);
-            (streams, ended, Some(Appended { file, link }))
+            let (ended, left) = hand_back(recording.path, ended, Appended { file, link });
+            (streams, ended, left)
         }
         Err(why) => {
             let ended = refuse_file(why, &mut streams.messages);
             (streams, ended, None)
         }
+    }
+}
+
+// What is left of a run that appended to a file, and how the run's end was reported. Nothing that takes rows changes at which path the
+// file is; but what a run does with a file is known by its rows alone, so this is compared. A file at another path, which there never
+// is, isn't handed back, and counts as a report that couldn't be written.
+fn hand_back<'a, R: Files<File = File>>(
+    path: &str,
+    ended: io::Result<ExitCode>,
+    left: Appended<'a, R>,
+) -> (io::Result<ExitCode>, Option<Appended<'a, R>>)
+    ensures same { IfOk result.0 (λ status. (ended ≡ Ok status) × (result.1 ≡ Some left.entry)) }
+    ensures given { IfSome result.1 (λ kept. kept ≡ left.entry) }
+    ensures path { IfSome result.1 (λ kept. path_of kept.file ≡ path.now) }
+{
+    if left.file.is_for(path) {
+        (ended, Some(left))
+    } else {
+        (Err(io::Error::from(ErrorKind::Other)), None)
     }
 }
 
@@ -228,6 +255,12 @@ pub fn append_text_at<
 
     // Nothing is written on the output.
     ensures output { result.0.output ≡ streams.output }
+
+    // The acts of the link that is handed back are what the system's calls did, at the site's place.
+    ensures place { IfSome result.2 (λ left. IfSome left.link (λ link. ∥ IsMeantAt (place_seen spot.entry.site.place) (path_at spot.entry.site.until) link ∥₁)) }
+
+    // The file that is handed back is at the recording's path.
+    ensures path { IfSome result.2 (λ left. path_of left.file ≡ recording.entry.path.now) }
     ensures bound { IsStatusUpTo 1 result.1 }
 {
     let text = match text_at(alloc, spot, &mut streams) {

@@ -1,13 +1,14 @@
 //! A station at a place: it opens its log and its link, measures, and reports how that ended.
 
-ghost use Rattle.std.specs.Prelude.{◌≡◌, [], Some, Ok, false, IfOk, IfErr, IfSome, OnOk};
+ghost use Rattle.std.specs.Prelude.{◌≡◌, ℕ, List, [], Option, None, Some, Ok, false, IfOk, IfErr, IfSome, OnOk};
 ghost use Rattle.std.specs.Option.{is_some};
 ghost use Rattle.std.specs.Process.{exit_status};
 ghost use Rattle.gc_links.specs.LinksMeant.{IsMeantAt};
-ghost use Rattle.gc_links.specs.Placed.{place_seen};
+ghost use Rattle.gc_links.specs.Placed.{PlaceSeen, place_seen};
 ghost use Rattle.gc_links.specs.Seeing.{path_at};
+ghost use Rattle.gc_measuring.specs.Noted.{IsMeantRecord};
 ghost use Rattle.gc_measuring.specs.Stops.{fault_without_link, IsFaultWithoutLink};
-ghost use Rattle.gc_measuring.specs.Telling.{ReportsMeasuring, MeasuresAll, ReportsAtSite, MeasuresAllAtLink, CannotBegin, acts_noted, acts_of, stage, views_by};
+ghost use Rattle.gc_measuring.specs.Telling.{ReportsMeasuring, MeasuresAll, ReportsAtSite, MeasuresAllAtLink, CannotBegin, acts_noted, acts_of, began_noted, began_of, stage, views_by};
 ghost use Rattle.gc_measuring.specs.Texts.{ReadsAndMeasures, ReadsTaskText, RefusesTaskText};
 ghost use Rattle.gc_messages.specs.Statuses.{IsStatusUpTo};
 ghost use Rattle.gc_messages.specs.Transcripts.{hearing_of};
@@ -21,7 +22,7 @@ use crate::task_text::hear_task_text;
 use gc_ask::fault_of_unusable;
 use gc_files::{RowsFile, SystemFile};
 use gc_lines::{Durable, FromReader, Source};
-use gc_links::{History, Link, LinkRecord, Unusable, Watched};
+use gc_links::{Link, LinkRecord, Moment, Unusable, Watched};
 use gc_logs::Logged;
 use gc_messages::{Heard, Noticing, Streams};
 use gc_station::{Kept, Tally};
@@ -82,7 +83,10 @@ pub fn measure_text_at<
     // the run over exactly this text ended, and is told, as `measure_at` says; with status 0 all commands were measured.
     ensures told { IfOk result.1 (λ status. ReadsAndMeasures S.Source
         (views_by ⟦<FromReader<&'a [u8]> as Source>⟧ K.Sink K.is_durable E.contents) (is_some spot.entry.site.log) spot.entry.station
-        (stage streams (Some []) kept.old.turns) (stage result.0 (acts_of result.2) kept.new.turns) (exit_status status)) }
+        (stage streams None (Some []) kept.old.turns) (stage result.0 (began_of result.2) (acts_of result.2) kept.new.turns) (exit_status status)) }
+
+    // The acts of the link that is handed back are what the system's calls did, at the site's place.
+    ensures place { IfSome result.2 (λ link. ∥ IsMeantAt (place_seen spot.entry.site.place) (path_at spot.entry.site.until) link ∥₁) }
     ensures bound { IsStatusUpTo 1 result.1 }
 {
     let text = match text_at(alloc, spot, &mut streams) {
@@ -139,16 +143,16 @@ pub fn measure_at<
 )
     // The messages report whether the log isn't complete, and then, with the status, how the run ended. Either the text was refused,
     // or the output failed before the records, or the text's commands were measured: the link that is handed back has recorded
-    // all acts of the run and no other, the sink its records, and all that was settled lasted before anything was sent, read, opened
-    // or closed. Or log, link or clock couldn't be had, and nothing was done.
+    // all acts of the run and no other, the sink its records, with the moment at which this link was made as the run's, and all that
+    // was settled lasted before anything was sent, read, opened or closed. Or log, link or clock couldn't be had, and nothing was done.
     ensures told { IfOk result.1 (λ status. ReportsAtSite (views_by S.Source K.Sink K.is_durable E.contents)
         (is_some spot.entry.site.log) spot.entry.station
-        (stage streams (Some []) kept.old.turns) (stage result.0 (acts_of result.2) kept.new.turns) (exit_status status)) }
+        (stage streams None (Some []) kept.old.turns) (stage result.0 (began_of result.2) (acts_of result.2) kept.new.turns) (exit_status status)) }
 
     // Status 0 only if the source gave a text to its end, and the run over its commands is done, or its end was asked for.
     ensures done { IfOk result.1 (λ status. exit_status status ≡ 0
         → MeasuresAllAtLink (views_by S.Source K.Sink K.is_durable E.contents) spot.entry.station
-        (stage streams (Some []) kept.old.turns) (stage result.0 (acts_of result.2) kept.new.turns)) }
+        (stage streams None (Some []) kept.old.turns) (stage result.0 (began_of result.2) (acts_of result.2) kept.new.turns)) }
 
     // The acts of the link that is handed back are what the system's calls did, at the site's place.
     ensures place { IfSome result.2 (λ link. ∥ IsMeantAt (place_seen spot.entry.site.place) (path_at spot.entry.site.until) link ∥₁) }
@@ -168,48 +172,46 @@ pub fn measure_at<
     match log {
         None => {
             let (streams, ended) = measure_over(alloc, &mut link, spot, streams, kept);
-            let (ended, link) = hand_back(spot.site, ended, link.into_link());
+            let (ended, link) = hand_back(spot.site, moment, ended, link.into_link());
             (streams, ended, link)
         }
         Some(log) => {
             let mut logged = Logged::new(link, log, moment.utc);
             let (streams, ended) = measure_logged(alloc, &mut logged, spot, streams, kept);
-            let (ended, link) = hand_back(spot.site, ended, logged.into_link().into_link());
+            let (ended, link) = hand_back(spot.site, moment, ended, logged.into_link().into_link());
             (streams, ended, link)
         }
     }
 }
 
-/// Closes a link, if there is one, and returns the history of its acts, which proofs alone can read.
-pub fn history_of<'a, R>(link: Option<Watched<'a, R>>) -> Option<History>
-    ensures { acts_noted result ≡ acts_of link.entry }
+/// Closes a link, if there is one, and returns what is left of it, which proofs alone can read.
+pub fn record_of<'a, R>(link: Option<Watched<'a, R>>) -> Option<LinkRecord>
+    ensures acts { acts_noted result ≡ acts_of link.entry }
+    ensures began { began_noted result ≡ began_of link.entry }
+
+    // If the link's acts are what the system's calls did at this place, so are these acts, by the calls that are left of it.
+    ensures meant { (where_to : PlaceSeen) (until : Option (List ℕ)) → IfSome link.entry (λ link. ∥ IsMeantAt where_to until link ∥₁)
+        → IfSome result (λ left. ∥ IsMeantRecord where_to until left ∥₁) }
 {
     match link {
-        Some(link) => {
-            let LinkRecord {
-                began: _,
-                history,
-                calls: _,
-                looks: _,
-            } = link.into_record();
-            Some(history)
-        }
+        Some(link) => Some(link.into_record()),
         None => None,
     }
 }
 
-// The link after a run, and how the run's end was reported. No call of a link changes where it leads to; but what a run does with a
-// link is known by its acts alone, so this is compared. A link to another place, which there never is, isn't handed back, and
-// counts as a report that couldn't be written.
+// The link after a run, and how the run's end was reported. No call of a link changes where it leads to, or when it was made; but what
+// a run does with a link is known by its acts alone, so both are compared. A link to another place, or one that was made at another
+// moment than `began`, which there never is, isn't handed back, and counts as a report that couldn't be written.
 fn hand_back<'a, R>(
     site: Site<'a>,
+    began: Moment,
     ended: io::Result<ExitCode>,
     link: Watched<'a, R>,
 ) -> (io::Result<ExitCode>, Option<Watched<'a, R>>)
-    ensures same { IfOk result.0 (λ status. (ended ≡ Ok status) × (result.1 ≡ Some link.entry)) }
+    ensures same { IfOk result.0 (λ status. (ended ≡ Ok status) × (result.1 ≡ Some link.entry) × (link.entry.began.utc ≡ began.utc)) }
     ensures place { IfSome result.1 (λ link. ∥ IsMeantAt (place_seen site.entry.place) (path_at site.entry.until) link ∥₁) }
 {
-    if link.is_for(site.place, site.until) {
+    if link.is_for(site.place, site.until) && link.began().utc == began.utc {
         (ended, Some(link))
     } else {
         (Err(io::Error::from(ErrorKind::Other)), None)
@@ -281,12 +283,12 @@ pub(crate) fn measure_over<L: Link, S: Source, K: Durable, E: Write>(
     // The text was refused, or the output failed before the records, or the text's commands were measured; and the status and the
     // messages report how that ended.
     ensures told { IfOk result.1 (λ status. ReportsMeasuring (views_by S.Source K.Sink K.is_durable E.contents) spot.entry.station
-        (stage streams (L.acts link.old) kept.old.turns) (stage result.0 (L.acts link.new) kept.new.turns) false (exit_status status)) }
+        (stage streams None (L.acts link.old) kept.old.turns) (stage result.0 None (L.acts link.new) kept.new.turns) false (exit_status status)) }
 
     // Status 0 only if the source gave a text to its end, and the run over its commands is done, or its end was asked for.
     ensures done { IfOk result.1 (λ status. exit_status status ≡ 0
         → MeasuresAll (views_by S.Source K.Sink K.is_durable E.contents) spot.entry.station
-        (stage streams (L.acts link.old) kept.old.turns) (stage result.0 (L.acts link.new) kept.new.turns)) }
+        (stage streams None (L.acts link.old) kept.old.turns) (stage result.0 None (L.acts link.new) kept.new.turns)) }
     ensures bound { IsStatusUpTo 1 result.1 }
 {
     let (mut streams, end) = run_station_text(alloc, link, spot, streams, u64::MAX, kept);

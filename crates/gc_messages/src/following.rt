@@ -58,6 +58,13 @@ impl<'a, R: Files<File = File>> Followed<'a, R> {
         Ok((followed, copied))
     }
 
+    /// Whether the file is at this path.
+    pub fn is_for(&self, path: &str) -> bool
+        ensures { result ≡ true → path_of self.now ≡ path.now }
+    {
+        self.path == path
+    }
+
     /// What was done to all of these files since each was opened, one after the other, which proofs alone can read.
     pub fn past(&self) -> Past
         ensures { appended result.steps ≡ bytes_in self.now }

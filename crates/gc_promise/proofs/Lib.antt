@@ -26,3 +26,8 @@ mod SoFar
 mod LastingSoFar
 mod LeftSoFar
 mod RunMoments
+mod SiteRuns
+mod ProgramWords
+mod ProgramRuns
+mod ProgramIdle
+mod ProgramRows

@@ -10,3 +10,4 @@ pub mod Left
 pub mod SoFar
 pub mod LastingSoFar
 pub mod RunMoments
+pub mod Programs

@@ -1,9 +1,11 @@
 //! What is proved of the rows of a station in the field. The functions have no effect: their contracts are the laws.
 
+ghost use Rattle.gc_console.specs.Stations.{seeing_by};
 ghost use Rattle.gc_promise.specs.Damaged.{ObjectsAreOwnOrDamaged, RowsAreOwnOrDamaged, RowsByDamagedLinesAreFew, RunsInFieldAreInstances, TablesAreOwnOrDamaged};
 ghost use Rattle.gc_promise.specs.Lasting.{AppendsAreRuns, RowsOutlastCrashes, RowsOutlastFailures};
 ghost use Rattle.gc_promise.specs.LastingSoFar.{LeftObjectsSoFarAreOwnOrDamaged, LeftObjectsSoFarAreTheirOwn, LeftTablesSoFarAreOwnOrDamaged, LeftTablesSoFarAreTheirOwn, RowsSoFarOutlastCrashes, RowsSoFarOutlastFailures};
 ghost use Rattle.gc_promise.specs.Left.{LeftObjectsAreOwnOrDamaged, LeftObjectsAreTheirOwn, LeftTablesAreOwnOrDamaged, LeftTablesAreTheirOwn};
+ghost use Rattle.gc_promise.specs.Programs.{ProgramsAreFaithful, ProgramsWithoutActsWriteNoRow};
 ghost use Rattle.gc_promise.specs.Rows.{RowsAreTheirOwn};
 ghost use Rattle.gc_promise.specs.RunMoments.{FileMomentsAreRunsSoFar, MomentsAreRunsSoFar, ReturnedRunsAreRunsSoFar, RunsSoFarReturn};
 ghost use Rattle.gc_promise.specs.SoFar.{ObjectsSoFarAreOwnOrDamaged, ObjectsSoFarAreTheirOwn, RowsSoFarAreOwnOrDamaged, RowsSoFarByDamagedLinesAreFew, TablesSoFarAreOwnOrDamaged, TablesSoFarAreTheirOwn};
@@ -11,9 +13,10 @@ ghost use Rattle.gc_promise.specs.Tables.{TablesAreTheirOwn};
 ghost use Rattle.gc_promise.specs.Objects.{ObjectsAreTheirOwn};
 ghost use Rattle.gc_promise.specs.Witness.{SomeRowIsItsOwn};
 
-use gc_lines::{Sink, Source};
-use gc_messages::Followed;
+use gc_lines::{Durable, FromReader, Sink, Source, ToWriter};
+use gc_messages::{Followed, Lossy, Noting, Told};
 use std::fs::File;
+use std::io::{Read, Write};
 use std::rt::Files;
 
 /// For any instrument, and every run of a station in the field: what the station writes reads back as its records, one row or
@@ -169,4 +172,29 @@ pub fn rows_left_so_far_are_their_own<R, State>()
     ensures objects { LeftObjectsSoFarAreTheirOwn R State }
     ensures damaged_tables { LeftTablesSoFarAreOwnOrDamaged R State }
     ensures damaged_objects { LeftObjectsSoFarAreOwnOrDamaged R State }
+{}
+
+/// If a run of the program `geocom` made any act over a link, its command line asked for a station, and each law on rows holds of that
+/// station's run. This follows from clause `done` of `run_program`. The standard streams were open. The station measured exactly the text
+/// that standard input gave, at the site and with the settings that the words name; what it did are the system's calls at that site; and
+/// the bytes that its output took, or that were appended to the file that the words name, are those of its run. Status 0 says that it did
+/// all, or that somebody asked for its end. What the laws on this run take as given is of the instrument and the line alone. In the field
+/// it is faithful, and each row that it wrote is its own; over a line that damages, each row is by a line that is own or damaged; and rows
+/// that were appended to a file with `sync` outlast crashes and failed syncs, each its own.
+pub fn programs_are_faithful<
+    'a,
+    R: Files<File = File> + 'a,
+    I: Read,
+    O: Write,
+    E: Write,
+    Words,
+    Refused,
+    State,
+>()
+    ensures runs { ProgramsAreFaithful (seeing_by ⟦<FromReader<I> as Source>⟧ ⟦<FromReader<&'a [u8]> as Source>⟧ ⟦<Told<ToWriter<O>> as Sink>⟧ ⟦<Told<ToWriter<O>> as Durable>⟧.is_durable
+        ⟦<Followed<'a, Noting<'a, R>> as Sink>⟧ ⟦<Followed<'a, Noting<'a, R>> as Durable>⟧.is_durable ⟦<Lossy<E> as Write>⟧.contents) E.contents Words Refused State }
+
+    // If no link made an act, no station ran, and there was no file; or one was asked for, and wrote at most a front of the header.
+    ensures idle { ProgramsWithoutActsWriteNoRow (seeing_by ⟦<FromReader<I> as Source>⟧ ⟦<FromReader<&'a [u8]> as Source>⟧ ⟦<Told<ToWriter<O>> as Sink>⟧ ⟦<Told<ToWriter<O>> as Durable>⟧.is_durable
+        ⟦<Followed<'a, Noting<'a, R>> as Sink>⟧ ⟦<Followed<'a, Noting<'a, R>> as Durable>⟧.is_durable ⟦<Lossy<E> as Write>⟧.contents) E.contents Words Refused }
 {}

@@ -1,4 +1,5 @@
-//! Laws alone: from the instrument that executes a request to the fields of the row that a station writes of it.
+//! Laws alone: from the instrument that executes a request to the fields of the row that a station writes of it, and from the words of a
+//! command line to such rows.
 #![tactic(auto)]
 
 pub mod laws;

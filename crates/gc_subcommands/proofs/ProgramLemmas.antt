@@ -41,8 +41,8 @@ with_all app [] = app
 with_all app (shape ∷ shapes) = with_all (with_subcommand app shape) shapes
 
 -- a command that has this app, and no global argument
-record IsApp (app : App) (command : Command) : Type 0 where
-  is : app_of command ≡ app
+pub record IsApp (app : App) (command : Command) : Type 0 where
+  pub is : app_of command ≡ app
   local : (out-Command command).has_globals ≡ false
 
 -- a command with one more subcommand
@@ -63,7 +63,7 @@ all_more app [] (command ∷ commands) old new are adds is = absurd are
 all_more app (s ∷ ss) [] old new are adds is = absurd are
 
 -- the program's own command with its subcommands is `program`
-is_program : (commands : List Command) (old new : Command) → IsBareProgram old → AreSubcommands subcommands commands
+pub is_program : (commands : List Command) (old new : Command) → IsBareProgram old → AreSubcommands subcommands commands
     → AddsInTurn AddsSubcommand old commands new → IsApp program new
 is_program commands old new is are adds =
     all_more (record { top = bare_program; subs = [] }) subcommands commands old new are adds (record { is = is.app; local = is.local })

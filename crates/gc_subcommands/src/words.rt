@@ -1,10 +1,13 @@
 //! Which subcommand the words of the command line ask for.
 
-ghost use Rattle.std.specs.Prelude.{◌≡◌, codes, map, IfOk, Some};
+ghost use Rattle.std.specs.Prelude.{◌≡◌, true, codes, map, IfErr, IfOk, Some};
 ghost use Rattle.std.specs.String.{string_bytes};
 ghost use Rattle.clap.specs.Simple.{subcommand_rows_of};
+ghost use Rattle.clap.specs.Takes.{takes};
+ghost use Rattle.clap.specs.Values.{kind_of};
+ghost use Rattle.clap.specs.declared.error.ErrorKind.{ErrorKind};
 ghost use Rattle.gc_subcommands.specs.Jobs.{AsksSubcommand, IsJobOf, name_of, station_job, subcommand_named, subcommands};
-ghost use Rattle.gc_subcommands.specs.Program.{AreSubcommands, IsBareProgram, IsJobOfWords, IsSubcommand};
+ghost use Rattle.gc_subcommands.specs.Program.{AreSubcommands, IsBareProgram, IsJobOfWords, IsSubcommand, program};
 ghost use Rattle.gc_words.specs.Words.{words_of};
 
 use crate::ask::ask_command;
@@ -180,13 +183,17 @@ impl Subcommand {
 pub fn job_of<'a>(alloc: Global, words: &'a [String]) -> Result<Job<'a>, Error>
     // The job is what the words ask for: each value is the number or text that they give for the argument of its name, or that
     // argument's default.
-    ensures { IfOk result (λ job. IsJobOfWords (map string_bytes words.now) job) }
+    ensures job { IfOk result (λ job. IsJobOfWords (map string_bytes words.now) job) }
+
+    // Words that the command line takes are refused only for want of memory.
+    ensures taken { IfErr result (λ error. takes program (map string_bytes words.now) ≡ true → kind_of error ≡ ErrorKind.OutOfMemory) }
 {
     let subcommands = subcommands_of(alloc)?;
-    let matches = geocom(alloc)
-        .subcommands(subcommands)?
-        .try_get_matches_from(words)?;
-    Ok(parsed_job(&matches))
+    let program = geocom(alloc).subcommands(subcommands)?;
+    match program.try_get_matches_from(words) {
+        Ok(matches) => Ok(parsed_job(&matches)),
+        Err(error) => Err(error),
+    }
 }
 
 // The command line of the program for clap, with no subcommand yet.

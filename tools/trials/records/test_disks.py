@@ -43,7 +43,7 @@ def test_syncs_its_folder(program, folder):
     at the path. Without `--sync` no folder is."""
     place, trace = folder / "place", folder / "trace"
     place.mkdir()
-    shell = f'cd {folder}; set -- strace -f -y -e trace=open,openat,write,fdatasync,fsync -o {trace} "$@"'
+    shell = f'cd {folder}; set -- strace -f -y -e trace=?open,openat,write,fdatasync,fsync -o {trace} "$@"'
     for words in ["--sync"], []:
         for name, parent in [(place / "rows.csv", place), (Path("own.csv"), folder)]:
             path = folder / name

@@ -34,8 +34,8 @@ returns-in-Err-clause-told g c =
 
 pub returns-in-None-clause-told : goal.returns-in-None-clause-told
 returns-in-None-clause-told g c =
-    let new = stage c.measure_over-streams.result.0 (acts_of (Some c.into_link.result)) c.measure_over-streams.new.kept.turns in
-    reports_handed_back _ _ _ _ _ _ c.measure_over-streams.result.1 c.hand_back-ended.result.0
+    let new = stage c.measure_over-streams.result.0 (Some c.began-moment.result.utc) (acts_of (Some c.into_link.result)) c.measure_over-streams.new.kept.turns in
+    reports_handed_back _ _ _ _ _ _ _ c.measure_over-streams.result.1 c.hand_back-ended.result.0
     c.into_link.result c.hand_back-ended.result.1 c.hand_back-ended.ensures.same
     (IfOk-weaker c.measure_over-streams.result.1 _ _
     (λ status t. record {
@@ -44,7 +44,7 @@ returns-in-None-clause-told g c =
       is_lost = false;
       logged = λ lost. absurd (false≢true lost);
       ran =
-          inl (measures_at_link _ c.args.spot.station _ new c.measure_over-streams.new.link.link.history.acts c.began-moment.result.utc _ _ (ap (λ l. Some l.history.acts) c.into_link.ensures) t);
+          inl (measures_at_link _ c.args.spot.station _ new c.measure_over-streams.new.link.link.history.acts c.began-moment.result.utc _ _ refl (ap (λ l. Some l.history.acts) c.into_link.ensures) t);
       fails = t.fails;
       tells = t.tells;
     })
@@ -52,18 +52,18 @@ returns-in-None-clause-told g c =
 
 pub returns-in-None-clause-done : goal.returns-in-None-clause-done
 returns-in-None-clause-done g c =
-    let new = stage c.measure_over-streams.result.0 (acts_of (Some c.into_link.result)) c.measure_over-streams.new.kept.turns in
-    measures_handed_back _ _ _ _ _ c.measure_over-streams.result.1
+    let new = stage c.measure_over-streams.result.0 (Some c.began-moment.result.utc) (acts_of (Some c.into_link.result)) c.measure_over-streams.new.kept.turns in
+    measures_handed_back _ _ _ _ _ _ c.measure_over-streams.result.1
     c.hand_back-ended.result.0 c.into_link.result c.hand_back-ended.result.1 c.hand_back-ended.ensures.same
     (IfOk-weaker c.measure_over-streams.result.1 _ _
-    (λ status d zero. measures_all_at_link _ c.args.spot.station _ new c.measure_over-streams.new.link.link.history.acts c.began-moment.result.utc
+    (λ status d zero. measures_all_at_link _ c.args.spot.station _ new c.measure_over-streams.new.link.link.history.acts c.began-moment.result.utc refl
     (ap (λ l. Some l.history.acts) c.into_link.ensures) (d zero))
     (rw (c.new-link.ensures, c.in-Ok.ensures.fresh, c.begun-station.ensures) at c.measure_over-streams.ensures.done))
 
 pub returns-in-Some-clause-told : goal.returns-in-Some-clause-told
 returns-in-Some-clause-told g c =
-    let new = stage c.measure_logged-streams.result.0 (acts_of (Some c.into_link-in-Some-2.result)) c.measure_logged-streams.new.kept.turns in
-    reports_handed_back _ _ _ _ _ _ c.measure_logged-streams.result.1
+    let new = stage c.measure_logged-streams.result.0 (Some c.began-moment.result.utc) (acts_of (Some c.into_link-in-Some-2.result)) c.measure_logged-streams.new.kept.turns in
+    reports_handed_back _ _ _ _ _ _ _ c.measure_logged-streams.result.1
     c.hand_back-ended-in-Some.result.0 c.into_link-in-Some-2.result c.hand_back-ended-in-Some.result.1 c.hand_back-ended-in-Some.ensures.same
     (IfOk-weaker c.measure_logged-streams.result.1 _ _
     (λ status t. record {
@@ -71,7 +71,7 @@ returns-in-Some-clause-told g c =
       between = t.between;
       is_lost = _;
       logged = λ _. sym c.in-Ok.ensures.logged ∙ ap is_some c.in-Some.is;
-      ran = inl (measures_at_link _ c.args.spot.station _ new c.measure_logged-streams.new.logged.link.link.history.acts c.began-moment.result.utc _ _
+      ran = inl (measures_at_link _ c.args.spot.station _ new c.measure_logged-streams.new.logged.link.link.history.acts c.began-moment.result.utc _ _ refl
           (ap (λ l. Some l.history.acts) (c.into_link-in-Some-2.ensures ∙ ap (λ n. n.link) c.into_link-in-Some.ensures)) t);
       fails = t.fails;
       tells = t.tells;
@@ -80,10 +80,10 @@ returns-in-Some-clause-told g c =
 
 pub returns-in-Some-clause-done : goal.returns-in-Some-clause-done
 returns-in-Some-clause-done g c =
-    let new = stage c.measure_logged-streams.result.0 (acts_of (Some c.into_link-in-Some-2.result)) c.measure_logged-streams.new.kept.turns in
-    measures_handed_back _ _ _ _ _ c.measure_logged-streams.result.1
+    let new = stage c.measure_logged-streams.result.0 (Some c.began-moment.result.utc) (acts_of (Some c.into_link-in-Some-2.result)) c.measure_logged-streams.new.kept.turns in
+    measures_handed_back _ _ _ _ _ _ c.measure_logged-streams.result.1
     c.hand_back-ended-in-Some.result.0 c.into_link-in-Some-2.result c.hand_back-ended-in-Some.result.1 c.hand_back-ended-in-Some.ensures.same
     (IfOk-weaker c.measure_logged-streams.result.1 _ _
-    (λ status d zero. measures_all_at_link _ c.args.spot.station _ new c.measure_logged-streams.new.logged.link.link.history.acts c.began-moment.result.utc
+    (λ status d zero. measures_all_at_link _ c.args.spot.station _ new c.measure_logged-streams.new.logged.link.link.history.acts c.began-moment.result.utc refl
     (ap (λ l. Some l.history.acts) (c.into_link-in-Some-2.ensures ∙ ap (λ n. n.link) c.into_link-in-Some.ensures)) (d zero))
     (rw (c.new-logged.ensures, c.new-link.ensures, c.in-Ok.ensures.fresh, c.begun-station.ensures) at c.measure_logged-streams.ensures.done))

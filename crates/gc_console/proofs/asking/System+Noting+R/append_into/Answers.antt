@@ -1,15 +1,21 @@
 use Rattle.std.proofs.Common.{sym}
 use Rattle.std.proofs.lemmas.Result.{IfOk-weaker}
+use Rattle.gc_links.specs.Placed.{place_seen}
+use Rattle.gc_links.specs.Seeing.{path_at}
 use Rattle.gc_measuring.specs.Appending.{file_of}
+use Rattle.gc_console.proofs.Left.{of_file}
 use Rattle.gc_console.proofs.asking.System+Noting+R.append_into.Goals as goal
 
 pub returns-clause-told : goal.returns-clause-told
 returns-clause-told g c =
+    let left = c.end_appending-link.ensures in
     IfOk-weaker c.append_text_at-streams.result.1 _ _
     (λ status t. record {
       file = file_of c.append_text_at-streams.result.2;
       ran = t;
-      rows = c.end_appending-link.ensures.rows;
+      place = left.meant (place_seen c.args.spot.site.place) (path_at c.args.spot.site.until) c.append_text_at-streams.ensures.place;
+      path = of_file _ c.append_text_at-streams.result.2 c.append_text_at-streams.ensures.path;
+      rows = left.rows;
       output = c.append_text_at-streams.ensures.output;
     })
-    (rw (c.new-kept.ensures, sym c.end_appending-link.ensures.acts) at c.append_text_at-streams.ensures.told)
+    (rw (c.new-kept.ensures, sym left.acts, sym left.began) at c.append_text_at-streams.ensures.told)

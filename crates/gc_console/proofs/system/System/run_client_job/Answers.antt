@@ -1,4 +1,4 @@
-use Rattle.std.proofs.Common.{ap, sym, Some, ◌∙◌}
+use Rattle.std.proofs.Common.{ap, sym, Some}
 use Rattle.std.specs.Process.{exit_status}
 use Rattle.gc_messages.specs.Streams.{ReportsClosed}
 use Rattle.gc_console.proofs.Ends.{in_any_case}
@@ -10,17 +10,18 @@ returns-clause-done g c =
     (λ status. ReportsClosed c.args.self.now.standard (exit_status status) (g.E.Write.contents c.as_noted_ports.result.messages) (g.E.Write.contents c.run_asking-ports.result.0.messages))
     _
     (λ status does closed. record {
-      begun = c.as_noted_ports.result;
-      ended = c.run_asking-ports.result.0;
+      old = c.as_noted_ports.result;
+      new = c.run_asking-ports.result.0;
       bytes = c.as_noted_ports.ensures.bytes;
       reads = c.as_noted_ports.ensures.reads;
       unheard = c.as_noted_ports.ensures.unheard;
       untold = ap Some c.as_noted_ports.ensures.untold;
+      messages = ap g.E.Write.contents c.as_noted_ports.ensures.messages;
       heard = ap (λ heard. heard.bytes) (sym c.traces_of.ensures.heard);
       told = ap (λ told. Some told.bytes) (sym c.traces_of.ensures.told);
       does = rw (c.traces_of.ensures.acted) does;
       closed = λ are. (
-        (closed are).is,
+        closed are,
         rw (c.traces_of.ensures.acted) (c.run_asking-ports.ensures.idle are),
         (c.run_asking-ports.ensures.untouched are).0,
         (c.run_asking-ports.ensures.untouched are).1,

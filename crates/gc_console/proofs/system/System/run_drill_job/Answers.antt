@@ -1,4 +1,4 @@
-use Rattle.std.proofs.Common.{ap}
+use Rattle.std.proofs.Common.{Some, ap, sym}
 use Rattle.std.specs.Process.{exit_status}
 use Rattle.gc_console.proofs.Begun.{drill_did, ends_from}
 use Rattle.gc_console.specs.Subcommands.{DoesDrill}
@@ -6,7 +6,8 @@ use Rattle.gc_console.proofs.system.System.run_drill_job.Goals as goal
 
 pub returns-clause-did : goal.returns-clause-did
 returns-clause-did g c =
-    let made = c.as_ports-ports.ensures in
-    let run = c.drill_scene.ensures in
-    ends_from c.drill_scene.result exit_status (DoesDrill c.args.drilling) _ _ _ _ _ _ _ made.ports (ap g.E.Write.contents made.messages)
-    (drill_did c.drill_scene.result exit_status c.args.drilling _ _ _ _ run.told run.width run.done run.whole)
+    let made = c.as_noted_ports-ports.ensures in
+    let run = c.drill_scene-ended.ensures in
+    ends_from c.drill_scene-ended.result exit_status (DoesDrill c.args.drilling) _ _ _ _ _ _ _ made.ports (ap g.E.Write.contents made.messages)
+    (ap (λ told. Some told.bytes) (sym c.traces_of.ensures.told))
+    (drill_did c.drill_scene-ended.result exit_status c.args.drilling _ _ _ _ run.told run.width run.done run.whole)

@@ -1,0 +1,12 @@
+use Rattle.std.specs.Process.{exit_status}
+use Rattle.gc_console.proofs.Unshown.{asks_unshown}
+use Rattle.gc_console.proofs.system.System.run_ask.Goals as goal
+
+pub returns-clause-did : goal.returns-clause-did
+returns-clause-did g c =
+    let made = c.shown_of-shown.ensures in
+    let back = c.streams_of.ensures in
+    rw (back.input, back.output, back.messages) (asks_unshown c.ask_place-shown.result.1 exit_status c.args.place g.S.Source g.K.Sink
+    c.args.self.now.standard.output_terminal c.ask_place-shown.result.0.output.at_terminal
+    c.args.streams.input c.ask_place-shown.result.0.input c.args.streams.output c.ask_place-shown.result.0.output.output _ _
+    (rw (made.input, made.at_terminal, made.inside, made.messages) at c.ask_place-shown.ensures.told))

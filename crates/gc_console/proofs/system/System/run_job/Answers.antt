@@ -1,0 +1,45 @@
+use Rattle.std.proofs.lemmas.Result.{IfOk-weaker}
+use Rattle.gc_console.proofs.system.System.run_job.Goals as goal
+
+pub returns-in-Exec-clause-done : goal.returns-in-Exec-clause-done
+returns-in-Exec-clause-done g c =
+    rw (c.in-Exec.is) (IfOk-weaker c.run_exec_job.result.0 _ _
+    (λ status did. (did, c.run_exec_job.ensures.none)) c.run_exec_job.ensures.did)
+
+pub returns-in-Check-clause-done : goal.returns-in-Check-clause-done
+returns-in-Check-clause-done g c =
+    rw (c.in-Check.is) (IfOk-weaker c.run_check_job.result.0 _ _
+    (λ status did. (did, c.run_check_job.ensures.none)) c.run_check_job.ensures.did)
+
+pub returns-in-Drill-clause-done : goal.returns-in-Drill-clause-done
+returns-in-Drill-clause-done g c =
+    rw (c.in-Drill.is) (IfOk-weaker c.run_drill_job.result.0 _ _
+    (λ status did. (did, c.run_drill_job.ensures.none)) c.run_drill_job.ensures.did)
+
+pub returns-in-Serve-clause-done : goal.returns-in-Serve-clause-done
+returns-in-Serve-clause-done g c =
+    rw (c.in-Serve.is) (IfOk-weaker c.run_serve_job.result _ _
+    (λ status did. (did, c.nothing.ensures)) c.run_serve_job.ensures.did)
+
+pub returns-in-Rehearse-clause-done : goal.returns-in-Rehearse-clause-done
+returns-in-Rehearse-clause-done g c =
+    rw (c.in-Rehearse.is) (IfOk-weaker c.run_rehearse_job.result.0 _ _
+    (λ status did. (did, c.run_rehearse_job.ensures.none)) c.run_rehearse_job.ensures.bound)
+
+pub returns-in-Nowhere-clause-done : goal.returns-in-Nowhere-clause-done
+returns-in-Nowhere-clause-done g c =
+    rw (c.in-Nowhere.is) (IfOk-weaker c.refuse_place.result _ _
+    (λ status refuses. (record { told = g.E.Write.contents c.refuse_place.new.messages; refuses = refuses }, c.nothing-in-Nowhere.ensures))
+    c.refuse_place.ensures.told)
+
+pub returns-in-NumberMissing-clause-done : goal.returns-in-NumberMissing-clause-done
+returns-in-NumberMissing-clause-done g c =
+    rw (c.in-NumberMissing.is) (IfOk-weaker c.refuse_numbers.result _ _
+    (λ status refuses. (record { told = g.E.Write.contents c.refuse_numbers.new.messages; refuses = refuses }, c.nothing-in-NumberMissing.ensures))
+    c.refuse_numbers.ensures.told)
+
+pub returns-in-StaleTooSoon-clause-done : goal.returns-in-StaleTooSoon-clause-done
+returns-in-StaleTooSoon-clause-done g c =
+    rw (c.in-StaleTooSoon.is) (IfOk-weaker c.refuse_stale.result _ _
+    (λ status refuses. (record { told = g.E.Write.contents c.refuse_stale.new.messages; refuses = refuses }, c.nothing-in-StaleTooSoon.ensures))
+    c.refuse_stale.ensures.told)

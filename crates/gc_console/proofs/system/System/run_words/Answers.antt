@@ -1,0 +1,24 @@
+use Rattle.std.proofs.Common.{◌≡◌, true, inr, map, ap, sym, subst, ◌∙◌}
+use Rattle.std.proofs.lemmas.Result.{IfOk-weaker}
+use Rattle.std.specs.List.{list_any}
+use Rattle.std.specs.Process.{exit_status}
+use Rattle.std.specs.String.{string_bytes}
+use Rattle.clap.proofs.WalkLemmas.{list_any-map}
+use Rattle.clap.specs.Takes.{takes}
+use Rattle.gc_console.proofs.Unasked.{no_job}
+use Rattle.gc_console.specs.Programs.{asks_for_text}
+use Rattle.gc_console.specs.Subcommands.{opening}
+use Rattle.gc_subcommands.specs.Program.{program}
+use Rattle.gc_console.proofs.system.System.run_words.Goals as goal
+
+pub returns-clause-done : goal.returns-clause-done
+returns-clause-done g c =
+    IfOk-weaker c.answer_words-ended.result _ _ (λ status none. inr none)
+    (no_job c.answer_words-ended.result exit_status
+    (opening (g.I.Read.remaining c.args.streams.input) (g.E.Write.contents c.args.streams.messages)) (map string_bytes c.args.words.items)
+    c.nothing.result.acted (g.E.Write.contents c.answer_words-ended.new.messages) c.answer_words-ended.ensures.answered
+    (λ none. c.answer_words-ended.ensures.asked
+    (ap (list_any (λ word. asks_for_text (string_bytes word))) c.as_slice-in-Err.ensures.value ∙ (list_any-map asks_for_text string_bytes c.args.words.items ∙ none)))
+    (λ taken. c.answer_words-ended.ensures.memory
+    (c.in-Err.ensures.taken (subst (λ words. takes program (map string_bytes words) ≡ true) (sym c.as_slice.ensures.value) taken)))
+    c.nothing.ensures)
