@@ -1,7 +1,8 @@
 """The wheel: the package, with the library in it. `tools/package` fills the folder, and names by GEOCOM_GLIBC the oldest glibc that the
-library needs, as 2_14, by GEOCOM_HOMEPAGE the project's address, and by GEOCOM_LICENCE the licences of all that is in it. The
-version is that of geocom/_version.py. The wheel is of no version of Python, but of this machine's processor. There is no source distribution: what is in the wheel is proved and built by `rt`. The
-licence's expression is in the field `License`: that of metadata 2.4 is refused by Debian's twine, which reads them up to 2.2."""
+library needs, as 2_14, by GEOCOM_MACHINE the machine that it is for, as x86_64, by GEOCOM_HOMEPAGE the project's address, and by
+GEOCOM_LICENCE the licences of all that is in it. The version is that of geocom/_version.py. The wheel is of no version of Python, but of
+one machine. There is no source distribution: what is in the wheel is proved and built by the Rattle kit. The licence's expression is in
+the field `License`: that of metadata 2.4 is refused by Debian's twine, which reads them up to 2.2."""
 
 import os
 import re
@@ -21,7 +22,7 @@ class Wheel(bdist_wheel):
     """Any Python 3, without its ABI: the library is called by ctypes."""
 
     def get_tag(self):
-        return "py3", "none", f"manylinux_{os.environ['GEOCOM_GLIBC']}_x86_64"
+        return "py3", "none", f"manylinux_{os.environ['GEOCOM_GLIBC']}_{os.environ['GEOCOM_MACHINE']}"
 
 
 class Binary(Distribution):

@@ -10,7 +10,7 @@ same() { "$@" <$tests/worked.steps | cmp - $tests/worked.expected; }
     gcc -std=c11 -Wall -Wextra -Werror $tests/examples.c $(pkg-config --cflags geocom) "$(pkg-config --variable=libdir geocom)/libgeocom.a" -o static
     g++ -std=c++17 -Wall -Wextra -Werror $tests/examples.cpp $(pkg-config --cflags --libs geocom) -o wrapper
 }
-ldd shared | grep -q 'libgeocom\.so\.2 => /lib/x86_64-linux-gnu/libgeocom\.so\.2'
+ldd shared | grep -q "libgeocom\.so\.2 => /lib/$(gcc -print-multiarch)/libgeocom\.so\.2"
 for piece in 4096 1 7; do
     same ./shared $piece 7
     same ./static $piece 7

@@ -8,7 +8,7 @@ geocom serve 4001 --keep &
 geocom serve 4002 --keep --idle 600 &
 sleep 1
 python3 /try/bridge.py /run/line 4002 &
-sleep 1
+until [ -e /run/line ]; do sleep 0.2; done
 chgrp dialout "$(readlink -f /run/line)"
 chmod 660 "$(readlink -f /run/line)"
 cp /etc/geocom/simulator.commands /etc/geocom/line.commands

@@ -14,6 +14,7 @@ is_called() { grep -qx "$1.service failed" /run/called && grep -q -- "$2" "/run/
 is_alarmed() { grep -q -- "$2" "/var/lib/geocom/alarm/$1.told" 2>/dev/null; }
 is_measured() { tail -n 9 "/var/lib/geocom/$1.csv" 2>/dev/null | grep -q '2108,answered.*,ok,'; }
 restarts() { systemctl show -p NRestarts --value geocom-station@$1; }
+is_started_again() { [ "$(restarts "$1")" -ge 1 ]; }
 is_well() { systemctl start "geocom-alive@$1" 2>/dev/null; }
 call() {
     within is_called "geocom-alive@$1" "$2"
@@ -70,11 +71,14 @@ within is_measured waits
 
 # A device that another program holds from the boot on, for some tries of the station's.
 python3 /try/bridge.py /run/held "$port_held" &
-sleep 1
+within test -e /run/held
 chgrp dialout "$(readlink -f /run/held)" && chmod 660 "$(readlink -f /run/held)"
 sed -i 's|^WHERE=.*|WHERE=/run/held|' /etc/geocom/held.conf
-flock /run/held sleep 9 &
+flock --no-fork /run/held sleep 1000 &
+holder=$!
 systemctl start --no-block geocom-station@held
+within is_started_again held
+kill "$holder"
 
 for each in $sites; do systemctl start geocom-station@$each; done
 for each in $sites; do within is_measured $each; done

@@ -4,7 +4,7 @@ mkdir /tmp/tar
 tar -C /tmp/tar --strip-components=1 -xzf /try/geocom-*.tar.gz
 cd /tmp/tar
 cmp bin/geocom /usr/bin/geocom
-cmp lib/libgeocom.so.2 /usr/lib/x86_64-linux-gnu/libgeocom.so.2
+cmp lib/libgeocom.so.2 "/usr/lib/$(gcc -print-multiarch)/libgeocom.so.2"
 bin/geocom --version
 # shellcheck disable=SC2046
 gcc /try/tests/examples.c $(PKG_CONFIG_PATH=lib/pkgconfig pkg-config --define-prefix --cflags --libs geocom) -Wl,-rpath,/tmp/tar/lib -o one
