@@ -1,11 +1,12 @@
 #!/usr/bin/env python3
-"""Writes what the Python package has of the tables of docs/PROTOCOL.md: generate.py [--check], from the top of the repository. It compares them
-with the columns of rows in docs/FORMATS.md.
+"""Writes what the Python package and the tools have of the tables of docs/PROTOCOL.md: generate.py [--check], from the top of the repository. It
+compares them with the columns of rows in crates/gc_examples/data/columns.csv.
 
 `codes.py` has the return codes, `results.py` the procedures with the tuples that they answer, and `named.py`, of the package and of
-`aio`, a method for each procedure. With --check it writes nothing, and ends with status 1 where a file differs.
+`aio`, a method for each procedure; `tools/return_codes.py` has the codes' meanings. With --check it writes nothing, and ends with status 1 where a file differs.
 """
 
+import csv
 import re
 import sys
 import textwrap
@@ -216,13 +217,22 @@ def named(procedures, is_async):
     return "\n".join(out).rstrip("\n") + "\n"
 
 
-def codes(text):
+def read_codes(text):
+    """The codes of the tables: number, name, meaning."""
     found = []
     for numbers, names, says in re.findall(r"^\| ([\d, ]+) \| (`GRC_[^|]*) \| (.*) \|$", text, re.M):
         numbers, names = numbers.split(", "), re.findall(r"`(\w+)`", names)
         parts = re.split(r"; ", says) if len(numbers) > 1 and says.count(";") == 1 else [says] * len(numbers)
         found += list(zip(map(int, numbers), names, parts))
-    found = [(0, "GRC_OK", "done")] + sorted(found)
+    return [(0, "GRC_OK", "done")] + sorted(found)
+
+
+def texts(found, name):
+    """A dictionary of what the codes say."""
+    return "\n".join([f"{name} = {{", *(f'    {number}: "{REWORDED.get(number, says)}",' for number, _, says in found), "}\n"])
+
+
+def codes(found):
     out = [head("The return codes and the communication codes, with the manual's names.", "from __future__ import annotations", "",
                 "from .values import OpenEnum")]
     out.append(textwrap.dedent('''
@@ -246,9 +256,7 @@ def codes(text):
             return int(self) in _WARNINGS
     '''), "    ", lambda line: line.strip() != "") + "\n")
     out.append(f"_WARNINGS = {{{', '.join(map(str, sorted(WARNINGS)))}}}")
-    out.append("_TEXTS = {")
-    out += [f'    {number}: "{REWORDED.get(number, says)}",' for number, _, says in found]
-    out.append("}\n")
+    out.append(texts(found, "_TEXTS"))
     return "\n".join(out)
 
 
@@ -256,26 +264,29 @@ def main():
     text = Path("docs/PROTOCOL.md").read_text(encoding="utf-8")
     procedures = read_procedures(text)
     # The quantities of the answers are called what the columns of a station's rows are called.
-    formats = Path("docs/FORMATS.md").read_text(encoding="utf-8")
-    columns = set(re.findall(r"`(\w+)`", "".join(re.findall(r"^\| (`[^|]*`) \| [\d, ]+ \|$", formats, re.M))))
+    with open("crates/gc_examples/data/columns.csv", encoding="utf-8", newline="") as file:
+        columns = {column["name"] for column in csv.DictReader(file) if column["procedures"]}
     answered = {name for each in procedures for name, _ in each.answer}
     if answered != columns:
         sys.exit(f"generate.py: the columns of rows and the answers differ in {sorted(answered ^ columns)}")
+    found = read_codes(text)
+    meanings = head("What the return codes and the communication codes of an instrument say, in a few words.")
     files = {
-        "codes.py": codes(text),
-        "results.py": results(procedures),
-        "named.py": named(procedures, False),
-        "aio/named.py": named(procedures, True),
+        PACKAGE / "codes.py": codes(found),
+        PACKAGE / "results.py": results(procedures),
+        PACKAGE / "named.py": named(procedures, False),
+        PACKAGE / "aio/named.py": named(procedures, True),
+        Path("tools/return_codes.py"): f"{meanings}{texts(found, 'TEXTS')}",
     }
-    differ = [name for name, made in files.items() if not (PACKAGE / name).exists() or (PACKAGE / name).read_text() != made]
+    differ = [path for path, made in files.items() if not path.exists() or path.read_text(encoding="utf-8") != made]
     if "--check" in sys.argv:
         if differ:
-            sys.exit(f"generate.py: not as it is written: {', '.join(differ)}")
+            sys.exit(f"generate.py: not as it is written: {', '.join(map(str, differ))}")
         print(f"the table: {len(procedures)} procedures, as docs/PROTOCOL.md has them")
         return
-    for name in differ:
-        (PACKAGE / name).write_text(files[name])
-        print(f"written: {PACKAGE / name}")
+    for path in differ:
+        path.write_text(files[path], encoding="utf-8")
+        print(f"written: {path}")
 
 
 main()

@@ -6,22 +6,13 @@ command was sent once more, by the row of that. Rows of earlier versions say no 
 
 import re
 
-from records import COLUMNS, GOOD
+from records import COLUMNS, GOOD, RETURNED
 
 # How a number is spelt, for python and for PostgreSQL. What isn't spelt so is no quantity.
 NUMBER = r"^[-+]?(?:[0-9]+\.?[0-9]*|\.[0-9]+)(?:[eE][-+]?[0-9]{1,3})?$"
-POINT = ["hz_rad", "v_rad", "distance_m"]
 # Of each procedure that measures or returns a quantity, what is at each place of its values.
-QUANTITIES = {
-    2107: ["hz_rad", "v_rad"],
-    2108: POINT,
-    2117: POINT,
-    17017: POINT,
-    2009: ["easting_m", "northing_m", "height_m", "instrument_height_m"],
-    2011: ["reflector_height_m"],
-    2026: ["face"],
-    5011: ["temperature_c"],
-}
+QUANTITIES = {number: [name for name in RETURNED[number] if name != "mode"] for number in (2107, 2108, 2117, 17017, 2009, 2011, 2026, 5011)}
+POINT = QUANTITIES[2108]
 NAMES = list(dict.fromkeys(name for names in QUANTITIES.values() for name in names))
 # The procedures that measure where a target is; the others tell of the instrument.
 MEASURING = [procedure for procedure, names in QUANTITIES.items() if "hz_rad" in names]

@@ -4,21 +4,43 @@ lines of both forms are read: those of a table, with or without `--columns`, and
 
 import csv
 import datetime
+import io
 import json
 import re
 
+# tools/columns: lists
 # The columns of a station's rows, of which the last ones come last in every table. Further ones are handed on under their names.
-LAST = ["quality", "attempt"]
+LAST = ["quality", "attempt", "request"]
 COLUMNS = [
     "run", "sent", "time", "cycle", "place", "target", "name", "procedure", "outcome", "fault", "rc_com", "rc", "values", *LAST,
 ]
-HEAD = ",".join(COLUMNS).encode() + b"\n"
-# What `--columns` and `--json` add: the items of an answer.
+# What `--columns` and `--json` add: the quantities of an answer; and those that answers of each procedure have, in their order.
 ANSWER_COLUMNS = [
-    "hz_rad", "v_rad", "distance_m", "mode", "easting_m", "northing_m", "height_m", "instrument_height_m", "reflector_height_m", "face",
-    "prism_type", "temperature_c", "places", "release", "version", "subversion", "serial", "instrument", "year", "month", "day", "hour",
-    "minute", "second",
+    "hz_rad", "v_rad", "distance_m", "mode", "easting_m", "northing_m", "height_m", "instrument_height_m", "reflector_height_m",
+    "face", "prism_type", "temperature_c", "places", "release", "version", "subversion", "serial", "instrument", "year", "month",
+    "day", "hour", "minute", "second",
 ]
+RETURNED = {
+    108: ["places"],
+    110: ["release", "version", "subversion"],
+    2009: ["easting_m", "northing_m", "height_m", "instrument_height_m"],
+    2011: ["reflector_height_m"],
+    2026: ["face"],
+    2107: ["hz_rad", "v_rad"],
+    2108: ["hz_rad", "v_rad", "distance_m"],
+    2117: ["hz_rad", "v_rad", "distance_m"],
+    5003: ["serial"],
+    5004: ["instrument"],
+    5008: ["year", "month", "day", "hour", "minute", "second"],
+    5011: ["temperature_c"],
+    5034: ["release", "version", "subversion"],
+    17009: ["prism_type"],
+    17017: ["hz_rad", "v_rad", "distance_m", "mode"],
+}
+MOMENTS = ["run", "sent", "time"]
+NUMBERS = ["cycle", "place", "target", "procedure", "fault", "rc_com", "rc", "attempt"]
+# end
+HEAD = ",".join(COLUMNS).encode() + b"\n"
 
 
 def with_columns(columns):
@@ -34,10 +56,8 @@ UNSENT = ["skipped", "missed"]
 # The qualities of an answer whose values read and count; and that of one whose command is sent once more, which counts only then.
 GOOD = ["ok", "warning"]
 UNCONFIRMED = "unconfirmed"
-MOMENTS = ["run", "sent", "time"]
-NUMBERS = ["cycle", "place", "target", "procedure", "fault", "rc_com", "rc", "attempt"]
 # The columns that a table of an earlier version may not have, and what every reader needs: the others.
-LATER = ["run", "sent", "quality", "attempt"]
+LATER = ["run", "sent", "quality", "attempt", "request"]
 NEEDED = [column for column in COLUMNS if column not in LATER]
 # The member that is a list: the items of an answer to a procedure that isn't in the table.
 ITEMS = "items"
@@ -76,6 +96,13 @@ def moment(text):
 def moment_text(moment):
     """A moment as a station writes it: in UTC, with milliseconds."""
     return moment.astimezone(datetime.timezone.utc).strftime("%Y-%m-%dT%H:%M:%S.") + f"{moment.microsecond // 1000:03}Z"
+
+
+def line_of(fields, columns=COLUMNS):
+    """The line of a table with these fields, by the names of its columns. Those that aren't given are empty, and an attempt is the first."""
+    text = io.StringIO()
+    csv.writer(text, lineterminator="\n").writerow({**UNSAID, **fields}.get(column, "") for column in columns)
+    return text.getvalue().encode("latin-1")
 
 
 def fields_of(line):

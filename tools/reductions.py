@@ -29,8 +29,14 @@ ADDED = [
     *ADDED_EARLIER, "faces", "references", "left_out", "orientation_deviation_rad", *RESIDUALS, "scale_ppm", "refraction", "atmosphere",
     "atmosphere_ppm", *movements.COLUMNS, "reason",
 ]
-NAMES = records.with_columns(ADDED)
-EARLIER_NAMES = records.with_columns(ADDED_EARLIER)
+
+
+def named(added):
+    """The columns of a table that has these, too. It has no request: a row of a target is of several."""
+    return [name for name in records.with_columns(added) if name != "request"]
+
+
+NAMES, EARLIER_NAMES = named(ADDED), named(ADDED_EARLIER)
 
 
 @dataclass
@@ -168,7 +174,7 @@ def mean_of_pairs(target, what):
 
 def row_of(site, target, orientation, place):
     """The row of a target that was measured: it is as one of face I that has no errors."""
-    row = {**dict.fromkeys(NAMES, ""), **{name: target.last.get(name, "") for name in records.COLUMNS}}
+    row = {name: target.last.get(name, "") if name in records.COLUMNS else "" for name in NAMES}
     values = [written(target.hz, "rad"), written(target.v, "rad"), written(target.distance, "m")]
     row.update(zip(PLACE, (written(each, "m") for each in place)))
     row.update(zip(RESIDUALS, map(written, orientation.residuals.get(target.number, [None] * 3), ("rad", "m", "m"))))

@@ -41,7 +41,7 @@ def main():
     assert None not in rows, "a second header"
     assert {row["outcome"] for row in rows} == {"answered"} and {row["rc"] for row in rows} == {"0"}, rows
     for row in rows:
-        assert row["attempt"] == "1", row
+        assert row["attempt"] == "1" and row["request"].startswith(f"%R1Q,{row['procedure']},"), row
         assert moment(row, "run") <= moment(row, "sent") <= moment(row), row
     # A run that was ended leaves a part of its last cycle.
     whole, apart = [], []

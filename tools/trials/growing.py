@@ -10,7 +10,7 @@ import os
 import random
 import threading
 
-from records import ANSWER_COLUMNS, COLUMNS, GOOD, HEAD, LAST, NUMBERS, UNCONFIRMED, UNSENT, moment_text
+from records import ANSWER_COLUMNS, COLUMNS, GOOD, HEAD, LAST, NUMBERS, UNCONFIRMED, UNSENT, line_of, moment_text, with_columns
 
 TARGETS = [(7, b"pier 4", 2.25, 1.625, 110.0625), (8, b"", 0.5, 1.5, 25.125), (9, b"a/b+c #1", 4.0, 1.5, 48.5)]
 COMMANDS = [b"9027", b"2008", b"2108", b"2107", b"5004"]
@@ -54,7 +54,8 @@ def row(chance, number):
     cycle = number // (len(COMMANDS) * len(TARGETS)) + 1
     numbers = b"%d,%d,%d" % (cycle, place, target)
     attempt = b"2" if number % 7 == 3 else b"1"
-    return b",".join([RUN, sent, stamp(moment), numbers, name, procedure, outcome, fault, codes or b",", values, quality, attempt]) + b"\n"
+    request = b'"%%R1Q,%b,%d:"' % (procedure, number % 8) if sent else b""
+    return b",".join([RUN, sent, stamp(moment), numbers, name, procedure, outcome, fault, codes or b",", values, quality, attempt, request]) + b"\n"
 
 
 def parted(line):
@@ -71,10 +72,8 @@ def plain(name, item):
 
 def row_of_columns(chance, number):
     """The same row as `row` makes, as `--columns` writes it."""
-    line = row(chance, number)
-    items = parted(line)[1]
-    front, *last = line.rsplit(b",", len(LAST))
-    return b",".join([front, *(plain(name, items[name]).encode() if name in items else b"" for name in ANSWER_COLUMNS), *last])
+    fields, items = parted(row(chance, number))
+    return line_of(fields | {name: plain(name, item) for name, item in items.items()}, with_columns(ANSWER_COLUMNS))
 
 
 def row_of_json(chance, number):

@@ -33,6 +33,11 @@ def finished(run, status=0, patience=PATIENCE, sendings=1):
     return rows, messages
 
 
+def is_request_of(row):
+    """Whether a row has the line of a request for its procedure, if one was sent, and else none."""
+    return bool(re.fullmatch(rf"%R1Q,{row['procedure']},[0-7]:.*", row["request"])) if row["sent"] else row["request"] == ""
+
+
 def rows_of(written):
     """The rows that were written, each with the columns that its outcome has."""
     assert written.startswith(HEAD), f"the head is {written.splitlines()[:1]}"
@@ -47,6 +52,7 @@ def rows_of(written):
         assert (row["quality"] != "") == (row["outcome"] == "answered"), row
         assert row["quality"] != "ok" or int(row["rc_com"]) == int(row["rc"]) == 0, row
         assert (row["sent"] == "") == (row["outcome"] in UNSENT), row
+        assert is_request_of(row), row
         assert row["run"] <= (row["sent"] or row["run"]) and row["sent"] <= row["time"], row
     assert len({row["run"] for row in rows}) <= 1, f"one run began at {sorted({row['run'] for row in rows})}"
     return rows

@@ -8,7 +8,7 @@ import random
 from dataclasses import dataclass, field
 
 from growing import stamp
-from records import HEAD
+from records import HEAD, line_of
 
 BEGIN = datetime.datetime(2026, 11, 1, tzinfo=datetime.timezone.utc)
 RUN = "2026-10-31T23:59:50.000Z"
@@ -62,11 +62,13 @@ class Survey:
         for number, at in self.prisms.items():
             at = tuple(map(sum, zip(at, (moved or {}).get(number, (0, 0, 0)))))
             for face in (faces or {}).get(number, self.faces):
-                values = '"{:.9f},{:.9f},{:.5f}"'.format(*self.reading(at, face, factor))
-                how = "answered,,0,8710,,refused" if number in hidden else f"answered,,0,0,{values},ok"
+                values = "{:.9f},{:.9f},{:.5f}".format(*self.reading(at, face, factor))
+                rc, values, quality = (8710, "", "refused") if number in hidden else (0, values, "ok")
                 time = self.moment(cycle) + datetime.timedelta(seconds=1 + 2 * place)
                 sent = stamp(time - datetime.timedelta(seconds=1)).decode()
-                rows.append(f"{RUN},{sent},{stamp(time).decode()},{cycle},{place},{number},P{number},2108,{how},1{more}\n".encode())
+                row = {"run": RUN, "sent": sent, "time": stamp(time).decode(), "cycle": cycle, "place": place, "target": number, "name": f"P{number}",
+                       "procedure": 2108, "outcome": "answered", "rc_com": 0, "rc": rc, "values": values, "quality": quality}
+                rows.append(line_of(row)[:-1] + f"{more}\n".encode())
                 place += 1
         return rows
 

@@ -9,11 +9,21 @@ import random
 from dataclasses import dataclass, field, replace
 
 from growing import stamp
-from records import HEAD
+from records import COLUMNS, HEAD, line_of
 
 BEGIN = datetime.datetime(2026, 11, 1, tzinfo=datetime.timezone.utc)
 STATION, HEIGHT_OF_INSTRUMENT, ORIENTATION = (1000.0, 2000.0, 100.0), 1.65, 0.5
 SITE = "station 1000 2000 100 1.65\norientation 0.5\nflat\n"
+
+
+def fields_of_row(row):
+    """The fields of a row by the names of their columns."""
+    return dict(zip(COLUMNS, next(csv.reader([row.decode()[:-1]]))))
+
+
+def other(row, **fields):
+    """The row with these fields in place of its own."""
+    return line_of(fields_of_row(row) | fields)
 
 
 @dataclass
@@ -68,7 +78,7 @@ class Month:
             for target, (name, _) in self.targets.items():
                 span, outcome = self.bad.get(target, (range(0), ""))
                 for face, (hz, v, distance) in enumerate(self.readings(target, cycle, chance)):
-                    for procedure, values in [(9028 if face else 9027, ""), (2008, ""), (2108, f'"{hz:.9f},{v:.9f},{distance:.5f}"')]:
+                    for procedure, values in [(9028 if face else 9027, ""), (2008, ""), (2108, f"{hz:.9f},{v:.9f},{distance:.5f}")]:
                         is_bad = cycle in span and procedure == 2108
                         rows.append(self.row(cycle, place, target, name, procedure, values, outcome if is_bad else "answered"))
                         place += 1
@@ -76,11 +86,14 @@ class Month:
 
     def row(self, cycle, place, target, name, procedure, values, outcome, attempt=1):
         moment = self.moment(cycle) + datetime.timedelta(seconds=1 + 2 * place)
-        how = f"answered,,0,0,{values},ok" if outcome == "answered" else f"{outcome},,,,,"
-        if outcome == "refused":
-            how = "answered,,0,1285,,refused"
+        how = {"outcome": outcome}
+        if outcome == "answered":
+            how |= {"rc_com": 0, "rc": 0, "values": values, "quality": "ok"}
+        elif outcome == "refused":
+            how = {"outcome": "answered", "rc_com": 0, "rc": 1285, "quality": "refused"}
         sent = stamp(moment - datetime.timedelta(seconds=1)).decode()
-        return f"2026-10-31T23:59:50.000Z,{sent},{stamp(moment).decode()},{cycle},{place},{target},{name},{procedure},{how},{attempt}\n".encode()
+        return line_of({"run": "2026-10-31T23:59:50.000Z", "sent": sent, "time": stamp(moment).decode(), "cycle": cycle, "place": place, "target": target,
+                        "name": name, "procedure": procedure, "attempt": attempt, **how})
 
     def table(self, seed=3):
         """The whole file."""
@@ -93,8 +106,8 @@ class Month:
         both, last = [HEAD], [HEAD]
         for first, behind, again in zip(wrong.rows(), refused.rows(), self.rows()):
             for begin in range(0, len(again), 6):
-                chain = [row.rsplit(b",", 1)[0] + b",2\n" for row in again[begin : begin + 6]]
-                both += [*first[begin : begin + 5], behind[begin + 5], self.row(0, 0, 9, "", 2107, '"0.5,1.5"', "answered", begin + 1), *chain]
+                chain = [other(row, attempt=2) for row in again[begin : begin + 6]]
+                both += [*first[begin : begin + 5], behind[begin + 5], self.row(0, 0, 9, "", 2107, "0.5,1.5", "answered", begin + 1), *chain]
                 last += chain
         return b"".join(both), b"".join(last)
 
@@ -105,7 +118,7 @@ class Month:
         for rows in self.rows():
             for begin in range(0, len(rows), 6):
                 first = [self.unconfirmed(row) for row in rows[begin : begin + 6]]
-                second = [row.rsplit(b",", 1)[0] + b",2\n" for row in rows[begin : begin + 6]]
+                second = [other(row, attempt=2) for row in rows[begin : begin + 6]]
                 both += first + second
                 last += second
         return b"".join(both), b"".join(last)
@@ -113,10 +126,9 @@ class Month:
     @staticmethod
     def unconfirmed(row):
         """The row of a first sending, which measured something far from what its second one did."""
-        fields = next(csv.reader([row.decode()[:-1]]))
-        values = ",".join(f"{float(each) + 0.25:.9f}" for each in fields[12].split(",") if each) or "9,1.5,77" * (fields[7] == "2108")
-        said = ["answered", "", "0", "0", f'"{values}"' if values else "", "unconfirmed", "1"]
-        return ",".join([*fields[:8], *said]).encode() + b"\n"
+        fields = fields_of_row(row)
+        values = ",".join(f"{float(each) + 0.25:.9f}" for each in fields["values"].split(",") if each) or "9,1.5,77" * (fields["procedure"] == "2108")
+        return other(row, outcome="answered", fault="", rc_com=0, rc=0, values=values, quality="unconfirmed")
 
     def first_outside(self, tolerance, outside=1):
         """The cycle in which the moving target was further than this for so many rows, without noise."""

@@ -2,18 +2,20 @@
 //! instrument, each recording through `check` and each schedule through `drill --totals`, on the scene's instrument if there is
 //! one: whole, in single bytes, and cut in two at every place. What is written must be the file of the expected output each time.
 //! The folder in which it runs is read whole, so that no example is forgotten. Then each is played once more, with some that have
-//! no files, and at last the cases of the folder `cases` are played. With the word `once` the examples are only played once more,
-//! and nothing else is done: that run can be refused memory.
+//! no files, and at last the cases of the folder `cases` are played, and the list of columns is compared. With the word `once` the
+//! examples are only played once more, and nothing else is done: that run can be refused memory.
 #![tactic(auto)]
 
 mod cases;
 mod client;
+mod columns;
 mod example;
 mod links;
 mod once;
 mod outcome;
 
 use cases::play_cases;
+use columns::play_columns;
 use example::Example;
 use gc_cases::names_of;
 use once::play_once;
@@ -44,9 +46,9 @@ fn print_cuts(rt: &HostRuntime, name: &str, fault: &str) -> io::Result<bool> {
     Ok(false)
 }
 
-// Plays the examples, whole, cut and once, and the cases; if `once` is the first word after the program's name, only the
-// examples, once. The status is 1 if one of these came out wrong, and otherwise 0. `Err`: a word isn't UTF-8, a folder or a file
-// can't be read, a line can't be printed, or memory ran out for the words, a name or a file.
+// Plays the examples, whole, cut and once, and the cases, and compares the list of columns; if `once` is the first word after the
+// program's name, it plays the examples alone, once. The status is 1 if one of these came out wrong, and otherwise 0. `Err`: a word
+// isn't UTF-8, a folder or a file can't be read, a line can't be printed, or memory ran out for the words, a name or a file.
 fn main(rt: HostRuntime) -> io::Result<ExitCode> {
     let words: Vec<String> = env::args(&rt)?.collect(rt.alloc())?;
     let names = names_of(&rt, ".", "")?;
@@ -54,5 +56,7 @@ fn main(rt: HostRuntime) -> io::Result<ExitCode> {
     let are_cuts_right = is_once || play_cuts(&rt, names.as_slice())?;
     let is_once_right = play_once(&rt, names.as_slice())?;
     let are_cases_right = is_once || play_cases(&rt, "cases")?;
-    Ok(ExitCode::from(u8::from(!(are_cuts_right && is_once_right && are_cases_right))))
+    let is_list_right = is_once || play_columns(&rt)?;
+    let is_right = are_cuts_right && is_once_right && are_cases_right && is_list_right;
+    Ok(ExitCode::from(u8::from(!is_right)))
 }

@@ -1,6 +1,6 @@
 -- A run that resynchronizes, in the field, computed.
 use Rattle.std.proofs.Common.{◌≡◌, inl, List, [], ◌∷◌, refl, sym, subst, lit≤}
-use Rattle.std.specs.Prelude.{codes, map, take, drop}
+use Rattle.std.specs.Prelude.{◌+◌, codes, map, take, drop}
 use Rattle.std.specs.Fmt.{digits}
 use Rattle.gc_lines.specs.Readers.{header_at, reply_at}
 use Rattle.gc_catalogue.specs.declared.asked.Asked.TheVariants.{Table}
@@ -34,8 +34,8 @@ all_sync_steps =
 -- the parts of the run: until the station resynchronizes, from there on, and the empty one after the end
 abbrev all_parts : List Part
 all_parts =
-    part_of (asked_each null_replies) (seen moves) (map (λ place. (place, 15)) (0 ∷ 1 ∷ 2 ∷ 3 ∷ 4 ∷ 5 ∷ []))
-    ∷ one_part all_sync_steps (seen moves_anew) ((6, 120) ∷ [])
+    part_of (asked_each null_replies) (seen moves) (map (λ place. (place, 15, place + 1)) (0 ∷ 1 ∷ 2 ∷ 3 ∷ 4 ∷ 5 ∷ []))
+    ∷ one_part all_sync_steps (seen moves_anew) ((6, 120, 1) ∷ [])
 
 -- the parts of the run are `all_parts`
 parts_are : parts plan commands scope acts ≡ all_parts

@@ -70,7 +70,7 @@ module _ {State : Type 0} (width : ℕ) (ends : Ends State) where
 
   module _ (Good : State → Type 0) (kept : State → Option KeptReply) where
     -- moves that are possible for the client that knows ids preserve `Based`
-    based_all : (ms : List (Move State)) (a : World (ById Asked) State) (w : World (ByNumber Asked) State) → ArePossible ends Good kept (by_ids width ends) ms a → Based w
+    pub based_all : (ms : List (Move State)) (a : World (ById Asked) State) (w : World (ByNumber Asked) State) → ArePossible ends Good kept (by_ids width ends) ms a → Based w
         → Based (moved ends (by_numbers width) ms w)
     based_all [] a w p h = h
     based_all (Sends target call deadline ∷ ms) a w p h = based_all ms _ _ p.1 (based_sent w target call deadline (eqb (length w.client.requests - w.client.count) width) h)

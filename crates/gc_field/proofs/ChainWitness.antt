@@ -39,7 +39,7 @@ none_turns (suc (suc p)) task above under e = absurd (omega (arith, under))
 
 -- the run's parts are these: one with these steps, and with the three commands by place and moment; and the empty one
 -- after the end
-parts_are : parts plan commands scope acts ≡ one_part (asked_each replies) (seen moves) ((0, 15) ∷ (1, 20) ∷ (2, 25) ∷ [])
+parts_are : parts plan commands scope acts ≡ one_part (asked_each replies) (seen moves) ((0, 15, 1) ∷ (1, 20, 2) ∷ (2, 25, 3) ∷ [])
 unfolding is_elsewhere header_at reply_at digits rounded
 parts_are = refl
 

@@ -99,7 +99,7 @@ third_made = record { front = take 18 moves; later = drop 19 moves; split = refl
 
 -- the run's parts are these: one with these steps, and with the three commands by place and moment; and the empty one
 -- after the end
-parts_are : parts plan commands scope acts ≡ one_part (asked_each null_replies) (seen moves) ((0, 15) ∷ (1, 20) ∷ (2, 25) ∷ [])
+parts_are : parts plan commands scope acts ≡ one_part (asked_each null_replies) (seen moves) ((0, 15, 1) ∷ (1, 20, 2) ∷ (2, 25, 3) ∷ [])
 unfolding is_elsewhere header_at reply_at digits
 parts_are = refl
 

@@ -34,7 +34,7 @@ module _ (raw : RawCall) where
 
   -- the run's parts are these: one with these steps, and with the two commands by place and moment; and the empty one
   -- after the end
-  parts_are : parts plan (commands raw) scope (acts raw) ≡ one_part (part.Asks ∷ part.Asks ∷ asked_each null_replies) (seen (moves raw)) ((0, 220) ∷ (1, 320) ∷ [])
+  parts_are : parts plan (commands raw) scope (acts raw) ≡ one_part (part.Asks ∷ part.Asks ∷ asked_each null_replies) (seen (moves raw)) ((0, 220, 1) ∷ (1, 320, 2) ∷ [])
   unfolding is_elsewhere header_at reply_at digits
   parts_are = refl
 

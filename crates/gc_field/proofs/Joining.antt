@@ -1,9 +1,10 @@
 -- A run of a station and what happens on its line, joined: each part of the run, from one synchronization to the next, goes
 -- with a stretch of the line, and each answer that is recorded was made in one of the stretches. The *marks* of a part say for
--- which command each of its requests is, in order.
+-- which command each of its requests is, in order, and with which id it is sent.
 use Rattle.std.proofs.Common.{◌≡◌, inl, inr, ℕ, suc, ◌<◌, ◌+◌, ◌≤◌, Bool, true, false, List, [], ◌∷◌, ◌++◌, map, length, Option, Some, refl, sym, ◌∙◌, ap, subst, arith, append_assoc, append-nil, drop, if◌then◌else◌}
 use Rattle.std.specs.Prelude.{slice_get}
 use Rattle.std.specs.List.{AllByRecursion, AllZip}
+use Rattle.gc_catalogue.specs.Asked.{asked_line}
 use Rattle.gc_catalogue.specs.declared.asked.Asked.{Asked}
 use Rattle.gc_client.specs.Beginning.{the_word}
 use Rattle.gc_client.specs.OneForOne.{Wanted, Restart, Send, Step, begun, course}
@@ -25,6 +26,7 @@ use Rattle.gc_station.specs.Model.{Model, opening}
 use Rattle.gc_station.proofs.Asked.{parts_begun}
 use Rattle.gc_station.proofs.SentWell.{behind_the_table}
 use Rattle.gc_station.proofs.Booking.{Books, settled_by, sent_by, settled_append, sent_append, course_settled, course_sent, course_client, marks_ask_at, all_records, restarting}
+use Rattle.gc_station.proofs.CountedIds.{CountUp, counted_at, ids_count}
 use Rattle.gc_station.proofs.EachRun.{invariant_opening, each_once}
 use Rattle.gc_station.proofs.Following.{BooksInParts, follows}
 use Rattle.gc_station.proofs.Meets.{is_record_of, was_answered, was_late}
@@ -42,6 +44,7 @@ use Rattle.gc_field.specs.Runs.{IsInField, IsOwnAnswer, Program, program_parts, 
 use Rattle.gc_field.specs.Shown.{AreShownAs, Stretch, shown, stretches}
 use Rattle.gc_field.proofs.BeginJoin.{begins_cleanly}
 use Rattle.gc_field.proofs.BegunFaithful.{sent_is}
+use Rattle.gc_field.proofs.ById.{made_by_id}
 use Rattle.gc_field.proofs.BegunRising.{rising_lack_the_word, runs_leave_good, runs_leave_rising_ids}
 use Rattle.gc_field.proofs.InTime.{IsSoundStretch, in_time, clean_faithful, faithful_throughout}
 use Rattle.gc_field.proofs.Meant.{are_meant}
@@ -249,16 +252,28 @@ module _ {State : Type 0} (ends : Ends State) (Good : State → Type 0) (kept : 
   -- What the first stretch records.
 
   -- `P` holds *at first*: wherever a part and a stretch are the first of a run, fit, and are safe, and the part's marks are of
-  -- the stretch's requests, it holds of the records of what the stretch settled, and of what was lost then
+  -- the stretch's requests, whose ids count up from 0, it holds of the records of what the stretch settled, and of what was lost
+  -- then
   abbrev HoldsAtFirst : (List Part → List (Stretch State) → Record → Type 0) → Reads → List Task → Type 0
   HoldsAtFirst P reads commands =
       (p : Part) (s : Stretch State) (ps : List Part) (ss : List (Stretch State)) (waiting : List (Pending Asked)) (xs : List (Settlement Asked))
       → xs ≡ own_settled ends s ++ map lost waiting → Fits p s → IsSafePart p s → MarksAsk commands p.marks (map asked (own_sent ends s))
-      → AllByRecursion (P (p ∷ ps) (s ∷ ss)) (records_of reads 0 p.marks xs)
+      → CountUp 0 p.marks → AllByRecursion (P (p ∷ ps) (s ∷ ss)) (records_of reads 0 p.marks xs)
+
+  -- if the ids of a part's requests count up from 0, a line that was made on executing its request n, for this call, was made on
+  -- the request line of the id of that request's mark and the call
+  its_line : (p : Part) (s : Stretch State) → Fits p s → (n : ℕ) (mark : _) → CountUp 0 p.marks → slice_get p.marks n ≡ Some (Some mark)
+      → (asked call : Asked) → asked ≡ call → (line : List ℕ) (made : WasMadeOn 7 ends s.from s.moves (8 + n) call line)
+      → asked_line (Some made.id) call ≡ asked_line (Some mark.id) asked
+  its_line p s f n mark counted at asked call same line made =
+      let id = made_by_id ends Good kept is s f.sound (8 + n) call line made in
+      let marked = counted_at 0 p.marks n mark (omega arith) counted at in
+      let own : made.id ≡ mark.id = omega (arith, id, marked) in
+      ap (λ id. asked_line (Some id) call) own ∙ ap (λ x. asked_line (Some mark.id) x) (sym same)
 
   -- `IsOwnAnswer` holds at first
   own_first : (reads : Reads) (commands : List Task) → HoldsAtFirst (IsOwnAnswer ends Good kept commands) reads commands
-  own_first reads commands p s ps ss waiting xs e f safe sent =
+  own_first reads commands p s ps ss waiting xs e f safe sent counted =
       all_records reads 0 (IsOwnAnswer ends Good kept commands (p ∷ ps) (s ∷ ss)) p.marks xs
       (λ n mark x at got line says.
       let answered : x.outcome ≡ Answered line = was_answered (record_of reads 0 mark x) mark x (is_record_of reads 0 mark x) line says in
@@ -271,6 +286,7 @@ module _ {State : Type 0} (ends : Ends State) (Good : State → Type 0) (kept : 
       let b = f.faithful.booked (8 + n) x (beyond, safe n mark at) there line answered in
       let right : x.call ≡ call_at a.2.0 mark.sent = (f.faithful.one_for_one.same (8 + n) x r.0 there (get_drop 8 n (world ends s).wire.sent r.0 r.1)).1 ∙ ap
       (λ (o : Wanted Asked). o.call) (r.2 ∙ a.2.2) in
+      let made_on = subst (λ call. WasMadeOn 7 ends s.from s.moves (8 + n) call line) right (f.faithful.made_on (8 + n) x (beyond, safe n mark at) there line answered) in
       record {
         of = record { k = 0; part = p; stretch = s; of_parts = refl; of_stretches = refl; m = n; expected = mark.expected; mark = at; task = a.2.0; listed = a.2.1 };
         request = r.0;
@@ -280,7 +296,8 @@ module _ {State : Type 0} (ends : Ends State) (Good : State → Type 0) (kept : 
         made = b.0;
         reply = subst (λ call. IsReplyTo ends Good call line) right b.1;
         executed = f.faithful.executed (8 + n) x (beyond, safe n mark at) there line answered;
-        made_on = subst (λ call. WasMadeOn 7 ends s.from s.moves (8 + n) call line) right (f.faithful.made_on (8 + n) x (beyond, safe n mark at) there line answered);
+        made_on = made_on;
+        as_recorded = its_line p s f n mark counted at x.call (call_at a.2.0 mark.sent) right line made_on;
       })
 
   -- A command that wasn't sent has no answer.
@@ -303,7 +320,7 @@ module _ {State : Type 0} (ends : Ends State) (Good : State → Type 0) (kept : 
 
   -- `LateHasExecution` holds at first
   late_first : (reads : Reads) (commands : List Task) → HoldsAtFirst (LateHasExecution ends Good kept commands) reads commands
-  late_first reads commands p s ps ss waiting xs e f safe sent =
+  late_first reads commands p s ps ss waiting xs e f safe sent counted =
       all_records reads 0 (LateHasExecution ends Good kept commands (p ∷ ps) (s ∷ ss)) p.marks xs
       (λ n mark x at got says.
       let late : x.outcome ≡ Late = was_late (record_of reads 0 mark x) mark x (is_record_of reads 0 mark x) says in
@@ -316,10 +333,12 @@ module _ {State : Type 0} (ends : Ends State) (Good : State → Type 0) (kept : 
       let right : x.call ≡ call_at a.2.0 mark.sent = (f.faithful.one_for_one.same (8 + n) x r.0 there (get_drop 8 n (world ends s).wire.sent r.0 r.1)).1 ∙ ap
       (λ (o : Wanted Asked). o.call) (r.2 ∙ a.2.2) in
       let made = f.faithful.late (8 + n) x (beyond, safe n mark at) there late in
+      let made_on = subst (λ call. WasMadeOn 7 ends s.from s.moves (8 + n) call made.0) right made.1 in
       record {
         of = record { k = 0; part = p; stretch = s; of_parts = refl; of_stretches = refl; m = n; expected = mark.expected; mark = at; task = a.2.0; listed = a.2.1 };
         line = made.0;
-        made_on = subst (λ call. WasMadeOn 7 ends s.from s.moves (8 + n) call made.0) right made.1;
+        made_on = made_on;
+        as_recorded = its_line p s f n mark counted at x.call (call_at a.2.0 mark.sent) right made.0 made_on;
       })
 
   -- `LateHasExecution` holds of a record of a command that wasn't sent, because that isn't late
@@ -328,11 +347,13 @@ module _ {State : Type 0} (ends : Ends State) (Good : State → Type 0) (kept : 
 
   -- All that is recorded.
 
-  -- parts and stretches match: they fit, their commands are safe, and they have the same requests (`AreSentAs`)
+  -- parts and stretches match: they fit, their commands are safe, and they have the same requests (`AreSentAs`), whose ids count up
+  -- from 0 in each part
   record AreMatched (commands : List Task) (ps : List Part) (ss : List (Stretch State)) : Type 0 where
     fits : AllFit ps ss
     safe : AllSafe ps ss
     sent : AreSentAs ends commands ps ss
+    counted : AllByRecursion (λ p. CountUp 0 p.marks) ps
 
   -- if P lasts (`IsLasting`), and holds at first, and the parts and the stretches match, P holds of all that the stretches record
   all_over : (P : List Part → List (Stretch State) → Record → Type 0) → IsLasting P → (reads : Reads) (commands : List Task) → HoldsAtFirst P reads commands
@@ -341,15 +362,15 @@ module _ {State : Type 0} (ends : Ends State) (Good : State → Type 0) (kept : 
   all_over P lasts reads commands first [] (s ∷ ss) h = tt
   all_over P lasts reads commands first (p ∷ ps) [] h = absurd h.fits
   all_over P lasts reads commands first (p ∷ []) (s ∷ []) h =
-      first p s [] [] [] (own_settled ends s) (sym (append-nil (own_settled ends s))) h.fits.0 h.safe.0 h.sent.0
+      first p s [] [] [] (own_settled ends s) (sym (append-nil (own_settled ends s))) h.fits.0 h.safe.0 h.sent.0 h.counted.0
   all_over P lasts reads commands first (p ∷ []) (s ∷ t ∷ ss) h = absurd h.fits.1
   all_over P lasts reads commands first (p ∷ q ∷ ps) (s ∷ []) h = absurd h.fits.1
   all_over P lasts reads commands first (p ∷ q ∷ ps) (s ∷ t ∷ ss) h =
       let xs = own_settled ends s ++ map lost (world ends s).client.waiting in
       all_append (P (p ∷ q ∷ ps) (s ∷ t ∷ ss)) (records_of reads 0 p.marks xs) (written_over ends reads (q ∷ ps) (t ∷ ss))
-      (first p s (q ∷ ps) (t ∷ ss) (world ends s).client.waiting xs refl h.fits.0 h.safe.0 h.sent.0)
+      (first p s (q ∷ ps) (t ∷ ss) (world ends s).client.waiting xs refl h.fits.0 h.safe.0 h.sent.0 h.counted.0)
       (all_on (P (q ∷ ps) (t ∷ ss)) (P (p ∷ q ∷ ps) (s ∷ t ∷ ss)) (written_over ends reads (q ∷ ps) (t ∷ ss)) (λ r held. lasts.later p s (q ∷ ps) (t ∷ ss) r held)
-      (all_over P lasts reads commands first (q ∷ ps) (t ∷ ss) (record { fits = h.fits.1; safe = h.safe.1; sent = h.sent.1 })))
+      (all_over P lasts reads commands first (q ∷ ps) (t ∷ ss) (record { fits = h.fits.1; safe = h.safe.1; sent = h.sent.1; counted = h.counted.1 })))
 
   -- what holds of the records of commands that were sent, and of any record of a command that wasn't, holds of all records
   all_if_sent : (P : Record → Type 0) → ((r : Record) → went_out r.end ≡ false → P r) → (rs : List Record) → AllByRecursion P (sent_of rs) → AllByRecursion P rs
@@ -399,7 +420,12 @@ module _ {State : Type 0} (ends : Ends State) (Good : State → Type 0) (kept : 
       let on = follows x.plan x.commands x.scope.reads start x.acts refl fine h.runs in
       let sent = sent_all x.scope.reads x.commands ps ss [] end fit.0 on in
       let written = written_all x.scope.reads x.commands ps ss [] end fit.0 on in
-      let matched : AreMatched x.commands ps ss = record { fits = fit.0; safe = safe_in u x h; sent = sent } in
+      let matched : AreMatched x.commands ps ss = record {
+        fits = fit.0;
+        safe = safe_in u x h;
+        sent = sent;
+        counted = ids_count x.plan x.commands x.scope x.acts h.runs;
+      } in
       record {
         begun = parts_begun x.plan x.commands start x.acts h.runs;
         clean = fit.1;

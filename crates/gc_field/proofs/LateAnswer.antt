@@ -34,7 +34,7 @@ answer_made = record { front = take 14 moves; later = drop 15 moves; split = ref
 
 -- the run's parts are these: one with these steps, and with the two commands by place and moment; and the empty one
 -- after the end
-parts_are : parts plan commands scope acts ≡ one_part (asked_each replies) (seen moves) ((0, 15) ∷ (1, 115) ∷ [])
+parts_are : parts plan commands scope acts ≡ one_part (asked_each replies) (seen moves) ((0, 15, 1) ∷ (1, 115, 2) ∷ [])
 unfolding is_elsewhere header_at reply_at digits
 parts_are = refl
 

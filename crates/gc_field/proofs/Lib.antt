@@ -34,6 +34,7 @@ mod NoDoubt
 pub mod Safe
 pub mod Among
 pub mod Timeless
+mod ById
 pub mod Joining
 pub mod InARow
 pub mod Witness

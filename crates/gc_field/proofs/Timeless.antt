@@ -57,6 +57,7 @@ module _ {State : Type 0} (ends : Ends State) (Good : State → Type 0) (kept : 
     reply = h.reply;
     executed = h.executed;
     made_on = h.made_on;
+    as_recorded = h.as_recorded;
   }
 
   -- if the command of a late record was executed, it was executed where its request has moved (`request_moved`), too
@@ -65,7 +66,7 @@ module _ {State : Type 0} (ends : Ends State) (Good : State → Type 0) (kept : 
       → HasExecution ends Good kept commands qs ts r
   unfolding request_moved
   late_moved commands ps qs ss ts r utc h k of_parts of_stretches =
-      record { of = request_moved commands ps qs ss ts r utc h.of k of_parts of_stretches; line = h.line; made_on = h.made_on }
+      record { of = request_moved commands ps qs ss ts r utc h.of k of_parts of_stretches; line = h.line; made_on = h.made_on; as_recorded = h.as_recorded }
 
   -- `IsOwnAnswer` lasts
   pub own_lasts : (commands : List Task) → IsLasting (IsOwnAnswer ends Good kept commands)

@@ -56,12 +56,12 @@ opens_simulator width tasks reads =
     (tt, (refl, (tt, (refl, (tt, (tt, (refl, (tt, (tt, (refl, (tt, (tt, (refl, (tt, (tt, (refl, (tt, (tt, (refl, (tt, (tt, (refl, (tt, (tt, (refl, (tt, (tt, tt)))))))))))))))))))))))))))
 
 -- the part with these steps, of a synchronization and of the client, whose requests are the client's null procedure, and then
--- commands of the first cycle: each by its place, and the moment before it was sent
-abbrev pub part_of : List part.SyncStep → List (Step Asked) → List (ℕ × ℕ) → Part
-part_of sync_steps steps sent = record { sync_steps = sync_steps; steps = steps; marks = None ∷ map (λ x. Some (record { cycle = 1; place = x.0; sent = x.1; expected = expected_first [] })) sent }
+-- commands of the first cycle: each by its place, the moment before it was sent, and its id
+abbrev pub part_of : List part.SyncStep → List (Step Asked) → List (ℕ × ℕ × ℕ) → Part
+part_of sync_steps steps sent = record { sync_steps = sync_steps; steps = steps; marks = None ∷ map (λ x. Some (record { cycle = 1; place = x.0; sent = x.1; id = x.2; expected = expected_first [] })) sent }
 
 -- the parts of a run that never resynchronizes: the part with these steps and commands, and the empty one after the end
-abbrev pub one_part : List part.SyncStep → List (Step Asked) → List (ℕ × ℕ) → List Part
+abbrev pub one_part : List part.SyncStep → List (Step Asked) → List (ℕ × ℕ × ℕ) → List Part
 one_part sync_steps steps sent = part_of sync_steps steps sent ∷ idle_part ∷ []
 
 -- The run of one command.
@@ -129,8 +129,8 @@ abbrev all_sync_steps : List part.SyncStep
 all_sync_steps = part.Asks ∷ part.Hears (codes "%R1P,0,1:0,654321") ∷ part.Hears answer ∷ part.Hears (codes "%R1P,0,6:0") ∷ asked_each (drop 1 replies)
 
 -- the run's parts are these: one with these steps, and with the command at place 0, which was sent
--- after the moment 15; and the empty one after the end
-parts_are : parts plan commands scope acts ≡ one_part all_sync_steps (seen moves) ((0, 15) ∷ [])
+-- after the moment 15 with the id 1; and the empty one after the end
+parts_are : parts plan commands scope acts ≡ one_part all_sync_steps (seen moves) ((0, 15, 1) ∷ [])
 unfolding is_elsewhere header_at reply_at digits
 parts_are = refl
 

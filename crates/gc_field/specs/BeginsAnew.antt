@@ -154,9 +154,9 @@ left_by_first = left_by_run WINDOW counting at_start first_run
 abbrev pub from : UnderWay Counter
 from = left_by_turns counting turns left_by_first
 
--- the record of a lost command, at this place and for this target
+-- the record of a lost command, at this place and for this target, whose request had the target's number as its id
 abbrev pub lost_record : (place target : ℕ) → Record
-lost_record place target = plain_record 15 115 place target (Table InstrumentNo) end.Lost
+lost_record place target = plain_record 15 target 115 place target (Table InstrumentNo) end.Lost
 
 -- the records of the run: the first six commands are lost, and the seventh has its answer
 abbrev pub records : List Record
@@ -167,7 +167,7 @@ records =
     ∷ lost_record 3 4
     ∷ lost_record 4 5
     ∷ lost_record 5 6
-    ∷ plain_record 120 125 6 7 (Table InstrumentNo) (end.Answered Fine (Some (Long (pos 47))) answer)
+    ∷ plain_record 120 1 125 6 7 (Table InstrumentNo) (end.Answered Fine (Some (Long (pos 47))) answer)
     ∷ []
 
 -- this is a run in the field, over an instrument, after which no act follows. It resynchronizes where six have timed out. Two

@@ -127,9 +127,9 @@ until_third ms = take 18 ms
 -- the records of the run, in which the three commands are answered by the lines a, b and c
 abbrev pub records_with : (a b c : List ℕ) → List Record
 records_with a b c =
-    plain_record 15 20 0 7 points (end.Answered Fine (Some (Long (pos 0))) a)
-    ∷ plain_record 20 25 1 7 measures (end.Answered Fine (Some (Long (pos 0))) b)
-    ∷ plain_record 25 30 2 7 reads_all (end.Answered Fine (Some (Long (pos 0))) c)
+    plain_record 15 1 20 0 7 points (end.Answered Fine (Some (Long (pos 0))) a)
+    ∷ plain_record 20 2 25 1 7 measures (end.Answered Fine (Some (Long (pos 0))) b)
+    ∷ plain_record 25 3 30 2 7 reads_all (end.Answered Fine (Some (Long (pos 0))) c)
     ∷ []
 
 -- the acts of the run over the simulator

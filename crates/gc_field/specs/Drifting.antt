@@ -149,8 +149,8 @@ pub record IsAnsweredByDrifting (raw : RawCall) : Type 0 where
   pub over : NoActFollows (program raw)
   pub records :
       program_records (program raw)
-      ≡ plain_record 220 360 0 7 (Table InstrumentNo) end.Lost
-      ∷ plain_record 320 360 1 8 (Raw raw) (end.Answered Fine (Some Nothing) answer)
+      ≡ plain_record 220 1 360 0 7 (Table InstrumentNo) end.Lost
+      ∷ plain_record 320 2 360 1 8 (Raw raw) (end.Answered Fine (Some Nothing) answer)
       ∷ []
   pub made_on : WasMadeOn WINDOW drifting (left_by_turns drifting turns (none_under_way 5)) (moves raw) 10 (Raw raw) answer
 

@@ -89,8 +89,8 @@ pub record IsLateInField : Type 0 where
   pub over : NoActFollows program
   pub records :
       program_records program
-      ≡ plain_record 15 120 0 7 (Table InstrumentNo) end.Late
-      ∷ plain_record 115 125 1 8 (Table InstrumentNo) (end.Answered Fine (Some (Long (pos 123456))) answer)
+      ≡ plain_record 15 1 120 0 7 (Table InstrumentNo) end.Late
+      ∷ plain_record 115 2 125 1 8 (Table InstrumentNo) (end.Answered Fine (Some (Long (pos 123456))) answer)
       ∷ []
   pub late_made_on : WasMadeOn WINDOW simulator_ends from moves 9 (Table InstrumentNo) late
   pub answer_made_on : WasMadeOn WINDOW simulator_ends from moves 10 (Table InstrumentNo) answer

@@ -28,8 +28,8 @@ plain_task target call deadline chained =
       twice = Once;
     }
 
--- the record of a plain command of the first cycle, at this place in the list, which was sent at the moment `sent`, and ended at
--- the moment `utc`
-abbrev pub plain_record : (sent utc place target : ℕ) → Asked → End → Record
-plain_record sent utc place target call end =
-    record { sent = Some sent; utc = utc; cycle = 1; place = place; turn = no_turn; command = record { target = target; call = call }; end = end }
+-- the record of a plain command of the first cycle, at this place in the list, whose request was sent with this id at the moment
+-- `sent`, and which ended at the moment `utc`
+abbrev pub plain_record : (sent id utc place target : ℕ) → Asked → End → Record
+plain_record sent id utc place target call end =
+    record { sent = Some sent; id = id; utc = utc; cycle = 1; place = place; turn = no_turn; command = record { target = target; call = call }; end = end }

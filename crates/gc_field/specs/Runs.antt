@@ -4,6 +4,7 @@
 -- the ids of a synchronization's null procedures.
 use Rattle.std.specs.Prelude.{◌≡◌, ◌⊎◌, ℕ, ◌+◌, ◌<◌, ◌≤◌, Bool, true, false, ◌||◌, if◌then◌else◌, nat_le, List, [], ◌∷◌, ◌++◌, drop, length, map, Option, Some, slice_get}
 use Rattle.std.specs.List.{AllByRecursion, AllZip}
+use Rattle.gc_catalogue.specs.Asked.{asked_line}
 use Rattle.gc_catalogue.specs.declared.asked.Asked.{Asked}
 use Rattle.gc_client.specs.Beginning.{the_word}
 use Rattle.gc_client.specs.declared.window.TheConstants.{WINDOW}
@@ -168,7 +169,8 @@ module _ {State : Type 0} (ends : Ends State) (Good : State → Type 0) (kept : 
     WasMadeFor r h line = WasMadeOn WINDOW ends h.stretch.from h.stretch.moves (8 + h.m) (call_at h.task (sent_at r)) line
 
     -- where the answer `line` of record `r` comes from: the instrument made this line on executing the very request of the
-    -- record's cycle and place (`of`); and the line settled that request
+    -- record's cycle and place (`of`), which reached it as the request line of the record's id and call (`as_recorded`); and the
+    -- line settled that request
     pub record IsItsOwn (r : Record) (line : List ℕ) : Type 0 where
       pub of : HasRequest commands ps ss r
       pub request : Sent
@@ -179,17 +181,19 @@ module _ {State : Type 0} (ends : Ends State) (Good : State → Type 0) (kept : 
       pub reply : IsReplyTo ends Good (call_at of.task (sent_at r)) line
       pub executed : WasExecuted (world ends of.stretch).wire.executed (8 + of.m)
       pub made_on : WasMadeFor r of line
+      pub as_recorded : asked_line (Some made_on.id) (call_at of.task (sent_at r)) ≡ asked_line (Some r.id) r.command.call
 
     -- if a record is of a reply in time, its line was made on executing its own request: by `IsItsOwn`
     abbrev pub IsOwnAnswer : Record → Type 0
     IsOwnAnswer r = (line : List ℕ) → line_of r.end ≡ Some line → IsItsOwn r line
 
     -- the instrument executed the command of a late record `r`: it made a line on executing the request of the record's cycle and
-    -- place (`of`)
+    -- place (`of`), which reached it as the request line of the record's id and call
     pub record HasExecution (r : Record) : Type 0 where
       pub of : HasRequest commands ps ss r
       pub line : List ℕ
       pub made_on : WasMadeFor r of line
+      pub as_recorded : asked_line (Some made_on.id) (call_at of.task (sent_at r)) ≡ asked_line (Some r.id) r.command.call
 
     -- if a record is late, the instrument executed its command all the same: by `HasExecution`
     abbrev pub LateHasExecution : Record → Type 0

@@ -147,5 +147,5 @@ program = record { plan = plan; commands = commands; scope = scope; acts = acts;
 pub record SomeRunIsInField : Type 0 where
   pub field : IsInField simulator_ends IsFittingState kept_of at_start program
   pub over : NoActFollows program
-  pub records : program_records program ≡ plain_record 15 20 0 7 (Table InstrumentNo) (end.Answered Fine (Some (Long (pos 123456))) answer) ∷ []
+  pub records : program_records program ≡ plain_record 15 1 20 0 7 (Table InstrumentNo) (end.Answered Fine (Some (Long (pos 123456))) answer) ∷ []
   pub made_on : WasMadeOn WINDOW simulator_ends (left_by_turns simulator_ends turns at_start) moves 9 (Table InstrumentNo) answer

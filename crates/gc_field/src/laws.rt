@@ -43,9 +43,10 @@ pub fn stations_answers_are_their_own<State>()
 /// of connections, with whatever the line does, and whatever is in flight at the start, unless the ids in flight then have the
 /// word 6 5 4 3 2 1 0 7 as a subsequence. The run sends no command before it has synchronized, at first or again; and where it
 /// has, it has done so cleanly. Each answer that it records, from its first command on, also one that is unreadable or elsewhere,
-/// was made on executing the very request of that cycle and place. The instrument executed each request that is late. The records
-/// and the outstanding commands of cycles are the commands of cycles that had their turn, one for one, but for further attempts
-/// that were left out. The bytes that the station sends are the lines of its requests, and line feeds that clear the receiver.
+/// was made on executing the very request of that cycle and place. The instrument executed each request that is late. Each of these
+/// requests reached it as the request line of the record's id and call. The records and the outstanding commands of cycles are the
+/// commands of cycles that had their turn, one for one, but for further attempts that were left out. The bytes that the station
+/// sends are the lines of its requests, and line feeds that clear the receiver.
 /// Its records of commands that were sent are how these ended on the line; the first reply to a request that isn't settled
 /// settles it; and no reply raises a doubt, for which it would resynchronize. And each stretch from one synchronization to the next
 /// is faithful: its settlements and what is outstanding are its requests, one for one and in order; requests are executed in the

@@ -31,7 +31,7 @@ use Rattle.gc_harm.specs.Stretches.{IsSeenAs, once_synchronized, seen_harms, sho
 use Rattle.gc_harm.proofs.Room.{HoldsBackFrom}
 
 -- the run's parts are these: one with these steps, and with the two requests by place and moment; and the empty one after the end
-parts_are : parts plan commands scope acts ≡ one_part (asked_each replies) (seen_harms steps) ((0, 15) ∷ (1, 20) ∷ [])
+parts_are : parts plan commands scope acts ≡ one_part (asked_each replies) (seen_harms steps) ((0, 15, 1) ∷ (1, 20, 2) ∷ [])
 unfolding is_elsewhere header_at reply_at digits
 parts_are = refl
 
@@ -48,7 +48,7 @@ first_by_damage = record { front = until_damage; step = Damages damaged; later =
 -- the second answer was made on executing the second command's request
 second_own : WasMadeAmid WINDOW simulator_ends (once_synchronized simulator_ends stretch) steps 10 (Table InstrumentNo) answer
 unfolding header_at reply_at handed exec digits
-second_own = record { front = until_damage ++ until_reached; later = drop 1 until_end; split = refl; id = 2; rest = []; reaches = refl; executed = refl; reply = refl }
+second_own = record { front = until_damage ++ until_reached; later = drop 1 until_end; split = refl; id = 2; own_id = refl; rest = []; reaches = refl; executed = refl; reply = refl }
 
 -- this run is over a line that damages, and records both answers
 pub damaged_station : IsDamagedStation

@@ -314,7 +314,7 @@ module _ {State : Type 0} (width : ℕ) (narrow : width ≤ 7) (ends : Ends Stat
 
   -- nothing has to be known of a step
   nothing_told : (h : Harmed State) (m : Harm State) → KnownOf any_made any_line any_row width narrow ends Good kept is h m
-  nothing_told h m = record { made = λ same x rest e yes. tt; came = λ line n same le size. tt; again = λ like line n rest same down broken le size. tt; struck = λ id call same. tt }
+  nothing_told h m = record { made = λ same x rest e id yes. tt; came = λ line n same le size. tt; again = λ like line n rest same down broken le size. tt; struck = λ id call same. tt }
 
   -- all these steps are fresh
   all_fresh : (ms : List (Harm State)) (r : Holding State) → AllMayHarmApart width ends Good kept ms r → AnyWell r.harmed → InOrder r.harmed r.last r.undamaged → AllMayHarm width ends Good kept ms r.harmed

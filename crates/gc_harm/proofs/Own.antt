@@ -76,7 +76,7 @@ module _ {State : Type 0} (width : ℕ) (narrow : width ≤ 7) (ends : Ends Stat
         → KnownOf M (D (front ++ m ∷ [])) B width narrow ends Good kept is (harmed width ends front start) m
     known front m later e =
         record {
-          made = λ same x rest up yes. record { front = front; later = later; split = e ∙ ap (λ k. front ++ k ∷ later) same; id = x.line.id; rest = rest; reaches = up; executed = yes; reply = refl };
+          made = λ same x rest up id yes. record { front = front; later = later; split = e ∙ ap (λ k. front ++ k ∷ later) same; id = x.line.id; own_id = id; rest = rest; reaches = up; executed = yes; reply = refl };
           came = λ line n same le size. record { front = front; step = m; later = later; split = e; before = le; after = size; damaged = inl same };
           again = λ like line n rest same down broken le size. record {
             front = front;

@@ -332,7 +332,7 @@ module _ {State : Type 0} (width k : ℕ) (narrow : (k + 1) * width ≤ 7) (ends
 
   -- nothing has to be known of a step
   nothing_told : (h : Harmed State) (m : Harm State) → KnownOf any_made any_line any_row width (narrow_anyhow width k narrow) ends Good kept is h m
-  nothing_told h m = record { made = λ same x rest e yes. tt; came = λ line n same le size. tt; again = λ like line n rest same down broken le size. tt; struck = λ id call same. tt }
+  nothing_told h m = record { made = λ same x rest e id yes. tt; came = λ line n same le size. tt; again = λ like line n rest same down broken le size. tt; struck = λ id call same. tt }
 
   -- steps with rare damage are fresh
   all_fresh : (ms : List (Harm State)) (r : Tally State) → AllMayHarmRarely width ends k Good kept ms r → AnyWell r.harmed → InOrder width r.harmed r.came r.seen → AllMayHarm width ends Good kept ms r.harmed

@@ -86,7 +86,7 @@ of_timeless ps number r h = record {
   x = h.x;
   waiting = h.waiting;
   found = h.found;
-  is_of = record { cycle = h.is_of.cycle; place = h.is_of.place; sent = h.is_of.sent; command = h.is_of.command; reads = h.is_of.reads; ended = h.is_of.ended };
+  is_of = record { cycle = h.is_of.cycle; place = h.is_of.place; sent = h.is_of.sent; id = h.is_of.id; command = h.is_of.command; reads = h.is_of.reads; ended = h.is_of.ended };
 }
 
 -- the same of all these records

@@ -31,6 +31,7 @@ use Rattle.gc_station.specs.Records.{Record}
 use Rattle.gc_station.specs.Runs.{state_after}
 use Rattle.gc_station.proofs.HoldingBack.{held_back}
 use Rattle.gc_station.proofs.Booking.{marks_ask_at, sent_by, settled_by}
+use Rattle.gc_station.proofs.CountedIds.{CountUp, counted_at, ids_count}
 use Rattle.gc_station.specs.Scopes.{Reads}
 use Rattle.gc_station.proofs.Asked.{parts_begun}
 use Rattle.gc_station.proofs.EachRun.{invariant_opening, each_once}
@@ -133,16 +134,19 @@ sent_at_mark r mark x is = ap (λ (o : Option ℕ). unwrap_or o 0) is.sent
 -- a record's mark is the mark that it was recorded with
 same_mark : (r : Record) (mark : Mark) (x : Settlement Asked) → IsRecordOf r mark x → mark_of mark.expected r ≡ mark
 same_mark r mark x is =
-    ap (λ (n : ℕ). record { cycle = n; place = r.place; sent = sent_at r; expected = mark.expected }) is.cycle
-    ∙ ap (λ (n : ℕ). record { cycle = mark.cycle; place = n; sent = sent_at r; expected = mark.expected }) is.place
-    ∙ ap (λ (n : ℕ). record { cycle = mark.cycle; place = mark.place; sent = n; expected = mark.expected }) (sent_at_mark r mark x is)
+    ap (λ (n : ℕ). record { cycle = n; place = r.place; sent = sent_at r; id = r.id; expected = mark.expected }) is.cycle
+    ∙ ap (λ (n : ℕ). record { cycle = mark.cycle; place = n; sent = sent_at r; id = r.id; expected = mark.expected }) is.place
+    ∙ ap (λ (n : ℕ). record { cycle = mark.cycle; place = mark.place; sent = n; id = r.id; expected = mark.expected }) (sent_at_mark r mark x is)
+    ∙ ap (λ (n : ℕ). record { cycle = mark.cycle; place = mark.place; sent = mark.sent; id = n; expected = mark.expected }) is.id
 
 module _ {State : Type 0} (ends : Ends State) (Good : State → Type 0) (kept : State → Option KeptReply) (is : IsAnInstrument ends Good kept) where
   -- A stretch with its part.
 
-  -- the part's steps are what the stretch's client does; and where damage is apart in the stretch, it is local
+  -- the part's steps are what the stretch's client does, and the ids of its requests count up from 0; and where damage is apart in
+  -- the stretch, it is local
   record FitsPart (p : Part) (s : HarmedStretch State) : Type 0 where
     seen : IsSeenBy ends Good kept is p.steps s
+    counted : CountUp 0 p.marks
     local : HasDamageApart ends s → IsLocal ends Good kept s
 
   -- what is known of a part and its stretch
@@ -222,23 +226,24 @@ module _ {State : Type 0} (ends : Ends State) (Good : State → Type 0) (kept : 
   ]
 
   -- a part fits its stretch
-  fits_part : (commands : List Task) → AreOfTable commands ⊎ TreatsRawsAlike ends Good kept → (p : Part) (s : HarmedStretch State) → IsRuled commands p s → FitsPart p s
-  fits_part commands table p s h = record {
+  fits_part : (commands : List Task) → AreOfTable commands ⊎ TreatsRawsAlike ends Good kept → (p : Part) (s : HarmedStretch State) → IsRuled commands p s → CountUp 0 p.marks → FitsPart p s
+  fits_part commands table p s h counted = record {
     seen = subst (λ l. IsSeenBy ends Good kept is l s) h.seen.1 (seen_by_steps ends Good kept is s (possible_steps ends Good kept is s h.possible));
+    counted = counted;
     local = local_if_apart commands table p s h;
   }
 
   -- each part fits its stretch
   all_fit : (commands : List Task) → AreOfTable commands ⊎ TreatsRawsAlike ends Good kept → (ps : List Part) (ss : List (HarmedStretch State)) (u : UnderWay State) → IsWellFormed Good u → AreInARow ends u ss
       → AllZip (IsSeenAs ends) ps ss → AllByRecursion (IsPossibleStretch ends Good kept) ss → ((i : ℕ) (p : Part) → slice_get ps i ≡ Some p → IsHeldBack p)
-      → AllByRecursion (λ p. MarksAsk commands p.marks (sent_by fresh p.steps)) ps → AllZip FitsPart ps ss
-  all_fit commands table [] [] u well row seen possible held asks = tt
-  all_fit commands table [] (s ∷ ss) u well row seen possible held asks = absurd seen
-  all_fit commands table (p ∷ ps) [] u well row seen possible held asks = absurd seen
-  all_fit commands table (p ∷ ps) (s ∷ ss) u well row seen possible held asks =
+      → AllByRecursion (λ p. MarksAsk commands p.marks (sent_by fresh p.steps)) ps → AllByRecursion (λ (p : Part). CountUp 0 p.marks) ps → AllZip FitsPart ps ss
+  all_fit commands table [] [] u well row seen possible held asks counted = tt
+  all_fit commands table [] (s ∷ ss) u well row seen possible held asks counted = absurd seen
+  all_fit commands table (p ∷ ps) [] u well row seen possible held asks counted = absurd seen
+  all_fit commands table (p ∷ ps) (s ∷ ss) u well row seen possible held asks counted =
       let over : IsWellFormed Good s.over = subst (IsWellFormed Good) (sym row.0) well in (
-        fits_part commands table p s (record { well = over; possible = possible.0; seen = seen.0; held = held 0 p refl; asks = asks.0 }),
-        all_fit commands table ps ss (left_by_stretch ends s) (left_well_formed ends Good kept is s over possible.0) row.1 seen.1 possible.1 (λ i q e. held (suc i) q e) asks.1,
+        fits_part commands table p s (record { well = over; possible = possible.0; seen = seen.0; held = held 0 p refl; asks = asks.0 }) counted.0,
+        all_fit commands table ps ss (left_by_stretch ends s) (left_well_formed ends Good kept is s over possible.0) row.1 seen.1 possible.1 (λ i q e. held (suc i) q e) asks.1 counted.1,
       )
 
   -- A record with its stretch.
@@ -275,6 +280,7 @@ module _ {State : Type 0} (ends : Ends State) (Good : State → Type 0) (kept : 
           m = h.m;
           expected = h.mark.expected;
           mark = h.marked ∙ ap (λ (mark : Mark). Some (Some mark)) (sym (same_mark r h.mark h.x h.is_of));
+          own_id = (let same = h.is_of.id in let id = counted_at 0 h.part.marks h.m h.mark (omega arith) z.2.counted h.marked in omega (arith, same, id));
           counted = h.counted;
           task = a.2.0;
           listed = ap (λ n. slice_get commands n) h.is_of.place ∙ a.2.1;
@@ -398,7 +404,7 @@ module _ {State : Type 0} (ends : Ends State) (Good : State → Type 0) (kept : 
       let fine = invariant_opening x.plan x.commands x.scope in
       let on = follows x.plan x.commands x.scope.reads start x.acts refl fine h.runs in
       let asks = all_ask x.scope.reads x.commands ps [] end on in
-      let fit = all_fit x.commands h.own ps x.stretches u h.lines h.row h.seen h.possible held asks in
+      let fit = all_fit x.commands h.own ps x.stretches u h.lines h.row h.seen h.possible held asks (ids_count x.plan x.commands x.scope x.acts h.runs) in
       let of = all_of_parts x.scope.reads x.commands ps end on in
       record {
         begun = parts_begun x.plan x.commands start x.acts h.runs;

@@ -130,7 +130,7 @@ module _ (M : ℕ → Asked → List ℕ → Type 0) (D : List ℕ → Type 0) (
 
     -- what is to be known of a step: M of what the instrument executes, D of what is damaged
     pub record KnownOf (h : Harmed State) (m : Harm State) : Type 0 where
-      pub made : m ≡ Does (OnLine Up_deliver) → (x : Numbered Request) (rest : List (Numbered Request)) → h.world.wire.up ≡ x ∷ rest
+      pub made : m ≡ Does (OnLine Up_deliver) → (x : Numbered Request) (rest : List (Numbered Request)) → h.world.wire.up ≡ x ∷ rest → x.line.id ≡ x.number % 8
           → (ends.handed h.world.wire.state x.line.id x.line.call).executed ≡ true → M x.number x.line.call (ends.handed h.world.wire.state x.line.id x.line.call).reply
       pub came : (line : List ℕ) (n : ℕ) → m ≡ Damages line → length h.world.wire.settled ≤ n → length (harms width ends h m).world.wire.settled ≡ n + 1 → B n line
       pub again : (like line : List ℕ) (n : ℕ) (rest : List (Numbered (List ℕ))) → m ≡ Does (Comes like) → h.world.wire.down ≡ record { number = n; line = line } ∷ rest → D line
@@ -295,7 +295,7 @@ module _ (M : ℕ → Asked → List ℕ → Type 0) (D : List ℕ → Type 0) (
 
     -- the front request reaches the instrument
     well_reached : (h : Harmed State) (q : List (Numbered Request)) → h.world.wire.up ≡ q
-        → ((x : Numbered Request) (rest : List (Numbered Request)) → q ≡ x ∷ rest
+        → ((x : Numbered Request) (rest : List (Numbered Request)) → q ≡ x ∷ rest → x.line.id ≡ x.number % 8
         → (ends.handed h.world.wire.state x.line.id x.line.call).executed ≡ true → M x.number x.line.call (ends.handed h.world.wire.state x.line.id x.line.call).reply)
         → Well h → Well (record { world = on_wire h.world (up_delivered ends h.world.wire q); last = last_by_step h.last Up_deliver q })
     well_reached h [] e m w = record { good = w.good; ids = w.ids; all = w.all; few = w.few; up = w.up; own = w.own; down = w.down; keeps = w.keeps; answers = w.answers }
@@ -306,7 +306,7 @@ module _ (M : ℕ → Asked → List ℕ → Type 0) (D : List ℕ → Type 0) (
         let a = subst (λ q. AllByRecursion (λ x. KeepsItsOwnAfter ends Good kept x.line.call) q) e w.own in
         let i = u.0.id in
         let small : x.line.id < 8 = omega (arith, i) in
-        let made_for : MadeFor v.sent x.number hd.reply = made_for_reply h x hd.executed refl (λ yes. m x rest refl yes) u.0 small w in
+        let made_for : MadeFor v.sent x.number hd.reply = made_for_reply h x hd.executed refl (λ yes. m x rest refl i yes) u.0 small w in
         record {
           good = is.stays_good v.state x.line.id x.line.call w.good small;
           ids = w.ids;
@@ -397,7 +397,7 @@ module _ (M : ℕ → Asked → List ℕ → Type 0) (D : List ℕ → Type 0) (
     -- a step of the line
     well_step : (h : Harmed State) (step : Step) → IsLineStep step → KnownOf h (Does (OnLine step)) → Well h → Well (harms width ends h (Does (OnLine step)))
     well_step h (Send target call deadline) p t w = absurd p
-    well_step h Up_deliver p t w = well_reached h h.world.wire.up refl (λ x rest e yes. t.made refl x rest e yes) w
+    well_step h Up_deliver p t w = well_reached h h.world.wire.up refl (λ x rest e id yes. t.made refl x rest e id yes) w
     well_step h (Up_lose k) p t w = well_up h (without k h.world.wire.up) (ltb k (length h.world.wire.up)) (each_without _ k h.world.wire.up w.up) (each_without _ k h.world.wire.up w.own) w
     well_step h (Up_repeat k) p t w = well_up h (doubled k h.world.wire.up) (ltb k (length h.world.wire.up)) (each_doubled _ k h.world.wire.up w.up) (each_doubled _ k h.world.wire.up w.own) w
     well_step h Down_deliver p t w = absurd p

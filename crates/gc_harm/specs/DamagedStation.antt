@@ -122,8 +122,8 @@ pub record IsDamagedStation : Type 0 where
   pub over : is_over (state_after plan commands scope acts).progress ≡ true
   pub records :
       records_of_program program
-      ≡ plain_record 15 20 0 7 (Table InstrumentNo) (end.Answered Fine (Some (Long (pos 123456))) damaged)
-      ∷ plain_record 20 25 1 8 (Table InstrumentNo) (end.Answered Fine (Some (Long (pos 123456))) answer)
+      ≡ plain_record 15 1 20 0 7 (Table InstrumentNo) (end.Answered Fine (Some (Long (pos 123456))) damaged)
+      ∷ plain_record 20 2 25 1 8 (Table InstrumentNo) (end.Answered Fine (Some (Long (pos 123456))) answer)
       ∷ []
   pub by_damage : WasSettledByDamage simulator_ends stretch 9 damaged
   pub own : WasMadeAmid WINDOW simulator_ends (once_synchronized simulator_ends stretch) steps 10 (Table InstrumentNo) answer

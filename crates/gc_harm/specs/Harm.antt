@@ -4,7 +4,7 @@
 -- request that damage made comes as a damaged line, if at all, at any time; so it isn't put into the queue. Other ids are left out, as
 -- `IsAnInstrument` doesn't speak of them: what an instrument does with another id, or with none, is covered only if it then keeps the same
 -- reply as before (`Changes`).
-use Rattle.std.specs.Prelude.{◌≡◌, ◌⊎◌, ℕ, ◌+◌, ◌<◌, ◌≤◌, true, List, [], ◌∷◌, ◌++◌, length, Option, Some, None, slice_get}
+use Rattle.std.specs.Prelude.{◌≡◌, ◌⊎◌, ℕ, ◌+◌, ◌%◌, ◌<◌, ◌≤◌, true, List, [], ◌∷◌, ◌++◌, length, Option, Some, None, slice_get}
 use Rattle.std.specs.List.{AllByRecursion}
 use Rattle.gc_catalogue.specs.declared.asked.Asked.{Asked}
 use Rattle.gc_catalogue.specs.Asked.{is_of_table}
@@ -114,12 +114,14 @@ module _ {State : Type 0} (width : ℕ) (ends : Ends State) where
   AllMayHarm Good kept (m ∷ ms) h = MayHarm Good kept h m × AllMayHarm Good kept ms (harms h m)
 
   module _ (start : Harmed State) (ms : List (Harm State)) where
-    -- at one of these steps request m, with this call, reaches the instrument, which executes it; and this line is its reply
+    -- at one of these steps request m, with this call and its own id, reaches the instrument, which executes it; and this line is
+    -- its reply
     pub record WasMadeAmid (m : ℕ) (call : Asked) (line : List ℕ) : Type 0 where
       pub front : List (Harm State)
       pub later : List (Harm State)
       pub split : ms ≡ front ++ Does (OnLine Up_deliver) ∷ later
       pub id : ℕ
+      pub own_id : id ≡ m % IDS
       pub rest : List (Numbered Request)
       pub reaches : (harmed front start).world.wire.up ≡ record { number = m; line = record { id = id; call = call } } ∷ rest
       pub executed : (ends.handed (harmed front start).world.wire.state id call).executed ≡ true

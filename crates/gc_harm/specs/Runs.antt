@@ -4,10 +4,10 @@
 -- command is a call of the table, or the instrument keeps after each request, also a raw one, its own reply or none. For raw requests to
 -- other instruments nothing is claimed: one may keep its reply to a call of the table over these, and send it again for a later request with
 -- that reply's id, if a damaged line was taken for the reply to a call in between.
-use Rattle.std.specs.Prelude.{◌≡◌, ◌⊎◌, ℕ, zero, suc, ◌+◌, true, List, [], ◌∷◌, ◌++◌, length, map, take, ◌≤◌, Option, Some, slice_get}
+use Rattle.std.specs.Prelude.{◌≡◌, ◌⊎◌, ℕ, zero, suc, ◌+◌, ◌%◌, true, List, [], ◌∷◌, ◌++◌, length, map, take, ◌≤◌, Option, Some, slice_get}
 use Rattle.std.specs.List.{AllByRecursion, AllZip}
 use Rattle.gc_catalogue.specs.Asked.{is_of_table}
-use Rattle.gc_client.specs.declared.window.TheConstants.{WINDOW}
+use Rattle.gc_client.specs.declared.window.TheConstants.{IDS, WINDOW}
 use Rattle.gc_client.specs.Beginning.{the_word}
 use Rattle.gc_client.specs.Rule.{Answered, Late, lost}
 use Rattle.gc_instrument.specs.State.{KeptReply, IsFittingState}
@@ -78,7 +78,7 @@ abbrev pub sent_until : List Record → (n : ℕ) → ℕ
 sent_until records n = length (sent_of (take n records))
 
 -- the request of a record, in a run with the parts `ps` and the stretches `ss`: in stretch k, the client's request m is the command of
--- the record's cycle and place, before which `number` commands were sent
+-- the record's cycle and place, before which `number` commands were sent, and it has the record's id
 pub record HasItsRequest {State : Type 0} (commands : List Task) (ps : List Part) (ss : List (HarmedStretch State)) (number : ℕ) (r : Record) : Type 0 where
   pub k : ℕ
   pub part : Part
@@ -88,6 +88,7 @@ pub record HasItsRequest {State : Type 0} (commands : List Task) (ps : List Part
   pub m : ℕ
   pub expected : Expected
   pub mark : slice_get part.marks m ≡ Some (Some (mark_of expected r))
+  pub own_id : r.id ≡ m % IDS
   pub counted : sent_before ps k m ≡ number
   pub task : Task
   pub listed : slice_get commands r.place ≡ Some task

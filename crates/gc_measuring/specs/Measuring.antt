@@ -30,9 +30,9 @@ use Rattle.gc_texts.specs.declared.name.Name.{Name}
 use Rattle.gc_texts.specs.declared.tasks.Task.{Task}
 use Rattle.gc_rows.specs.declared.when.When.{When}
 
--- the moments, the cycle, the place and the turn of a record, in a run that began at `run`, in milliseconds since 1970-01-01, UTC
+-- the moments, the id, the cycle, the place and the turn of a record, in a run that began at `run`, in milliseconds since 1970-01-01, UTC
 abbrev pub when_of : (run : ℕ) → Record → When
-when_of run r = record { run = run; stamp = record { sent = r.sent; utc = r.utc; cycle = r.cycle; place = r.place; turn = r.turn } }
+when_of run r = record { run = run; stamp = record { sent = r.sent; id = r.id; utc = r.utc; cycle = r.cycle; place = r.place; turn = r.turn } }
 
 -- what a layout has of a record, where targets have these names
 abbrev pub entry_in : Layout → List Name → Record → Entry

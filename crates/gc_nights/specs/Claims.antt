@@ -34,9 +34,9 @@ is_in_doubt _ = false
 abbrev pub requests_after : (requests : ℕ) → (command : Wish) → ℕ
 requests_after requests command = if nat_eq (procedure_of command.call) 0 then requests else requests + 1
 
--- these bytes are the request line of what is asked, with one of the ids 0 to 7
-abbrev pub IsRequestFor : Asked → (line : List ℕ) → Type 0
-IsRequestFor asked line = (id : ℕ) × (id < 8) × (line ≡ asked_line (Some id) asked)
+-- these bytes are the request line of what is asked, with this id, which is from 0 to 7
+abbrev pub IsRequestFor : (id : ℕ) → Asked → (line : List ℕ) → Type 0
+IsRequestFor id asked line = (id < 8) × (line ≡ asked_line (Some id) asked)
 
 -- the claim speaks of this reply
 pub record SpeaksOf (claim : Claim) (truth : Truth) : Type 0 where
@@ -48,8 +48,8 @@ pub record SpeaksOf (claim : Claim) (truth : Truth) : Type 0 where
   pub sent : claim.sent ≡ truth.sent
   -- the claim has a line exactly if the reply came in time: before the moment `deadline` after `sent`
   pub timed : is_some claim.line ≡ true ↔ claim.at < claim.sent + claim.deadline
-  -- its request asked for the claim's call
-  pub asked : IsRequestFor claim.call truth.asked.items
+  -- its request asked for the claim's call, with the id of the claim's request
+  pub asked : IsRequestFor claim.stamp.id claim.call truth.asked.items
   -- the claim's line, if it has one, is the reply
   pub line : IfSome claim.line (λ l. l.items ≡ truth.reply.items)
 

@@ -1,7 +1,6 @@
 //! Claims: what rows say of replies, and the comparison with the truth.
 
-ghost use Rattle.std.specs.Prelude.{◌≡◌, ◌↔◌, ◌+◌, ◌<◌, IsTrue, IfNone, IfSome, OnSome, Some};
-ghost use Rattle.gc_catalogue.specs.Asked.{asked_line};
+ghost use Rattle.std.specs.Prelude.{◌≡◌, ◌↔◌, ◌+◌, ◌<◌, IsTrue, IfNone, IfSome, OnSome};
 ghost use Rattle.gc_nights.specs.Claims.{IsRequestFor, SpeaksOf, MatchesNext, AreTrue, IsAmong};
 
 use gc_catalogue::{Asked, encode_asked};
@@ -25,7 +24,7 @@ pub struct Claim {
     pub call: Asked,
     /// The reply's line that the row has. `None`: the row has none, because the reply came late.
     pub line: Option<Line>,
-    /// The row's moments, in milliseconds since 1970, and its cycle, place and turn.
+    /// The row's moments, in milliseconds since 1970, the id of its request, and its cycle, place and turn.
     pub stamp: Stamp,
     /// Whether the row's values don't count, by what it says itself: it is unconfirmed, or disagrees.
     pub is_in_doubt: bool,
@@ -35,25 +34,15 @@ pub struct Claim {
     pub row: u64,
 }
 
-// Whether `asked` is the request line of this call with this id.
-fn is_asked_by(id: u8, call: &Asked, asked: &[u8]) -> bool
-    requires { id < 8 }
-    ensures { IsTrue result ↔ (asked.now ≡ asked_line (Some id) call.now) }
+// Whether `asked` is the request line of this call with this id, which is from 0 to 7.
+fn is_request_for(id: u8, call: &Asked, asked: &[u8]) -> bool
+    ensures { IsTrue result ↔ IsRequestFor id call.now asked.now }
 {
+    if id >= 8 {
+        return false;
+    }
     let line = encode_asked(Some(id), call);
     asked == line.as_slice()
-}
-
-// Whether `asked` is the request line of this call with one of the ids 0 to 7.
-fn is_request_for(call: &Asked, asked: &[u8]) -> bool
-    ensures { IsTrue result ↔ IsRequestFor call.now asked.now }
-{
-    for id in 0..8u8 {
-        if is_asked_by(id, call, asked) {
-            return true;
-        }
-    }
-    false
 }
 
 // Whether a row has no line, or has the line of this reply.
@@ -75,7 +64,8 @@ fn is_in_time(claim: &Claim) -> bool
 }
 
 // Whether a reply (`truth`) is the one that a claim speaks of: it came at the claim's moment, in time exactly if the claim has a line,
-// which then is the reply's; and its request is the claim's, asked for the claim's call, and was sent when the claim says.
+// which then is the reply's; and its request is the claim's, asked for the claim's call with the id that the row says, and was sent
+// when the claim says.
 pub(crate) fn speaks_of(claim: &Claim, truth: &Truth) -> bool
     ensures { IsTrue result ↔ SpeaksOf claim.now truth.now }
 {
@@ -84,7 +74,7 @@ pub(crate) fn speaks_of(claim: &Claim, truth: &Truth) -> bool
         && claim.sent == truth.sent
         && is_in_time(claim) == claim.line.is_some()
         && has_no_other_line(claim, &truth.reply)
-        && is_request_for(&claim.call, truth.asked.as_slice())
+        && is_request_for(claim.stamp.id, &claim.call, truth.asked.as_slice())
 }
 
 // How many claims, from the first on, are matched with replies once this reply came, if `matched` were before it: one more if the

@@ -66,10 +66,10 @@ anew_shown =
     ∷ asked_each (drop 2 replies)
 
 -- a part with requests of this cycle: for each request that is sent, in order, the place of its command and the moment at which
--- it was sent; `None` for a null procedure
+-- it was sent; `None` for a null procedure. Its id is one more than its place
 abbrev part_of_cycle : ℕ → List part.SyncStep → List (Step Asked) → List (Option (ℕ × ℕ)) → Part
 part_of_cycle cycle sync_steps steps sent =
-    record { sync_steps = sync_steps; steps = steps; marks = map (option_map (λ x. record { cycle = cycle; place = x.0; sent = x.1; expected = expected_first (drop x.0 commands) })) sent }
+    record { sync_steps = sync_steps; steps = steps; marks = map (option_map (λ x. record { cycle = cycle; place = x.0; sent = x.1; id = suc x.0; expected = expected_first (drop x.0 commands) })) sent }
 
 -- the parts of the run: until it resynchronizes, from there on, and after its end
 abbrev all_parts : List Part

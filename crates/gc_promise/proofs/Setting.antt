@@ -1,16 +1,23 @@
--- The row of a command that sets the clock: its request asked for the moment that is under `sent`.
-use Rattle.std.proofs.Common.{◌≡◌, ℕ, Bool, true, false, List, [], Option, Some, None, if◌then◌else◌, refl, sym, ap, ◌∙◌}
+-- What a row has of a request: of a command that sets the clock, it asked for the moment that is under `sent`; and the line that is
+-- under `request`, which an act of the run put, is its line.
+use Rattle.std.proofs.Common.{◌≡◌, ◌<◌, ◌%◌, ℕ, Bool, true, false, List, [], Option, Some, None, if◌then◌else◌, refl, sym, ap, arith, ◌∙◌}
 use Rattle.std.specs.Prelude.{codes, is_some, slice_get}
+use Rattle.gc_catalogue.specs.Asked.{asked_line}
 use Rattle.gc_catalogue.specs.declared.asked.Asked.TheVariants.{Table}
 use Rattle.gc_catalogue.specs.declared.call.Call.TheVariants.{SetDate}
+use Rattle.gc_links.specs.Acts.{Act}
+use Rattle.gc_texts.specs.Logs.{escaped}
 use Rattle.gc_texts.specs.Stamps.{date_time}
 use Rattle.gc_texts.specs.declared.tasks.Task.{Task}
 use Rattle.gc_texts.specs.declared.wish.Wish.{Wish}
-use Rattle.gc_rows.specs.Rows.{moment_text}
+use Rattle.gc_rows.specs.Rows.{moment_text, request_sent}
 use Rattle.gc_station.specs.Parts.{went_out}
 use Rattle.gc_station.specs.Records.{Record}
+use Rattle.gc_station.specs.Requested.{HasItsRequest, IsOfItsRequest, request_of}
 use Rattle.gc_station.specs.Requests.{command_sent}
+use Rattle.gc_station.specs.Scopes.{Scope}
 use Rattle.gc_station.specs.Tasked.{IsOfItsTask}
+use Rattle.gc_station.specs.declared.plan.Plan.{Plan}
 use Rattle.std.proofs.lemmas.Option.{same_Some}
 use Rattle.gc_promise.specs.Fields.{IsSetTo}
 
@@ -34,10 +41,28 @@ module _ (at : List ℕ → List ℕ) (commands : List Task) (r : Record) (of : 
           asked = ap (λ (w : Wish). w.call) (of.command ∙ ap (λ (o : Option ℕ). command_sent o of.task) is) ∙ clock_is_set of.task utc (ap (λ (t : Task). t.now) own ∙ now);
         }
 
-  -- if no request was sent, nothing is under `sent`
-  pub never_sent : went_out r.end ≡ false → at (codes "sent") ≡ []
-  never_sent out = stands ∙ by_moment r.sent (of.sent ∙ out) where
-    -- the text of no moment is empty
-    by_moment : (o : Option ℕ) → is_some o ≡ false → moment_text o ≡ []
-    by_moment None has = refl
-    by_moment (Some utc) has = cc
+  module _ (line : at (codes "request") ≡ escaped (request_sent r.sent r.id r.command.call)) where
+    -- if no request was sent, nothing is under `sent`, nor under `request`
+    pub never_sent : went_out r.end ≡ false → (at (codes "sent") ≡ []) × (at (codes "request") ≡ [])
+    never_sent out = let none = by_moment r.sent (of.sent ∙ out) in (stands ∙ none.0, line ∙ ap escaped none.1) where
+      -- without a moment of sending, its text is empty, and so is the request line
+      by_moment : (o : Option ℕ) → is_some o ≡ false → (moment_text o ≡ []) × (request_sent o r.id r.command.call ≡ [])
+      by_moment None has = (refl, refl)
+      by_moment (Some utc) has = cc
+
+    -- if a request was sent, an act of the run put its line (`HasItsRequest`), and the line is under `request`, escaped
+    pub asked_by : (plan : Plan) (scope : Scope) (acts : List Act) → IsOfItsRequest plan commands scope acts r → went_out r.end ≡ true
+        → HasItsRequest plan commands scope acts r × (at (codes "request") ≡ escaped (request_of r))
+    asked_by plan scope acts requested out = by_moment r.sent refl (of.sent ∙ out) where
+      -- the lemma above, by the moment of sending
+      by_moment : (o : Option ℕ) → r.sent ≡ o → is_some r.sent ≡ true → HasItsRequest plan commands scope acts r × (at (codes "request") ≡ escaped (request_of r))
+      by_moment None is has = let none : false ≡ true = sym (ap is_some is) ∙ has in cc
+      by_moment (Some utc) is has =
+          let its = requested.sent utc is in
+          let small : r.id < 8 = requested.digit in
+          let same : r.id % 8 ≡ r.id = omega (arith, small) in (
+            its,
+            line
+                ∙ ap (λ (o : Option ℕ). escaped (request_sent o r.id r.command.call)) is
+                ∙ ap (λ (n : ℕ). escaped (asked_line (Some n) r.command.call)) same,
+          )

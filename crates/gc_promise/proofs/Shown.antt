@@ -17,7 +17,7 @@ use Rattle.gc_texts.specs.Logs.{escaped}
 use Rattle.gc_texts.specs.declared.quality.Quality.{Quality}
 use Rattle.gc_texts.specs.declared.quality.Quality.TheVariants as quality
 use Rattle.gc_rows.specs.Cells.{Bytes, Cell, Code, Content, Whole, cell, lookup, names_of}
-use Rattle.gc_rows.specs.Columns.{Column, bytes_content, cells_if, cells_in, end_cells, fault_content, first_columns, items_column, last_columns, line_content, moment_content, quantity_columns, run_column}
+use Rattle.gc_rows.specs.Columns.{Column, bytes_content, cells_if, cells_in, end_cells, fault_content, first_columns, items_column, last_columns, line_content, line_sent, moment_content, quantity_columns, run_column}
 use Rattle.gc_rows.specs.Lookup.{IsShown, is_among, is_single, object_names}
 use Rattle.gc_rows.specs.Quantities.{column_of, quantity_names}
 use Rattle.gc_rows.specs.Rows.{code_of, com_of, fault_field, moment_text, value_texts, values_of}
@@ -146,10 +146,11 @@ module _ (survey : Survey) (r : Record) (has_quantities has_items : Bool) where
   -- the last cells are found, with or without quantities and items before them
   last_found : (b c : Bool)
       → (lookup (codes "quality") (cells b c) ≡ bytes_content (quality_text (quality_of r.end))) × (lookup (codes "attempt") (cells b c) ≡ Whole r.turn.attempt)
-  last_found true true = (refl, refl)
-  last_found true false = (refl, refl)
-  last_found false true = (refl, refl)
-  last_found false false = (refl, refl)
+      × (lookup (codes "request") (cells b c) ≡ bytes_content (line_sent (entry_of survey r)))
+  last_found true true = (refl, refl, refl)
+  last_found true false = (refl, refl, refl)
+  last_found false true = (refl, refl, refl)
+  last_found false false = (refl, refl, refl)
 
   -- under the name of a quantity, where there are quantities, is what the answer's cell of that name holds
   quantity_found : (b c : Bool) → b ≡ true → (name : List ℕ) → IsQuantity name → lookup name (cells b c) ≡ lookup name (end_cells r.command.call r.end)
@@ -184,6 +185,9 @@ module _ (survey : Survey) (r : Record) (has_quantities has_items : Bool) where
           fault = fault_shown (fault_of r.end) (at (codes "fault")) (shows (codes "fault") refl);
         };
         attempt = subst (λ content. IsShown content (at (codes "attempt"))) (last_found has_quantities has_items).1 (shows (codes "attempt") refl);
+        request =
+            bytes_shown (line_sent (entry_of survey r)) (at (codes "request"))
+            (subst (λ content. IsShown content (at (codes "request"))) (last_found has_quantities has_items).2 (shows (codes "request") refl));
         run = shows (codes "run") refl;
         name = bytes_shown (entry_of survey r).name (at (codes "name")) (shows (codes "name") refl);
       };

@@ -23,6 +23,7 @@ use Rattle.gc_rows.proofs.Columns.{reply_columns}
 use Rattle.gc_links.specs.Acts.{Act}
 use Rattle.gc_station.specs.Answers.{AnswerIsJustified}
 use Rattle.gc_station.specs.Model.{Runs, opening}
+use Rattle.gc_station.specs.Requested.{IsOfItsRequest}
 use Rattle.gc_station.specs.Qualities.{IsAsListed, IsOfQuality, accepted_at, answer_in, quality_as, twice_at}
 use Rattle.gc_station.specs.Records.{Record}
 use Rattle.gc_station.specs.Scopes.{AreReadings}
@@ -31,6 +32,7 @@ use Rattle.gc_station.proofs.Answers.{answers_true}
 use Rattle.gc_station.proofs.EachRun.{of_tasks}
 use Rattle.gc_station.proofs.Lists.{all_at}
 use Rattle.gc_station.proofs.Nearly.{qualities_as_listed}
+use Rattle.gc_station.proofs.Requested.{one_requested}
 use Rattle.gc_measuring.specs.Measuring.{Survey, entry_in}
 use Rattle.gc_field.specs.World.{Ends}
 use Rattle.gc_field.specs.Instrument.{IsAnInstrument, AnyState}
@@ -48,7 +50,7 @@ use Rattle.gc_promise.proofs.Judged.{judged}
 use Rattle.gc_station.specs.Moments.{IsAsRead}
 use Rattle.gc_station.proofs.Moments.{came_at, one_added}
 use Rattle.gc_promise.proofs.Owning.{heard_is_reply}
-use Rattle.gc_promise.proofs.Setting.{never_sent, set_to}
+use Rattle.gc_promise.proofs.Setting.{asked_by, never_sent, set_to}
 
 -- what is written of a record of this survey
 abbrev pub entry_of : Survey → Record → Entry
@@ -130,18 +132,19 @@ module _ (survey : Survey) (reads : Asked → List ℕ → Reading) (are : AreRe
       }
 
   -- the row of a record is by a line that may have answered it (`IsRowBy`), if the line of its reply is one, the record's answer is
-  -- justified, its quality is as listed, and it is of its task
+  -- justified, its quality is as listed, and it is of its task and of its request
   row_by_if : (CanAnswer : List ℕ → Type 0) (acts : List Act) → ((line : List ℕ) → line_of r.end ≡ Some line → CanAnswer line)
       → Runs survey.plan survey.tasks (opening survey.plan (scope_of survey reads)) acts
       → AnswerIsJustified survey.plan survey.tasks (scope_of survey reads) acts r → IsAsListed reads survey.tasks r → IsOfItsTask survey.tasks r
-      → HasItsMoment survey.plan survey.tasks (scope_of survey reads) acts r × IsAsRead reads r
+      → IsOfItsRequest survey.plan survey.tasks (scope_of survey reads) acts r → HasItsMoment survey.plan survey.tasks (scope_of survey reads) acts r × IsAsRead reads r
       → IsRowBy CanAnswer has_quantities at survey (scope_of survey reads) acts r
-  row_by_if CanAnswer acts can runs came listed of added =
+  row_by_if CanAnswer acts can runs came listed of requested added =
       record {
         is_of = has.is_of;
         ended = added.0;
         clock = set_to at survey.tasks r of has.is_of.command.sent;
-        unsent = never_sent at survey.tasks r of has.is_of.command.sent;
+        asked = asked_by at survey.tasks r of has.is_of.command.sent has.is_of.request survey.plan (scope_of survey reads) acts requested;
+        unsent = never_sent at survey.tasks r of has.is_of.command.sent has.is_of.request;
         replied = λ is.
             let replied = reply_ended r.end (subst IsOutcomeOfReply has.is_of.command.outcome is) in
             let justified = came replied.0 replied.1 in (
@@ -174,6 +177,7 @@ module _ (CanAnswer : Answers) (reads : Asked → List ℕ → Reading) (are : A
       (all_at (AnswerIsJustified survey.plan survey.tasks (scope_of survey reads) acts) records n r (answers_true survey.plan survey.tasks (scope_of survey reads) acts is.runs) there)
       (all_at (λ (x : Record). IsAsListed reads survey.tasks x) records n r (qualities_as_listed survey.plan survey.tasks (scope_of survey reads) acts) there)
       (all_at (IsOfItsTask survey.tasks) records n r (of_tasks survey.plan survey.tasks (scope_of survey reads) acts) there)
+      (one_requested survey.plan survey.tasks (scope_of survey reads) acts is.runs n r there)
       (one_added survey.plan survey.tasks (scope_of survey reads) acts is.runs n r there)
 
 -- a run in the field is answered by lines that are its records' own

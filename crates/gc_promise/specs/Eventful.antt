@@ -396,12 +396,18 @@ last_stretch = record { from = left_by_turns reporting anew_turns left_by_first;
 
 -- The records of the run.
 
+-- the id of the request of a command at this place: one more, if it was sent at a moment, and else 0
+abbrev pub id_of_place : Option ℕ → ℕ → ℕ
+id_of_place None place = 0
+id_of_place (Some utc) place = suc place
+
 -- the record of a command of this cycle and place, for this target and with this call: it was sent at the moment `sent`, if it
 -- was, and ended at the moment `utc`, which for a missed command is when its cycle was due
 abbrev pub ended_record : Option ℕ → (utc cycle place target : ℕ) → Asked → End → Record
 ended_record sent utc cycle place target call end =
     record {
       sent = sent;
+      id = id_of_place sent place;
       utc = utc;
       cycle = cycle;
       place = place;

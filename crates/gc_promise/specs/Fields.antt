@@ -24,12 +24,13 @@ use Rattle.gc_texts.specs.declared.quality.Quality.{Quality}
 use Rattle.gc_texts.specs.declared.quality.Quality.TheVariants.{Fine, Warning, Unconfirmed, Refused}
 use Rattle.gc_texts.specs.declared.tasks.Task.{Task}
 pub use Rattle.gc_rows.specs.Lookup.{under}
-use Rattle.gc_rows.specs.Rows.{fault_field, moment_text, procedure_of, value_texts}
+use Rattle.gc_rows.specs.Rows.{fault_field, moment_text, procedure_of, request_sent, value_texts}
 use Rattle.gc_rows.specs.Quantities.{quantity_names}
 use Rattle.gc_rows.specs.ProcedureQuantities.{quantities_returned}
 use Rattle.gc_station.specs.Parts.{went_out}
 use Rattle.gc_station.specs.Qualities.{accepted_at, quality_as, twice_at}
 use Rattle.gc_station.specs.Records.{Record}
+use Rattle.gc_station.specs.Requested.{HasItsRequest, request_of}
 use Rattle.gc_station.specs.Scopes.{Scope}
 use Rattle.gc_links.specs.Acts.{Act}
 use Rattle.gc_measuring.specs.Measuring.{Survey}
@@ -50,11 +51,12 @@ pub record SaysCommand (at : List ℕ → List ℕ) (r : Record) : Type 0 where
   pub outcome : at (codes "outcome") ≡ word_of r.end
   pub fault : at (codes "fault") ≡ fault_field (fault_of r.end)
 
--- the row has what its record says, however the command ended: what `SaysCommand` lists, and the attempt of the turn; and what it has
--- of the run, which measures this survey: the moment at which the run began, and the name of the target, `escaped`
+-- the row has what its record says, however the command ended: what `SaysCommand` lists, the attempt of the turn, and the request line,
+-- `escaped` (nothing if the record has no moment of sending); and what it has of the run, which measures this survey: the moment at which the run began, and the name of the target, `escaped`
 pub record IsRowOf (survey : Survey) (at : List ℕ → List ℕ) (r : Record) : Type 0 where
   pub command : SaysCommand at r
   pub attempt : at (codes "attempt") ≡ decimal r.turn.attempt
+  pub request : at (codes "request") ≡ escaped (request_sent r.sent r.id r.command.call)
   pub run : at (codes "run") ≡ stamp_text survey.layout.run
   pub name : at (codes "name") ≡ escaped (name_text r.command.target survey.names)
 
@@ -142,8 +144,10 @@ pub record IsRowBy (IsAnswer : List ℕ → Type 0) (has_quantities : Bool) (at 
   pub ended : HasItsMoment survey.plan survey.tasks scope acts r
   -- if the command sets the clock and its request was sent, that asked for the moment under `sent`, cut to seconds
   pub clock : (task : Task) → slice_get survey.tasks r.place ≡ Some task → task.now ≡ true → went_out r.end ≡ true → IsSetTo at r
-  -- if no request was sent, nothing is under `sent`
-  pub unsent : went_out r.end ≡ false → at (codes "sent") ≡ []
+  -- if a request was sent, its line is under `request`, `escaped`, and an act of the run put that line, at the moment under `sent`
+  pub asked : went_out r.end ≡ true → HasItsRequest survey.plan survey.tasks scope acts r × (at (codes "request") ≡ escaped (request_of r))
+  -- if no request was sent, nothing is under `sent`, nor under `request`
+  pub unsent : went_out r.end ≡ false → (at (codes "sent") ≡ []) × (at (codes "request") ≡ [])
   -- if the outcome is that of a reply, the row says what a line says that may have answered the command, and has under `time` the moment
   -- of the read that brought that line
   pub replied :

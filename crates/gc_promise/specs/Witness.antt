@@ -27,23 +27,23 @@ table_layout = layout_in Csv
 
 -- the row of command 0 in the third cycle, in `table_layout`
 abbrev pub points_row : List ℕ
-points_row = codes "1970-01-01T00:00:00.000Z,1970-01-01T00:00:00.405Z,1970-01-01T00:00:00.410Z,3,0,7,,9027,answered,,0,0,,ok,1\n"
+points_row = codes "1970-01-01T00:00:00.000Z,1970-01-01T00:00:00.405Z,1970-01-01T00:00:00.410Z,3,0,7,,9027,answered,,0,0,,ok,1,\"%R1Q,9027,1:2.25,1.625,0,0,0\"\n"
 
 -- the row of command 1 in the third cycle, in `table_layout`
 abbrev pub chained_row : List ℕ
-chained_row = codes "1970-01-01T00:00:00.000Z,1970-01-01T00:00:00.410Z,1970-01-01T00:00:00.435Z,3,1,7,,2108,answered,,0,0,\"2.25,1.625,110.0625\",ok,1\n"
+chained_row = codes "1970-01-01T00:00:00.000Z,1970-01-01T00:00:00.410Z,1970-01-01T00:00:00.435Z,3,1,7,,2108,answered,,0,0,\"2.25,1.625,110.0625\",ok,1,\"%R1Q,2108,2:3000,1\"\n"
 
 -- the row of command 2 in the third cycle, in `table_layout`
 abbrev pub elsewhere_row : List ℕ
-elsewhere_row = codes "1970-01-01T00:00:00.000Z,1970-01-01T00:00:00.410Z,1970-01-01T00:00:00.435Z,3,2,8,,2108,elsewhere,,0,0,\"0.5,1.5,87.25\",,1\n"
+elsewhere_row = codes "1970-01-01T00:00:00.000Z,1970-01-01T00:00:00.410Z,1970-01-01T00:00:00.435Z,3,2,8,,2108,elsewhere,,0,0,\"0.5,1.5,87.25\",,1,\"%R1Q,2108,3:3000,1\"\n"
 
 -- the row of command 3 in the third cycle, in `table_layout`
 abbrev pub number_row : List ℕ
-number_row = codes "1970-01-01T00:00:00.000Z,1970-01-01T00:00:00.410Z,1970-01-01T00:00:00.435Z,3,3,1,,5003,answered,,0,0,31,ok,1\n"
+number_row = codes "1970-01-01T00:00:00.000Z,1970-01-01T00:00:00.410Z,1970-01-01T00:00:00.435Z,3,3,1,,5003,answered,,0,0,31,ok,1,\"%R1Q,5003,4:\"\n"
 
 -- the row of command 4 in the third cycle, in `table_layout`
 abbrev pub unreadable_row : List ℕ
-unreadable_row = codes "1970-01-01T00:00:00.000Z,1970-01-01T00:00:00.410Z,1970-01-01T00:00:00.435Z,3,4,2,,5003,unreadable,15,0,0,,,1\n"
+unreadable_row = codes "1970-01-01T00:00:00.000Z,1970-01-01T00:00:00.410Z,1970-01-01T00:00:00.435Z,3,4,2,,5003,unreadable,15,0,0,,,1,\"%R1Q,5003,5:\"\n"
 
 -- the run as a station measures it: its commands by its plan, written in this form
 abbrev pub survey : Form → Survey

@@ -29,8 +29,9 @@ pub fn rows_are_their_own<State>()
     // when the run began, when its record's request was sent, if it was, and when its command ended; the cycle, place and attempt;
     // the target, the target's name, the procedure and the outcome. A command ended at the moment that was read last by the act that
     // added its record: if a reply ended it, by the read that brought the reply's line; if it was missed, when its cycle was due. If the
-    // command sets the clock and its request was sent, the request asked for the moment at which it was sent, cut to seconds. If the
-    // outcome is that of a reply, the row has the codes and values of a line that the instrument made on executing the request of
+    // command sets the clock and its request was sent, the request asked for the moment at which it was sent, cut to seconds. If a request
+    // was sent, the row has its line, which an act of the run put at the moment of sending; else it has neither. If the outcome is that of
+    // a reply, the row has the codes and values of a line that the instrument made on executing the request of
     // this cycle and place; if it is `answered`, the quality of the answer, and, in a table with columns for them, its quantities;
     // and if it is `unreadable`, the fault for which the line's values don't read.
     ensures tables { TablesAreTheirOwn State }

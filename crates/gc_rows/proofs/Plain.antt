@@ -66,7 +66,7 @@ onto_digits (suc k) n acc are =
     (λ _. (glyph_is_digit n, are)) (λ _. onto_digits k (n / 10) (digit_glyph false (n % 10) ∷ acc) (glyph_is_digit n, are))
 
 -- the decimal of any number is digits
-decimal_digits : (n : ℕ) → AreDigits (decimal n)
+pub decimal_digits : (n : ℕ) → AreDigits (decimal n)
 unfolding digits
 decimal_digits n = onto_digits 64 n [] tt
 

@@ -17,7 +17,7 @@ use Rattle.gc_rows.specs.Cells.{Content, Blank, Bytes, Moment, Whole, Code, Quan
 use Rattle.gc_rows.specs.Items.{split_items}
 use Rattle.gc_rows.specs.JsonLines.{Member}
 use Rattle.gc_rows.specs.Quantities.{column_of, quantity_name, quantity_names}
-use Rattle.gc_rows.specs.Rows.{com_of, code_of, values_of, procedure_of}
+use Rattle.gc_rows.specs.Rows.{com_of, code_of, values_of, procedure_of, request_sent}
 use Rattle.gc_rows.specs.declared.record.EndedCommand.{EndedCommand}
 use Rattle.gc_rows.specs.declared.when.When.{When}
 
@@ -126,6 +126,10 @@ items_if_any asked _ _ = Blank
 abbrev pub items_content : Asked → End → Content
 items_content asked end = items_if_any asked (counted_answer end) (line_of end)
 
+-- the request line of an entry, as it was sent, without CR LF; empty if none was sent
+abbrev pub line_sent : Entry → List ℕ
+line_sent r = request_sent r.when.stamp.sent r.when.stamp.id r.command.call
+
 -- The columns.
 
 -- the column of the moment at which a record's run began
@@ -158,12 +162,13 @@ quantity_columns false = []
 abbrev pub items_column : Column
 items_column = column (codes "items") (λ r. items_content r.command.call r.end)
 
--- the columns after all others: the quality of the answer, and the attempt of the command's chain or, for a command of the setup, of
--- the setup
+-- the columns after all others: the quality of the answer, the attempt of the command's chain or, for a command of the setup, of the
+-- setup, and the request line as it was sent
 abbrev pub last_columns : List Column
 last_columns =
     column (codes "quality") (λ r. bytes_content (quality_text (quality_of r.end)))
     ∷ column (codes "attempt") (λ r. Whole r.when.stamp.turn.attempt)
+    ∷ column (codes "request") (λ r. bytes_content (line_sent r))
     ∷ []
 
 -- the columns of a row, with those of the quantities or without

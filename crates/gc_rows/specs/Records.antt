@@ -34,8 +34,8 @@ abbrev pub record_line : Entry → List ℕ
 record_line r =
     stamp_text r.when.stamp.utc ++ codes " " ++ decimal r.when.stamp.turn.place ++ codes " " ++ decimal r.command.target ++ ending_text r.end ++ codes "\n"
 
--- the record of an entry in this form. In the form `Lines` there is neither the target's name nor the moment at which the command was
--- sent
+-- the record of an entry in this form. In the form `Lines` there is neither the target's name nor the request, nor the moment at which
+-- that was sent
 abbrev pub record_text : Form → Entry → List ℕ
 record_text Lines r = record_line r
 record_text Csv r = row_of (row_fields false r)

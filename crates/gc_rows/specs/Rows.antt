@@ -1,10 +1,10 @@
 -- Rows: a record as a row of comma-separated values. How a field is quoted is RFC 4180's. Each field is printable ASCII: other
 -- bytes are written as `\x` and two digits, and so is a backslash.
-use Rattle.std.specs.Prelude.{ℕ, ◌≡◌, ◌+◌, ◌-◌, ◌≤◌, ◌==◌, ◌||◌, Bool, List, [], ◌∷◌, ◌++◌, length, map, replicate, Option, Some, None, if◌then◌else◌, codes}
+use Rattle.std.specs.Prelude.{ℕ, ◌≡◌, ◌+◌, ◌-◌, ◌%◌, ◌≤◌, ◌==◌, ◌||◌, Bool, List, [], ◌∷◌, ◌++◌, length, map, replicate, Option, Some, None, if◌then◌else◌, codes}
 use Rattle.std.specs.Fmt.{decimal}
 use Rattle.std.specs.List.{flat_map, list_any}
 use Rattle.gc_catalogue.specs.Answers.{answer_fields}
-pub use Rattle.gc_catalogue.specs.Asked.{procedure_of}
+pub use Rattle.gc_catalogue.specs.Asked.{asked_line, procedure_of}
 use Rattle.gc_catalogue.specs.declared.answer.Answer.{Answer}
 use Rattle.gc_catalogue.specs.declared.asked.Asked.{Asked}
 use Rattle.gc_catalogue.specs.declared.asked.Asked.TheVariants.{Table, Raw}
@@ -78,6 +78,12 @@ moment_text (Some utc) = stamp_text utc
 abbrev pub fault_field : Option ValueFault → List ℕ
 fault_field None = []
 fault_field (Some fault) = decimal (value_fault_number fault)
+
+-- the request line for what was asked, as it was sent with this id, without CR LF; empty if none was sent. An id is below 8, and so is
+-- its own remainder
+abbrev pub request_sent : (sent : Option ℕ) → (id : ℕ) → Asked → List ℕ
+request_sent None id asked = []
+request_sent (Some utc) id asked = asked_line (Some (id % 8)) asked
 
 -- the texts of an answer's values, in order
 abbrev pub value_texts : Answer → List (List ℕ)

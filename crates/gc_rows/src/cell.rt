@@ -1,12 +1,13 @@
 //! Cells: a record is one list of named cells. A row has a field for each cell, and an object a member for each that isn't blank.
 
-ghost use Rattle.std.specs.Prelude.{◌≡◌, ℕ, ◌+◌, ◌*◌, ◌≤◌, length, map, option_map};
-ghost use Rattle.gc_rows.specs.Cells.{AreShort, cell_seen, content_seen, Code, Bytes, fields_room, members_room, IsWithin};
-ghost use Rattle.gc_rows.specs.Columns.{bytes_content, cells_in, entry_seen, fault_content, first_columns, last_columns, line_content, moment_content};
+ghost use Rattle.std.specs.Prelude.{◌≡◌, ℕ, ◌+◌, ◌*◌, ◌≤◌, length, option_map};
+ghost use Rattle.gc_rows.specs.Cells.{content_seen, Code, Bytes, IsWithin};
+ghost use Rattle.gc_rows.specs.Columns.{bytes_content, entry_seen, fault_content, line_content, line_sent, moment_content};
 ghost use Rattle.gc_rows.specs.Rows.{AreNoLonger, com_of, code_of, values_of};
-ghost use Rattle.gc_rows.specs.declared.cell.TheConstants.{FIRST_FIELDS, FIRST_MEMBERS, LAST_FIELDS, LAST_MEMBERS, MOMENT_ROOM, NAME_ROOM, NUMBER_ROOM};
+ghost use Rattle.gc_rows.specs.declared.cell.TheConstants.{MOMENT_ROOM, NAME_ROOM, NUMBER_ROOM};
 
 use crate::record::EndedCommand;
+use gc_catalogue::encode_asked;
 use gc_lines::Line;
 use gc_texts::{STAMP_ROOM, before, behind};
 use gc_values::ValueFault;
@@ -57,11 +58,11 @@ pub(crate) const FIRST_MEMBERS: usize = 12 * NAME_ROOM
     + 2 * 512
     + (8 * 512 + 3);
 
-/// The most bytes of the last cells in a row: a word and a number.
-pub(crate) const LAST_FIELDS: usize = 8 * 16 + 3 + NUMBER_ROOM;
+/// The most bytes of the last cells in a row: a word, a number and a line.
+pub(crate) const LAST_FIELDS: usize = 8 * 16 + 3 + NUMBER_ROOM + (8 * 512 + 3);
 
-/// The most bytes of the last cells in an object: those of a row, and two names.
-pub(crate) const LAST_MEMBERS: usize = 2 * NAME_ROOM + LAST_FIELDS;
+/// The most bytes of the last cells in an object: those of a row, and three names.
+pub(crate) const LAST_MEMBERS: usize = 3 * NAME_ROOM + LAST_FIELDS;
 
 /// The parts of a reply's line, as they are written there.
 #[derive(Clone, Copy)]
@@ -90,15 +91,16 @@ pub(crate) fn texts_of(line: &[u8]) -> ReplyTexts<'_>
     }
 }
 
-// What the cells of a reply's line hold: its codes and its values. All are blank if there is no line.
+/// What the cells of a reply's line hold: its codes and its values. All are blank if there is no line.
 #[derive(Clone, Copy)]
-struct ReplyContents<'a> {
-    com: Content<'a>,
-    code: Content<'a>,
-    values: Content<'a>,
+pub(crate) struct ReplyContents<'a> {
+    pub com: Content<'a>,
+    pub code: Content<'a>,
+    pub values: Content<'a>,
 }
 
-fn reply_contents<'a>(line: Option<&'a Line>) -> ReplyContents<'a>
+/// What the cells of a reply's line hold, if there is a line.
+pub(crate) fn reply_contents<'a>(line: Option<&'a Line>) -> ReplyContents<'a>
     ensures com { content_seen result.com ≡ line_content (λ l. Code (com_of l)) (option_map (λ l. l.now.items) line.entry) }
     ensures code { content_seen result.code ≡ line_content (λ l. Code (code_of l)) (option_map (λ l. l.now.items) line.entry) }
     ensures values { content_seen result.values ≡ line_content (λ l. Bytes (values_of l)) (option_map (λ l. l.now.items) line.entry) }
@@ -123,8 +125,8 @@ fn reply_contents<'a>(line: Option<&'a Line>) -> ReplyContents<'a>
     }
 }
 
-// A moment, if there is one.
-fn moment_content(moment: Option<u64>) -> Content<'static>
+/// A moment, if there is one.
+pub(crate) fn moment_content(moment: Option<u64>) -> Content<'static>
     ensures is { content_seen result ≡ moment_content moment }
     ensures room { IsWithin 0 MOMENT_ROOM (NAME_ROOM + MOMENT_ROOM) (content_seen result) }
 {
@@ -134,8 +136,8 @@ fn moment_content(moment: Option<u64>) -> Content<'static>
     }
 }
 
-// These bytes, if there are any.
-fn bytes_content(bytes: &[u8]) -> Content<'_>
+/// These bytes, if there are any.
+pub(crate) fn bytes_content(bytes: &[u8]) -> Content<'_>
     ensures is { content_seen result ≡ bytes_content bytes.now }
     ensures room { IsWithin (length bytes.now) (8 * length bytes.now + 3) (NAME_ROOM + (8 * length bytes.now + 3)) (content_seen result) }
 {
@@ -146,8 +148,8 @@ fn bytes_content(bytes: &[u8]) -> Content<'_>
     }
 }
 
-// The number of a fault, if there is a fault.
-fn fault_content(fault: Option<ValueFault>) -> Content<'static>
+/// The number of a fault, if there is a fault.
+pub(crate) fn fault_content(fault: Option<ValueFault>) -> Content<'static>
     ensures is { content_seen result ≡ fault_content fault }
     ensures room { IsWithin 0 NUMBER_ROOM (NAME_ROOM + NUMBER_ROOM) (content_seen result) }
 {
@@ -157,45 +159,13 @@ fn fault_content(fault: Option<ValueFault>) -> Content<'static>
     }
 }
 
-/// The cells of a record between its first one, `run`, and its quantities.
-pub(crate) fn first_cells<'a>(ended: EndedCommand<'a>) -> [Cell<'a>; 12]
-    requires { length ended.name.now ≤ 64 }
-    ensures is { map cell_seen result ≡ cells_in first_columns (entry_seen ended.entry) }
-    ensures short { AreShort (map cell_seen result) }
-    ensures fields { fields_room (map cell_seen result) ≤ FIRST_FIELDS }
-    ensures members { members_room (map cell_seen result) ≤ FIRST_MEMBERS }
+/// The request line of a command that ended, as it was sent, without its CR LF; empty if none was sent.
+pub(crate) fn request_line(ended: EndedCommand<'_>) -> Line
+    ensures { result.items ≡ line_sent (entry_seen ended.entry) }
 {
-    let stamp = ended.when.stamp;
-    let reply = reply_contents(ended.ending.line());
-    [
-        Cell(b"sent", moment_content(stamp.sent)),
-        Cell(b"time", Content::Moment(stamp.utc)),
-        Cell(b"cycle", Content::Whole(stamp.cycle)),
-        Cell(b"place", Content::Whole(stamp.turn.place as u64)),
-        Cell(b"target", Content::Whole(ended.command.target as u64)),
-        Cell(b"name", bytes_content(ended.name)),
-        Cell(
-            b"procedure",
-            Content::Whole(ended.command.call.number() as u64),
-        ),
-        Cell(b"outcome", Content::Bytes(ended.ending.word())),
-        Cell(b"fault", fault_content(ended.ending.fault())),
-        Cell(b"rc_com", reply.com),
-        Cell(b"rc", reply.code),
-        Cell(b"values", reply.values),
-    ]
-}
-
-/// The cells of a record after all others: the quality of the answer, and the attempt of the command's chain or, for a command of
-/// the setup, of the setup.
-pub(crate) fn last_cells<'a>(ended: EndedCommand<'a>) -> [Cell<'a>; 2]
-    ensures is { map cell_seen result ≡ cells_in last_columns (entry_seen ended.entry) }
-    ensures short { AreShort (map cell_seen result) }
-    ensures fields { fields_room (map cell_seen result) ≤ LAST_FIELDS }
-    ensures members { members_room (map cell_seen result) ≤ LAST_MEMBERS }
-{
-    [
-        Cell(b"quality", bytes_content(ended.ending.quality_text())),
-        Cell(b"attempt", Content::Whole(ended.when.stamp.turn.attempt)),
-    ]
+    match ended.when.stamp.sent {
+        // (an id is below 8)
+        Some(_) => encode_asked(Some(ended.when.stamp.id % 8), &ended.command.call),
+        None => Line::new(),
+    }
 }

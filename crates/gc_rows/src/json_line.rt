@@ -19,10 +19,9 @@ ghost use Rattle.gc_rows.specs.Records.{record_of};
 ghost use Rattle.gc_rows.specs.Rows.{Adds};
 ghost use Rattle.gc_rows.specs.declared.record.Form.TheVariants.{Json};
 
-use crate::cell::{Cell, Content, NAME_ROOM, first_cells, last_cells, texts_of};
-use crate::quantity::{
-    MOST_VALUES, QUANTITY_ROOM, answer_values, column_of, quantity_name, quantity_text,
-};
+use crate::cell::{Cell, Content, NAME_ROOM, request_line, texts_of};
+use crate::column::{first_cells, last_cells, quantity_name};
+use crate::quantity::{MOST_VALUES, QUANTITY_ROOM, answer_values, column_of, quantity_text};
 use crate::record::EndedCommand;
 use arrayvec::ArrayVec;
 use gc_catalogue::{Answer, Asked, Call};
@@ -295,12 +294,13 @@ pub(crate) fn json_line(ended: EndedCommand<'_>) -> ArrayVec<u8, JSON_ROOM>
     requires { length ended.name.now ≤ 64 }
     ensures { result.items ≡ record_of Json ended.entry }
 {
+    let request = request_line(ended);
     let mut line = ArrayVec::new();
     append(&mut line, b"{\"run\":");
     append_string(&mut line, &stamp_text(ended.when.run));
     append_cells(&mut line, &first_cells(ended));
     append_quantities(&mut line, &ended.command.call, ended.ending);
-    append_cells(&mut line, &last_cells(ended));
+    append_cells(&mut line, &last_cells(ended, &request));
     append(&mut line, b"}\n");
     line
 }

@@ -2,6 +2,7 @@
 #![tactic(auto)]
 
 mod cell;
+mod column;
 mod json_line;
 pub mod laws;
 mod quantity;
@@ -9,5 +10,6 @@ mod record;
 mod row;
 mod when;
 
+pub use column::{COLUMNS, Column, Kind};
 pub use record::{EndedCommand, Form, head, sign, write_head, write_record};
 pub use when::When;

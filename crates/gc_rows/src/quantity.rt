@@ -3,7 +3,7 @@
 ghost use Rattle.std.specs.Prelude.{◌≡◌, ◌+◌, ◌≤◌, length, IfSome};
 ghost use Rattle.gc_catalogue.specs.Answers.{answer_fields};
 ghost use Rattle.gc_catalogue.specs.Structs.{date_values, station_values};
-ghost use Rattle.gc_rows.specs.Quantities.{column_of, column_of_whole, quantity_name, quantity_text};
+ghost use Rattle.gc_rows.specs.Quantities.{column_of, column_of_whole, quantity_text};
 ghost use Rattle.gc_rows.specs.declared.quantity.TheConstants.{QUANTITIES};
 
 use arrayvec::ArrayVec;
@@ -20,40 +20,6 @@ pub(crate) const MOST_VALUES: usize = 6;
 
 /// The most bytes of a quantity.
 pub(crate) const QUANTITY_ROOM: usize = 64;
-
-/// The name of the quantity in a column, counted from 0; empty for a column after the last.
-pub(crate) fn quantity_name(column: usize) -> &'static [u8]
-    ensures is { result.now ≡ quantity_name column }
-    ensures short { length result.now ≤ 32 }
-{
-    match column {
-        0 => b"hz_rad",
-        1 => b"v_rad",
-        2 => b"distance_m",
-        3 => b"mode",
-        4 => b"easting_m",
-        5 => b"northing_m",
-        6 => b"height_m",
-        7 => b"instrument_height_m",
-        8 => b"reflector_height_m",
-        9 => b"face",
-        10 => b"prism_type",
-        11 => b"temperature_c",
-        12 => b"places",
-        13 => b"release",
-        14 => b"version",
-        15 => b"subversion",
-        16 => b"serial",
-        17 => b"instrument",
-        18 => b"year",
-        19 => b"month",
-        20 => b"day",
-        21 => b"hour",
-        22 => b"minute",
-        23 => b"second",
-        _ => b"",
-    }
-}
 
 /// The values of an answer, in their order on the line.
 pub(crate) fn answer_values(answer: &Answer) -> ArrayVec<Value, MOST_VALUES>

@@ -8,6 +8,7 @@ ghost use Rattle.gc_rows.specs.Records.{spaced_fault, spaced_line, ending_text, 
 ghost use Rattle.gc_rows.specs.Rows.{Adds};
 ghost use Rattle.arrayvec.specs.ArrayVec.{array_vec_len};
 
+use crate::column::{HEADER, WIDE_HEADER};
 use crate::json_line::json_line;
 use crate::row::csv_row;
 use crate::when::When;
@@ -45,29 +46,14 @@ pub enum Form {
     Json,
 }
 
-// The row of the columns' names, with its line feed. It has the names of quantities that are given, each with a comma after it.
-macro_rules! header {
-    ($($quantities:literal)?) => {
-        concat!(
-            "run,sent,time,cycle,place,target,name,procedure,outcome,fault,rc_com,rc,values,",
-            $($quantities,)?
-            "quality,attempt\n"
-        ).as_bytes()
-    };
-}
-
 /// What comes before all records in this form: a row of the columns' names, with its line feed, or nothing if the form has no columns.
 pub fn head(form: Form) -> &'static [u8]
     ensures { result.now ≡ head_text form }
 {
     match form {
         Form::Lines | Form::Json => b"",
-        Form::Csv => header!(),
-        Form::Columns => header!(
-            "hz_rad,v_rad,distance_m,mode,easting_m,northing_m,height_m,instrument_height_m,reflector_height_m,\
-             face,prism_type,temperature_c,places,release,version,subversion,serial,instrument,\
-             year,month,day,hour,minute,second,"
-        ),
+        Form::Csv => HEADER.as_bytes(),
+        Form::Columns => WIDE_HEADER.as_bytes(),
     }
 }
 
@@ -91,8 +77,8 @@ pub fn write_head<K: Sink>(sink: &mut K, form: Form) -> Result<(), usize>
     write_whole(sink, head(form))
 }
 
-/// Writes the record of a command that ended, in this form. In the form `Lines` it has neither the target's name nor the moment
-/// at which the command was sent. The record goes in one write if the sink takes all of it. `Err(n)`: the sink took the first n
+/// Writes the record of a command that ended, in this form. In the form `Lines` it has neither the target's name nor the request, nor the
+/// moment at which that was sent. The record goes in one write if the sink takes all of it. `Err(n)`: the sink took the first n
 /// bytes of the record, which aren't all, and failed.
 pub fn write_record<K: Sink>(sink: &mut K, form: Form, ended: EndedCommand<'_>) -> Result<(), usize>
     requires { length ended.name.now ≤ 64 }

@@ -12,7 +12,8 @@ ghost use Rattle.gc_rows.specs.Quantities.{quantity_text};
 ghost use Rattle.gc_rows.specs.declared.quantity.TheConstants.{QUANTITIES};
 ghost use Rattle.gc_rows.specs.declared.row.TheConstants.{VALUE_ROOM, QUANTITIES_ROOM};
 
-use crate::cell::{Cell, Content, first_cells, last_cells};
+use crate::cell::{Cell, Content, request_line};
+use crate::column::{first_cells, last_cells};
 use crate::quantity::{
     MOST_VALUES, QUANTITIES, QUANTITY_ROOM, answer_values, column_of, quantity_text,
 };
@@ -206,11 +207,12 @@ pub(crate) fn csv_row(has_quantities: bool, ended: EndedCommand<'_>) -> ArrayVec
     requires { length ended.name.now ≤ 64 }
     ensures { result.items ≡ row_of (row_fields has_quantities (entry_seen ended.entry)) }
 {
+    let request = request_line(ended);
     let mut row = ArrayVec::new();
     append_field(&mut row, &stamp_text(ended.when.run));
     append_cells(&mut row, &first_cells(ended));
     append_quantities_if(&mut row, has_quantities, ended);
-    append_cells(&mut row, &last_cells(ended));
+    append_cells(&mut row, &last_cells(ended, &request));
     append(&mut row, b"\n");
     row
 }

@@ -31,8 +31,8 @@ use Rattle.gc_station.specs.Reasons.{HoldsBefore}
 use Rattle.gc_station.specs.Records.{Record}
 use Rattle.gc_station.specs.Runs.{state_after, OfEachRecord}
 use Rattle.gc_station.specs.ActKinds.{moment_in, Puts, ReadsClock, IsOpening, ReadsLink}
-use Rattle.gc_station.specs.Model.{Model, opening, action_at, waiting_of, next_request_text, null_text, first_text, with_progress, is_heard, client_sent, asks_first, asks_next, after_pass, with_more_passes, next_left_out, with_listed, listed_after_skip, with_more_records, unsent_record, end_unsent, first_unsent_record, after_clock, after_put, after_open, after_read, Performs, moved, Runs, cycle_length, place_to_send, text_or_null, asks_setup, null_request, request_or_null, asks_for, mark_sent}
-use Rattle.gc_station.specs.NextCommand.{mark_next, place_next, upcoming_after, mark_setup}
+use Rattle.gc_station.specs.Model.{Model, opening, action_at, waiting_of, next_request_text, null_text, first_text, with_progress, is_heard, client_sent, asks_first, asks_next, after_pass, with_more_passes, next_left_out, with_listed, listed_after_skip, with_more_records, unsent_record, end_unsent, first_unsent_record, after_clock, after_put, after_open, after_read, Performs, moved, Runs, cycle_length, place_to_send, text_or_null, asks_setup, null_request, request_or_null, asks_for, mark_sent, mark_setup_sent}
+use Rattle.gc_station.specs.NextCommand.{mark_next, place_next, upcoming_after}
 use Rattle.gc_station.proofs.InCycle.{within_window}
 use Rattle.gc_station.proofs.EachRun.{invariant_holds}
 use Rattle.gc_station.proofs.Outs.{prepare_cycle, prepare_place, send_cycle, send_place, sending_asks}
@@ -61,21 +61,21 @@ put_honest : (plan : Plan) (commands : List Task) (scope : Scope) (acts : List A
 put_honest plan commands scope acts requests f t (Cut out n) h = h
 put_honest plan commands scope acts requests f t act h = h
 
--- a command that isn't sent is neither answered nor late nor lost, so its record is true
+-- a command that isn't sent is neither answered nor late nor lost, so its record is true, if its mark has the id 0
 unsent_true : (plan : Plan) (commands : List Task) (scope : Scope) (all : List Act) (missed : Bool) (utc : ℕ) (mark : Mark) (command : Wish)
-    → IsJustified plan commands scope all (record_with utc mark None command (end_unsent missed))
-unsent_true plan commands scope all true utc mark command = record { answered = λ line e. cc; late = λ e. cc; lost = λ e. cc }
-unsent_true plan commands scope all false utc mark command = record { answered = λ line e. cc; late = λ e. cc; lost = λ e. cc }
+    → mark.id ≡ 0 → IsJustified plan commands scope all (record_with utc mark None command (end_unsent missed))
+unsent_true plan commands scope all true utc mark command none = record { answered = λ line e. cc; late = λ e. cc; lost = λ e. cc; unsent = λ e. none }
+unsent_true plan commands scope all false utc mark command none = record { answered = λ line e. cc; late = λ e. cc; lost = λ e. cc; unsent = λ e. none }
 
--- the record of the first of these commands, which isn't sent, is true
+-- the record of the first of these commands, which isn't sent, is true, if its mark has the id 0
 skips_first_true : (plan : Plan) (commands : List Task) (scope : Scope) (all : List Act) (p : Progress) (m : Moment) (mark : Mark) (left : List Task)
-    → AllByRecursion (IsJustified plan commands scope all) (first_unsent_record p m mark left)
-skips_first_true plan commands scope all p m mark [] = tt
-skips_first_true plan commands scope all p m mark (task ∷ others) = (unsent_true plan commands scope all p.missed (unsent_at m p) mark task.command, tt)
+    → mark.id ≡ 0 → AllByRecursion (IsJustified plan commands scope all) (first_unsent_record p m mark left)
+skips_first_true plan commands scope all p m mark [] none = tt
+skips_first_true plan commands scope all p m mark (task ∷ others) none = (unsent_true plan commands scope all p.missed (unsent_at m p) mark task.command none, tt)
 
 -- the record of the next command, if it isn't sent, is true
 skips_true : (plan : Plan) (commands : List Task) (scope : Scope) (all : List Act) (p : Progress) (act : Act) → AllByRecursion (IsJustified plan commands scope all) (unsent_record plan commands p act)
-skips_true plan commands scope all p (Told m) = skips_first_true plan commands scope all p m (mark_next plan commands p) (drop (place_next commands p) commands)
+skips_true plan commands scope all p (Told m) = skips_first_true plan commands scope all p m (mark_next plan commands p) (drop (place_next commands p) commands) refl
 skips_true plan commands scope all p act = tt
 
 -- One act more.
@@ -251,8 +251,8 @@ module _ (plan : Plan) (commands : List Task) (scope : Scope) (acts : List Act) 
   moved_honest actions.Prepare act tail fine h is needs o ends =
       let s = here in
       put_honest plan commands scope (acts ++ act ∷ []) _ (λ (x : Model). with_progress (setup_sent plan) (asks_setup plan commands x)) (with_progress turned s) act
-      (setup_honest act (drop s.progress.prepared commands) (mark_setup commands s.progress) fine h
-      (record { sends = inr is; cycle = sym (prepare_cycle plan s is); place = sym (prepare_place plan commands s is); sent = refl }) (within_window _ _ needs.3.1)
+      (setup_honest act (drop s.progress.prepared commands) (mark_setup_sent commands s) fine h
+      (record { sends = inr is; cycle = sym (prepare_cycle plan s is); place = sym (prepare_place plan commands s is); sent = refl; id = refl }) (within_window _ _ needs.3.1)
       (ap (λ n. drop n commands) (prepare_place plan commands s is)) o)
   moved_honest actions.Send act tail fine h is needs o ends =
       let s = here in
@@ -261,7 +261,7 @@ module _ (plan : Plan) (commands : List Task) (scope : Scope) (acts : List Act) 
       (with_progress turned s) act
       (first_honest act (upcoming_after 1 commands s.progress)
       (drop (place_next commands s.progress) commands) (mark_sent plan commands s) fine h
-      (record { sends = inl is; cycle = sym (send_cycle plan s is); place = sym (send_place plan commands s is); sent = refl }) (within_window _ _ needs.3.1)
+      (record { sends = inl is; cycle = sym (send_cycle plan s is); place = sym (send_place plan commands s is); sent = refl; id = refl }) (within_window _ _ needs.3.1)
       (ap (λ n. drop n commands) (send_place plan commands s is)) o)
   moved_honest actions.Skip act tail fine h is needs o ends =
       let s = here in
@@ -307,6 +307,10 @@ all_true : (plan : Plan) (commands : List Task) (scope : Scope) (acts : List Act
 all_true plan commands scope acts P step runs =
     all_on (IsJustified plan commands scope acts) P (state_after plan commands scope acts).records step
     (honest_along plan commands scope [] acts (record { waiting = tt; written = tt }) runs).written
+
+-- each record of a command that wasn't sent has the id 0
+pub unsent_has_none : OfEachRecord (λ plan commands scope acts r. r.sent ≡ None → r.id ≡ 0)
+unsent_has_none plan commands scope acts runs = all_true plan commands scope acts (λ r. r.sent ≡ None → r.id ≡ 0) (λ r is. is.unsent) runs
 
 -- each record of a reply in time is true
 pub answers_true : OfEachRecord AnswerIsJustified

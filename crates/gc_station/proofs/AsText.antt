@@ -21,8 +21,8 @@ use Rattle.gc_links.specs.Acts.{Act, Told, Gave, Cut}
 use Rattle.gc_links.specs.declared.link.Moment.{Moment}
 use Rattle.gc_station.specs.Agreeing.{HasFirst, AgreesWithFirst, IsConfirmed, IsUnconfirmed, DisagreesInSecond}
 use Rattle.gc_station.specs.Marks.{agrees_in, quality_in, record_of, records_of, end_of}
-use Rattle.gc_station.specs.Model.{Model, opening, action_at, asks_for, asks_next, with_progress, with_moment, line_came, is_heard, after_piece, end_unsent, first_unsent_record, losing, moved, after, asks_setup, waiting_of, listed_unsent, request_for, null_request, mark_sent}
-use Rattle.gc_station.specs.NextCommand.{expected_first, mark_next, place_next, commands_left, mark_setup, cycles_begun}
+use Rattle.gc_station.specs.Model.{Model, opening, action_at, asks_for, asks_next, with_progress, with_moment, line_came, is_heard, after_piece, end_unsent, first_unsent_record, losing, moved, after, asks_setup, waiting_of, listed_unsent, request_for, null_request, mark_sent, mark_setup_sent}
+use Rattle.gc_station.specs.NextCommand.{expected_first, mark_next, place_next, commands_left, cycles_begun}
 use Rattle.gc_station.specs.Nearness.{IsAtItsTarget, HasAnswer, ElsewhereIsJustified}
 use Rattle.gc_station.specs.Qualities.{IsOfQuality, IsAsListed, accepted_at, quality_as, twice_at}
 use Rattle.gc_station.specs.Progressing.{turned, moment_noted, loses_all}
@@ -285,7 +285,7 @@ module _ (plan : Plan) (commands : List Task) (scope : Scope) where
   -- `KeepsToText` is preserved by the send of the next command of the setup
   setup_keeps : (s : Model) → KeepsToText s → KeepsToText (asks_setup plan commands s)
   setup_keeps s k =
-      let mark = mark_setup commands s.progress in
+      let mark = mark_setup_sent commands s in
       setup_along KeepsToText plan mark (drop s.progress.prepared commands) s
       (λ task. asks_keeps (request_for mark task) s refl (λ answer e. absurd (none_known commands s.progress.prepared answer e)) k) (asks_keeps (null_request plan) s tt tt k)
 

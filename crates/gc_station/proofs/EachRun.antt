@@ -31,8 +31,8 @@ use Rattle.gc_station.specs.Reasons.{HoldsBefore, IsGoingOn, IsReadyOrOverdue}
 use Rattle.gc_station.specs.Records.{Record}
 use Rattle.gc_station.specs.Runs.{state_after}
 use Rattle.gc_station.specs.Tasked.{EachRecordIsOfItsTask}
-use Rattle.gc_station.specs.Model.{Model, opening, action_at, waiting_of, with_progress, asks_first, asks_next, next_left_out, with_more_passes, with_listed, listed_after_skip, after_pass, with_more_records, end_unsent, unsent_record, first_unsent_record, after_clock, moved, after, after_all, cycle_length, asks_setup, request_for, null_request, request_or_null, asks_for, mark_sent}
-use Rattle.gc_station.specs.NextCommand.{place_next, commands_left, mark_next, upcoming_after, mark_setup, cycles_begun}
+use Rattle.gc_station.specs.Model.{Model, opening, action_at, waiting_of, with_progress, asks_first, asks_next, next_left_out, with_more_passes, with_listed, listed_after_skip, after_pass, with_more_records, end_unsent, unsent_record, first_unsent_record, after_clock, moved, after, after_all, cycle_length, asks_setup, request_for, null_request, request_or_null, asks_for, mark_sent, mark_setup_sent}
+use Rattle.gc_station.specs.NextCommand.{place_next, commands_left, mark_next, upcoming_after, cycles_begun}
 use Rattle.gc_station.proofs.InCycle.{within_window}
 use Rattle.gc_station.proofs.Acting.{mid_fail, mid_moment, mid_clock, mid_put, mid_open, mid_close, mid_read}
 use Rattle.gc_station.proofs.Each.{row_empty, reached_whole}
@@ -104,12 +104,12 @@ mid_flushed plan commands s is room mid =
 -- preserves `HoldsMidAct`, in the phase `Ready`, if there is room for a request
 mid_prepares : (plan : Plan) (commands : List Task) (s : Model) (left : List Task) → drop s.progress.prepared commands ≡ left → s.progress.phase ≡ Ready
     → length s.client.waiting < WINDOW → HoldsMidAct plan commands s
-    → HoldsMidAct plan commands (with_progress (setup_sent plan) (asks_for (request_or_null plan (mark_setup commands s.progress) left) s))
+    → HoldsMidAct plan commands (with_progress (setup_sent plan) (asks_for (request_or_null plan (mark_setup_sent commands s) left) s))
 mid_prepares plan commands s [] at is room mid = mid_flushed plan commands s is room mid
 mid_prepares plan commands s (task ∷ others) at is room mid =
     let p = s.progress in
-    let t = asks_for (request_for (mark_setup commands p) task) s in (
-      sound_prepared plan commands (ledger_at s p) (later p.moment.elapsed task.deadline) (mark_setup commands p) task room refl
+    let t = asks_for (request_for (mark_setup_sent commands s) task) s in (
+      sound_prepared plan commands (ledger_at s p) (later p.moment.elapsed task.deadline) (mark_setup_sent commands s) task room refl
           (head_of_drop commands p.prepared task others at) mid.0,
       ready_fits p.phase p.left p.unsent s.rest t.marks is,
     )
@@ -128,7 +128,7 @@ module _ (plan : Plan) (commands : List Task) (next : Upcoming) (s : Model) wher
   mid_first (task ∷ others) at is some room mid =
       let p = s.progress in
       let t = asks_first (mark_sent plan commands s) (task ∷ others) s in (
-        sound_sent plan commands (ledger_at s p) p.moment.utc (later p.moment.elapsed task.deadline)
+        sound_sent plan commands (ledger_at s p) p.moment.utc (mark_sent plan commands s).id (later p.moment.elapsed task.deadline)
             (mark_sent plan commands s).expected task others room some at mid.0,
         ready_fits p.phase p.left (p.unsent - 1) s.rest t.marks is,
       )

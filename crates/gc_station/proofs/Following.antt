@@ -74,12 +74,12 @@ leads_lost commands t true is paired =
 leads_lost commands t false is paired = cc
 
 -- if all outstanding requests are lost, the client is new
-lost_fresh : (t : Model) (all : Bool) → all ≡ true → (losing all t).client ≡ fresh
+pub lost_fresh : (t : Model) (all : Bool) → all ≡ true → (losing all t).client ≡ fresh
 lost_fresh t true is = refl
 lost_fresh t false is = cc
 
 -- if nothing is lost, the model stays
-losing_none : (t : Model) (all : Bool) → all ≡ false → losing all t ≡ t
+pub losing_none : (t : Model) (all : Bool) → all ≡ false → losing all t ≡ t
 losing_none t true is = cc
 losing_none t false is = refl
 

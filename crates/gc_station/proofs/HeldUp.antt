@@ -34,8 +34,8 @@ use Rattle.gc_station.specs.Parts.{put_part, request_part, first_request_part, c
 use Rattle.gc_station.specs.Progressing.{one_more_in_window, turned, time_passed, is_over, loses_all}
 use Rattle.gc_station.specs.Reasons.{HoldsBefore}
 use Rattle.gc_station.specs.Runs.{state_after}
-use Rattle.gc_station.specs.Model.{Model, opening, action_at, waiting_of, is_some_of_table, ends_with_table, is_heard, with_progress, with_rest, lines_completed, moved, losing, after, Performs, with_losses, request_or_null, mark_sent}
-use Rattle.gc_station.specs.NextCommand.{place_next, mark_setup}
+use Rattle.gc_station.specs.Model.{Model, opening, action_at, waiting_of, is_some_of_table, ends_with_table, is_heard, with_progress, with_rest, lines_completed, moved, losing, after, Performs, with_losses, request_or_null, mark_sent, mark_setup_sent}
+use Rattle.gc_station.specs.NextCommand.{place_next}
 use Rattle.gc_station.proofs.Always.{always}
 use Rattle.gc_station.proofs.Behind.{behind_by, behind_step}
 use Rattle.gc_station.proofs.Counts.{losing_progress}
@@ -285,7 +285,7 @@ module _ (plan : Plan) (commands : List Task) (all : AreOfTable commands) where
   put_tables : (s : Model) (o : Action) → AllByRecursion SendsTableCalls (put_part plan commands s o).steps
   put_tables s action.Flush = (refl, tt)
   put_tables s action.Prepare =
-      setup_tables plan s.progress.moment.elapsed (mark_setup commands s.progress) (drop s.progress.prepared commands)
+      setup_tables plan s.progress.moment.elapsed (mark_setup_sent commands s) (drop s.progress.prepared commands)
       (every_drop (λ task. is_of_table task.command.call ≡ true) commands s.progress.prepared all)
   put_tables s action.Send =
       first_tables s.progress.moment.elapsed (mark_sent plan commands s) (drop (place_next commands s.progress) commands)

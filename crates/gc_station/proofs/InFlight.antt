@@ -17,8 +17,8 @@ use Rattle.gc_catalogue.specs.declared.asked.Asked.TheVariants.{Table}
 use Rattle.gc_catalogue.specs.declared.call.Call.TheVariants.{NullProc}
 use Rattle.gc_station.specs.Deciding.{later}
 use Rattle.gc_station.specs.Progressing.{turned, moment_noted, cycle_start, due_at, time_passed, loses_all}
-use Rattle.gc_station.specs.Model.{Model, sent_to, client_sent, with_progress, with_moment, with_rest, waiting_of, line_came, lines_completed, is_heard, piece_at, Performs, moved, asks_for, asks_first, asks_setup, null_request, request_or_null, with_losses, mark_sent}
-use Rattle.gc_station.specs.NextCommand.{place_next, mark_setup}
+use Rattle.gc_station.specs.Model.{Model, sent_to, client_sent, with_progress, with_moment, with_rest, waiting_of, line_came, lines_completed, is_heard, piece_at, Performs, moved, asks_for, asks_first, asks_setup, null_request, request_or_null, with_losses, mark_sent, mark_setup_sent}
+use Rattle.gc_station.specs.NextCommand.{place_next}
 use Rattle.gc_station.specs.Requests.{command_at}
 use Rattle.gc_station.specs.Quiet.{IsAsking}
 use Rattle.gc_station.specs.declared.mark.Mark.{Mark}
@@ -193,7 +193,7 @@ module _ (plan : Plan) (longest span : ℕ) where
     pub prepared_ends : (s : Model) (limit : ℕ) → s.progress.moment.elapsed + longest ≤ limit → AllByRecursion (EndsBy limit) s.client.waiting
         → AllByRecursion (EndsBy limit) (asks_setup plan commands s).client.waiting
     prepared_ends s limit short h =
-        setup_ends s limit (mark_setup commands s.progress) (drop s.progress.prepared commands) short h
+        setup_ends s limit (mark_setup_sent commands s) (drop s.progress.prepared commands) short h
         (every_drop (λ (task : Task). task.deadline ≤ longest) commands s.progress.prepared all_few)
 
     -- an act of each action preserves `TimesOut`, if a request is sent only while its deadline is early enough

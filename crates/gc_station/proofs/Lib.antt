@@ -84,6 +84,7 @@ mod Outages
 mod OnceAsked
 mod Nulls
 mod Recording
+pub mod Requested
 mod InFlight
 mod LastCommand
 mod CallTimes
@@ -103,3 +104,4 @@ mod BoundRuns
 mod NoPeriodRun
 pub mod Moments
 pub mod FirstActs
+pub mod CountedIds

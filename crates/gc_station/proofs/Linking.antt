@@ -234,9 +234,11 @@ module _ (plan : Plan) (commands : List Task) (scope : Scope) where
         sends = l.sends;
         mark =
             let expected = (mark_sent plan commands (at l.before)).expected in
-            ap (λ c. record { cycle = c; place = l.answer.place; sent = unwrap_or l.answer.sent 0; expected = expected }) l.own_cycle
-            ∙ ap (λ p. record { cycle = cycles_begun plan (at l.before).progress; place = p; sent = unwrap_or l.answer.sent 0; expected = expected }) l.own_place
-            ∙ ap (λ o. record { cycle = cycles_begun plan (at l.before).progress; place = place_next commands (at l.before).progress; sent = unwrap_or o 0; expected = expected }) utc;
+            let id : l.answer.id ≡ (at l.before).client.next = t.its.own.id ∙ ap (λ xs. (at xs).client.next) one in
+            ap (λ c. record { cycle = c; place = l.answer.place; sent = unwrap_or l.answer.sent 0; id = l.answer.id; expected = expected }) l.own_cycle
+            ∙ ap (λ p. record { cycle = cycles_begun plan (at l.before).progress; place = p; sent = unwrap_or l.answer.sent 0; id = l.answer.id; expected = expected }) l.own_place
+            ∙ ap (λ o. record { cycle = cycles_begun plan (at l.before).progress; place = place_next commands (at l.before).progress; sent = unwrap_or o 0; id = l.answer.id; expected = expected }) utc
+            ∙ ap (λ n. record { cycle = cycles_begun plan (at l.before).progress; place = place_next commands (at l.before).progress; sent = (at l.before).progress.moment.utc; id = n; expected = expected }) id;
         same = same_link acts runs next l keeps;
         no_setup = no_setup;
       }

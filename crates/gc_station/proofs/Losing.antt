@@ -37,7 +37,7 @@ use Rattle.gc_station.proofs.Invariant.{Invariant}
 use Rattle.gc_station.proofs.Going.{after_all-append}
 use Rattle.gc_station.proofs.Growing.{moved_grew}
 use Rattle.gc_station.proofs.Lists.{all_append, all_split, CutOf, AtEnd, Before, cut_at_end_or_before, rising_all}
-use Rattle.gc_station.proofs.Meets.{IsRecordOf, is_record_of, own_request, all_records_at, was_answered, was_late}
+use Rattle.gc_station.proofs.Meets.{IsRecordOf, is_record_of, some_sent, own_request, all_records_at, was_answered, was_late}
 use Rattle.gc_station.proofs.Waiting.{WasAsked, TimedOutAsRead, StillWaits, IsJustified, IsHonest}
 use Rattle.gc_station.proofs.Parting.{keeps_new_client}
 use Rattle.gc_station.proofs.Walk.{sent_same, moved_changed}
@@ -179,6 +179,7 @@ module _ (plan : Plan) (commands : List Task) (scope : Scope) (acts : List Act) 
     answered = λ line e. absurd (not_answered line (sym outcome ∙ was_answered r it.0 it.1 it.2 line e));
     late = λ e. absurd (not_late (sym outcome ∙ was_late r it.0 it.1 it.2 e));
     lost = λ e. on (cut_at_end_or_before acts a.before a.between act a.request a.order);
+    unsent = λ e. some_sent r it.0 it.1 it.2 e;
   } where
     -- the settlement is of a request that is lost
     x : LostOf plan commands scope all it.1 (Some it.0)

@@ -18,8 +18,8 @@ use Rattle.gc_station.specs.Deciding.{later, has_begun}
 use Rattle.gc_station.specs.Parts.{Asks, Part, only_sync_steps, idle_part, request_part, first_request_part, put_part, sync_part}
 use Rattle.gc_station.specs.Reasons.{HoldsBefore}
 use Rattle.gc_station.specs.ActKinds.{Puts, ReadsClock, IsOpening, ReadsLink}
-use Rattle.gc_station.specs.Model.{Model, action_at, waiting_of, next_request_text, null_text, first_text, Performs, text_or_null, request_for, null_request, request_or_null, mark_sent}
-use Rattle.gc_station.specs.NextCommand.{place_next, mark_setup}
+use Rattle.gc_station.specs.Model.{Model, action_at, waiting_of, next_request_text, null_text, first_text, Performs, text_or_null, request_for, null_request, request_or_null, mark_sent, mark_setup_sent}
+use Rattle.gc_station.specs.NextCommand.{place_next}
 use Rattle.gc_station.proofs.InCycle.{within_window}
 use Rattle.gc_station.proofs.Facts.{action_for}
 use Rattle.gc_station.proofs.Invariant.{Invariant}
@@ -95,9 +95,9 @@ module _ (plan : Plan) (commands : List Task) where
   -- if fewer than seven requests wait, the bytes of the first of these commands of the setup, or of a null procedure if there is
   -- none, are the line of the request of its part (`IsSent`)
   setup_put : (s : Model) (left : List Task) (bytes : List ℕ) → length s.client.waiting < WINDOW → bytes ≡ text_or_null s.progress.moment.utc s.client left
-      → IsSent s bytes (request_part s.progress.moment.elapsed (request_or_null plan (mark_setup commands s.progress) left))
+      → IsSent s bytes (request_part s.progress.moment.elapsed (request_or_null plan (mark_setup_sent commands s) left))
   setup_put s [] bytes room e = request_put s (null_request plan) bytes room e
-  setup_put s (task ∷ others) bytes room e = request_put s (request_for (mark_setup commands s.progress) task) bytes room e
+  setup_put s (task ∷ others) bytes room e = request_put s (request_for (mark_setup_sent commands s) task) bytes room e
 
   -- once the station has synchronized, the bytes that an act of this action puts are as `IsPutByClient` says of the action's part
   put_by_action : (s : Model) (o : Action) (act : Act) (bytes : List ℕ) → Invariant plan commands s → (needs : HoldsBefore plan s.progress (waiting_of s) o)

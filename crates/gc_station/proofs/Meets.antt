@@ -181,19 +181,24 @@ left_still_wait plan commands scope acts first now c x marks l w all =
       subst (λ (i : ℕ). Ids.Waits first i) (sym ids) wait.1,
     )) marked
 
--- a record is of this settlement, of the request with this mark: it has the cycle, the place and the moment of the mark, and the
+-- a record is of this settlement, of the request with this mark: it has the cycle, the place, the moment and the id of the mark, and the
 -- settlement's command and ending, by some function that reads replies
 pub record IsRecordOf (r : Record) (mark : Mark) (x : Settlement Asked) : Type 0 where
   pub cycle : r.cycle ≡ mark.cycle
   pub place : r.place ≡ mark.place
   pub sent : r.sent ≡ Some mark.sent
+  pub id : r.id ≡ mark.id
   pub command : r.command ≡ command_of x
   pub reads : Reads
   pub ended : r.end ≡ end_of reads mark.expected x.call x.outcome
 
 -- the record that `record_of` gives is of its settlement and mark
 pub is_record_of : (reads : Reads) (utc : ℕ) (mark : Mark) (x : Settlement Asked) → IsRecordOf (record_of reads utc mark x) mark x
-is_record_of reads utc mark x = record { cycle = refl; place = refl; sent = refl; command = refl; reads = reads; ended = refl }
+is_record_of reads utc mark x = record { cycle = refl; place = refl; sent = refl; id = refl; command = refl; reads = reads; ended = refl }
+
+-- a record of a settlement has a moment of sending
+pub some_sent : (r : Record) (mark : Mark) (x : Settlement Asked) → IsRecordOf r mark x → r.sent ≡ None → r.id ≡ 0
+some_sent r mark x is none = let never : Some mark.sent ≡ None = sym is.sent ∙ none in cc
 
 -- if a record is of the settlement of a request that was put among these acts (`WasAsked`), the act that put it writes the
 -- record's own request
@@ -207,6 +212,7 @@ own_request plan commands scope acts S number at id p mark r x of_it asks s =
       cycle = of_it.cycle ∙ its.cycle;
       place = of_it.place ∙ its.place;
       sent = of_it.sent ∙ ap Some its.sent;
+      id = of_it.id ∙ its.id;
       put = subst (λ (y : Asked). Puts (next_request_text (state_after plan commands scope s.before).client y) s.request)
           (asks ∙ sym (ap (λ (y : Wish). y.call) of_it.command)) s.put;
     }

@@ -201,19 +201,19 @@ sound_null plan commands b target call deadline room is sound =
       tasked = sound.tasked;
     })
 
--- the mark of the cycle's next command in the ledger b, at the moment `utc`
-abbrev pub ledger_mark : Plan → List Task → (b : Ledger) → (utc : ℕ) → Expected → Mark
-ledger_mark plan commands b utc expected = record { cycle = plan.cycles - b.left; place = length commands - b.unsent; sent = utc; expected = expected }
+-- the mark of the cycle's next command in the ledger b, at the moment `utc` and with this id
+abbrev pub ledger_mark : Plan → List Task → (b : Ledger) → (utc id : ℕ) → Expected → Mark
+ledger_mark plan commands b utc id expected = record { cycle = plan.cycles - b.left; place = length commands - b.unsent; sent = utc; id = id; expected = expected }
 
 -- to send the cycle's next command, `task`, for which there is room, preserves `Sound`, with one command fewer unsent
-pub sound_sent : (plan : Plan) (commands : List Task) (b : Ledger) (utc deadline : ℕ) (expected : Expected) (task : Task) (others : List Task)
+pub sound_sent : (plan : Plan) (commands : List Task) (b : Ledger) (utc id deadline : ℕ) (expected : Expected) (task : Task) (others : List Task)
     → length b.client.waiting < WINDOW → 0 < b.unsent → drop (length commands - b.unsent) commands ≡ task ∷ others → Sound plan commands b
-    → Sound plan commands (with_request (record b { unsent = b.unsent - 1 }) task.command.target (call_at task utc) deadline (Some (ledger_mark plan commands b utc expected)))
-sound_sent plan commands b utc deadline expected task others room some at sound =
+    → Sound plan commands (with_request (record b { unsent = b.unsent - 1 }) task.command.target (call_at task utc) deadline (Some (ledger_mark plan commands b utc id expected)))
+sound_sent plan commands b utc id deadline expected task others room some at sound =
     let p = pending_of task.command.target (call_at task utc) deadline in
     let begun = plan.cycles - b.left in
     let place = length commands - b.unsent in
-    let mark : Mark = record { cycle = begun; place = place; sent = utc; expected = expected } in
+    let mark : Mark = record { cycle = begun; place = place; sent = utc; id = id; expected = expected } in
     let more : length (b.client.waiting ++ p ∷ []) ≡ length b.client.waiting + 1 = length-append b.client.waiting (p ∷ []) in
     let below = sound.begun some in
     let many : 0 < begun = omega (arith, below) in
@@ -267,11 +267,11 @@ sound_prepared plan commands b deadline mark task room none at sound =
 pub sound_skipped : (plan : Plan) (commands : List Task) (b : Ledger) (utc : ℕ) (end : End) (expected : Expected) (task : Task) (others : List Task)
     → (none : commands_in b.marks ≡ 0) → (some : 0 < b.unsent) → (there : drop (length commands - b.unsent) commands ≡ task ∷ others) → (out : went_out end ≡ false)
     → Sound plan commands b
-    → Sound plan commands (record b { unsent = b.unsent - 1; records = b.records ++ record_with utc (ledger_mark plan commands b utc expected) None task.command end ∷ [] })
+    → Sound plan commands (record b { unsent = b.unsent - 1; records = b.records ++ record_with utc (ledger_mark plan commands b utc 0 expected) None task.command end ∷ [] })
 sound_skipped plan commands b utc end expected task others none some at out sound =
     let begun = plan.cycles - b.left in
     let place = length commands - b.unsent in
-    let mark = ledger_mark plan commands b utc expected in
+    let mark = ledger_mark plan commands b utc 0 expected in
     let r : Record = record_with utc mark None task.command end in
     let below = sound.begun some in
     let many : 0 < begun = omega (arith, below) in

@@ -107,7 +107,7 @@ unsent_news : (reads : Reads) (p : Progress) (m : Moment) (mark : Mark) (left : 
 unsent_news reads p m mark [] = tt
 unsent_news reads p m mark (task ∷ others) = (by_missed p.missed, tt) where
   -- by whether the cycle is missed
-  by_missed : (missed : Bool) → IsNews reads m.utc (record { sent = None; utc = if missed then p.due else m.utc; cycle = mark.cycle; place = mark.place; turn = mark.expected.turn; command = task.command; end = end_unsent missed })
+  by_missed : (missed : Bool) → IsNews reads m.utc (record { sent = None; id = mark.id; utc = if missed then p.due else m.utc; cycle = mark.cycle; place = mark.place; turn = mark.expected.turn; command = task.command; end = end_unsent missed })
   by_missed true = (λ not_missed. absurd (not_missed refl), λ line why e. cc)
   by_missed false = (λ not_missed. refl, λ line why e. cc)
 
@@ -222,7 +222,7 @@ module _ (plan : Plan) (commands : List Task) where
       (walk plan commands (Ticks (with_progress turned s)) (action_at plan s) (with_progress turned s) act obeys (ticks_in_each (action_at plan s) (with_progress turned s))))
 
 -- what holds of the record at each place holds of all records
-all_of_each : (P : Record → Type 0) (rs : List Record) → ((n : ℕ) (r : Record) → slice_get rs n ≡ Some r → P r) → AllByRecursion P rs
+pub all_of_each : (P : Record → Type 0) (rs : List Record) → ((n : ℕ) (r : Record) → slice_get rs n ≡ Some r → P r) → AllByRecursion P rs
 all_of_each P [] f = tt
 all_of_each P (r ∷ rs) f = (f 0 r refl, all_of_each P rs (λ n x got. f (suc n) x got))
 
@@ -239,7 +239,7 @@ module _ (plan : Plan) (commands : List Task) (scope : Scope) where
   state acts = state_after plan commands scope acts
 
   -- a run's model has read the moment that its acts read last
-  now_is : (acts : List Act) → Runs plan commands (opening plan scope) acts → (state acts).progress.moment.utc ≡ utc_read 0 acts
+  pub now_is : (acts : List Act) → Runs plan commands (opening plan scope) acts → (state acts).progress.moment.utc ≡ utc_read 0 acts
   now_is acts runs =
       always plan commands (opening plan scope) (λ (xs : List Act) (t : Model). t.progress.moment.utc ≡ utc_read 0 xs)
       (λ done act runs o now. (after_adds plan commands (state done).reads (state done) act refl o).now ∙ ap (λ (n : ℕ). utc_or n (moment_in act)) now ∙ sym (utc_more 0 done act)) refl acts runs

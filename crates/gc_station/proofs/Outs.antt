@@ -8,8 +8,8 @@ use Rattle.gc_station.specs.declared.progress.Action.{Action}
 use Rattle.gc_station.specs.declared.progress.Action.TheVariants.{Prepare, Send}
 use Rattle.gc_station.specs.Deciding.{is_preparing}
 use Rattle.gc_station.specs.Quiet.{IsAsking}
-use Rattle.gc_station.specs.Model.{Model, IsSending, action_at, waiting_of, cycle_to_send, place_to_send, mark_sent}
-use Rattle.gc_station.specs.NextCommand.{cycles_begun, place_next, mark_setup}
+use Rattle.gc_station.specs.Model.{Model, IsSending, action_at, waiting_of, cycle_to_send, place_to_send, mark_sent, mark_setup_sent}
+use Rattle.gc_station.specs.NextCommand.{cycles_begun, place_next}
 use Rattle.gc_station.proofs.Closings.{needs_of}
 
 -- if a command of a cycle is next, the setup is done
@@ -48,7 +48,7 @@ sending_asks plan s (inr is) = subst IsAsking (sym is) tt
 
 -- the action o sends the command with this mark: the next of a cycle, or the next of the setup
 abbrev pub SendsMarked : Plan → List Task → Model → (o : Action) → Mark → Type 0
-SendsMarked plan commands s o mark = ((o ≡ Send) × (mark ≡ mark_sent plan commands s)) ⊎ ((o ≡ Prepare) × (mark ≡ mark_setup commands s.progress))
+SendsMarked plan commands s o mark = ((o ≡ Send) × (mark ≡ mark_sent plan commands s)) ⊎ ((o ≡ Prepare) × (mark ≡ mark_setup_sent commands s))
 
 -- if the mark is of a cycle, the action sends the next command of a cycle, and the mark is that command's
 pub sends_next_of_cycle : (plan : Plan) (commands : List Task) (s : Model) (o : Action) (mark : Mark) → SendsMarked plan commands s o mark → 0 < mark.cycle

@@ -25,8 +25,8 @@ use Rattle.gc_station.specs.Progressing.{turned}
 use Rattle.gc_station.specs.Reasons.{HoldsBefore}
 use Rattle.gc_station.specs.Records.{Record}
 use Rattle.gc_station.specs.declared.mark.Mark.{Mark}
-use Rattle.gc_station.specs.Model.{Model, waiting_of, Performs, with_progress, with_moment, with_rest, asks_first, unsent_record, first_unsent_record, line_came, lines_came, lines_completed, is_heard, after_piece, after_read, moved, request_for, null_request, request_or_null, asks_for, mark_sent}
-use Rattle.gc_station.specs.NextCommand.{place_next, mark_next, mark_setup}
+use Rattle.gc_station.specs.Model.{Model, waiting_of, Performs, with_progress, with_moment, with_rest, asks_first, unsent_record, first_unsent_record, line_came, lines_came, lines_completed, is_heard, after_piece, after_read, moved, request_for, null_request, request_or_null, asks_for, mark_sent, mark_setup_sent}
+use Rattle.gc_station.specs.NextCommand.{place_next, mark_next}
 use Rattle.gc_station.specs.Scopes.{Reads}
 use Rattle.gc_station.proofs.InCycle.{within_window}
 use Rattle.gc_station.proofs.Asked.{sync_part_only_sync_steps}
@@ -107,10 +107,10 @@ module _ (plan : Plan) (commands : List Task) where
   -- `left` are the commands from the next place of the setup on. The first of them, or a null procedure if there is none, leads
   -- on by the part of its request once it is sent, if there is room for it
   leads_setup : (s : Model) (left : List Task) → drop s.progress.prepared commands ≡ left → length s.client.waiting < WINDOW
-      → Leads commands s (request_part s.progress.moment.elapsed (request_or_null plan (mark_setup commands s.progress) left))
-      (asks_for (request_or_null plan (mark_setup commands s.progress) left) (with_progress turned s))
+      → Leads commands s (request_part s.progress.moment.elapsed (request_or_null plan (mark_setup_sent commands s) left))
+      (asks_for (request_or_null plan (mark_setup_sent commands s) left) (with_progress turned s))
   leads_setup s [] at room = leads_null s room
-  leads_setup s (task ∷ others) at room = leads_first s (mark_setup commands s.progress) (task ∷ others) at (omega arith) room
+  leads_setup s (task ∷ others) at room = leads_first s (mark_setup_sent commands s) (task ∷ others) at (omega arith) room
 
   -- the record of a command that isn't sent isn't among those of commands that were sent
   skips_first_unsent : (p : Progress) (m : Moment) (mark : Mark) (left : List Task) → sent_of (first_unsent_record p m mark left) ≡ []

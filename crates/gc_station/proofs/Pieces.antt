@@ -24,7 +24,7 @@ use Rattle.gc_station.specs.ActKinds.{Puts}
 use Rattle.gc_station.specs.Model.{Model, action_at, next_request_text, with_rest, line_came, lines_came, lines_completed, after_piece}
 use Rattle.gc_station.proofs.Growing.{lines_records}
 use Rattle.gc_station.proofs.Lists.{all_append, all_split, cuts_on, AllRisingAt}
-use Rattle.gc_station.proofs.Meets.{HasPlace, EndedBy, heard_ended, hears_settles_oldest, left_within_limits, left_still_wait, all_records_at, IsRecordOf, is_record_of, own_request, was_answered, was_late, was_lost}
+use Rattle.gc_station.proofs.Meets.{HasPlace, EndedBy, heard_ended, hears_settles_oldest, left_within_limits, left_still_wait, all_records_at, IsRecordOf, is_record_of, some_sent, own_request, was_answered, was_late, was_lost}
 use Rattle.gc_station.proofs.Waiting.{WasAsked, TimedOutAsRead, TimedOutAsReadBy, StillWaitsAt, IsJustified, IsHonest, as_read_after_moment, still_wait_at_moment, expired_within_limits, still_wait_after_moment, honest_after_moment}
 use Rattle.gc_station.specs.Scopes.{Scope, Reads}
 use Rattle.gc_station.proofs.Walk.{piece_before}
@@ -222,6 +222,7 @@ module _ (plan : Plan) (commands : List Task) (scope : Scope) (acts : List Act) 
                 its = recorded_by s.before s.request s.between r down;
                 shown = inl (overtaken_in_piece c line x.number f.number at a.place x.pending f.one (Some mark) f.beside l s f.holds above a.above a.heard);
               };
+          unsent = λ e. some_sent r mark it.2 of_it e;
         }
 
     -- `HonestSoFar` is preserved by the lines of a piece that are left after those of `front`; `tail` are the records that are

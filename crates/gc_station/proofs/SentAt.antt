@@ -18,8 +18,8 @@ use Rattle.gc_station.specs.Parts.{Part, idle_part, parts_joined, request_part, 
 use Rattle.gc_station.specs.Progressing.{turned, loses_all}
 use Rattle.gc_station.specs.Runs.{state_after}
 use Rattle.gc_station.proofs.Outs.{SendsMarked}
-use Rattle.gc_station.specs.Model.{Model, opening, action_at, with_progress, moved, after, after_all, request_or_null, mark_sent}
-use Rattle.gc_station.specs.NextCommand.{place_next, mark_setup}
+use Rattle.gc_station.specs.Model.{Model, opening, action_at, with_progress, moved, after, after_all, request_or_null, mark_sent, mark_setup_sent}
+use Rattle.gc_station.specs.NextCommand.{place_next}
 use Rattle.gc_station.proofs.Asked.{marks_none}
 use Rattle.gc_station.proofs.Going.{after_all-append}
 use Rattle.gc_station.proofs.Growing.{losing_records, moved_grew}
@@ -88,7 +88,7 @@ SendsMarkedAt plan commands s o n mark = (n ≡ 0) × SendsMarked plan commands 
 pub put_part_sends : (plan : Plan) (commands : List Task) (s : Model) (o : Action) (n : ℕ) (mark : Mark)
     → slice_get (put_part plan commands s o).marks n ≡ Some (Some mark) → SendsMarkedAt plan commands s o n mark
 put_part_sends plan commands s Prepare n mark e =
-    let h = setup_mark plan s.progress.moment.elapsed (mark_setup commands s.progress) (drop s.progress.prepared commands) n mark e in (h.0, inr (refl, h.1))
+    let h = setup_mark plan s.progress.moment.elapsed (mark_setup_sent commands s) (drop s.progress.prepared commands) n mark e in (h.0, inr (refl, h.1))
 put_part_sends plan commands s Send n mark e =
     let h = put_mark s.progress.moment.elapsed (mark_sent plan commands s) (drop (place_next commands s.progress) commands) n mark e in (h.0, inl (refl, h.1))
 put_part_sends plan commands s Flush n mark e = absurd (null_mark n mark e)

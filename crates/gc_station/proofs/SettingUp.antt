@@ -22,8 +22,8 @@ use Rattle.gc_station.specs.CallTimes.{IsAskedToWait}
 use Rattle.gc_station.specs.Cycles.{ClockRises}
 use Rattle.gc_station.specs.Deciding.{later, has_begun, is_none_left, is_preparing, setup_permits}
 use Rattle.gc_station.specs.Marks.{commands_in, last_well}
-use Rattle.gc_station.specs.Model.{Model, waiting_of, with_progress, with_moment, with_rest, with_more_records, after_piece, asks_for, asks_setup, request_or_null, null_request, lines_completed, is_heard, moved, Performs}
-use Rattle.gc_station.specs.NextCommand.{mark_setup, commands_before}
+use Rattle.gc_station.specs.Model.{Model, waiting_of, with_progress, with_moment, with_rest, with_more_records, after_piece, asks_for, asks_setup, request_or_null, null_request, lines_completed, is_heard, moved, Performs, mark_setup_sent}
+use Rattle.gc_station.specs.NextCommand.{commands_before}
 use Rattle.gc_station.specs.Progressing.{turned, failing, moment_noted, time_passed, quieted, setup_sent, request_noted, null_sent, cleared, early_noted}
 use Rattle.gc_station.specs.Quiet.{IsAsking}
 use Rattle.gc_station.specs.Reasons.{HoldsBefore, AwaitsReply, AwaitsSomething, WantsNull}
@@ -326,13 +326,13 @@ module _ (plan : Plan) (longest call turn loss : ℕ) (commands : List Task) (sp
 
       -- the next command is alone once it was sent, and outstanding: `left` are the commands from it on
       sent_alone : (left : List Task) → drop k commands ≡ left
-          → let t = asks_for (request_or_null plan (mark_setup commands u.progress) left) u in LastIsAlone (Early (suc k) (limit_of s.progress.began (suc k))) t.marks t.client.waiting × (0 < commands_in t.marks)
+          → let t = asks_for (request_or_null plan (mark_setup_sent commands u) left) u in LastIsAlone (Early (suc k) (limit_of s.progress.began (suc k))) t.marks t.client.waiting × (0 < commands_in t.marks)
       sent_alone [] e =
           let n : length commands - k ≡ 0 = sym (length-drop k commands) ∙ ap length e in
           let below = may.2.1 in
           absurd (omega (arith, n, listed, below))
       sent_alone (task ∷ others) e =
-          let mark = mark_setup commands u.progress in
+          let mark = mark_setup_sent commands u in
           let command = command_at mark.sent task in
           let one = pending_of command.target command.call (later s.progress.moment.elapsed task.deadline) in
           let more = commands-append s.marks (Some mark ∷ []) in (

@@ -21,7 +21,7 @@ use Rattle.gc_station.specs.Reasons.{HoldsBefore}
 use Rattle.gc_station.specs.Records.{Record}
 use Rattle.gc_station.specs.Runs.{state_after}
 use Rattle.gc_station.specs.Scopes.{Scope, Reads}
-use Rattle.gc_station.specs.Model.{Model, opening, action_at, waiting_of, is_heard, asks_first, after_piece, line_came, losing, moved, piece_at, first_unsent_record, with_progress, with_moment, with_rest, after, after_all, request_or_null, asks_for, mark_sent}
+use Rattle.gc_station.specs.Model.{Model, opening, action_at, waiting_of, is_heard, asks_first, after_piece, line_came, losing, moved, piece_at, first_unsent_record, with_progress, with_moment, with_rest, after, after_all, request_or_null, asks_for, mark_sent, mark_setup_sent}
 use Rattle.gc_station.specs.NextCommand.{cycles_begun, place_next, commands_left, mark_next, mark_setup}
 use Rattle.gc_station.specs.Setups.{Dispatch, dispatch_of_record, dispatch_of_mark, dispatches_of, of_setup, sent_first, setup_sent_at, setup_sent_by, EachSetUpOnce, IsNextAfter, GoOn, AreInOrder, SetUpsGoOn, dispatch_row}
 use Rattle.gc_station.proofs.Counts.{with_losses_progress}
@@ -94,8 +94,8 @@ dispatch_row_setup plan mark (task ∷ others) s = dispatch_row_first mark (task
 module _ (plan : Plan) (commands : List Task) where
   -- an act that sends the next command of the setup adds it to `dispatch_row`
   pub dispatch_row_prepared : (s : Model) (act : Act) → dispatch_row (moved plan commands action.Prepare s act) ≡ dispatch_row s ++ setup_sent_at action.Prepare commands s
-  dispatch_row_prepared s (Cut bytes n) = dispatch_row_setup plan (mark_setup commands s.progress) (drop s.progress.prepared commands) s
-  dispatch_row_prepared s act = dispatch_row_setup plan (mark_setup commands s.progress) (drop s.progress.prepared commands) s
+  dispatch_row_prepared s (Cut bytes n) = dispatch_row_setup plan (mark_setup_sent commands s) (drop s.progress.prepared commands) s
+  dispatch_row_prepared s act = dispatch_row_setup plan (mark_setup_sent commands s) (drop s.progress.prepared commands) s
 
   -- an act that sends the next command of a cycle adds it to `dispatch_row`, if there is one
   dispatch_row_sent : (s : Model) (act : Act) → dispatch_row (moved plan commands action.Send s act)

@@ -83,6 +83,7 @@ module _ (plan : Plan) (commands : List Task) (scope : Scope) where
     pub cycle : mark.cycle ≡ cycle_to_send plan (state acts)
     pub place : mark.place ≡ place_to_send plan commands (state acts)
     pub sent : mark.sent ≡ (state acts).progress.moment.utc
+    pub id : mark.id ≡ (state acts).client.next
 
   -- the request p that waits at the place `at`, with this id and mark, was put among these acts; `number` acts came before it,
   -- and `Stays` holds of the acts after it, by whether p has timed out and its deadline. If p isn't the oldest (`at` is above 0),
@@ -117,6 +118,7 @@ module _ (plan : Plan) (commands : List Task) (scope : Scope) where
     pub answered : AnswerIsJustified plan commands scope acts r
     pub late : LateIsJustified plan commands scope acts r
     pub lost : LostIsJustified plan commands scope acts r
+    pub unsent : r.sent ≡ None → r.id ≡ 0
 
   -- what every run keeps: the outstanding requests at the client c, with these marks, were put among the acts, in order
   -- (`StillWaits`); and the records are true by `all` acts
@@ -198,7 +200,7 @@ module _ (plan : Plan) (commands : List Task) (scope : Scope) where
   true_more : (acts : List Act) (act : Act) (r : Record)
       → Performs commands (state acts) (action_at plan (state acts)) act
       → IsJustified acts r → IsJustified (acts ++ act ∷ []) r
-  true_more acts act r obeys is = record { answered = answered_more; late = late_more; lost = lost_more } where
+  true_more acts act r obeys is = record { answered = answered_more; late = late_more; lost = lost_more; unsent = is.unsent } where
     -- a record of a reply in time is true by one act more
     answered_more : AnswerIsJustified plan commands scope (acts ++ act ∷ []) r
     answered_more line e =

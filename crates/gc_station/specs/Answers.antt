@@ -31,13 +31,14 @@ deadline_after plan commands scope acts =
     later s.progress.moment.elapsed (first_deadline (drop (place_to_send plan commands s) commands))
 
 -- the act, before which a station has the model `s`, writes the request of the record `r`, all of it or a part: a command is
--- sent next; it has the cycle and the place of `r`; the moment read last is `r.sent`; and the bytes are the line of the call of
--- `r`
+-- sent next; it has the cycle and the place of `r`; the moment read last is `r.sent`; the id is that of `r`; and the bytes are
+-- the line of the call of `r`
 pub record IsOwnRequest (plan : Plan) (commands : List Task) (s : Model) (act : Act) (r : Record) : Type 0 where
   pub sends : IsSending plan s
   pub cycle : r.cycle ≡ cycle_to_send plan s
   pub place : r.place ≡ place_to_send plan commands s
   pub sent : r.sent ≡ Some s.progress.moment.utc
+  pub id : r.id ≡ s.client.next
   pub put : Puts (next_request_text s.client r.command.call) act
 
 -- the act `act`, made after `acts`, adds the record `r`; it may add other records before it (`earlier`) and after it (`later`)

@@ -104,7 +104,7 @@ outage =
 
 -- the record of the command of this cycle as missed, which was due at the moment `utc`
 abbrev pub missed_record : (cycle utc : ℕ) → Record
-missed_record cycle utc = record { sent = None; utc = utc; cycle = cycle; place = 0; turn = no_turn; command = (number_task 10 false).command; end = Missed }
+missed_record cycle utc = record { sent = None; id = 0; utc = utc; cycle = cycle; place = 0; turn = no_turn; command = (number_task 10 false).command; end = Missed }
 
 -- this run meets all premises of the bound, where a call takes 5 ms at most, and readings take no time. At its end both cycles were due
 -- more than the bound before, and both are recorded as missed

@@ -56,4 +56,5 @@ pub mod BoundRuns
 pub mod OnceAsked
 pub mod NoPeriodRun
 pub mod Moments
+pub mod Requested
 pub mod FirstActs

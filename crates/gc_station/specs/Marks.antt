@@ -33,6 +33,10 @@ commands_in (Some mark ∷ marks) = suc (commands_in marks)
 abbrev pub first_mark : List (Option Mark) → Option Mark
 first_mark marks = unwrap_or (slice_get marks 0) None
 
+-- the mark of a command whose request has this id
+abbrev pub with_id : (id : ℕ) → Mark → Mark
+with_id id mark = record mark { id = id }
+
 -- those of `xs` that are of commands, each with its mark. The marks are those of all outstanding requests, the oldest first, and
 -- `xs` has one for each of these, or for each of the oldest ones; a null procedure has no mark, and is left out
 abbrev pub with_marks : {A : Type 0} → List (Option Mark) → (xs : List A) → List (Mark × A)
@@ -103,6 +107,7 @@ command_of settlement = record { target = settlement.target; call = settlement.c
 abbrev pub record_with : (utc : ℕ) → Mark → (sent : Option ℕ) → (command : Wish) → (ending : End) → Record
 record_with utc mark sent command ending = record {
   sent = sent;
+  id = mark.id;
   utc = utc;
   cycle = mark.cycle;
   place = mark.place;

@@ -35,7 +35,7 @@ use Rattle.gc_station.specs.Deciding.{later, is_none_left, is_preparing, action_
 pub use Rattle.gc_station.specs.Lines.{is_reply, raises_doubt}
 use Rattle.gc_station.specs.Attempts.{listed_after, listed_after_settlements}
 use Rattle.gc_station.specs.Firsts.{firsts_after, with_first}
-use Rattle.gc_station.specs.Marks.{commands_in, record_with, records_of, last_well}
+use Rattle.gc_station.specs.Marks.{commands_in, with_id, record_with, records_of, last_well}
 use Rattle.gc_station.specs.NextCommand.{place_next, commands_left, cycles_begun, mark_next, mark_setup, commands_before, upcoming_after}
 use Rattle.gc_station.specs.Progressing.{at_start, turned, moment_noted, cycle_begun, skipped, attempts_left_out, unsent_at, failing, opened, after_failure, cleared, request_noted, null_sent, resynchronized, sent, behind_noted, ended_noted, doubt_noted, line_noted, lines_synchronizing, bytes_noted, silent, early_noted, closed, loses_all, setup_sent}
 use Rattle.gc_station.specs.Records.{Record}
@@ -197,9 +197,13 @@ abbrev pub request_or_null : Plan → Mark → List Task → Outgoing
 request_or_null plan mark [] = null_request plan
 request_or_null plan mark (task ∷ others) = request_for mark task
 
--- the request for the setup's next command at the progress `p`; if the list has none, the request for a null procedure
-abbrev pub request_of_setup : Plan → List Task → Progress → Outgoing
-request_of_setup plan commands p = request_or_null plan (mark_setup commands p) (drop p.prepared commands)
+-- the mark with which the setup's next command is sent: that of `mark_setup`, with the id that is next
+abbrev pub mark_setup_sent : List Task → Model → Mark
+mark_setup_sent commands s = with_id s.client.next (mark_setup commands s.progress)
+
+-- the request for the setup's next command at the progress `p`, with this id; if the list has none, the request for a null procedure
+abbrev pub request_of_setup : Plan → List Task → (id : ℕ) → Progress → Outgoing
+request_of_setup plan commands id p = request_or_null plan (with_id id (mark_setup commands p)) (drop p.prepared commands)
 
 -- the model `s` once the request `x` was sent, which waits from the moment read last on
 abbrev pub asks_for : Outgoing → Model → Model
@@ -217,10 +221,10 @@ asks_first mark (task ∷ others) s = asks_for (request_for mark task) s
 abbrev pub firsts_of : Model → List (Option FirstAnswer)
 firsts_of s = firsts_after [] s.records
 
--- the mark with which the cycle's next command is sent: that of `mark_next`, with the answer of the first sending with which its own
--- is compared
+-- the mark with which the cycle's next command is sent: that of `mark_next`, with the id that is next, and with the answer of the
+-- first sending with which its own is compared
 abbrev pub mark_sent : Plan → List Task → Model → Mark
-mark_sent plan commands s = with_first (firsts_of s) (mark_next plan commands s.progress)
+mark_sent plan commands s = with_id s.client.next (with_first (firsts_of s) (mark_next plan commands s.progress))
 
 -- the model `s` once the cycle's next command was sent
 abbrev pub asks_next : Plan → List Task → Model → Model
@@ -228,7 +232,7 @@ asks_next plan commands s = asks_first (mark_sent plan commands s) (commands_lef
 
 -- the model `s` once the setup's next command was sent
 abbrev pub asks_setup : Plan → List Task → Model → Model
-asks_setup plan commands s = asks_for (request_of_setup plan commands s.progress) s
+asks_setup plan commands s = asks_for (request_of_setup plan commands s.client.next s.progress) s
 
 -- how a command ends that isn't sent: as missed if its cycle is missed, otherwise as skipped
 abbrev pub end_unsent : (missed : Bool) → End

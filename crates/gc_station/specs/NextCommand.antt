@@ -53,6 +53,7 @@ mark_next plan commands p = record {
   cycle = cycles_begun plan p;
   place = place_next commands p;
   sent = p.moment.utc;
+  id = 0;
   expected = expected_at commands (place_next commands p);
 }
 
@@ -68,6 +69,7 @@ mark_setup commands p = record {
   cycle = 0;
   place = p.prepared;
   sent = p.moment.utc;
+  id = 0;
   expected = expected_of_setup p.attempt (expected_at commands p.prepared);
 }
 

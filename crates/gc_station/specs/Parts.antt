@@ -82,7 +82,7 @@ first_request_part now mark (task ∷ others) = request_part now (request_for ma
 abbrev pub put_part : Plan → List Task → Model → Action → Part
 put_part plan commands s action.Flush = request_part s.progress.moment.elapsed (null_request plan)
 put_part plan commands s action.Prepare =
-    request_part s.progress.moment.elapsed (request_of_setup plan commands s.progress)
+    request_part s.progress.moment.elapsed (request_of_setup plan commands s.client.next s.progress)
 put_part plan commands s action.Send =
     first_request_part s.progress.moment.elapsed (mark_sent plan commands s) (commands_left commands s.progress)
 put_part plan commands s _ = idle_part
@@ -165,7 +165,7 @@ sent_at r = unwrap_or r.sent 0
 
 -- the mark that the command of the record `r` had, if `expected` is expected of its answer
 abbrev pub mark_of : Expected → Record → Mark
-mark_of expected r = record { cycle = r.cycle; place = r.place; sent = sent_at r; expected = expected }
+mark_of expected r = record { cycle = r.cycle; place = r.place; sent = sent_at r; id = r.id; expected = expected }
 
 -- the record `r` with 0 for the moment of its end
 abbrev pub timeless : Record → Record

@@ -15,6 +15,8 @@ use Rattle.gc_station.specs.Scopes.{ForEachReadings, Reads}
 pub record Record : Type 0 where
   -- the moment read last before its request was sent, by the clock of time stamps; `None` if it wasn't sent
   pub sent : Option ℕ
+  -- the id of its request, 0 to 7; 0 if it wasn't sent
+  pub id : ℕ
   -- the moment of its end, by the clock of time stamps; of a missed command the moment at which its cycle was due
   pub utc : ℕ
   -- its cycle, counted from 1; 0 for a command of the setup
@@ -32,6 +34,7 @@ pub record Record : Type 0 where
 abbrev pub record_seen : Stamp → Wish → Ending → Record
 record_seen stamp command ending = record {
   sent = stamp.sent;
+  id = stamp.id;
   utc = stamp.utc;
   cycle = stamp.cycle;
   place = stamp.place;

@@ -17,7 +17,6 @@ ghost use Rattle.gc_station.specs.declared.cause.Cause.TheVariants as cause;
 ghost use Rattle.gc_station.specs.declared.progress.Action.TheVariants.{Send, Close, Stop};
 ghost use Rattle.gc_station.specs.declared.plan.Plan.{Plan};
 ghost use Rattle.gc_links.specs.Acts.{Act, Closed};
-ghost use Rattle.gc_station.specs.Agreeing.{AgreedRowsAgree};
 ghost use Rattle.gc_station.specs.Answers.{AnswerIsJustified};
 ghost use Rattle.gc_station.specs.Behind.{CommandsAreSentNearTheTable, TheTableIsNeverHeldUp};
 ghost use Rattle.gc_station.specs.NullFirst.{SynchronizationsEndWithANull};
@@ -27,27 +26,21 @@ ghost use Rattle.gc_station.specs.Deciding.{dead_after};
 ghost use Rattle.gc_station.specs.FirstActs.{FirstActsAreARun};
 ghost use Rattle.gc_station.specs.HoldingBack.{RequestsAreHeldBack};
 ghost use Rattle.gc_station.specs.InDoubt.{NothingIsSentInDoubt};
-ghost use Rattle.gc_station.specs.Codes.{WellIsAnAcceptedCode};
-ghost use Rattle.gc_station.specs.Counting.{TalliesCountRecords};
 ghost use Rattle.gc_station.specs.Cycles.{CyclesBeginWhenDue, SentOnlyInTime, UnsentForACause};
-ghost use Rattle.gc_station.specs.Moments.{AnswersHaveTheirMoments, EachRecordHasItsMoment, UnreadableAsTheyRead};
 ghost use Rattle.gc_station.specs.Pauses.{TriesAndPausesAreCounted};
-ghost use Rattle.gc_station.specs.Retries.{FurtherAttemptsHaveACause, EachRecordHasItsTurn};
+ghost use Rattle.gc_station.specs.Retries.{FurtherAttemptsHaveACause};
 ghost use Rattle.gc_station.specs.Room.{RequestsHaveRoom};
 ghost use Rattle.gc_station.specs.Chains.{IsChained, IsLinked};
 ghost use Rattle.gc_station.specs.EachOnce.{EachOnce, IsFurther};
 ghost use Rattle.gc_station.specs.Links.{ChainsStay, MarksGoOn, RecordsStay};
 ghost use Rattle.gc_station.specs.Ends.{LateIsJustified, LostIsJustified};
 ghost use Rattle.gc_station.specs.Given.{bytes_heard};
-ghost use Rattle.gc_station.specs.Nearness.{AnswersAreAtTheirTargets};
-ghost use Rattle.gc_station.specs.Qualities.{QualitiesAreAsListed, GoodIsAnAnswer};
 ghost use Rattle.gc_station.specs.Quiet.{SendsRequest};
 ghost use Rattle.gc_station.specs.Runs.{state_after, OfAnyActs, OfEachRun, WhereNext, OfEachAct, OfEachRecord};
 ghost use Rattle.gc_station.specs.Scopes.{Scope, OneReadingForALine, SomeReadings};
 ghost use Rattle.gc_station.specs.Setups.{EachSetUpOnce, SetUpsGoOn, NoneBeforeTheSetUp, SetUpInOrder};
 ghost use Rattle.gc_station.specs.Silences.{HasAllTimedOut, IsMuteFor};
 ghost use Rattle.gc_station.specs.Stopping.{ClosesStale, StopsAtItsClose, EndsOnceStale, GoesOnInItsChain, ClosesBetweenChains};
-ghost use Rattle.gc_station.specs.Tasked.{EachRecordIsOfItsTask};
 ghost use Rattle.gc_station.specs.OnceAsked.{EndsSoonOnceAsked, FinishesItsChainOnceAsked, FinishesATableChainOnceAsked, EndsByBoundOnceAsked, EndsATableRunByBoundOnceAsked};
 ghost use Rattle.gc_station.specs.RecordedInTime.{RecordsOnceTimedOut, RecordsInTime, ReadsClockBefore, ReadsAwaitSomething, RecordingEnds};
 ghost use Rattle.gc_station.specs.BoundRuns.{OutageIsRecorded, CallsAreNeeded, ReadingsAreNeeded, DeadlinesAreNeeded, UnaskedIsNeeded};
@@ -240,73 +233,12 @@ pub fn chains_stay()
     ensures { ChainsStay }
 {}
 
-/// A command was answered well only if the communication code of its reply is 0, and the return code is 0 or one that the text
-/// accepts. With both codes 0 it was answered well exactly if the parameters read as an answer of its call that wasn't measured
-/// elsewhere. With an accepted code it was, unless they read as an answer that was measured elsewhere. A command that is late,
-/// lost, skipped or missed never was answered well.
-pub fn answered_well_is_an_accepted_code()
-    ensures { WellIsAnAcceptedCode }
-{}
-
-/// Whatever the line, the instrument or its operator did: if a record is answered, and the text says where the command's target
-/// is, the answer was measured there. Its direction, if it has one, is near that place; and its distance, if it has one and the text says
-/// the target's, is within the tolerance of that. The reply of a record that is `elsewhere` has both codes 0 or an accepted return
-/// code, and a direction that isn't near the target, or a distance that isn't within the tolerance of the target's.
-pub fn answers_are_at_their_targets()
-    ensures { AnswersAreAtTheirTargets }
-{}
-
-/// A chain that the text has sent twice, whatever the line, the instrument or its operator did:
-/// - `second`: if a record is of a second sending, and is answered and not refused, then before it is one of the first sending of the same
-///   command of the text, in the same cycle and in the attempt before, which is answered and unconfirmed. The answers of the two agree: each
-///   value of the second is within the text's tolerance of that of the first.
-/// - `first`: a record of a first sending that is answered and not refused is unconfirmed, so it never counts as a measurement.
-/// - `disagree`: only a record of a second sending ends as `disagree`.
-///
-/// So if at most one of the two reply lines was damaged, each value of a confirmed record is within the tolerance of one that the instrument
-/// sent. That isn't proved here: these runs know nothing of an instrument.
-pub fn agreed_rows_agree()
-    ensures { AgreedRowsAgree }
-{}
-
-/// Each answered record has the quality of its line: fine with both codes 0; a warning with communication code 0 and a return
-/// code that the text accepts of its command, and with the values that the line has with return code 0, if these read; unconfirmed in
-/// place of either in the first sending of a chain that is sent twice; and else refused, and without values.
-pub fn qualities_are_as_listed()
-    ensures { QualitiesAreAsListed }
-{}
-
-/// If the text accepts no code of a command, an answer of a good quality has both codes 0 and values that read. So for a text
-/// without `accept` the laws on chains speak of such answers alone.
-pub fn good_without_accept_is_an_answer()
-    ensures { GoodIsAnAnswer }
-{}
-
 /// A further attempt of a chain is sent only once all commands sent are settled, and one of the attempt before ended as its
 /// rule names. Further attempts are left out only if none of the attempt before did, or the cycle is missed, or the next command
 /// is chained, which in a station's text the first one of an attempt never is, or the cycle is overdue. A command of the setup that is
 /// sent between two attempts belongs to neither.
 pub fn each_further_attempt_has_a_cause()
     ensures { FurtherAttemptsHaveACause }
-{}
-
-/// Each record says which command of the text it is of, and in which attempt, as the task at its place does; a record of the
-/// setup has the attempt of the setup.
-pub fn each_record_has_its_turn()
-    ensures { EachRecordHasItsTurn }
-{}
-
-/// Each record is of the task at its place, and has a time of sending exactly if its request was sent. Its command is what the
-/// task asks at that time: if the task sets the clock, the time cut to seconds, UTC, and otherwise what the text says. The
-/// command of a record that was never sent is as in the text.
-pub fn each_record_is_of_its_task()
-    ensures { EachRecordIsOfItsTask }
-{}
-
-/// A tally counts the records of the last attempt of each chain: each count but `again` is how many of them have its ending.
-/// `again` is how many times a chain was sent again. Records of the setup (cycle 0) aren't counted. A count stops at 2^64 - 1.
-pub fn tallies_count_the_records()
-    ensures { TalliesCountRecords }
 {}
 
 /// When a command is sent, or a null procedure that isn't of a synchronization, fewer requests are in flight than the plan's
@@ -507,22 +439,6 @@ pub fn a_run_ends_soon_once_asked()
 pub fn a_run_ends_by_its_bound_once_asked()
     ensures chain { EndsByBoundOnceAsked }
     ensures table { EndsATableRunByBoundOnceAsked }
-{}
-
-/// Each record has the moment of the act by which its command ended, by the clock of time stamps: an answered one that of the read that
-/// brought its reply's line.
-/// - `each`: the act added the record, and the record has the moment that was read last by then: that of the act itself, if it reads one.
-///   A missed command has the moment at which its cycle was due, where cycles have due moments and the clock doesn't go back.
-/// - `answers`: the record of a reply in time has the moment of the read that brought the reply's line.
-pub fn records_have_their_moments()
-    ensures each { EachRecordHasItsMoment }
-    ensures answers { AnswersHaveTheirMoments }
-{}
-
-/// A record of a run is unreadable only if the line of its reply doesn't read as an answer to its call, and for the very fault for which it
-/// doesn't.
-pub fn unreadable_ones_do_not_read()
-    ensures { UnreadableAsTheyRead }
 {}
 
 /// What a station has done by any moment is what a run does that is given as many turns as acts were made, and returns. Take the first

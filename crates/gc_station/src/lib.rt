@@ -14,6 +14,7 @@ mod pace;
 mod plan;
 mod progress;
 mod progressing;
+pub mod record_laws;
 mod recorded;
 mod run;
 mod station;

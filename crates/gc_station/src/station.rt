@@ -6,7 +6,7 @@ ghost use Rattle.gc_client.specs.Settlements.{AreReadBy};
 ghost use Rattle.gc_station.specs.Deciding.{action_of};
 ghost use Rattle.gc_station.specs.Firsts.{with_first};
 ghost use Rattle.gc_station.specs.Keeping.{reads_clock_alone};
-ghost use Rattle.gc_station.specs.Marks.{commands_in};
+ghost use Rattle.gc_station.specs.Marks.{commands_in, with_id};
 ghost use Rattle.gc_station.specs.Scopes.{AreReadings, scoped, Reads};
 ghost use Rattle.gc_station.specs.Records.{WritesNews};
 ghost use Rattle.gc_station.specs.Model.{Model, opening, action_at, with_losses};
@@ -175,16 +175,18 @@ impl Station {
             cycle: self.progress.cycle(plan),
             place: self.place(commands),
             sent: self.progress.moment.utc,
+            id: 0,
             expected: expected_at(commands, self.place(commands)),
         }
     }
 
-    // The mark with which the cycle's next command is sent: that of `mark`, with the answer of the first sending with which its own
-    // is compared.
+    // The mark with which the cycle's next command is sent: that of `mark`, with the client's next id, and with the answer of the
+    // first sending with which its own is compared.
     fn mark_sent(&self, plan: &Plan, commands: &[Task]) -> Mark
-        ensures { result ≡ with_first self.now.recorded.firsts (mark_next plan.now commands.now self.now.progress) }
+        ensures { result ≡ with_id self.now.client.ids.next (with_first self.now.recorded.firsts (mark_next plan.now commands.now self.now.progress)) }
     {
         let mut mark = self.mark(plan, commands);
+        mark.id = self.client.next_id();
         mark.expected.first = self.recorded.firsts.answer_for(mark.cycle, &mark.expected);
         mark
     }
@@ -202,6 +204,7 @@ impl Station {
             cycle: 0,
             place: self.progress.prepared,
             sent: self.progress.moment.utc,
+            id: 0,
             expected,
         }
     }

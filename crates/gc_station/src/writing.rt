@@ -218,6 +218,7 @@ fn write_settlement<B: Book>(
     };
     let stamp = Stamp {
         sent: Some(mark.sent),
+        id: mark.id,
         utc: now.utc,
         cycle: mark.cycle,
         place: mark.place,

@@ -10,11 +10,14 @@ use gc_catalogue::{DateTime, is_leap, month_days};
 use gc_lines::append;
 use itoa::Buffer;
 
-/// When a command was sent and ended, in milliseconds since 1970-01-01, UTC, and which command of its run it was.
+/// When a command was sent and ended, in milliseconds since 1970-01-01, UTC, with which id its request went out, and which command of its
+/// run it was.
 #[derive(Clone, Copy)]
 pub struct Stamp {
     /// The last moment that the clock gave before its request went out. `None`: it was never sent.
     pub sent: Option<u64>,
+    /// The id of its request, 0 to 7; 0 if it was never sent.
+    pub id: u8,
     /// The last moment that the clock had given when it ended. Of a command of a missed cycle, the moment at which that cycle was due.
     pub utc: u64,
     /// The cycle, counted from 1; 0 for a command of the setup.

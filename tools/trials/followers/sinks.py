@@ -12,7 +12,7 @@ from pathlib import Path
 import quantities
 from followed import Row
 from programs import ended, until
-from records import COLUMNS, MOMENTS, UNSAID
+from records import COLUMNS, LATER, MOMENTS, UNSAID, fields_of, line_of
 from servers import Listening, Servers
 
 TOOLS = Path(__file__).resolve().parents[2]
@@ -35,6 +35,11 @@ def messages_of(words, status=0):
     found = ended(words, patience=PATIENCE)
     assert found.status == status, f"{words[0]}: {found.messages!r}"
     return found.messages
+
+
+def earlier_line(line):
+    """A line of a table as an earlier version has it, without the later columns."""
+    return line_of(dict(zip(COLUMNS, fields_of(line[:-1]))), [column for column in COLUMNS if column not in LATER])
 
 
 @dataclass

@@ -10,7 +10,7 @@ import pytest
 from growing import Growing
 from killing import kill_again_and_again
 from programs import Run, ended, until
-from records import COLUMNS, HEAD
+from records import COLUMNS, HEAD, line_of
 from sinks import messages_of, tool
 from two_faces import SITE, Month
 
@@ -26,11 +26,9 @@ def laid(folder, limits, rows=b""):
 
 def row(cycle, target, values, quality="ok", procedure=2108, rc=0, attempt=1, outcome="answered"):
     """A row of this cycle, answered so."""
-    fields = ["2026-11-24T00:00:00.000Z", "", f"2026-11-24T{cycle // 60:02}:{cycle % 60:02}:00.000Z", cycle, target, target, "", procedure, outcome,
-              "", 0, rc, values, quality, attempt]
-    text = io.StringIO()
-    csv.writer(text, lineterminator="\n").writerow(fields)
-    return text.getvalue().encode()
+    return line_of({"run": "2026-11-24T00:00:00.000Z", "time": f"2026-11-24T{cycle // 60:02}:{cycle % 60:02}:00.000Z", "cycle": cycle, "place": target,
+                    "target": target, "procedure": procedure, "outcome": outcome, "rc_com": 0, "rc": rc, "values": values, "quality": quality,
+                    "attempt": attempt})
 
 
 def lines_of(words, given=b"", patience=60, ends=False):
@@ -172,7 +170,7 @@ def test_standard_input(folder):
     fields = dict(zip(COLUMNS, next(csv.reader([rows[0].decode()]))))
     fields["cycle"] = 9
     assert len(lines_of(words, json.dumps({name: field for name, field in fields.items() if field != ""}).encode() + b"\n")) == 1
-    assert ended(tool("alarm", *words), HEAD + rows[0] + b"no row\n", patience=20).messages.endswith("line 3 is no row: it has 1 fields for 15 columns\n")
+    assert ended(tool("alarm", *words), HEAD + rows[0] + b"no row\n", patience=20).messages.endswith(f"line 3 is no row: it has 1 fields for {len(COLUMNS)} columns\n")
 
 
 def test_a_command_is_bounded_in_rate(folder):

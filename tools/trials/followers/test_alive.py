@@ -13,9 +13,9 @@ from contextlib import contextmanager
 import freshness
 import pytest
 from programs import ended, until
-from records import COLUMNS, HEAD, NUMBERS
+from records import COLUMNS, HEAD, NUMBERS, line_of
 from sinks import tool
-from test_silence import GOOD, REFUSED, fields, now, text_of
+from test_silence import GOOD, REFUSED, fields, now
 
 
 # The fake clock's moment.
@@ -24,7 +24,7 @@ NOW = datetime.datetime(2026, 11, 24, 12, tzinfo=datetime.timezone.utc)
 
 def rows(cycles, every, targets=(7, 8), ago=0, answer=lambda cycle, target: GOOD, name="pier", end=None):
     """The rows of cycles, of which the last one ended so many seconds before a moment, or now."""
-    return [text_of(fields(cycle, target, (end or now()) - datetime.timedelta(seconds=ago + (cycles - cycle) * every), answer(cycle, target),
+    return [line_of(fields(cycle, target, (end or now()) - datetime.timedelta(seconds=ago + (cycles - cycle) * every), answer(cycle, target),
                            name=f"{name} {target}")) for cycle in range(1, cycles + 1) for target in targets]
 
 
@@ -94,9 +94,9 @@ def test_what_is_no_measurement(folder):
         data = rows(10, 10, (7,), ago=110, end=NOW)
         for cycle in range(11, 20):
             other = {name: str(field) for name, field in more.items()}
-            data += [text_of(fields(cycle, 7, moment(cycle), REFUSED)), text_of({**fields(cycle, 7, moment(cycle)), "place": "9", **other})]
+            data += [line_of(fields(cycle, 7, moment(cycle), REFUSED)), line_of({**fields(cycle, 7, moment(cycle)), "place": "9", **other})]
         assert at_noon(laid(folder, data)).startswith("CRITICAL: 1 of 1 not measured"), more
-    data = rows(10, 10, (7,), ago=110, end=NOW) + [text_of({**fields(0, 9, NOW), "attempt": str(attempt)}) for attempt in range(1, 9)]
+    data = rows(10, 10, (7,), ago=110, end=NOW) + [line_of({**fields(0, 9, NOW), "attempt": str(attempt)}) for attempt in range(1, 9)]
     assert at_noon(laid(folder, data)).startswith("CRITICAL: no row for 110 s")
 
 
@@ -145,7 +145,7 @@ def test_reads_the_end_alone(folder, note, monkeypatch):
         file.write(b"".join(rows(2000, 10, (7, 8), end=NOW)))
     assert at_noon(path).startswith("OK: ") and sum(read) <= 2 * freshness.PIECE, read
     with open(path, "ab") as file:
-        file.write(b"".join(text_of(fields(cycle, 9, NOW, REFUSED)) for cycle in (2001, 2002)))
+        file.write(b"".join(line_of(fields(cycle, 9, NOW, REFUSED)) for cycle in (2001, 2002)))
     read.clear()
     assert at_noon(path, 1000, 15_000).startswith("CRITICAL: 1 of 1 not measured within 15000 s")
     assert sum(read) < 10 * freshness.PIECE
@@ -211,13 +211,13 @@ def test_a_watchdog(folder, place):
         begun = time.monotonic()
         while time.monotonic() < begun + 2.5:
             with open(path, "ab") as file:
-                file.write(text_of(fields(int(10 * (time.monotonic() - begun)) + 6, 7, now(), REFUSED)))
+                file.write(line_of(fields(int(10 * (time.monotonic() - begun)) + 6, 7, now(), REFUSED)))
             time.sleep(0.1)
         came = sent(listening)
         assert all("WATCHDOG=1" in lines for lines in came) and "READY=1" in came[-1] and not any("USEC" in line for lines in came for line in lines), came
         until(lambda: "WATCHDOG=1" not in (sent(listening) or [["WATCHDOG=1"]])[-1], "it is kept fresh", 20)
         with open(path, "ab") as file:
-            file.write(text_of(fields(99, 7, now())))
+            file.write(line_of(fields(99, 7, now())))
         until(lambda: any("WATCHDOG=1" in lines for lines in sent(listening)), "it doesn't come back", 20)
 
 
@@ -237,7 +237,7 @@ def test_a_watchdog_without_a_unit_that_bounds_it(folder):
 
 def test_looks_at_a_clock(folder):
     """Days of a fake clock: what is ahead of it says nothing, but for the last row, which is reported."""
-    path = laid(folder, [text_of(fields(cycle, 7, datetime.datetime(2026, 11, 24, tzinfo=datetime.timezone.utc) + datetime.timedelta(minutes=5 * cycle))) for cycle in range(1, 9)])
+    path = laid(folder, [line_of(fields(cycle, 7, datetime.datetime(2026, 11, 24, tzinfo=datetime.timezone.utc) + datetime.timedelta(minutes=5 * cycle))) for cycle in range(1, 9)])
 
     def status(minutes, within=1000):
         moment = datetime.datetime(2026, 11, 24, tzinfo=datetime.timezone.utc) + datetime.timedelta(minutes=minutes)
@@ -246,8 +246,8 @@ def test_looks_at_a_clock(folder):
     assert [status(minutes) for minutes in (0, 39.9, 40, 56, 57, 10_000)] == [3, 3 if freshness.AHEAD < 6 else 0, 0, 0, 2, 2]
     # Set back by an hour, and then a row that measured nothing.
     with open(path, "ab") as file:
-        file.write(text_of(fields(9, 7, datetime.datetime(2026, 11, 23, 23, 40, tzinfo=datetime.timezone.utc), REFUSED)))
+        file.write(line_of(fields(9, 7, datetime.datetime(2026, 11, 23, 23, 40, tzinfo=datetime.timezone.utc), REFUSED)))
     assert [status(minutes) for minutes in (-19, -10, 6)] == [2, 2, 2]
     with open(path, "ab") as file:
-        file.write(text_of(fields(10, 7, datetime.datetime(2026, 11, 23, 23, 45, tzinfo=datetime.timezone.utc))))
+        file.write(line_of(fields(10, 7, datetime.datetime(2026, 11, 23, 23, 45, tzinfo=datetime.timezone.utc))))
     assert [status(minutes) for minutes in (-16, -14, 1, 2)] == [3, 0, 0, 2]

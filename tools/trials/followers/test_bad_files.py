@@ -13,7 +13,7 @@ from typing import Callable
 from growing import first_rows, row, row_of_columns, row_of_json
 from programs import Run, until
 from records import COLUMNS, COLUMNS_HEAD, HEAD, LAST
-from sinks import expect_postgres, expect_sqlite, followers, level, messages_of, tool
+from sinks import earlier_line, expect_postgres, expect_sqlite, followers, level, messages_of, tool
 
 GOOD = {"~.csv": HEAD + b"".join(first_rows(40)),
         "~.jsonl": b"".join(row_of_json(random.Random(5), number) for number in range(40))}
@@ -114,7 +114,7 @@ def test_one_bad_file_stops_no_other(servers, folder, note):
 
 def test_reads_columns_by_name(servers, folder):
     """A column that is needed and missing is reported in one line; further ones, another order, and rows of an earlier version, which
-    have no run, no moment of sending, no quality and no attempt, change nothing."""
+    have no run, no moment of sending, no quality, no attempt and no request, change nothing."""
     path, base = folder / "columns.csv", folder / "columns.db"
     path.write_bytes((",".join(column for column in COLUMNS if column != "rc") + "\n").encode())
     commands = [one.command(path, "--once") for one in followers(servers, base)]
@@ -129,7 +129,7 @@ def test_reads_columns_by_name(servers, folder):
         for fields in csv.reader(line.decode().rstrip("\n") for line in rows):
             table.writerow(["x", *reversed(fields), "2.25", ""])
     earlier = folder / "earlier.csv"
-    earlier.write_bytes(b"".join(line.split(b",", 2)[2].rsplit(b",", len(LAST))[0] + b"\n" for line in [HEAD, *rows]))
+    earlier.write_bytes(b"".join(map(earlier_line, [HEAD, *rows])))
     for other in later, earlier:
         for follower in followers(servers, base)[:2]:
             messages_of(follower.command(other, "--once"))
@@ -148,7 +148,7 @@ def without_attempt(view):
 
 
 def test_goes_on_in_databases_of_an_earlier_version(servers, folder):
-    """A table without a quality and an attempt gets these columns, and its view then has the values of warnings."""
+    """A table without a quality, an attempt and a request gets these columns, and its view then has the values of warnings."""
     path, base = folder / "old.csv", folder / "old.db"
     path.write_bytes(HEAD)
     commands = [one.command(path, "--once") for one in followers(servers, base)[:2]]

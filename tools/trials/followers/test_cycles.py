@@ -4,14 +4,14 @@ import json
 import time
 
 from programs import Run, until
-from records import HEAD
+from records import HEAD, line_of
 from servers import Listening
 from sinks import level, messages_of, tool
-from test_silence import GOOD, REFUSED, fields, now, text_of
+from test_silence import GOOD, REFUSED, fields, now
 
 
 def row(cycle, target, answer=GOOD, **more):
-    return text_of(fields(cycle, target, now(), answer, name=f"pier {target}", **more))
+    return line_of(fields(cycle, target, now(), answer, name=f"pier {target}", **more))
 
 
 def kept(port, topic):

@@ -9,7 +9,7 @@ import movements
 import pytest
 import sites
 from programs import ended
-from records import HEAD
+from records import HEAD, line_of
 from sinks import tool
 from surveyed import Survey
 from test_references import PRISMS, expect_place, reduced
@@ -23,10 +23,11 @@ def table(folder, text, *cycles):
     for cycle, readings in enumerate(cycles, 1):
         for place, (hz, v, distance, *how) in enumerate(readings):
             moment = f"2026-11-01T{cycle:02}:00:{place:02}.000Z"
-            lines.append(f'2026-11-01T00:00:00.000Z,{moment},{moment},{cycle},{place},7,,2108,answered,,0,{how[0] if how else 0},'
-                         f'"{hz},{v},{distance}",{"warning" if how else "ok"},1\n'.encode())
+            row = {"run": "2026-11-01T00:00:00.000Z", "sent": moment, "time": moment, "cycle": cycle, "outcome": "answered", "rc_com": 0}
+            lines.append(line_of({**row, "place": place, "target": 7, "procedure": 2108, "rc": how[0] if how else 0, "values": f"{hz},{v},{distance}",
+                                  "quality": "warning" if how else "ok"}))
         # (each cycle ends with the same command)
-        lines.append(f"2026-11-01T00:00:00.000Z,{moment},{moment},{cycle},9,9,,0,answered,,0,0,,ok,1\n".encode())
+        lines.append(line_of({**row, "place": 9, "target": 9, "procedure": 0, "rc": 0, "quality": "ok"}))
     (folder / "values.csv").write_bytes(b"".join(lines))
     (folder / "site").write_text(text, encoding="ascii")
     status, output, messages = ended(tool("reduce", folder / "values.csv", folder / "site"), patience=60)

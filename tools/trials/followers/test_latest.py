@@ -4,8 +4,8 @@ import sqlite3
 from contextlib import closing
 
 from records import HEAD, last_attempts
-from sinks import followers, messages_of, rows_of, tool
-from two_faces import Month
+from sinks import earlier_line, followers, messages_of, rows_of, tool
+from two_faces import Month, other
 
 COLUMNS = "cycle, place, attempt, hz_rad, v_rad, distance_m"
 
@@ -26,7 +26,7 @@ def test_the_last_attempts(servers, folder):
     for name, data in zip(("both.csv", "last.csv"), month.tables_of_attempts()):
         (folder / name).write_bytes(data)
     rows = list(month.rows())[0]
-    again = [row.replace(b",answered,,0,0,", b",answered,,0,1285,").replace(b",ok,1\n", b",refused,2\n") for row in rows[2:3]]
+    again = [other(rows[2], rc=1285, quality="refused", attempt=2)]
     (folder / "refused.csv").write_bytes(HEAD + b"".join(rows[:3] + again))
     for name in "both.csv", "last.csv", "refused.csv":
         for follower in followers(servers, base)[:2]:
@@ -45,7 +45,7 @@ def test_rows_without_attempts_are_all_last(servers, folder):
     """Rows of an earlier version, which have no run and no attempt: the view has what `measured` has."""
     path, base = folder / "earlier.csv", folder / "earlier.db"
     rows = [row for rows in Month(cycles=3).rows() for row in rows]
-    path.write_bytes(b"".join(line.split(b",", 2)[2].rsplit(b",", 2)[0] + b"\n" for line in [HEAD, *rows]))
+    path.write_bytes(b"".join(map(earlier_line, [HEAD, *rows])))
     for follower in followers(servers, base)[:2]:
         messages_of(follower.command(path, "--once"))
     query = "SELECT cycle, place, hz_rad FROM {} WHERE source = {{}} ORDER BY cycle, place"

@@ -2,6 +2,7 @@
 something to HTML; files that grow, change and can't be read. With Chromium the pages are looked at as it shows them.
 """
 
+import csv
 import datetime
 import html.parser
 import os
@@ -17,7 +18,7 @@ import shown_month
 import viewed
 from growing import stamp
 from programs import Run, ended, until
-from records import HEAD
+from records import COLUMNS, HEAD, line_of
 from sinks import messages_of, tool
 
 CHROMIUM = next(filter(None, map(shutil.which, ("chromium-headless-shell", "chromium"))), None)
@@ -143,10 +144,12 @@ def test_escapes_names(folder):
 
 
 def line(ago, target, how="answered,,0,0,\"2,1.5,50\",ok", cycle=None, place=0, name="", attempt=1):
-    """A row of so many seconds ago."""
+    """A row of so many seconds ago. `how` are its fields from the outcome on, and `name` is quoted where it has to be."""
     moment = stamp(datetime.datetime.now(datetime.timezone.utc) - datetime.timedelta(seconds=ago)).decode()
     cycle = 10_000_000 - ago if cycle is None else cycle
-    return f"2026-10-31T23:59:50.000Z,{moment},{moment},{cycle},{place},{target},{name},2108,{how},{attempt}\n".encode()
+    name, *ended = next(csv.reader([f"{name},{how}"]))
+    return line_of({"run": "2026-10-31T23:59:50.000Z", "sent": moment, "time": moment, "cycle": cycle, "place": place, "target": target, "name": name,
+                    "procedure": 2108, **dict(zip(COLUMNS[COLUMNS.index("outcome"):], ended)), "attempt": attempt})
 
 
 def shown(path, *words):
@@ -285,7 +288,7 @@ def test_what_cant_be_read(month, folder):
     found = ended(tool("page", folder / "page", "--rows", rows, "--limits", folder / "limits", "--once", "--at", NOW), patience=60)
     lines = found.messages.splitlines()
     wanted = ["empty.limits: line 1: its columns aren't", "half.site: line 1: no line begins with 'nowhere'", "pipe.csv: Is a directory",
-              "south.csv has no column", "torn.limits: it is no text", "torn.csv: a line near its end is no row: it has 1 fields for 15 columns"]
+              "south.csv has no column", "torn.limits: it is no text", f"torn.csv: a line near its end is no row: it has 1 fields for {len(COLUMNS)} columns"]
     assert found.status == 1 and len(lines) == len(wanted), lines
     assert all(any(each in told for told in lines) for each in wanted), lines
     top = Seen((folder / "page/index.html").read_text(encoding="utf-8")).text()

@@ -15,7 +15,7 @@ import reductions
 import sites
 from adjusting import Network
 from programs import ended
-from records import HEAD, with_columns
+from records import HEAD
 from sinks import messages_of, tool
 from surveyed import Survey
 
@@ -213,7 +213,7 @@ def test_earlier_texts_and_tables(folder):
     survey = Survey(PRISMS)
     cycles = [{}, {"hidden": (1, 2, 3)}, {"faces": {7: (2,), 3: (1,)}}, {}]
     rows = reduced(folder, survey, cycles, "\n".join(f"reference {number} {PRISMS[number][0]} {PRISMS[number][1]}" for number in (1, 2)), "flat")
-    names = with_columns(reductions.ADDED_EARLIER)
+    names = reductions.EARLIER_NAMES
     head = ",".join(names) + "\n"
     assert head.startswith("run,sent,time,cycle,place,target,name,procedure,outcome,fault,rc_com,rc,values,pairs,index_rad,") and head.endswith(
         ",freedom,quality,attempt\n")

@@ -1,8 +1,6 @@
 """Silence by the clock: who is reported, when, and once. A fake clock gives the seconds where waiting would be long."""
 
-import csv
 import datetime
-import io
 import json
 import subprocess
 import time
@@ -12,18 +10,12 @@ from importlib.util import module_from_spec, spec_from_loader
 import limits
 import pytest
 from programs import Run, ended, processor_seconds, until
-from records import COLUMNS, HEAD, moment_text
+from records import COLUMNS, HEAD, line_of, moment_text
 from sinks import TOOLS, tool
 
 TABLE = "target,column,reference,tolerance,outside,of\n"
 GOOD, REFUSED = ("2,1.5,50", "ok", 0), ("", "refused", 1285)
 BEGIN = datetime.datetime(2026, 11, 24, tzinfo=datetime.timezone.utc)
-
-
-def text_of(fields):
-    text = io.StringIO()
-    csv.writer(text, lineterminator="\n").writerow(fields[name] for name in COLUMNS)
-    return text.getvalue().encode()
 
 
 def fields(cycle, target, moment, answer=GOOD, procedure=2108, name="", **more):
@@ -162,7 +154,7 @@ def test_a_clock_that_is_set(monkeypatch):
 
 def laid(folder, table, rows=None):
     if rows is not None:
-        (folder / "values.csv").write_bytes(HEAD + b"".join(map(text_of, rows)))
+        (folder / "values.csv").write_bytes(HEAD + b"".join(map(line_of, rows)))
     (folder / "limits").write_text(TABLE + table, encoding="utf-8")
     return [folder / "values.csv", folder / "limits", folder / "state"]
 
@@ -182,7 +174,7 @@ def test_speaks_while_nothing_comes(folder, note, ahead):
         assert b"target 7 ($x_1^{a$): no good row for 2 s" in run.output().splitlines()[0], run.output()
         time.sleep(1.5)
         with open(words[0], "ab") as file:
-            file.write(text_of(fields(2, 7, now())))
+            file.write(line_of(fields(2, 7, now())))
         until(lambda: run.output().count(b"\n") >= 4, "no end of it", 30)
         busy = processor_seconds(run.pid)
         run.terminate()
@@ -205,7 +197,7 @@ def test_speaks_of_a_file_that_isnt_there(folder):
     words = ["-", words[1], folder / "other"]
     command = list(map(str, tool("alarm", *words, "--rest", "0.05")))
     with subprocess.Popen(command, stdin=subprocess.PIPE, stdout=subprocess.PIPE, bufsize=0) as run:
-        run.stdin.write(HEAD + text_of(fields(1, 7, now())))
+        run.stdin.write(HEAD + line_of(fields(1, 7, now())))
         assert b"station: no good row for 2 s; the last was at" in run.stdout.readline()
         run.kill()
 

@@ -6,12 +6,12 @@ from contextlib import closing
 import drawn
 import pytest
 from programs import ended
-from records import HEAD
+from records import HEAD, line_of
 from sinks import messages_of, rows_of, tool
 from test_alarms import laid, lines_of, row
 from test_alive import NOW, at_noon, rows
 from test_alive import laid as laid_rows
-from test_silence import fields, text_of
+from test_silence import fields
 from two_faces import SITE, Month
 
 OUTSIDE, WITHIN = "2,1.5,50.1", "2,1.5,50"
@@ -75,5 +75,5 @@ def test_alive(folder):
     """What is unconfirmed, or in disagreement, is no measurement."""
     for more in {"quality": "unconfirmed"}, {"outcome": "disagree", "quality": ""}:
         data = rows(10, 10, (7,), ago=110, end=NOW)
-        data += [text_of({**fields(cycle, 7, NOW), **more}) for cycle in range(11, 20)]
+        data += [line_of({**fields(cycle, 7, NOW), **more}) for cycle in range(11, 20)]
         assert at_noon(laid_rows(folder, data)).startswith("CRITICAL: 1 of 1 not measured"), more

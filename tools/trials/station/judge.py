@@ -14,7 +14,7 @@ import re
 from dataclasses import dataclass
 
 from line_log import WHILE
-from measuring import ECHOES, START, STAMP, counts_of
+from measuring import ECHOES, START, STAMP, counts_of, is_request_of
 from records import COLUMNS, GOOD, OUTCOMES, UNSENT, moment
 from tagging import tagged
 
@@ -134,6 +134,8 @@ def faults_of_row(plan, row, cycle, place, number, is_left):
     is_unsent = row["outcome"] in UNSENT
     if is_unsent and number:
         yield f"{row['outcome']}, and it was sent"
+    if not is_request_of(row):
+        yield f"its request is {row['request']!r}"
     if (row["sent"] == "") != is_unsent:
         yield f"{row['outcome']}, and it was sent at {row['sent']!r}"
     elif row["sent"] and not milliseconds(row, "run") <= milliseconds(row, "sent") <= milliseconds(row):

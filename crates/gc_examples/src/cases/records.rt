@@ -1,6 +1,6 @@
 //! Records of a run: a case has the form, the moments, the target's name, the procedure, and the reply or how else the command
-//! ended. They are of the second cycle, of place 3 and of the first attempt, where the case doesn't say `cycle`, `place` or
-//! `attempt`.
+//! ended. They are of the second cycle, of place 3, of the first attempt and of the id 0, where the case doesn't say `cycle`, `place`,
+//! `attempt` or `id`.
 
 ghost use Rattle.std.specs.Prelude.{◌≤◌, length};
 
@@ -81,12 +81,13 @@ fn front_of(name: &[u8]) -> &[u8]
 }
 
 // The moments of a record, in milliseconds since 1970: when its run began, when its request was sent (none if the case's `sent`
-// is no number), and when its command ended; and its cycle and its turn.
+// is no number), and when its command ended; and its request's id, its cycle and its turn.
 fn when_of(case: &Case<'_>) -> When {
     When {
         run: RUN_BEGIN,
         stamp: Stamp {
             sent: case.value("sent").parse::<u64>().ok(),
+            id: case.number("id", 0),
             utc: case.number("utc", DEFAULT_UTC),
             cycle: case.number("cycle", 2),
             // (no record shows the place in the station's list)

@@ -98,6 +98,7 @@ impl Station {
         let task = &commands[self.place(commands)];
         let stamp = Stamp {
             sent: None,
+            id: mark.id,
             utc: self.progress.unsent_at(moment),
             cycle: mark.cycle,
             place: mark.place,

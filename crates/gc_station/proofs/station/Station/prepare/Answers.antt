@@ -4,8 +4,8 @@ use Rattle.gc_client.specs.Rule.{ById}
 use Rattle.gc_links.specs.Acts.{put_act}
 use Rattle.gc_station.specs.declared.station.sending.Outgoing.{Outgoing}
 use Rattle.gc_station.specs.Progressing.{setup_sent}
-use Rattle.gc_station.specs.Model.{Model, next_request_text, text_or_null, request_of_setup, asks_setup, with_progress}
-use Rattle.gc_station.specs.NextCommand.{mark_setup, commands_before}
+use Rattle.gc_station.specs.Model.{Model, next_request_text, text_or_null, request_of_setup, asks_setup, mark_setup_sent, with_progress}
+use Rattle.gc_station.specs.NextCommand.{commands_before}
 use Rattle.gc_station.proofs.Making.{refines_with, asks_refines, put_puts, put_refines, put_took, setup_text}
 use Rattle.gc_station.proofs.station.Station.prepare.Goals as goal
 
@@ -22,10 +22,13 @@ returns g c text known =
       tells = c.ask-put.ensures.tells;
       goes = λ s start stands so.
           let list = drop s.progress.prepared commands in
-          let mark = mark_setup commands s.progress in
-          let is : asking ≡ request_of_setup plan commands s.progress = c.next_setup-asking.ensures ∙ ap (request_of_setup plan commands) stands.progress in
+          let mark = mark_setup_sent commands s in
+          let id = s.client.next in
+          let is : asking ≡ request_of_setup plan commands id s.progress =
+          c.next_setup-asking.ensures ∙ ap (λ (ids : ById Asked). request_of_setup plan commands ids.next old.progress) stands.ids
+          ∙ ap (request_of_setup plan commands id) stands.progress in
           let f : Model → Model = λ (x : Model). with_progress (setup_sent plan) (asks_setup plan commands x) in
-          let asked = asks_refines old c.ask-put.new.self s asking (request_of_setup plan commands s.progress) stands c.requires.1 is c.ask-put.ensures.asks in (
+          let asked = asks_refines old c.ask-put.new.self s asking (request_of_setup plan commands id s.progress) stands c.requires.1 is c.ask-put.ensures.asks in (
             put_puts put line (text_or_null s.progress.moment.utc s.client list) (ap (λ (ids : ById Asked). next_request_text ids asking.command.call) stands.ids
                 ∙ ap (λ (a : Outgoing). next_request_text s.client a.command.call) is ∙ setup_text plan s.client mark list) c.ask-put.ensures.part,
             put_refines put line c.commands_before-requests.result (commands_before plan commands s.progress) f s (record c.ask-put.new.self { progress = c.note_setup.new.self }) c.note_cut.new.self
