@@ -1,6 +1,7 @@
 # By systemd: what an operator does behind the page, with two instruments: operator.sh SECONDS
 # The second one stands at a serial line, which is a pseudo terminal, and its rows are objects of JSON. A follower, a reduction and an
-# alarm run beside them. Then silence.sh and recipe.sh look who is called. At the end the packages are removed while a station and a follower run.
+# alarm run beside them. Then relay.sh switches a relay, and silence.sh and recipe.sh look who is called. At the end the packages are
+# removed while a station and a follower run.
 set -eu
 set -- "$1" geocom-station@simulator geocom-station@line
 rm -f /var/lib/geocom/*.csv /var/lib/geocom/*.jsonl
@@ -54,6 +55,7 @@ stat -c '%U %A %n' /var/lib/geocom /var/lib/geocom/*.*
 rm -r /etc/geocom/line.* /etc/geocom/simulator.site /etc/geocom/simulator.reduce /etc/geocom/simulator.limits /etc/geocom/simulator.alarm \
     /var/lib/geocom/alarm /var/lib/geocom/reduced
 cp /var/lib/geocom/simulator.csv /var/lib/geocom/line.jsonl /try
+sh /try/trial/relay.sh
 sh /try/trial/silence.sh
 sh /try/trial/recipe.sh
 systemctl start "$2"
