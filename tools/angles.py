@@ -9,6 +9,8 @@ from decimal import ROUND_HALF_EVEN, Decimal, getcontext
 getcontext().prec = 50
 PI = Decimal("3.14159265358979323846264338327950288419716939937510582097494459230782")
 TURN = 2 * PI
+# What half a turn is in the units that people read.
+UNITS = {"gon": Decimal(200), "degree": Decimal(180)}
 # What is written: a tenth of a nanoradian, a micrometre, a nanometre a day, and of a coefficient and of ppm four places.
 LAST_PLACE = {
     "rad": Decimal("1e-10"), "m": Decimal("1e-6"), "m_per_day": Decimal("1e-9"), "ppm": Decimal("1e-4"), "1": Decimal("1e-4")}
@@ -20,6 +22,16 @@ def written(number, unit):
         return ""
     rounded = number.quantize(LAST_PLACE[unit], ROUND_HALF_EVEN)
     return format(abs(rounded) if rounded == 0 else rounded, "f")
+
+
+def in_unit(angle, unit):
+    """Radians in a unit that people read."""
+    return angle / PI * UNITS[unit]
+
+
+def of_unit(number, unit):
+    """Radians of a number in such a unit."""
+    return number / UNITS[unit] * PI
 
 
 def on_circle(angle):

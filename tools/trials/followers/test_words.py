@@ -33,7 +33,7 @@ def completed_by_fish(name):
     return set(re.findall(rf"^complete -c geocom-{name} .*?-l ([a-z-]+)", text, re.M))
 
 
-@pytest.mark.parametrize("name", ["to-sqlite", "to-postgres", "to-mqtt", "plot", "reduce", "alarm", "alive", "page"])
+@pytest.mark.parametrize("name", ["to-sqlite", "to-postgres", "to-mqtt", "plot", "reduce", "alarm", "alive", "page", "teach"])
 def test_pages_and_completions_have_the_words(name):
     status, output, messages = ended(tool(name, "--help"), patience=20)
     assert (status, messages) == (0, "")

@@ -61,7 +61,7 @@ def test_objects(program):
             assert run.status(PATIENCE) == 0, run.messages()
             objects = list(map(json.loads, run.output().splitlines()))
     assert [one.get("items") for one in objects] == [one[6] for one in ANSWERS], "the items"
-    assert all(list(one)[-3:] == ["items", *LAST] for one in objects if "items" in one), "where they stand"
+    assert all(list(one)[-1 - len(LAST):] == ["items", *LAST] for one in objects if "items" in one), "where they stand"
 
 
 @pytest.mark.title("raw, chains")
