@@ -6,6 +6,7 @@ pub mod SceneDrill
 pub mod Verdicts
 pub mod Checking
 pub mod LogClients
+pub mod Remarks
 pub mod LogChecking
 pub mod Laws
 pub mod RuleScenes

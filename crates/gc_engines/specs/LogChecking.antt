@@ -12,7 +12,8 @@ use Rattle.gc_texts.specs.declared.log_line.LogMark.{LogMark}
 use Rattle.gc_texts.specs.declared.log_line.LogMark.TheVariants as mark
 use Rattle.gc_engines.specs.Checking.{WritesAll, WritesBy, WritesPart}
 use Rattle.gc_engines.specs.Verdicts.{IsLineVerdict, verdict_text}
-use Rattle.gc_engines.specs.LogClients.{after_entry, doubt_text, is_impossible_entry, nothing_known}
+use Rattle.gc_engines.specs.LogClients.{after_entry, is_impossible_entry, nothing_known}
+use Rattle.gc_engines.specs.Remarks.{remark_text}
 use Rattle.gc_engines.specs.declared.check_log.LogCheck.{LogCheck}
 use Rattle.gc_engines.specs.declared.check_log.PartialLine.{PartialLine}
 use Rattle.gc_engines.specs.declared.log_client.LogClient.{LogClient}
@@ -42,10 +43,10 @@ IsMarkedVerdict mark.CamePart bytes text = text ≡ part_verdict bytes
 IsMarkedVerdict mark.Link bytes text = text ≡ escaped bytes
 
 -- the text is what is written of a log line with this moment, mark and bytes, of which the reply is impossible or not (`doubted`): the
--- moment and the mark as they are, the verdict on the bytes, and whether the reply is impossible
+-- moment and the mark as they are, the verdict on the bytes, and what is remarked of them
 abbrev pub IsMarkedVerdictLine : (doubted : Bool) → (moment : List ℕ) → LogMark → (bytes text : List ℕ) → Type 0
 IsMarkedVerdictLine doubted moment mark bytes text =
-    (words : List ℕ) × IsMarkedVerdict mark bytes words × (text ≡ marked_text moment mark (words ++ (doubt_text doubted ++ codes "\n")))
+    (words : List ℕ) × IsMarkedVerdict mark bytes words × (text ≡ marked_text moment mark (words ++ (remark_text doubted mark bytes ++ codes "\n")))
 
 -- the most bytes of a line of a log that is read: this project's own
 abbrev pub log_line_most : ℕ

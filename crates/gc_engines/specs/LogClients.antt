@@ -3,7 +3,7 @@
 -- the next id; at any other nothing is known until the next beginning. After a line about the connection the log may lack requests that
 -- were sent: their writes were cut. Then no reply counts as impossible until the next request shows by its id how many these were; if that
 -- is a null procedure, it may be one of a beginning, and nothing is known.
-use Rattle.std.specs.Prelude.{ℕ, ◌+◌, ◌-◌, ◌%◌, ◌==◌, ◌&&◌, ◌||◌, Bool, true, false, not, nat_lt, nat_le, nat_eq, List, [], ◌∷◌, length, Option, Some, None, Result, Ok, Err, if◌then◌else◌, codes}
+use Rattle.std.specs.Prelude.{ℕ, ◌+◌, ◌-◌, ◌%◌, ◌==◌, ◌&&◌, ◌||◌, Bool, true, false, not, nat_lt, nat_le, nat_eq, List, [], ◌∷◌, length, Option, Some, None, Result, Ok, Err, if◌then◌else◌}
 use Rattle.gc_lines.specs.declared.fault.LineFault.{LineFault}
 use Rattle.gc_lines.specs.Readers.{reply_at, request_at}
 use Rattle.gc_lines.specs.Replies.{ReplyFields}
@@ -122,8 +122,3 @@ is_impossible_entry c mark.Went bytes = false
 is_impossible_entry c mark.WentPart bytes = false
 is_impossible_entry c mark.CamePart bytes = false
 is_impossible_entry c mark.Link bytes = false
-
--- what a verdict has after its words: that the reply is impossible, if it is
-abbrev pub doubt_text : Bool → List ℕ
-doubt_text true = codes " impossible"
-doubt_text false = []

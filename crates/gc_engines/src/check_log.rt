@@ -4,12 +4,14 @@ ghost use Rattle.std.specs.Prelude.{◌≡◌, ◌+◌, ◌<◌, ◌≤◌, ◌+
 ghost use Rattle.std.specs.Option.{option_copied};
 ghost use Rattle.gc_engines.specs.LogChecking.{IsWholeVerdict, IsMarkedVerdictLine, part_verdict, ends_cleared, IsMarkedVerdict, IsLogVerdict, KeepsLine, TakesPiece, TakesPieceInPart, IsCheckingLog};
 ghost use Rattle.gc_engines.specs.LogChecking.{HasRoom, JudgesLine, JudgesMore, NoneWait, StopsWriting, TakesLine, WritesWaiting, bytes_left, texts_in};
-ghost use Rattle.gc_engines.specs.LogClients.{doubt_text, nothing_known};
+ghost use Rattle.gc_engines.specs.LogClients.{nothing_known};
+ghost use Rattle.gc_engines.specs.Remarks.{remark_text};
 ghost use Rattle.gc_lines.specs.Answering.{AppendsText, ports_of};
 ghost use Rattle.gc_lines.specs.Passing.{whole_and_part};
 ghost use Rattle.gc_lines.specs.Ports.{FailsWith};
 
 use crate::log_client::LogClient;
+use crate::remark::remark_text;
 use crate::verdict::{Verdict, line_verdict, push_verdict};
 use arrayvec::ArrayVec;
 use gc_lines::{Outgoing, ServeFault, Served, Sink, Source, append, write_whole};
@@ -312,8 +314,8 @@ fn push_no_line(text: &mut Outgoing, client: &mut LogClient)
     *client = LogClient::new();
 }
 
-// Appends what is written of a log line: its moment and mark, the verdict on its bytes, whether it is an impossible reply (`doubted`), and
-// a line feed.
+// Appends what is written of a log line: its moment and mark, the verdict on its bytes, what is remarked of it, of which `doubted` says
+// whether it is an impossible reply, and a line feed.
 fn push_line_verdict(text: &mut Outgoing, doubted: bool, line: &LogLine<'_>)
     requires short { length line.now.moment.now ≤ 2100 }
     requires room { length text.old.items + 4300 ≤ 8192 }
@@ -325,19 +327,17 @@ fn push_line_verdict(text: &mut Outgoing, doubted: bool, line: &LogLine<'_>)
     append(text, line.mark.text());
     append(text, b" ");
     push_marked_verdict(text, line.mark, &line.bytes);
-    push_doubt(text, doubted);
+    push_remark(text, doubted, line.mark, &line.bytes);
     append(text, b"\n");
 }
 
-// Appends that a reply is impossible, if it is (`doubted`). There is room for it.
-fn push_doubt(text: &mut Outgoing, doubted: bool)
+// Appends what is remarked of a log line's bytes. There is room for it.
+fn push_remark(text: &mut Outgoing, doubted: bool, mark: LogMark, bytes: &[u8])
     requires { length text.old.items + 20 ≤ 8192 }
-    ensures items { text.new.items ≡ text.old.items ++ doubt_text doubted }
+    ensures items { text.new.items ≡ text.old.items ++ remark_text doubted mark bytes.now }
     ensures bound { length text.new.items ≤ length text.old.items + 20 }
 {
-    if doubted {
-        append(text, b" impossible");
-    }
+    append(text, remark_text(doubted, mark, bytes));
 }
 
 // Appends what is written of a log line's bytes, by its mark: the verdict on a whole line, or on bytes that are no whole line; or

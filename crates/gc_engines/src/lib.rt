@@ -9,6 +9,7 @@ mod event;
 mod exec;
 pub mod laws;
 mod log_client;
+mod remark;
 mod report_text;
 mod rule_line;
 mod rule_scene;

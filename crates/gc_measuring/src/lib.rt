@@ -15,6 +15,7 @@ mod row;
 mod sendings;
 mod signs;
 mod spot;
+mod starts;
 mod station;
 mod stop;
 mod task_text;

@@ -9,6 +9,7 @@ ghost use Rattle.gc_texts.specs.Endings.{ending_seen};
 
 use crate::doubts::{DoubtNews, Doubts};
 use crate::signs::Signs;
+use crate::starts::{Starts, tell_starts};
 use crate::unanswered::Unanswered;
 use gc_links::{Moment, Place};
 use gc_messages::{FilesSeen, FilesTold, Noticed};
@@ -20,6 +21,8 @@ use std::io::{self, Write};
 /// The messages of a station, with what was seen of the station and reported so far.
 pub(crate) struct Reporter<E> {
     signs: Signs,
+    // What was reported of the instrument's sign-ons.
+    starts: Starts,
     // What was reported of the station's files.
     files: FilesTold,
     doubts: Doubts,
@@ -32,6 +35,7 @@ impl<E: Write> Reporter<E> {
     pub(crate) fn new(watch: Watch, run: u64, messages: E) -> Reporter<E> {
         Reporter {
             signs: Signs::new(watch),
+            starts: Starts::new(),
             files: FilesTold::new(),
             doubts: Doubts::new(run),
             messages,
@@ -71,9 +75,19 @@ impl<E: Write> Reporter<E> {
             .signs
             .see(health, noticed, moment, names, &mut self.messages);
         let _ = self.signs.report_odd(noticed.odd, &mut self.messages);
+        self.report_starts(noticed.starts, moment);
         self.report_files(noticed.files, moment);
         let news = self.doubts.take_news(moment);
         self.report_doubts(news);
+    }
+
+    // Writes that the instrument signed on (`count` times so far), if it did since that was written last and `Starts::claim` grants it, unless
+    // nobody watches.
+    fn report_starts(&mut self, count: u64, moment: Moment) {
+        if self.signs.is_watched() && self.starts.claim(count, moment.elapsed) {
+            let _ = self.signs.clear(&mut self.messages);
+            let _ = tell_starts(count, &mut self.messages);
+        }
     }
 
     // Writes what is new of doubts, if there is any, also if no signs of life are written.
@@ -109,6 +123,7 @@ impl<E: Write> Reporter<E> {
         self.report_doubts(rest);
         let Reporter {
             mut signs,
+            starts: _,
             files: _,
             doubts: _,
             mut messages,

@@ -276,6 +276,12 @@ impl Signs {
                 "geocom: the line changes CR to LF: set it to raw mode (stty raw)"
             )?;
         }
+        if odd.lone && !told.lone {
+            writeln!(
+                messages,
+                "geocom: replies end in CR alone: set the instrument's line end to CR LF"
+            )?;
+        }
         Ok(())
     }
 

@@ -1,5 +1,5 @@
 //! What is noticed of a line beside its replies: what is odd about it (it sends requests back, or changes the ends of lines), how
-//! many bytes arrive that are no reply, and whether its connection was lost, and why none could be made. What became of the
+//! many bytes arrive that are no reply, how often the instrument signed on, and whether its connection was lost, and why none could be made. What became of the
 //! station's files is noted with that.
 
 ghost use Rattle.std.specs.Prelude.{◌≡◌};
@@ -18,6 +18,8 @@ pub struct Oddities {
     pub echoes: bool,
     /// It changes CR to LF, or takes it away.
     pub bare: bool,
+    /// It ends replies with CR alone.
+    pub lone: bool,
 }
 
 impl Oddities {
@@ -26,6 +28,7 @@ impl Oddities {
         Oddities {
             echoes: false,
             bare: false,
+            lone: false,
         }
     }
 }
@@ -44,6 +47,8 @@ pub struct Noticed {
     /// How many of them had arrived once the last reply was whole: a line that begins as a reply, with an id, and ends with CR LF.
     /// Bytes that arrived together with its end count, too. 0: none was.
     pub replied: u64,
+    /// How many of the lines that ended have a sign-on in them: each shows that the instrument was switched on or off.
+    pub starts: u64,
     /// The fault that was noted as the one for which the run stopped. `None`: no fault was noted.
     pub fault: Option<RunFault>,
     /// What became of the files.
@@ -59,6 +64,7 @@ impl Noticed {
             why: None,
             arrived: 0,
             replied: 0,
+            starts: 0,
             fault: None,
             files: FilesSeen::none(),
         }
@@ -74,6 +80,9 @@ pub fn note_files(noticed: &Cell<Noticed>, files: FilesSeen) {
 // The longest read of a link, in milliseconds: what watches a station between two reads gets its turn at least that often.
 const LONGEST_READ: u64 = 1_000;
 
+// What a line has somewhere that shows a start (`is_sign_on` of gc_texts).
+const SIGN_ON: &[u8; 4] = b"%N1,";
+
 // The line that comes, as far as it came.
 #[derive(Clone, Copy)]
 struct ComingLine {
@@ -84,6 +93,11 @@ struct ComingLine {
     // How many commas it has before its first colon, at most 255, and whether it has a colon.
     commas: u8,
     has_colon: bool,
+    // How many bytes of `SIGN_ON` its last bytes are, and whether it has all of them somewhere.
+    matched: usize,
+    has_sign_on: bool,
+    // Whether it began as a reply, and went on after a CR.
+    goes_on: bool,
 }
 
 impl ComingLine {
@@ -95,11 +109,18 @@ impl ComingLine {
             last: 0,
             commas: 0,
             has_colon: false,
+            matched: 0,
+            has_sign_on: false,
+            goes_on: false,
         }
     }
 
     // Takes the next byte of the line, which is no line feed.
     fn take(&mut self, byte: u8) {
+        self.match_sign_on(byte);
+        if self.last == b'\r' && byte == b'%' && self.front == *b"%R1P" {
+            self.goes_on = true;
+        }
         if self.count < self.front.len() {
             self.front[self.count] = byte;
             self.count += 1;
@@ -112,9 +133,23 @@ impl ComingLine {
         self.last = byte;
     }
 
-    // What is noticed once a line feed has ended the line, of which `seen` was noticed before: it begins as a request (`echoes`); or
-    // it begins as a reply, and has no CR at its end (`bare`), or else an id (`replied`). What was noticed of earlier lines stays, and
-    // a line of less than four bytes is none of these.
+    // Notes how far the line's last bytes are those of `SIGN_ON`, once this one came.
+    fn match_sign_on(&mut self, byte: u8) {
+        self.matched = if SIGN_ON.get(self.matched) == Some(&byte) {
+            self.matched.saturating_add(1)
+        } else if byte == b'%' {
+            1
+        } else {
+            0
+        };
+        if self.matched == SIGN_ON.len() {
+            self.has_sign_on = true;
+        }
+    }
+
+    // What is noticed once a line feed has ended the line, of which `seen` was noticed before: it has a sign-on in it (`starts`); it begins
+    // as a request (`echoes`); or it begins as a reply, and has no CR at its end (`bare`), or else an id (`replied`). What was noticed of
+    // earlier lines stays, and a line of less than four bytes is none of these.
     fn judged(&self, seen: Noticed) -> Noticed {
         if self.count < self.front.len() {
             return seen;
@@ -125,6 +160,7 @@ impl ComingLine {
         let odd = Oddities {
             echoes: seen.odd.echoes || self.front == *b"%R1Q",
             bare: seen.odd.bare || is_reply && !has_cr,
+            lone: seen.odd.lone,
         };
         let replied = if is_reply && has_cr && has_id {
             seen.arrived
@@ -134,8 +170,18 @@ impl ComingLine {
         Noticed {
             odd,
             replied,
+            starts: seen.starts.saturating_add(u64::from(self.has_sign_on)),
             ..seen
         }
+    }
+
+    // What is noticed before a line feed has ended the line, of which `seen` was noticed before: that replies end with CR alone (`lone`).
+    fn judged_early(&self, seen: Noticed) -> Noticed {
+        let odd = Oddities {
+            lone: seen.odd.lone || self.goes_on,
+            ..seen.odd
+        };
+        Noticed { odd, ..seen }
     }
 }
 
@@ -201,7 +247,7 @@ impl<'a, L> Noticing<'a, L> {
                 self.line.take(*b);
             }
         }
-        self.noticed.set(seen);
+        self.noticed.set(self.line.judged_early(seen));
     }
 
     // Notes whether the connection is lost (`is_lost`): it ended or failed, or couldn't be made, and then why (`why`), if the system

@@ -85,6 +85,8 @@ pub struct FarEnd<'a, 'b> {
     pub strays: bool,
     /// Whether the reply with id 3 to a request for 2011 is altered: its height is 1.7.
     pub alters: bool,
+    /// Whether the instrument signs on before each reply to a request for 5004.
+    pub starts: bool,
 }
 
 impl<'a, 'b> FarEnd<'a, 'b> {
@@ -97,9 +99,9 @@ impl<'a, 'b> FarEnd<'a, 'b> {
         Ok(millis_of(wait))
     }
 
-    // Answers the requests of a piece, after an echo of it if the line echoes, and after a stray if it strays and the piece asks for
-    // 5004. If the line alters, the reply to 2011 with id 3 has another height. Returns whether it sent a reply; `false` also if the
-    // echo, the stray or one of the replies can't be sent.
+    // Answers the requests of a piece, after an echo of it if the line echoes, and after a stray or a sign-on if it strays or the instrument
+    // starts, and the piece asks for 5004. If the line alters, the reply to 2011 with id 3 has another height. Returns whether it sent a
+    // reply; `false` also if the echo, the stray, the sign-on or one of the replies can't be sent.
     fn answer_piece(&self, piece: &[u8]) -> bool {
         let mut far = &self.ends.1;
         if self.odd.echoes && far.write_all(piece).is_err() {
@@ -107,6 +109,10 @@ impl<'a, 'b> FarEnd<'a, 'b> {
         }
         let strays = self.strays && piece.starts_with(b"%R1Q,5004,");
         if strays && far.write_all(b"%R1P,0,6:0\r\n").is_err() {
+            return false;
+        }
+        let starts = self.starts && piece.starts_with(b"%R1Q,5004,");
+        if starts && far.write_all(b"%N1,0,255,,0%T0,0,0,:\r\n").is_err() {
             return false;
         }
         if self.alters && piece.starts_with(b"%R1Q,2011,3:") {
@@ -122,6 +128,7 @@ impl<'a, 'b> FarEnd<'a, 'b> {
         let mut sink = ToWriter::new(Changing {
             stream: &self.ends.1,
             bare: self.odd.bare,
+            lone: self.odd.lone,
         });
         match run_exec(&mut source, &mut sink, u32::MAX) {
             Ok(served) => served.replies > 0,
@@ -168,20 +175,23 @@ impl<'a, 'b> FarEnd<'a, 'b> {
     }
 }
 
-// The far end's stream, over which a CR is sent as LF if the line is `bare`.
+// The far end's stream, over which a CR is sent as LF if the line is `bare`, and no LF if it is `lone`.
 #[derive(Drop)]
 struct Changing<'a> {
     stream: &'a TcpStream,
     bare: bool,
+    lone: bool,
 }
 
 impl<'a> Write for Changing<'a> {
-    // Writes all bytes, a CR as LF if the line is bare. `Err`: one can't be written; those before it were.
+    // Writes all bytes, a CR as LF if the line is bare, and no LF if it is lone. `Err`: one can't be written; those before it were.
     fn write(&mut self, buf: &[u8]) -> io::Result<usize> {
         let mut stream = self.stream;
         for b in buf {
             let changed = if self.bare && *b == b'\r' { b'\n' } else { *b };
-            stream.write_all(&[changed])?;
+            if !(self.lone && *b == b'\n') {
+                stream.write_all(&[changed])?;
+            }
         }
         Ok(buf.len())
     }

@@ -10,8 +10,9 @@
 //!     closed input output    these of `input`, `output` and `messages` are closed
 //!     terminal yes           the messages go to a terminal; `output`: the output does
 //!     far 20                 there is a far end, whose answers take this many milliseconds; with another word it gives none
-//!     line echoes            of a far end: what is sent comes back; with `bare` a CR comes as LF; with `strays` a reply with id 6 comes
-//!                            before each reply to a request for 5004; with `alters` the reply to 2011 with id 3 has the height 1.7
+//!     line echoes            of a far end: what is sent comes back; with `bare` a CR comes as LF; with `lone` no LF comes; with `strays` a
+//!                            reply with id 6 comes before each reply to a request for 5004, with `starts` a sign-on; with `alters` the
+//!                            reply to 2011 with id 3 has the height 1.7
 //!     refused 2              of a far end: this many connections are refused before one is made
 //!     silent 500             of a far end: after this many milliseconds nothing is answered any more
 //!     until 9000             of a far end: after this many milliseconds its monotonic clock can't be read any more
@@ -161,11 +162,12 @@ impl<'a, 'b> Run<'a, 'b> {
     }
 }
 
-// What the line of a case does to what is sent over it: `echoes`, `bare`, or nothing.
+// What the line of a case does to what is sent over it: `echoes`, `bare`, `lone`, or nothing.
 fn oddities_of(case: &Case<'_>) -> Oddities {
     Oddities {
         echoes: case.is("line", "echoes"),
         bare: case.is("line", "bare"),
+        lone: case.is("line", "lone"),
     }
 }
 
@@ -188,6 +190,7 @@ fn far_end_of<'a, 'b>(
             odd: oddities_of(case),
             strays: case.is("line", "strays"),
             alters: case.is("line", "alters"),
+            starts: case.is("line", "starts"),
         },
     }
 }

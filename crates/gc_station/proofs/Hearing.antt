@@ -40,7 +40,7 @@ use Rattle.gc_station.specs.Marks.{commands_in, records_of, last_well}
 use Rattle.gc_station.specs.Watching.{fresh_after, cut_to}
 use Rattle.gc_station.specs.Progressing.{behind_noted, ended_noted, doubt_noted, line_noted, bytes_noted, early_noted, after_failure, closed, failing, lines_synchronizing, line_synchronizing}
 use Rattle.gc_station.specs.Records.{Record, Grew, texts_of, WritesPart, WritesBy}
-use Rattle.gc_station.specs.Model.{Model, Performs, raises_doubt, line_doubted, line_came, lines_came, lines_completed, lines_taken, with_rest, with_progress, with_moment, waiting_of, settles, piece_heard}
+use Rattle.gc_station.specs.Model.{Model, Performs, calls_for_renewal, line_doubted, line_came, lines_came, lines_completed, lines_taken, with_rest, with_progress, with_moment, waiting_of, settles, piece_heard}
 use Rattle.gc_station.specs.Stations.{waiting_of_station, Refines, Took, TookPart, RefinesOrTookPart, Makes, ReadsMoment, DropsMarks, as_seen, station_expiring}
 use Rattle.gc_station.specs.Scopes.{AreReadings, ForEachReadings}
 use Rattle.gc_station.specs.Tallies.{empty_counts, tallied}
@@ -321,13 +321,13 @@ adds_acts_append (Some a) None c xs ys p q = absurd p
 adds_acts_append (Some a) (Some b) None xs ys p q = absurd q
 adds_acts_append (Some a) (Some b) (Some c) xs ys p q = q ∙ ap (λ zs. zs ++ ys) p ∙ append_assoc a xs ys
 
--- a station that noted whether a line that comes raises a doubt is as the model that noted it
-pub refines_doubted : (mid new : Station) (line : List ℕ) (s : Model) → Refines mid s → new ≡ record mid { progress = doubt_noted (raises_doubt mid.client.ids line) mid.progress }
+-- a station that noted whether a line that comes calls for a synchronization is as the model that noted it
+pub refines_doubted : (mid new : Station) (line : List ℕ) (s : Model) → Refines mid s → new ≡ record mid { progress = doubt_noted (calls_for_renewal mid.client.ids line) mid.progress }
     → Refines new (line_doubted line s)
 refines_doubted mid new line s stands is =
     subst (λ (x : Station). Refines x (line_doubted line s)) (sym is)
-    (refines_with mid (doubt_noted (raises_doubt mid.client.ids line) mid.progress) (doubt_noted (raises_doubt s.client line)) s stands
-    (ap (λ ids. doubt_noted (raises_doubt ids line) mid.progress) stands.ids))
+    (refines_with mid (doubt_noted (calls_for_renewal mid.client.ids line) mid.progress) (doubt_noted (calls_for_renewal s.client line)) s stands
+    (ap (λ ids. doubt_noted (calls_for_renewal ids line) mid.progress) stands.ids))
 
 -- a station that noted whether a line was a reply is as the model that noted it
 pub refines_noted : (mid : Station) (p : Progress) (b b' : Bool) (s : Model) → Refines mid s → b ≡ b' → p ≡ line_noted b mid.progress

@@ -1,5 +1,5 @@
 -- The station holds back: it counts how many requests the last line ended that ended any, and sends none unless these and the
--- outstanding ones are together fewer than seven; and it sends none once a line raised a doubt. An act changes what the station notes of
+-- outstanding ones are together fewer than seven; and it sends none once a line called for a synchronization. An act changes what the station notes of
 -- lines as the client's steps of its part do (`lines_noted`). A part reaches from one synchronization to the next. An act is one call on
 -- the link, with its result.
 use Rattle.std.proofs.Common.{◌≡◌, inl, inr, ℕ, ◌+◌, ◌<◌, ◌&&◌, ◌||◌, Bool, true, false, not, List, [], ◌∷◌, ◌++◌, length, map, drop, Some, refl, sym, ap, ◌∙◌, subst, append_assoc, if◌then◌else◌}
@@ -22,7 +22,7 @@ use Rattle.gc_station.specs.declared.progress.Progress.{Progress}
 use Rattle.gc_station.specs.Deciding.{has_begun, is_none_left}
 use Rattle.gc_station.specs.HoldingBack.{last_ended, RequestsAreHeldBack}
 use Rattle.gc_station.specs.InDoubt.{NothingIsSentInDoubt}
-use Rattle.gc_station.specs.Lines.{raises_doubt}
+use Rattle.gc_station.specs.Lines.{calls_for_renewal}
 use Rattle.gc_station.specs.Links.{parts}
 use Rattle.gc_station.specs.Parts.{Part, parts_joined, put_part, first_request_part, heard_steps, client_part, sync_part, part_of_act, in_front, parts_of, client_after, client_stepped}
 use Rattle.gc_station.specs.Progressing.{turned, time_passed, ended_last, is_over, loses_all}
@@ -45,31 +45,31 @@ use Rattle.gc_station.proofs.Words.{renews_only}
 
 -- What a station notes of the lines of a part.
 
--- how many requests the last line ended that ended any, and whether a line raised a doubt
-record Noted : Type 0 where
-  ended : ℕ
-  doubtful : Bool
+-- how many requests the last line ended that ended any, and whether a line called for a synchronization
+pub record Noted : Type 0 where
+  pub ended : ℕ
+  pub doubtful : Bool
 
 -- what a station notes at the start of a part
 abbrev none_noted : Noted
 none_noted = record { ended = 1; doubtful = false }
 
 -- what this progress has
-abbrev noted_in : Progress → Noted
+abbrev pub noted_in : Progress → Noted
 noted_in p = record { ended = p.last_ended; doubtful = p.doubtful }
 
 -- what is noted after a step of this client; `n` before it
-abbrev noted_at : ById Asked → (n : Noted) → Step Asked → Noted
-noted_at c n (Hear line) = record { ended = ended_last (length (hears c line (heard line)).settlements) n.ended; doubtful = n.doubtful || raises_doubt c line }
+abbrev pub noted_at : ById Asked → (n : Noted) → Step Asked → Noted
+noted_at c n (Hear line) = record { ended = ended_last (length (hears c line (heard line)).settlements) n.ended; doubtful = n.doubtful || calls_for_renewal c line }
 noted_at c n _ = n
 
 -- the same after these steps of this client, in order
-abbrev noted_by : ById Asked → (n : Noted) → List (Step Asked) → Noted
+abbrev pub noted_by : ById Asked → (n : Noted) → List (Step Asked) → Noted
 noted_by c n [] = n
 noted_by c n (step ∷ steps) = noted_by (client_stepped c step) (noted_at c n step) steps
 
--- a request may be sent: those that are outstanding, and those that the last line ended, are together fewer than seven, and no line raised
--- a doubt
+-- a request may be sent: those that are outstanding, and those that the last line ended, are together fewer than seven, and no line called
+-- for a synchronization
 abbrev HasRoomAt : ById Asked → Noted → Type 0
 HasRoomAt c n = (length c.waiting + n.ended < WINDOW) × (n.doubtful ≡ false)
 
@@ -100,7 +100,7 @@ came_unchanged n false word piece s begins e = e
 
 module _ (plan : Plan) (commands : List Task) where
   -- from s to t an act changes it as the steps of its part do
-  abbrev IsNoted : Action → Model → Act → Model → Type 0
+  abbrev pub IsNoted : Action → Model → Act → Model → Type 0
   IsNoted o s act t = (noted_in t.progress) ≡ noted_by s.client (noted_in s.progress) (client_part plan commands s o act).steps
 
   -- from s to t an act doesn't change it
@@ -108,7 +108,7 @@ module _ (plan : Plan) (commands : List Task) where
   IsUnchanged s act t = (noted_in t.progress) ≡ (noted_in s.progress)
 
   -- once the station has synchronized, each act changes it as the steps of its part do, unless the station resynchronizes
-  acts_noted : (s : Model) (o : Action) (act : Act) → (needs : HoldsBefore plan s.progress (waiting_of s) o) → (performs : Performs commands s o act)
+  pub acts_noted : (s : Model) (o : Action) (act : Act) → (needs : HoldsBefore plan s.progress (waiting_of s) o) → (performs : Performs commands s o act)
       → (begun : has_begun s.progress ≡ true)
       → (still : has_begun (moved plan commands o (with_progress turned s) act).progress ≡ true) → IsNoted o s act (moved plan commands o (with_progress turned s) act)
   acts_noted s action.Renew (Told m) is obeys begun still = cc
@@ -351,25 +351,25 @@ ended_by c n (Hear line ∷ steps) = ended_by (client_stepped c (Hear line)) _ s
 ended_by c n (Expire now ∷ steps) = ended_by (client_stepped c (Expire now)) n steps
 ended_by c n (Restart ∷ steps) = ended_by (client_stepped c Restart) n steps
 
--- a doubt stays
-doubt_stays : (c : ById Asked) (n : Noted) (steps : List (Step Asked)) → n.doubtful ≡ true → (noted_by c n steps).doubtful ≡ true
+-- that a line called for a synchronization stays noted
+pub doubt_stays : (c : ById Asked) (n : Noted) (steps : List (Step Asked)) → n.doubtful ≡ true → (noted_by c n steps).doubtful ≡ true
 doubt_stays c n [] doubt = doubt
 doubt_stays c n (Send target call deadline ∷ steps) doubt = doubt_stays (client_stepped c (Send target call deadline)) n steps doubt
-doubt_stays c n (Hear line ∷ steps) doubt = doubt_stays (client_stepped c (Hear line)) _ steps (ap (λ (b : Bool). b || raises_doubt c line) doubt)
+doubt_stays c n (Hear line ∷ steps) doubt = doubt_stays (client_stepped c (Hear line)) _ steps (ap (λ (b : Bool). b || calls_for_renewal c line) doubt)
 doubt_stays c n (Expire now ∷ steps) doubt = doubt_stays (client_stepped c (Expire now)) n steps doubt
 doubt_stays c n (Restart ∷ steps) doubt = doubt_stays (client_stepped c Restart) n steps doubt
 
--- if none is noted after a line and more steps, the line raised none
-none_raised : (c : ById Asked) (n : Noted) (line : List ℕ) (steps : List (Step Asked)) → (noted_by c n (Hear line ∷ steps)).doubtful ≡ false → raises_doubt c line ≡ false
-none_raised c n line steps none = by_test n.doubtful (raises_doubt c line) refl refl where
-  -- the lemma above, whether there was a doubt before (d), and whether the line raises one (b)
-  by_test : (d b : Bool) → n.doubtful ≡ d → raises_doubt c line ≡ b → b ≡ false
+-- if it isn't noted after a line and more steps, the line called for none
+none_called : (c : ById Asked) (n : Noted) (line : List ℕ) (steps : List (Step Asked)) → (noted_by c n (Hear line ∷ steps)).doubtful ≡ false → calls_for_renewal c line ≡ false
+none_called c n line steps none = by_test n.doubtful (calls_for_renewal c line) refl refl where
+  -- the lemma above, whether it was noted before (d), and whether the line calls for one (b)
+  by_test : (d b : Bool) → n.doubtful ≡ d → calls_for_renewal c line ≡ b → b ≡ false
   by_test d false was is = refl
   by_test true true was is =
-      let stays = doubt_stays (client_stepped c (Hear line)) (noted_at c n (Hear line)) steps (ap (λ (x : Bool). x || raises_doubt c line) was) in
+      let stays = doubt_stays (client_stepped c (Hear line)) (noted_at c n (Hear line)) steps (ap (λ (x : Bool). x || calls_for_renewal c line) was) in
       let both : true ≡ false = sym stays ∙ none in cc
   by_test false true was is =
-      let stays = doubt_stays (client_stepped c (Hear line)) (noted_at c n (Hear line)) steps (ap (λ (x : Bool). x || raises_doubt c line) was ∙ is) in
+      let stays = doubt_stays (client_stepped c (Hear line)) (noted_at c n (Hear line)) steps (ap (λ (x : Bool). x || calls_for_renewal c line) was ∙ is) in
       let both : true ≡ false = sym stays ∙ none in cc
 
 -- in each part of a run requests are sent where they may be (`IsHeldFrom`)
@@ -386,10 +386,10 @@ held_back plan commands scope acts runs i part at front later target call deadli
     subst (λ (n : ℕ). length (client_after fresh front).waiting + n < WINDOW) (ended_by fresh none_noted front)
     (each_held plan commands scope acts runs i part at front later target call deadline e).0
 
--- the law: nothing is sent after a line that raised a doubt
+-- the law: nothing is sent after a line that calls for a synchronization
 pub none_in_doubt : NothingIsSentInDoubt
 none_in_doubt plan commands scope acts runs i part at front between later line target call deadline e =
-    none_raised (client_after fresh front) (noted_by fresh none_noted front) line between
+    none_called (client_after fresh front) (noted_by fresh none_noted front) line between
     (ap (λ (n : Noted). n.doubtful) (sym (noted_append fresh none_noted front (Hear line ∷ between)))
     ∙ (each_held plan commands scope acts runs i part at (front ++ Hear line ∷ between) later target call deadline
     (e ∙ sym (append_assoc front (Hear line ∷ between) (Send target call deadline ∷ later)))).1)

@@ -102,6 +102,7 @@ mod LastingByBound
 mod Returning
 mod BoundRuns
 mod NoPeriodRun
+mod Starts
 pub mod Moments
 pub mod FirstActs
 pub mod CountedIds

@@ -1,21 +1,22 @@
 -- In doubt, this project's own. A stray that can't repeat the reply that settled last raises a doubt (`raises_doubt`): it was altered, or
--- the line that settled last was, and then replies to requests that it ended may still come, with ids that a later request could have. So
--- nothing is sent before the station has synchronized anew. A part reaches from one synchronization to the next (`Parts`).
+-- the line that settled last was, and then replies to requests that it ended may still come, with ids that a later request could have. A
+-- line with a sign-on in it shows that the instrument was switched on or off. After either (`calls_for_renewal`) nothing is sent before the
+-- station has synchronized anew. A part reaches from one synchronization to the next (`Parts`).
 use Rattle.std.specs.Prelude.{◌≡◌, ℕ, false, List, ◌∷◌, ◌++◌, Some, slice_get}
 use Rattle.gc_catalogue.specs.declared.asked.Asked.{Asked}
 use Rattle.gc_client.specs.OneForOne.{Step, Send, Hear}
 use Rattle.gc_client.specs.Rule.{fresh}
-use Rattle.gc_station.specs.Lines.{raises_doubt}
+use Rattle.gc_station.specs.Lines.{calls_for_renewal}
 use Rattle.gc_station.specs.Links.{parts}
 use Rattle.gc_station.specs.Parts.{Part, client_after}
 use Rattle.gc_station.specs.Runs.{OfEachRun}
 
--- no line of this part of a run raises a doubt after which a request is sent, be it a null procedure of the station's own. `front` are the
+-- no line of this part of a run calls for a synchronization after which a request is sent, be it a null procedure of the station's own. `front` are the
 -- client's steps before the line
 abbrev pub SendsNothingInDoubt : Part → Type 0
 SendsNothingInDoubt part =
     (front between later : List (Step Asked)) (line : List ℕ) (target : ℕ) (call : Asked) (deadline : ℕ)
-    → part.steps ≡ front ++ Hear line ∷ (between ++ Send target call deadline ∷ later) → raises_doubt (client_after fresh front) line ≡ false
+    → part.steps ≡ front ++ Hear line ∷ (between ++ Send target call deadline ∷ later) → calls_for_renewal (client_after fresh front) line ≡ false
 
 -- in each part of a run nothing is sent in doubt (`SendsNothingInDoubt`)
 abbrev pub NothingIsSentInDoubt : Type 0

@@ -40,6 +40,7 @@ pub mod Behind
 pub mod NullFirst
 pub mod HoldingBack
 pub mod InDoubt
+pub mod Starts
 pub mod Codes
 pub mod Counting
 pub mod Room

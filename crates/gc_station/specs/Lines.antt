@@ -1,8 +1,9 @@
--- Which lines are replies, and which of these show that a line was altered, this project's own.
-use Rattle.std.specs.Prelude.{ℕ, Bool, List, length, is_ok}
+-- Which lines are replies, and which lines call for a synchronization before anything more is sent, this project's own.
+use Rattle.std.specs.Prelude.{ℕ, Bool, ◌||◌, List, length, is_ok}
 use Rattle.gc_lines.specs.Readers.{reply_at}
 use Rattle.gc_catalogue.specs.declared.asked.Asked.{Asked}
 use Rattle.gc_client.specs.Rule.{ById, heard}
+use Rattle.gc_texts.specs.SignOns.{is_sign_on}
 use Rattle.gc_texts.specs.Strays.{is_impossible}
 
 -- whether `line` reads as a reply
@@ -13,3 +14,8 @@ is_reply line = is_ok (reply_at line)
 -- (`is_impossible`), so that it was altered, or the line that settled last was
 abbrev pub raises_doubt : ById Asked → List ℕ → Bool
 raises_doubt c line = is_impossible c.next (length c.waiting) (heard line)
+
+-- whether nothing may be sent any more before the next synchronization once this client heard `line`: the line raises a doubt, or it has
+-- a sign-on in it, so that the instrument was switched on or off, and may no longer be as the setup left it
+abbrev pub calls_for_renewal : ById Asked → List ℕ → Bool
+calls_for_renewal c line = raises_doubt c line || is_sign_on line

@@ -32,7 +32,7 @@ use Rattle.gc_station.specs.declared.station.sending.Outgoing.{Outgoing}
 use Rattle.gc_links.specs.Acts.{Act, Told, Cut, Gave, Silent, Ended, Broke, Closed, Opened}
 use Rattle.gc_station.specs.ActKinds.{Puts, ReadsClock, IsOpening, ReadsLink}
 use Rattle.gc_station.specs.Deciding.{later, is_none_left, is_preparing, action_of}
-pub use Rattle.gc_station.specs.Lines.{is_reply, raises_doubt}
+pub use Rattle.gc_station.specs.Lines.{is_reply, calls_for_renewal}
 use Rattle.gc_station.specs.Attempts.{listed_after, listed_after_settlements}
 use Rattle.gc_station.specs.Firsts.{firsts_after, with_first}
 use Rattle.gc_station.specs.Marks.{commands_in, with_id, record_with, records_of, last_well}
@@ -307,9 +307,9 @@ abbrev pub line_settles : Settled Asked (ById Asked) → Model → Model
 line_settles x s =
     with_progress (λ p. ended_noted (length x.settlements) (behind_noted (ends_with_table x.settlements) (length x.client.waiting) p)) (settles x s)
 
--- the model `s` once it is noted whether `line`, which its client is about to hear, raises a doubt
+-- the model `s` once it is noted whether `line`, which its client is about to hear, calls for a synchronization (`calls_for_renewal`)
 abbrev pub line_doubted : List ℕ → Model → Model
-line_doubted line s = with_progress (doubt_noted (raises_doubt s.client line)) s
+line_doubted line s = with_progress (doubt_noted (calls_for_renewal s.client line)) s
 
 -- the model `s` after the client heard `line`
 abbrev pub line_came : Model → List ℕ → Model

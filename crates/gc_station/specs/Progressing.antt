@@ -261,7 +261,7 @@ ended_last more last = if nat_lt 0 more then more else last
 abbrev pub ended_noted : (more : ℕ) → Progress → Progress
 ended_noted more p = record p { last_ended = ended_last more p.last_ended }
 
--- the progress once a line came that raised a doubt, or none (`raised`): a doubt stays until the station resynchronizes
+-- the progress once a line came that called for a synchronization, or not (`raised`): the station is in doubt until it resynchronizes
 abbrev pub doubt_noted : (raised : Bool) → Progress → Progress
 doubt_noted raised p = record p { doubtful = p.doubtful || raised }
 

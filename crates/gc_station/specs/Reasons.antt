@@ -16,13 +16,14 @@ use Rattle.gc_station.specs.declared.progress.Waiting.{Waiting}
 use Rattle.gc_station.specs.Deciding.{width_of, has_begun, is_up, is_unquiet, is_due, is_idle, is_silent, is_dead, is_stale, may_go, is_preparing}
 
 -- another request may be sent: fewer that haven't timed out are in flight than `width_of` allows; all that are outstanding, and those
--- that the last line ended that ended any, are together fewer than the window has places; and no line raised a doubt since the station
--- synchronized
+-- that the last line ended that ended any, are together fewer than the window has places; and since the station synchronized no line
+-- called for another synchronization (`doubtful`)
 abbrev pub HasRoomToAsk : Plan → Progress → Waiting → Type 0
 HasRoomToAsk plan p w = (w.current < width_of plan) × (w.all + p.last_ended < WINDOW) × (p.doubtful ≡ false)
 
 -- another request may not be sent, though nothing is in flight that hasn't timed out: all that are outstanding, and those that the last
--- line ended that ended any, are together as many as the window has places, or more; or a line raised a doubt since the station synchronized
+-- line ended that ended any, are together as many as the window has places, or more; or since the station synchronized a line called for
+-- another synchronization
 abbrev pub MayAskNoMore : Progress → Waiting → Type 0
 MayAskNoMore p w = (WINDOW ≤ w.all + p.last_ended) ⊎ (p.doubtful ≡ true)
 

@@ -1,8 +1,9 @@
 //! Doubts. A stray that can't repeat the reply that settled last shows that a line was altered: the stray, or the line that settled
-//! last. The book is told of it, and nothing is sent before the next synchronization (`has_room_to_ask` of `deciding.rt`).
+//! last. The book is told of it. A sign-on shows that the instrument was switched on or off. After either nothing is sent before the next
+//! synchronization (`has_room_to_ask` of `deciding.rt`), after which the setup comes first.
 
 ghost use Rattle.std.specs.Prelude.{◌≡◌};
-ghost use Rattle.gc_station.specs.Lines.{raises_doubt};
+ghost use Rattle.gc_station.specs.Lines.{calls_for_renewal, raises_doubt};
 ghost use Rattle.gc_station.specs.Progressing.{doubt_noted};
 
 use crate::book::Book;
@@ -11,7 +12,7 @@ use crate::station::Station;
 use gc_catalogue::Asked;
 use gc_client::{Client, SlotsOf};
 use gc_lines::read_reply;
-use gc_texts::is_impossible;
+use gc_texts::{is_impossible, is_sign_on};
 
 // Whether a line raises a doubt, as this client hears it: it is a reply with an id, and a stray that can't repeat the one that settled
 // last.
@@ -25,7 +26,7 @@ fn raises_doubt(client: &Client<SlotsOf<Asked>>, line: &[u8]) -> bool
 }
 
 impl Progress {
-    // Notes whether a line that came raised a doubt, which stays until the station resynchronizes.
+    // Notes whether a line that came called for a synchronization, which stays noted until the station resynchronizes.
     fn note_doubt(&mut self, raised: bool)
         ensures { self.new ≡ doubt_noted raised self.old }
     {
@@ -34,15 +35,16 @@ impl Progress {
 }
 
 impl Station {
-    // Notes whether a line that its client is about to hear raises a doubt, and tells the book of it.
+    // Notes whether a line that its client is about to hear raises a doubt, of which it tells the book, or has a sign-on in it.
     pub(crate) fn doubt<B: Book>(&mut self, book: &mut B, line: &[u8])
-        ensures notes { self.new ≡ record self.old { progress = doubt_noted (raises_doubt self.old.client.ids line.now) self.old.progress } }
+        ensures notes { self.new ≡ record self.old { progress = doubt_noted (calls_for_renewal self.old.client.ids line.now) self.old.progress } }
         ensures taken { B.taken book.new ≡ B.taken book.old }
         ensures failed { B.failed book.new ≡ B.failed book.old }
         ensures form { B.text book.new ≡ B.text book.old }
     {
         let raised = raises_doubt(&self.client, line);
-        self.progress.note_doubt(raised);
+        let starts = is_sign_on(line);
+        self.progress.note_doubt(raised || starts);
         if raised {
             book.doubts(self.progress.last_ended);
         }

@@ -5,7 +5,7 @@
 //! cycle by cycle. It resynchronizes where all outstanding requests have timed out and there is no room for another, or
 //! commands are outstanding and the cycle is overdue: two periods have passed since its due moment, and all that is outstanding has timed
 //! out. There is room if the outstanding requests, and those that the last line ended that ended any, are together fewer than seven,
-//! and no line raised a doubt: no stray came since the synchronization that can't repeat the reply that settled last. A request is sent
+//! and since the synchronization neither a stray came that can't repeat the reply that settled last, nor a sign-on. A request is sent
 //! where its bytes are written, all of them or some. It is outstanding until it is settled, also once it has timed out at its deadline.
 //! A chain is a row of commands for one target, each sent only once the one before it was answered well.
 
@@ -40,6 +40,7 @@ ghost use Rattle.gc_station.specs.Runs.{state_after, OfAnyActs, OfEachRun, Where
 ghost use Rattle.gc_station.specs.Scopes.{Scope, OneReadingForALine, SomeReadings};
 ghost use Rattle.gc_station.specs.Setups.{EachSetUpOnce, SetUpsGoOn, NoneBeforeTheSetUp, SetUpInOrder};
 ghost use Rattle.gc_station.specs.Silences.{HasAllTimedOut, IsMuteFor};
+ghost use Rattle.gc_station.specs.Starts.{SetsUpAnewAfterASignOn};
 ghost use Rattle.gc_station.specs.Stopping.{ClosesStale, StopsAtItsClose, EndsOnceStale, GoesOnInItsChain, ClosesBetweenChains};
 ghost use Rattle.gc_station.specs.OnceAsked.{EndsSoonOnceAsked, FinishesItsChainOnceAsked, FinishesATableChainOnceAsked, EndsByBoundOnceAsked, EndsATableRunByBoundOnceAsked};
 ghost use Rattle.gc_station.specs.RecordedInTime.{RecordsOnceTimedOut, RecordsInTime, ReadsClockBefore, ReadsAwaitSomething, RecordingEnds};
@@ -255,11 +256,17 @@ pub fn requests_are_held_back()
     ensures { RequestsAreHeldBack }
 {}
 
-/// Once a stray shows that a line was altered, nothing is sent before the next synchronization. Such a stray can't repeat the reply that
-/// settled last: its id is neither that of an outstanding request nor the one before that of the oldest. Null procedures of the station's
-/// own wait, too.
+/// Once a stray shows that a line was altered, or a sign-on that the instrument was switched on or off, nothing is sent before the next
+/// synchronization. Such a stray can't repeat the reply that settled last: its id is neither that of an outstanding request nor the one
+/// before that of the oldest. Null procedures of the station's own wait, too.
 pub fn nothing_is_sent_in_doubt()
     ensures { NothingIsSentInDoubt }
+{}
+
+/// Once the station heard a sign-on, while it synchronized or later, so that the instrument was switched on or off, no command of a cycle is
+/// sent before each command of the setup was sent anew, and answered well.
+pub fn the_set_up_is_done_anew_after_a_sign_on()
+    ensures { SetsUpAnewAfterASignOn }
 {}
 
 /// If the plan's `every` is above 0 and the clock doesn't go back, each cycle begins at or after it is due: the first is due

@@ -1,7 +1,7 @@
 -- Texts cut at a mark, which is a byte, as LF between lines or a space between words: this project's own. `behind mark text` is what
 -- follows the first mark; empty where there is none.
-use Rattle.std.specs.List.{AllByRecursion}
-use Rattle.std.specs.Prelude.{◌≡◌, ◌≢◌, ◌==◌, ℕ, List, [], ◌∷◌, ◌++◌, Option, None, Some, if◌then◌else◌}
+use Rattle.std.specs.List.{AllByRecursion, starts_with}
+use Rattle.std.specs.Prelude.{◌≡◌, ◌≢◌, ◌==◌, ◌||◌, ℕ, Bool, false, List, [], ◌∷◌, ◌++◌, Option, None, Some, if◌then◌else◌}
 pub use Rattle.std.specs.Io.BufRead.{drop_through as behind}
 
 -- no byte is the mark
@@ -18,3 +18,8 @@ Cuts mark text front (Some rest) = (text ≡ front ++ mark ∷ rest) × Lacks ma
 abbrev pub before : ℕ → List ℕ → List ℕ
 before mark [] = []
 before mark (b ∷ bs) = if b == mark then [] else b ∷ before mark bs
+
+-- whether `part`, which isn't empty, is somewhere in a text
+abbrev pub has_part : (part : List ℕ) → List ℕ → Bool
+has_part part [] = false
+has_part part (b ∷ bs) = starts_with (λ x y. x == y) (b ∷ bs) part || has_part part bs

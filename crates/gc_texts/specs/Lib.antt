@@ -22,6 +22,7 @@ pub mod Faults
 pub mod FaultNumbers
 pub mod Stamps
 pub mod Strays
+pub mod SignOns
 pub mod Endings
 pub mod Again
 pub mod Retries

@@ -1,8 +1,8 @@
-//! Texts cut at a mark, which is a byte: lines at an LF, words at a space; and texts that are a word, or begin with a prefix.
+//! Texts cut at a mark, which is a byte: lines at an LF, words at a space; and texts that are a word, begin with a prefix, or have a part.
 
 ghost use Rattle.std.specs.Prelude.{◌≡◌, ◌≤◌, ◌↔◌, ◌++◌, ℕ, List, length, IsTrue, MatchOption};
 ghost use Rattle.std.specs.Option.{option_copied};
-ghost use Rattle.gc_texts.specs.Cuts.{Cuts, before, behind};
+ghost use Rattle.gc_texts.specs.Cuts.{Cuts, before, behind, has_part};
 
 use memchr::memchr;
 
@@ -47,4 +47,18 @@ pub fn is_word(word: &[u8], text: &[u8]) -> bool
     ensures { IsTrue result ↔ (text.now ≡ word.now) }
 {
     text == word
+}
+
+/// Whether `part`, which isn't empty, is somewhere in the text.
+pub fn has_part(part: &[u8], text: &[u8]) -> bool
+    ensures { result ≡ has_part part.now text.now }
+{
+    let mut left = text;
+    while let Some((_, rest)) = left.split_first() {
+        if left.starts_with(part) {
+            return true;
+        }
+        left = rest;
+    }
+    false
 }

@@ -1,0 +1,95 @@
+//! What a check of a log remarks of a line behind its verdict.
+
+ghost use Rattle.std.specs.Prelude.{◌≡◌, ◌+◌, ◌<◌, ◌≤◌, ◌^◌, get_or, is_ok, length};
+ghost use Rattle.gc_lines.specs.Readers.{request_at};
+ghost use Rattle.gc_engines.specs.Remarks.{is_gsi_word, is_gsi, came_remark, part_remark, remark_text};
+
+use gc_lines::read_request;
+use gc_texts::{LogMark, has_part, is_sign_on};
+
+// The byte at this place of a line; 0 if the line is shorter.
+fn byte_at(line: &[u8], place: usize) -> u8
+    ensures { result ≡ get_or line.now place 0 }
+{
+    match line.get(place) {
+        Some(byte) => *byte,
+        None => 0,
+    }
+}
+
+// Whether a GSI word begins at this place of a line: the word index 11 of measured data, or 41 of a code block, and behind four more
+// bytes a sign.
+fn is_gsi_word(place: usize, line: &[u8]) -> bool
+    requires { place + 6 < 2 ^ 64 }
+    ensures { result ≡ is_gsi_word place line.now }
+{
+    let first = byte_at(line, place);
+    let second = byte_at(line, place + 1);
+    let sign = byte_at(line, place + 6);
+    (first == b'1' || first == b'4') && second == b'1' && (sign == b'+' || sign == b'-')
+}
+
+// Whether a line is measured data in GSI: its first word begins it, or stands behind one `*`.
+fn is_gsi(line: &[u8]) -> bool
+    ensures { result ≡ is_gsi line.now }
+{
+    if byte_at(line, 0) == b'*' {
+        is_gsi_word(1, line)
+    } else {
+        is_gsi_word(0, line)
+    }
+}
+
+// Whether a line reads as a request.
+fn is_request(line: &[u8]) -> bool
+    ensures { result ≡ is_ok (request_at line.now) }
+{
+    match read_request(line) {
+        Ok(_) => true,
+        Err(_) => false,
+    }
+}
+
+// What is remarked of a whole line that came: it has a sign-on in it, is a request that came back, or is measured data in GSI.
+fn came_remark(bytes: &[u8]) -> &'static [u8]
+    ensures is { result.now ≡ came_remark bytes.now }
+    ensures short { length result.now ≤ 11 }
+{
+    if is_sign_on(bytes) {
+        b" sign-on"
+    } else if is_request(bytes) {
+        b" echo"
+    } else if is_gsi(bytes) {
+        b" GSI"
+    } else {
+        b""
+    }
+}
+
+// What is remarked of bytes that came and are no whole line: their line end is a CR alone, if a reply begins behind one.
+fn part_remark(bytes: &[u8]) -> &'static [u8]
+    ensures is { result.now ≡ part_remark bytes.now }
+    ensures short { length result.now ≤ 11 }
+{
+    if has_part(b"\r%R1P,", bytes) {
+        b" CR alone"
+    } else {
+        b""
+    }
+}
+
+/// What is written behind the verdict on a line of the log: that the reply is impossible, if it is (`doubted`); else what is remarked of
+/// bytes that came.
+pub(crate) fn remark_text(doubted: bool, mark: LogMark, bytes: &[u8]) -> &'static [u8]
+    ensures is { result.now ≡ remark_text doubted mark bytes.now }
+    ensures short { length result.now ≤ 11 }
+{
+    if doubted {
+        return b" impossible";
+    }
+    match mark {
+        LogMark::Came => came_remark(bytes),
+        LogMark::CamePart => part_remark(bytes),
+        _ => b"",
+    }
+}
