@@ -55,11 +55,12 @@ def test_a_station_is_the_main_process():
 def test_systemd_understands_them(folder):
     if not shutil.which("systemd-analyze"):
         pytest.skip("no systemd-analyze")
-    (folder / "bin").mkdir()
+    for programs in ("bin", "libexec"):
+        (folder / programs).mkdir()
     paths = []
     for unit in sorted(UNITS.glob("geocom-*")):
-        text = unit.read_text(encoding="utf-8").replace("@BIN@", str(folder / "bin")).replace("@HARDENING@", (UNITS / "hardening").read_text(encoding="utf-8"))
-        for program in re.findall(rf"{re.escape(str(folder))}/bin/[\w-]+", text):
+        text = unit.read_text(encoding="utf-8").replace("@BIN@", str(folder / "bin")).replace("@LIBEXEC@", str(folder / "libexec")).replace("@HARDENING@", (UNITS / "hardening").read_text(encoding="utf-8"))
+        for program in re.findall(rf"{re.escape(str(folder))}/(?:bin|libexec)/[\w-]+", text):
             shutil.copy("/bin/true", program)
         paths.append(folder / unit.name)
         # Its pages are installed with the package.

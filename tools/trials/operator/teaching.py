@@ -116,8 +116,9 @@ class Desk:
     def __init__(self, program, where, text, *words):
         self.end, near = os.openpty()
         self.came, self.seen = "", 0
+        # (a trial that runs in the background has Ctrl-C ignored, and an operator's shell hasn't)
         self.process = subprocess.Popen(
-            ["setsid", "--ctty", TEACH, where, text, "--geocom", program, *words], stdin=near, stdout=near, stderr=near)
+            ["env", "--default-signal=INT", "setsid", "--ctty", TEACH, where, text, "--geocom", program, *words], stdin=near, stdout=near, stderr=near)
         os.close(near)
 
     def __enter__(self):
