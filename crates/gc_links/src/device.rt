@@ -92,7 +92,22 @@ pub(crate) fn read_some(file: &File, buf: &mut [u8]) -> io::Result<Option<usize>
     }
 }
 
-/// Sleeps for [`REST`] milliseconds, before the next read or write of a device.
+// How many of a write's rests last [`REST`] milliseconds. The others are long ones: a sleep lasts longer than it was asked to, on a
+// loaded machine by milliseconds, so that thousands of short ones would last for a multiple of [`PATIENCE`].
+const SHORT_RESTS: u64 = 50;
+
+// How long the others last, in milliseconds.
+const LONG_REST: u64 = 20;
+
+/// How often a write rests at most while its device isn't ready: its rests ([`rest_of`]) last [`PATIENCE`] together.
+pub(crate) const MOST_RESTS: u64 = SHORT_RESTS + (PATIENCE - SHORT_RESTS * REST) / LONG_REST;
+
+/// How long the next rest of a write lasts that has rested so often, in milliseconds.
+pub(crate) fn rest_of(rests: u64) -> u64 {
+    if rests < SHORT_RESTS { REST } else { LONG_REST }
+}
+
+/// Sleeps for [`REST`] milliseconds, before the next read of a device.
 pub(crate) fn rest<R: Clock>(rt: &R) {
     thread::sleep(rt, Duration::from_millis(REST));
 }
@@ -115,10 +130,10 @@ pub(crate) fn write_once(file: &File, bytes: &[u8]) -> io::Result<Option<usize>>
 pub(crate) fn write_some<R: Clock>(rt: &R, file: &File, bytes: &[u8]) -> io::Result<usize>
     ensures { WritesAtMost result bytes.now }
 {
-    for _ in 0..PATIENCE / REST {
+    for rests in 0..MOST_RESTS {
         match write_once(file, bytes) {
             Ok(Some(n)) => return Ok(n),
-            Ok(None) => rest(rt),
+            Ok(None) => thread::sleep(rt, Duration::from_millis(rest_of(rests))),
             Err(error) => return Err(error),
         }
     }

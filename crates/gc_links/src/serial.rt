@@ -7,8 +7,7 @@ ghost use Rattle.gc_links.specs.Calls.{Makes};
 ghost use Rattle.gc_links.specs.Devices.{device_end};
 ghost use Rattle.gc_links.specs.Does.{DoesOver};
 
-use crate::connection::PATIENCE;
-use crate::device::REST;
+use crate::device::{MOST_RESTS, REST, rest_of};
 use crate::link::Came;
 use crate::moments::came;
 use crate::system::{Heard, OpenDevice, System, Written};
@@ -83,8 +82,10 @@ fn read_once<R: Clock>(
     }
 }
 
-/// Writes all bytes over a device, and rests while it isn't ready. All rests of one put together last about [`PATIENCE`] at most;
-/// after that the put fails. A write that succeeds and takes nothing counts as failed.
+/// Writes all bytes over a device, and rests while it isn't ready. All rests of one put together last about [`PATIENCE`] at most
+/// (`MOST_RESTS`); after that the put fails. A write that succeeds and takes nothing counts as failed.
+///
+/// [`PATIENCE`]: crate::connection::PATIENCE
 pub(crate) fn send_serial<R: Clock>(
     system: &mut System<'_, R>,
     device: &OpenDevice<'_>,
@@ -100,14 +101,11 @@ pub(crate) fn send_serial<R: Clock>(
             Written::Took(0) => return Err(at),
             Written::Took(n) => at += n,
             Written::TookNone if rests < MOST_RESTS => {
+                system.rest(rest_of(rests));
                 rests += 1;
-                system.rest(REST);
             }
             Written::TookNone | Written::Failed => return Err(at),
         }
     }
     Ok(())
 }
-
-// How often one put rests at most.
-const MOST_RESTS: u64 = PATIENCE / REST;

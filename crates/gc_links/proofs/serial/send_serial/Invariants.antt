@@ -7,9 +7,9 @@ use Rattle.gc_links.proofs.serial.send_serial.Given as goal
 abbrev pub invariant-loop-at : goal.invariant-loop-at
 invariant-loop-at g l = record {
   within : l.at ≤ length l.fn.bytes;
-  few : l.rests ≤ 5000;
+  few : l.rests ≤ 545;
   sends : Makes l.fn.system.calls.made l.system.calls.made (λ calls. Sends (device_end l.fn.device) l.fn.bytes calls (drop l.at l.fn.bytes));
 }
 
 abbrev pub decreases-loop-at : goal.decreases-loop-at
-decreases-loop-at g l = (length l.bytes - l.at) + (5000 - l.rests)
+decreases-loop-at g l = (length l.bytes - l.at) + (545 - l.rests)
