@@ -56,8 +56,8 @@ UNSENT = ["skipped", "missed"]
 # The qualities of an answer whose values read and count; and that of one whose command is sent once more, which counts only then.
 GOOD = ["ok", "warning"]
 UNCONFIRMED = "unconfirmed"
-# The columns that a table of an earlier version may not have, and what every reader needs: the others.
-LATER = ["run", "sent", "quality", "attempt", "request"]
+# The columns that a table of an earlier version may not have: a new one comes last. What every reader needs: the others.
+LATER = ["run", "sent", *LAST]
 NEEDED = [column for column in COLUMNS if column not in LATER]
 # The member that is a list: the items of an answer to a procedure that isn't in the table.
 ITEMS = "items"

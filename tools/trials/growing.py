@@ -30,15 +30,15 @@ def row(chance, number):
     place = number % (len(COMMANDS) * len(TARGETS))
     procedure = COMMANDS[number % len(COMMANDS)]
     outcome = chance.choices([b"answered", b"late", b"lost", b"skipped", b"unreadable", b"missed", b"elsewhere", b"disagree"], [80, 3, 3, 6, 1, 2, 1, 1])[0]
-    fault = codes = values = quality = b""
+    fault = rc_com = rc = values = quality = b""
     if outcome == b"answered":
-        codes, quality = b"0,0", b"ok"
+        rc_com, rc, quality = b"0", b"0", b"ok"
         sway = chance.gauss(0, 1)
         if procedure == b"2108" and chance.random() < 0.05:
-            codes, quality = b"0,1285", b"refused"
+            rc, quality = b"1285", b"refused"
         elif procedure == b"2108":
             if chance.random() < 0.05:
-                codes, quality = b"0,1283", b"warning"
+                rc, quality = b"1283", b"warning"
             values = b'"%.9f,%.9f,%.5f"' % (hz + sway * 4e-6, v + chance.gauss(0, 3e-6), distance + chance.gauss(0, 8e-4))
         elif procedure == b"2107":
             values = b'"%.9f,%.9f"' % (hz + sway * 4e-6, v + chance.gauss(0, 3e-6))
@@ -47,15 +47,17 @@ def row(chance, number):
         if quality == b"ok" and number % 11 == 5:
             quality = b"unconfirmed"
     elif outcome == b"unreadable":
-        fault, codes, values = b"11", b"0,0", rb'"x,\xff\x00%d"' % number
+        fault, rc_com, rc, values = b"11", b"0", b"0", rb'"x,\xff\x00%d"' % number
     elif outcome in (b"elsewhere", b"disagree"):
-        codes, values = b"0,0", b'"%.9f,%.9f"' % (hz + 0.5, v)
+        rc_com, rc, values = b"0", b"0", b'"%.9f,%.9f"' % (hz + 0.5, v)
     sent = b"" if outcome.decode() in UNSENT else stamp(moment - datetime.timedelta(milliseconds=1_234))
-    cycle = number // (len(COMMANDS) * len(TARGETS)) + 1
-    numbers = b"%d,%d,%d" % (cycle, place, target)
-    attempt = b"2" if number % 7 == 3 else b"1"
-    request = b'"%%R1Q,%b,%d:"' % (procedure, number % 8) if sent else b""
-    return b",".join([RUN, sent, stamp(moment), numbers, name, procedure, outcome, fault, codes or b",", values, quality, attempt, request]) + b"\n"
+    fields = {
+        "run": RUN, "sent": sent, "time": stamp(moment), "cycle": b"%d" % (number // (len(COMMANDS) * len(TARGETS)) + 1), "place": b"%d" % place,
+        "target": b"%d" % target, "name": name, "procedure": procedure, "outcome": outcome, "fault": fault, "rc_com": rc_com, "rc": rc,
+        "values": values, "quality": quality, "attempt": b"2" if number % 7 == 3 else b"1",
+        "request": b'"%%R1Q,%b,%d:"' % (procedure, number % 8) if sent else b"",
+    }
+    return b",".join(fields.get(column, b"") for column in COLUMNS) + b"\n"
 
 
 def parted(line):

@@ -3,13 +3,12 @@
 use gc_files::{RowsFile, RowsOptions, SystemFile, end_at, open_at};
 use gc_lines::{Durable, write_whole};
 
-// The header of a file of rows in the form CSV, as gc_rows writes it.
-const HEAD: &[u8] =
-    b"run,sent,time,cycle,place,target,name,procedure,outcome,fault,rc_com,rc,values,quality,attempt,request\n";
+// What comes before the rows. A station's file has the names of the columns there; what is measured doesn't depend on them.
+const HEAD: &[u8] = b"rows\n";
 
-// The row that is appended.
+// The row that is appended: that of bench/appends.c.
 const ROW: &[u8] =
-    b"2026-11-22T23:08:00.000Z,2026-11-22T23:08:27.103Z,2026-11-22T23:08:27.123Z,1,0,7,,5003,answered,,0,0,123456,ok,1,\"%R1Q,5003,1:\"\n";
+    b"2026-11-22T23:08:00.000Z,2026-11-22T23:08:27.103Z,2026-11-22T23:08:27.123Z,1,0,7,,5003,answered,,0,0,123456,ok,1\n";
 
 /// Appends `count` rows to the file of this path, with a sync after each where `sync` is true. It returns how many rows were
 /// written whole and, with `sync`, synced: 0 where `open_at` refuses the file. At the end the file is closed as `end_at` says.

@@ -9,5 +9,6 @@ pub mod Plain
 pub mod RawLines
 pub mod RawRules
 pub mod ReadingLaws
+pub mod RequestBytes
 pub mod SameText
 pub mod Table

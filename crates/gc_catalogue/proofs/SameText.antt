@@ -1,9 +1,10 @@
 -- Texts of the same bytes are equal: the unused bytes are zero, and the facts that a text carries have one proof each. Below, a
 -- text's *places* are all its 503 bytes (`bytes`), its *count* says how many of them are used (`len`), and its bytes are those
 -- (`raw_bytes`).
-use Rattle.std.proofs.Common.{◌≡◌, ◌-◌, ◌≤◌, ◌++◌, ℕ, List, length, drop, replicate, sym, ap, ◌∙◌, subst, arith, length-take-le}
+use Rattle.std.proofs.Common.{◌≡◌, ◌-◌, ◌≤◌, ◌++◌, ℕ, List, length, take, drop, replicate, sym, ap, ◌∙◌, subst, arith, length-take-le}
 use Rattle.std.proofs.Props.{props}
 use Rattle.std.proofs.lemmas.List.{take-append-drop}
+use Rattle.gc_catalogue.specs.Bytes.{AreBytes}
 use Rattle.gc_catalogue.specs.RawTexts.{raw_bytes}
 use Rattle.gc_catalogue.specs.declared.raw_text.RawText.{RawText}
 
@@ -12,14 +13,15 @@ record Facts (bytes : List ℕ) (len : ℕ) : Type 0 where
   few : len ≤ 503
   long : length bytes ≡ 503
   zeros : drop len bytes ≡ replicate (503 - len) 0
+  are_bytes : AreBytes (take len bytes)
 
 -- the facts of a text
 abbrev facts_of : (t : RawText) → Facts t.bytes t.len
-facts_of t = record { few = t.few; long = t.long; zeros = t.zeros }
+facts_of t = record { few = t.few; long = t.long; zeros = t.zeros; are_bytes = t.are_bytes }
 
 -- the text with these places and this count, and these proofs of its facts
 abbrev text_of : (bytes : List ℕ) (len : ℕ) → Facts bytes len → RawText
-text_of bytes len facts = record { bytes = bytes; len = len; few = facts.few; long = facts.long; zeros = facts.zeros }
+text_of bytes len facts = record { bytes = bytes; len = len; few = facts.few; long = facts.long; zeros = facts.zeros; are_bytes = facts.are_bytes }
 
 -- the facts of a text (`Facts`) have at most one proof
 one_proof : (bytes : List ℕ) (len : ℕ) → IsProp (Facts bytes len)
@@ -27,7 +29,13 @@ one_proof bytes len x y =
     let few_prop : IsProp (len ≤ 503) = hlevel props in
     let long_prop : IsProp (length bytes ≡ 503) = hlevel props in
     let zeros_prop : IsProp (drop len bytes ≡ replicate (503 - len) 0) = hlevel props in
-    λ i. record { few = few_prop x.few y.few i; long = long_prop x.long y.long i; zeros = zeros_prop x.zeros y.zeros i }
+    let are_bytes_prop : IsProp (AreBytes (take len bytes)) = hlevel props in
+    λ i. record {
+      few = few_prop x.few y.few i;
+      long = long_prop x.long y.long i;
+      zeros = zeros_prop x.zeros y.zeros i;
+      are_bytes = are_bytes_prop x.are_bytes y.are_bytes i;
+    }
 
 -- texts of equal places and counts are equal, whatever the proofs of their facts are
 same_parts : (a b : RawText) → a.bytes ≡ b.bytes → a.len ≡ b.len → a ≡ b

@@ -2,8 +2,11 @@
 -- itself: a new row needs no line here.
 use Rattle.std.specs.Prelude.{◌≡◌, ◌≤◌, ◌<◌, ℕ, List, length}
 use Rattle.std.proofs.Common.{arith}
+use Rattle.std.specs.List.{AllByRecursion}
 use Rattle.gc_values.specs.Lists.{kinds_of}
 use Rattle.gc_values.specs.declared.value.Kind.{Kind}
+use Rattle.gc_values.specs.declared.value.Value.{Value}
+use Rattle.gc_values.specs.declared.value.Value.TheVariants as value
 use Rattle.gc_catalogue.specs.declared.answer.Answer.{Answer}
 use Rattle.gc_catalogue.specs.declared.call.Call.{Call}
 use Rattle.gc_catalogue.specs.Answers.{answer_fields, rounded_answer}
@@ -22,6 +25,15 @@ answer_kinds answer = kinds_of (answer_fields answer).values
 -- a procedure's number has 16 bits
 pub number_fits : (call : Call) → (call_fields call).number < 65536
 number_fits call = grind arith
+
+-- this value isn't a text
+abbrev pub IsNoText : Value → Type 0
+IsNoText (value.Text bytes) = ⊥
+IsNoText v = Unit {0}
+
+-- no call has a text among its values
+pub no_text : (call : Call) → AllByRecursion IsNoText (call_fields call).values
+no_text call = grind arith
 
 -- no call has more than six values
 pub few_values : (call : Call) → length (call_fields call).values ≤ 6

@@ -5,6 +5,7 @@ use Rattle.gc_lines.specs.Lines.{IsPlain}
 use Rattle.gc_catalogue.specs.declared.asked.Asked.{Asked}
 use Rattle.gc_catalogue.specs.declared.raw.RawCall.{RawCall}
 use Rattle.gc_catalogue.specs.Asked.{asked_line, asked_request, raw_line, IsAsked, IsAskedFitting, IsAskedReading}
+use Rattle.gc_catalogue.specs.Bytes.{AreBytes}
 use Rattle.gc_catalogue.specs.Calls.{IsNoProcedure}
 use Rattle.gc_catalogue.specs.Laws.{EachReadsBack, HasOneReading, OneForALine, ReadsBack, ReadsEachReply}
 
@@ -18,6 +19,10 @@ pub record FitsALine (id : Option ℕ) (raw : RawCall) : Type 0 where
 -- `FitsALine` for each procedure that isn't in the table, with each id below 8 or without one
 abbrev pub RawLinesFit : Type 0
 RawLinesFit = (id : Option ℕ) (raw : RawCall) → IsIdInRange id → FitsALine id raw
+
+-- the request line for whatever is asked, with an id below 8 or without one, is of bytes
+abbrev pub RequestLinesAreOfBytes : Type 0
+RequestLinesAreOfBytes = (id : Option ℕ) (asked : Asked) → IsIdInRange id → AreBytes (asked_line id asked)
 
 -- the number and the parameters of a request ask for at most one thing
 abbrev pub OneAsked : Type 0

@@ -1,6 +1,7 @@
 pub mod Answers
 pub mod Asked
 pub mod AskedLaws
+pub mod Bytes
 pub mod Calendar
 pub mod CallFault
 pub mod Calls

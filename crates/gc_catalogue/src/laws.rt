@@ -1,6 +1,6 @@
 //! What is proved of the definitions themselves. Each function does nothing: its contract is the law.
 
-ghost use Rattle.gc_catalogue.specs.AskedLaws.{AskedReadBack, EachReplyIsReadForAsked, OneAsked, OneAskedForALine, OneAskedReading, RawLinesFit};
+ghost use Rattle.gc_catalogue.specs.AskedLaws.{AskedReadBack, EachReplyIsReadForAsked, OneAsked, OneAskedForALine, OneAskedReading, RawLinesFit, RequestLinesAreOfBytes};
 ghost use Rattle.gc_catalogue.specs.Laws.{NumbersDiffer, OneCallForALine, OneCallOrRefusal, OneReading, EachReplyIsRead, CallsReadBack, AnswersReadBack, DoublesAreRounded};
 
 /// No two procedures share a number: calls with the same number have parameters of the same kinds and answers of the same shape, and
@@ -53,6 +53,11 @@ pub fn doubles_are_rounded()
 /// LF, and no procedure of the table has its number.
 pub fn raw_lines_fit()
     ensures { RawLinesFit }
+{}
+
+/// The request line for whatever is asked, with an id below 8 or without one, is of bytes: each of its numbers is below 256.
+pub fn request_lines_are_of_bytes()
+    ensures { RequestLinesAreOfBytes }
 {}
 
 /// The number and the parameters of a request ask for at most one thing: one call of the table, or one procedure that isn't in it.

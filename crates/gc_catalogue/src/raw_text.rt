@@ -1,6 +1,7 @@
 //! The parameters of a procedure that isn't in the table: bytes as they are.
 
-ghost use Rattle.std.specs.Prelude.{◌≡◌, ◌-◌, ◌≤◌, length, drop, replicate};
+ghost use Rattle.std.specs.Prelude.{◌≡◌, ◌-◌, ◌≤◌, length, take, drop, replicate};
+ghost use Rattle.gc_catalogue.specs.Bytes.{AreBytes};
 
 use gc_values::filled_up;
 
@@ -17,6 +18,8 @@ pub struct RawText {
     pub ghost few: { len ≤ 503 },
     pub ghost long: { length bytes ≡ 503 },
     pub ghost zeros: { drop len bytes ≡ replicate (503 - len) 0 },
+    // Numbers in a list needn't be bytes.
+    pub ghost are_bytes: { AreBytes (take len bytes) },
 }
 
 impl RawText {

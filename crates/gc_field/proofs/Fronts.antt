@@ -30,10 +30,9 @@ use Rattle.gc_values.proofs.WrittenSpells.{writes_whole, is_fraction_text}
 use Rattle.gc_catalogue.specs.Calls.{call_fields, IsFitting}
 use Rattle.gc_catalogue.specs.Lists.{behind_commas, params_of}
 use Rattle.gc_catalogue.specs.declared.call.Call.{Call}
-use Rattle.gc_catalogue.specs.declared.call.Call.TheVariants.{SetPrecision, SetDate, DoMeasure, SetStation, SetHeight, GetAngle, SimpleMea, SetPrism, MeasDistance, Position, ChangeFace, FineAdjust}
 use Rattle.gc_catalogue.specs.Texts.{request_line}
 use Rattle.gc_catalogue.proofs.Joining.{params_of-cons}
-use Rattle.gc_catalogue.proofs.Table.{number_fits}
+use Rattle.gc_catalogue.proofs.Table.{IsNoText, no_text, number_fits}
 use Rattle.gc_instrument.specs.Laws.{HasNoRequest}
 use Rattle.gc_instrument.proofs.HeardFrames.{lines_of}
 use Rattle.gc_field.specs.Fronts.{request_bytes, CutRequestsAreWholeOrNothing}
@@ -92,27 +91,6 @@ above_byte n h = (lit< tt, (above_digit (n / 16) (omega arith), (above_digit (n 
 above_boolean : (b : Bool) → AreAbove (boolean_text b)
 above_boolean false = (lit< tt, tt)
 above_boolean true = (lit< tt, tt)
-
--- this value isn't a text
-abbrev IsNoText : Value → Type 0
-IsNoText (value.Text bytes) = ⊥
-IsNoText v = Unit {0}
-
--- no call has a text among its parameters
-no_text : (call : Call) → AllByRecursion IsNoText (call_fields call).values
-no_text (SetPrecision places) = (tt, tt)
-no_text (SetDate d) = (tt, (tt, (tt, (tt, (tt, (tt, tt))))))
-no_text (DoMeasure command mode) = (tt, (tt, tt))
-no_text (SetStation s) = (tt, (tt, (tt, (tt, tt))))
-no_text (SetHeight height) = (tt, tt)
-no_text (GetAngle mode) = (tt, tt)
-no_text (SimpleMea wait mode) = (tt, (tt, tt))
-no_text (SetPrism prism) = (tt, tt)
-no_text (MeasDistance mode) = (tt, tt)
-no_text (Position hz v pos_mode atr_mode dummy) = (tt, (tt, (tt, (tt, (tt, tt)))))
-no_text (ChangeFace pos_mode atr_mode dummy) = (tt, (tt, (tt, tt)))
-no_text (FineAdjust area_hz area_v dummy) = (tt, (tt, (tt, tt)))
-no_text other = tt
 
 -- the text of a value that isn't a text is above the sign
 above_value : (v : Value) → IsValue v → IsNoText v → AreAbove (text v)

@@ -91,7 +91,7 @@ module _ (CanAnswer : Answers) (reads : Asked → List ℕ → Reading) (are : A
   objects_by written others order n r got =
       let entry = entry_of survey r in
       let bounds = all_written (IsTyped survey.layout.run) (records_in survey reads acts) written others order small.each n r got in
-      let members = each_member_plain entry bounds.0 (name_of_bytes r) bounds.1 bounds.2 bounds.3 in
+      let members = each_member_plain entry bounds.0 (name_of_bytes r) bounds.1 bounds.2 in
       record {
         members = record_read survey.layout.run (members_after_run entry);
         reads_as = object_reads_back survey.layout.run (members_after_run entry) small.run members;
@@ -104,8 +104,8 @@ module _ (CanAnswer : Answers) (reads : Asked → List ℕ → Reading) (are : A
   all_unbroken [] bounds = tt
   all_unbroken (r ∷ rs) bounds =
       let entry = entry_of survey r in
-      let fit = each_fit entry bounds.0.0 (name_of_bytes r) bounds.0.1 bounds.0.2 bounds.0.3 in
-      let members = each_member_plain entry bounds.0.0 (name_of_bytes r) bounds.0.1 bounds.0.2 bounds.0.3 in
+      let fit = each_fit entry bounds.0.0 (name_of_bytes r) bounds.0.1 bounds.0.2 in
+      let members = each_member_plain entry bounds.0.0 (name_of_bytes r) bounds.0.1 bounds.0.2 in
       (line_unbroken survey.layout.run (cells_in columns_after_run entry) fit members, all_unbroken rs bounds.1)
 
   -- so have those of the first ones of the run's records

@@ -9,12 +9,7 @@ use Rattle.std.specs.Option.{IfSome}
 use Rattle.std.specs.Prelude.{codes, nat_lt, ◌&&◌}
 use Rattle.gc_lines.proofs.Replies.{reply_found}
 use Rattle.gc_lines.specs.Readers.{header_at, reply_at}
-use Rattle.gc_catalogue.specs.Asked.{asked_request}
-use Rattle.gc_catalogue.specs.declared.asked.Asked.TheVariants.{Table}
-use Rattle.gc_catalogue.specs.declared.call.Call.TheVariants.{InstrumentNo}
-use Rattle.gc_field.specs.ChainWitness.{points, reads_all}
-use Rattle.gc_texts.specs.Logs.{AreBytes}
-use Rattle.gc_rows.specs.Laws.{IsAskedOfBytes, IsEndOfBytes, IsReplyOfBytes}
+use Rattle.gc_rows.specs.Laws.{IsEndOfBytes, IsReplyOfBytes}
 use Rattle.gc_rows.specs.declared.record.Form.TheVariants.{Json}
 use Rattle.gc_station.specs.Records.{Record}
 use Rattle.gc_promise.specs.Eventful.{chained_record, elsewhere_reply, empty_reply, measured_reply, number_record, numbered_reply, pointed_reply, points_record, records}
@@ -22,14 +17,10 @@ use Rattle.gc_promise.specs.Objects.{AreTyped, IsTyped}
 use Rattle.gc_promise.specs.Witness.{survey}
 use Rattle.gc_promise.proofs.TrueReadings.{replied}
 
--- a text that passes the test of each byte is of bytes
-of_bytes : (text : List ℕ) → list_all (λ b. nat_lt b 256) text ≡ true → AreBytes text
-of_bytes text small = λ k d within. ltb-true _ 256 (AllPass-from_list_all (λ b. nat_lt b 256) text small k d within)
-
 -- a line of bytes that reads as a reply with both codes 0 is a reply of bytes
 reply_of_bytes : (line params : List ℕ) (id : ℕ) → reply_at line ≡ Ok (replied id params) → list_all (λ b. nat_lt b 256) line ≡ true → IsReplyOfBytes line
 reply_of_bytes line params id reads small =
-    (replied id params, reply_found line (replied id params) reads, of_bytes line small)
+    (replied id params, reply_found line (replied id params) reads, λ k d within. ltb-true _ 256 (AllPass-from_list_all (λ b. nat_lt b 256) line small k d within))
 
 -- the reply to command 0 is of bytes
 pointed_of_bytes : IsReplyOfBytes pointed_reply
@@ -72,27 +63,6 @@ number_end = (numbered_of_bytes, ((omega (arith, ints), omega (arith, ints)), tt
 all_of_bytes : AllByRecursion (λ (r : Record). IsEndOfBytes r.end) records
 all_of_bytes = let none : Unit {0} × Unit {0} = (tt, tt) in (none, (none, (none, (none, (none, (none, (none, (none, (none, (none, (none, (none, (none, (none, (points_end, (chained_end, ((elsewhere_of_bytes, tt), (number_end, ((empty_of_bytes, tt), (none, (none, tt)))))))))))))))))))))
 
--- the parameters of command 0 are of bytes
-points_asked : IsAskedOfBytes points
-unfolding digits
-points_asked = of_bytes (asked_request None points).params refl
-
--- the parameters of commands 1 and 2 are of bytes
-reads_asked : IsAskedOfBytes reads_all
-unfolding digits
-reads_asked = of_bytes (asked_request None reads_all).params refl
-
--- the other commands have no parameters
-number_asked : IsAskedOfBytes (Table InstrumentNo)
-number_asked = of_bytes [] refl
-
--- what is asked in all records of this run is of bytes
-all_asked_of_bytes : AllByRecursion (λ (r : Record). IsAskedOfBytes r.command.call) records
-all_asked_of_bytes =
-    let p = points_asked in
-    let m = reads_asked in
-    let n = number_asked in (p, (m, (m, (n, (n, (n, (n, (p, (m, (m, (n, (n, (n, (n, (p, (m, (m, (n, (n, (n, (n, tt)))))))))))))))))))))
-
 -- whether a number is below 2^64
 abbrev is_small : ℕ → Bool
 is_small n = nat_lt n (2 ^ 64)
@@ -112,11 +82,10 @@ sent_below : (sent : Option ℕ) → sent_is_small sent ≡ true → IfSome sent
 sent_below None e = tt
 sent_below (Some utc) e = ltb-true utc (2 ^ 64) e
 
--- records of a run that began at moment 0 are `IsTyped` where their numbers are small, and what they asked and their ends are of bytes
-all_typed : (rs : List Record) → are_small rs ≡ true → AllByRecursion (λ (r : Record). IsAskedOfBytes r.command.call) rs
-    → AllByRecursion (λ (r : Record). IsEndOfBytes r.end) rs → AllByRecursion (IsTyped 0) rs
-all_typed [] e a h = tt
-all_typed (r ∷ rs) e a h =
+-- records of a run that began at moment 0 are `IsTyped` where their numbers are small and their ends are of bytes
+all_typed : (rs : List Record) → are_small rs ≡ true → AllByRecursion (λ (r : Record). IsEndOfBytes r.end) rs → AllByRecursion (IsTyped 0) rs
+all_typed [] e h = tt
+all_typed (r ∷ rs) e h =
     let target = is_small r.command.target in
     let attempt = is_small r.turn.attempt && target in
     let place = is_small r.turn.place && attempt in
@@ -137,12 +106,11 @@ all_typed (r ∷ rs) e a h =
           attempt = ltb-true r.turn.attempt (2 ^ 64) of_attempt.0;
         },
         ltb-true r.command.target (2 ^ 64) of_attempt.1,
-        a.0,
         h.0,
       ),
-      all_typed rs all.1 a.1 h.1,
+      all_typed rs all.1 h.1,
     )
 
 -- the records of the eventful run are of bytes and of numbers of 64 bits
 pub records_are_typed : AreTyped (survey Json) records
-records_are_typed = record { run = lit< tt; names = tt; each = all_typed records refl all_asked_of_bytes all_of_bytes }
+records_are_typed = record { run = lit< tt; names = tt; each = all_typed records refl all_of_bytes }

@@ -12,7 +12,7 @@ use Rattle.gc_files.specs.Runs as rows
 use Rattle.gc_texts.specs.Cuts.{Lacks}
 use Rattle.gc_texts.specs.Logs.{AreBytes}
 use Rattle.gc_texts.specs.declared.name.Name.{Name}
-use Rattle.gc_rows.specs.Laws.{IsAskedOfBytes, IsEndOfBytes, FitsIn64Bits}
+use Rattle.gc_rows.specs.Laws.{IsEndOfBytes, FitsIn64Bits}
 pub use Rattle.gc_rows.specs.Lookup.{text_of}
 use Rattle.gc_rows.specs.declared.record.Form.TheVariants.{Json}
 use Rattle.gc_links.specs.Acts.{Act}
@@ -27,7 +27,7 @@ use Rattle.gc_promise.specs.Tables.{Answers, AreOneForOne, AreWrittenIn, FieldRu
 -- the record, of a run that began at the moment `run`, is in the types of the program: the numbers that are written of it have 64
 -- bits, and its texts are bytes
 abbrev pub IsTyped : (run : ℕ) → Record → Type 0
-IsTyped run r = FitsIn64Bits (when_of run r) × (r.command.target < 2 ^ 64) × IsAskedOfBytes r.command.call × IsEndOfBytes r.end
+IsTyped run r = FitsIn64Bits (when_of run r) × (r.command.target < 2 ^ 64) × IsEndOfBytes r.end
 
 -- the records of a run of this survey are in the types of the program (`IsTyped`), and so are the run's beginning and its names
 pub record AreTyped (survey : Survey) (records : List Record) : Type 0 where

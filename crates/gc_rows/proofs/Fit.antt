@@ -1,17 +1,17 @@
 -- What the cells of a record hold can be written and read back, where its numbers have at most 64 bits, and its texts are of bytes.
 use Rattle.std.proofs.Common.{◌≡◌, ◌<◌, ◌^◌, ◌%◌, ◌==◌, ◌++◌, ◌∷◌, [], ℕ, ◌+◌, List, Bool, true, Option, Some, None, IfSome, length, map, refl, arith}
-use Rattle.std.specs.Prelude.{codes, nat_lt, not, ◌&&◌}
-use Rattle.std.specs.Fmt.{decimal}
+use Rattle.std.specs.Prelude.{nat_lt, not, ◌&&◌}
 use Rattle.std.specs.List.{AllByRecursion}
 use Rattle.std.specs.Str.{bytes_eq}
 use Rattle.std.proofs.lemmas.Bool.{cond_both}
 use Rattle.gc_catalogue.specs.Answers.{answer_fields}
 use Rattle.gc_catalogue.specs.declared.answer.Answer.{Answer}
 use Rattle.gc_catalogue.specs.declared.answer.Answer.TheVariants.{Nothing, Short, Version, Long, Name, Date, Temperature, Place, Height, Angles, Measured, MeasuredMode}
-use Rattle.gc_catalogue.specs.Asked.{asked_request}
 use Rattle.gc_catalogue.specs.declared.asked.Asked.{Asked}
 use Rattle.gc_catalogue.specs.declared.asked.Asked.TheVariants.{Table, Raw}
+use Rattle.gc_catalogue.proofs.RequestBytes.{request_lines_are_of_bytes}
 use Rattle.gc_catalogue.proofs.Table.{number_fits}
+use Rattle.gc_lines.proofs.Lists.{all_append}
 use Rattle.gc_values.specs.Params.{quotes}
 use Rattle.gc_values.specs.ValueFault.{value_fault_number}
 use Rattle.gc_values.specs.declared.fault.ValueFault.{ValueFault}
@@ -19,9 +19,6 @@ use Rattle.gc_values.specs.declared.fault.ValueFault.TheVariants.{Spelling, Rang
 use Rattle.gc_values.specs.declared.value.Value.{Value}
 use Rattle.gc_values.specs.declared.value.Value.TheVariants as value
 use Rattle.gc_lines.specs.Numbers.{IsSmallNumber}
-use Rattle.gc_lines.specs.Requests.{request_text}
-use Rattle.gc_values.specs.Digits.{AreDigits}
-use Rattle.gc_lines.proofs.Lists.{all_append}
 use Rattle.gc_texts.specs.Cuts.{before, behind}
 use Rattle.gc_texts.specs.Endings.{End, Answered, Unreadable, Elsewhere, Disagree, Late, Lost, Skipped, Missed, word_of, fault_of, line_of, quality_of, quality_text}
 use Rattle.gc_texts.specs.Logs.{AreBytes}
@@ -31,12 +28,11 @@ use Rattle.gc_texts.proofs.Logs.{IsOfBytes, bytes_by_recursion, bytes_by_places}
 use Rattle.gc_rows.specs.Cells.{Blank, Bytes, Cell, Code, Content, Items, Moment, Quantity, Whole, cell, lookup}
 use Rattle.gc_rows.specs.Columns.{Entry, all_quantities, answer_of, bytes_content, cells_from, cells_if, cells_in, columns_after_run, counted_answer, end_cells, fault_content, first_columns, items_column, items_if_any, last_columns, line_content, line_sent, moment_content, split_content, value_cells}
 use Rattle.gc_rows.specs.Items.{items_if, items_of}
-use Rattle.gc_rows.specs.Laws.{IsReplyOfBytes, IsAnswerOfBytes, IsAskedOfBytes, IsEndOfBytes, FitsIn64Bits}
+use Rattle.gc_rows.specs.Laws.{IsReplyOfBytes, IsAnswerOfBytes, IsEndOfBytes, FitsIn64Bits}
 use Rattle.gc_rows.specs.Quantities.{column_of, quantity_names}
 use Rattle.gc_rows.specs.Rows.{com_of, code_of, values_of, procedure_of, request_sent}
 use Rattle.gc_rows.proofs.Columns.{reply_columns}
 use Rattle.gc_rows.proofs.Items.{AreTextsOfBytes, items_bytes}
-use Rattle.gc_rows.proofs.Plain.{decimal_digits}
 use Rattle.gc_rows.proofs.PlainNames.{is_plain_name, plain_bytes}
 
 -- what a value holds is below 256, if it is a byte, and so is each byte of a text; of any other value nothing is asked
@@ -143,26 +139,10 @@ fault_fit : (o : Option ValueFault) → IsFit (fault_content o)
 fault_fit None = tt
 fault_fit (Some fault) = fault_fits fault
 
--- digits are of bytes
-digits_bytes : (ds : List ℕ) → AreDigits ds → IsOfBytes ds
-digits_bytes [] are = tt
-digits_bytes (d ∷ ds) are = (let below = are.0.1 in omega (arith, below), digits_bytes ds are.1)
-
--- the line of a request with this id, below 8, is of bytes, if its parameters are
-line_bytes : (rpc i : ℕ) (params : List ℕ) → i < 8 → IsOfBytes params → IsOfBytes (request_text (record { rpc = rpc; id = Some i; params = params }))
-line_bytes rpc i params below bytes =
-    let is_byte = λ (b : ℕ). b < 256 in
-    let behind : IsOfBytes (44 ∷ (48 + i) ∷ 58 ∷ params) = (omega arith, (omega (arith, below), (omega arith, bytes))) in
-    all_append is_byte (codes "%R1Q,") (decimal rpc ++ (44 ∷ (48 + i) ∷ 58 ∷ params)) (plain_bytes (codes "%R1Q,") refl)
-    (all_append is_byte (decimal rpc) (44 ∷ (48 + i) ∷ 58 ∷ params) (digits_bytes (decimal rpc) (decimal_digits rpc)) behind)
-
--- the request line is of bytes, if its parameters are
-request_bytes : (sent : Option ℕ) (id : ℕ) (asked : Asked) → IsAskedOfBytes asked → IsOfBytes (request_sent sent id asked)
-request_bytes None id asked are = tt
-request_bytes (Some utc) id (Table call) are =
-    let asked = asked_request None (Table call) in line_bytes asked.rpc (id % 8) asked.params (omega arith) (bytes_by_recursion asked.params are)
-request_bytes (Some utc) id (Raw raw) are =
-    let asked = asked_request None (Raw raw) in line_bytes asked.rpc (id % 8) asked.params (omega arith) (bytes_by_recursion asked.params are)
+-- the request line is of bytes, if one was sent
+request_bytes : (sent : Option ℕ) (id : ℕ) (asked : Asked) → AreBytes (request_sent sent id asked)
+request_bytes None id asked = bytes_by_places [] tt
+request_bytes (Some utc) id asked = request_lines_are_of_bytes (Some (id % 8)) asked (omega arith)
 
 -- what is cut from a reply's line is fit, if it is of each line of bytes
 line_fit : (cut : List ℕ → Content) → ((line : List ℕ) → IsReplyOfBytes line → IsFit (cut line)) → (o : Option (List ℕ)) → IfSome o IsReplyOfBytes
@@ -220,9 +200,9 @@ items_fit asked (Some answer) None reply = tt
 items_fit asked None line reply = tt
 
 -- the cells of an object after `run` are fit, where the record's numbers have at most 64 bits, and its texts are of bytes
-pub each_fit : (r : Entry) → FitsIn64Bits r.when → AreBytes r.name → r.command.target < 2 ^ 64 → IsAskedOfBytes r.command.call → IsEndOfBytes r.end
+pub each_fit : (r : Entry) → FitsIn64Bits r.when → AreBytes r.name → r.command.target < 2 ^ 64 → IsEndOfBytes r.end
     → AreFit (cells_in columns_after_run r)
-each_fit r is bytes target asked ended =
+each_fit r is bytes target ended =
     let cut : (cut : List ℕ → Content) → ((l : List ℕ) → IsReplyOfBytes l → IsFit (cut l)) → IsFit (line_content cut (line_of r.end)) =
     λ cut each. line_fit cut each (line_of r.end) ended.0 in
     let rc_com = cut (λ l. Code (com_of l)) (λ l reply. (reply.0.rc_com, (reply_columns l reply.0 reply.1).rc_com)) in
@@ -240,7 +220,7 @@ each_fit r is bytes target asked ended =
     let quantities = quantities_fit cells (answer_fit r.command.call (counted_answer r.end) (line_of r.end) ended.0 counted) quantity_names in
     let word = quality_text (quality_of r.end) in
     let quality = bytes_fit word (word_fit word (quality_plain (quality_of r.end))) in
-    let request = bytes_fit (line_sent r) (bytes_by_places (line_sent r) (request_bytes r.when.stamp.sent r.when.stamp.id r.command.call asked)) in
+    let request = bytes_fit (line_sent r) (request_bytes r.when.stamp.sent r.when.stamp.id r.command.call) in
     let items = items_fit r.command.call (counted_answer r.end) (line_of r.end) ended.0 in
     let behind = cells_in (items_column ∷ last_columns) r in
     all_append (λ c. IsFit c.content) (cells_in first_columns r) (all_quantities cells ++ behind) first

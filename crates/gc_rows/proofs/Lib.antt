@@ -5,6 +5,7 @@ pub mod Rows
 pub mod JsonLines
 pub mod Lookup
 pub mod Spreading
+pub mod Halves
 pub mod Items
 pub mod Fit
 pub mod Members

@@ -144,4 +144,4 @@ cells_plain (c ∷ cells) names are =
 -- the law: each member of a record's line after the first is plain, if the record's numbers have at most 64 bits and its texts
 -- are of bytes
 pub each_member_plain : RecordsHavePlainMembers
-each_member_plain r is bytes target asked ended = cells_plain (cells_in columns_after_run r) refl (each_fit r is bytes target asked ended)
+each_member_plain r is bytes target ended = cells_plain (cells_in columns_after_run r) refl (each_fit r is bytes target ended)

@@ -1,5 +1,5 @@
 -- Laws of the rows: this project's own, as the rows are.
-use Rattle.std.specs.Prelude.{◌≡◌, ◌≢◌, ◌<◌, ◌≤◌, ◌^◌, ℕ, List, [], ◌∷◌, ◌++◌, length, map, true, false, None, Some, IfSome, codes}
+use Rattle.std.specs.Prelude.{◌≡◌, ◌≢◌, ◌<◌, ◌≤◌, ◌^◌, ℕ, List, [], ◌∷◌, ◌++◌, length, map, true, false, Some, IfSome, codes}
 use Rattle.std.specs.List.{AllByRecursion, flat_map}
 use Rattle.csv.specs.Machine.{next_record}
 use Rattle.csv.specs.Reading.{default_config, records_from}
@@ -9,10 +9,8 @@ use Rattle.json.specs.Print.{IsNumber}
 use Rattle.csv.specs.declared.parser.State.TheVariants.{StartRecord}
 use Rattle.gc_texts.specs.Endings.{End, line_of}
 use Rattle.gc_catalogue.specs.Answers.{IsFittingAnswer}
-use Rattle.gc_catalogue.specs.Asked.{asked_request}
 use Rattle.gc_catalogue.specs.declared.answer.Answer.{Answer}
 use Rattle.gc_catalogue.specs.declared.answer.Answer.TheVariants as answers
-use Rattle.gc_catalogue.specs.declared.asked.Asked.{Asked}
 use Rattle.gc_lines.specs.Numbers.{IsSmallNumber}
 use Rattle.gc_values.specs.Params.{IsParams}
 use Rattle.gc_lines.specs.Replies.{ReplyFields, IsReply}
@@ -110,10 +108,6 @@ abbrev pub IsAnswerOfBytes : Answer → Type 0
 IsAnswerOfBytes (answers.Name bytes) = IsFittingAnswer (answers.Name bytes) × AreBytes bytes
 IsAnswerOfBytes answer = IsFittingAnswer answer
 
--- the parameters of the request for what is asked are of bytes, as its line has them
-abbrev pub IsAskedOfBytes : Asked → Type 0
-IsAskedOfBytes asked = AreBytes (asked_request None asked).params
-
 -- the reply's line of an ending, if there is one, reads as a reply and is of bytes, and the ending's answer, if there is one,
 -- holds numbers within their ranges, and bytes (`IsReplyOfBytes`, `IsAnswerOfBytes`)
 abbrev pub IsEndOfBytes : End → Type 0
@@ -128,8 +122,8 @@ pub record FitsIn64Bits (when : When) : Type 0 where
   pub attempt : when.stamp.turn.attempt < 2 ^ 64
 
 -- each member after the first of a record's line is plain (`IsPlainMember`), where the record's numbers have at most 64 bits, and its
--- texts are of bytes (`FitsIn64Bits`, `AreBytes`, `IsAskedOfBytes`, `IsEndOfBytes`). With a run's moment of at most 64 bits `JsonLinesReadBack` speaks of
+-- texts are of bytes (`FitsIn64Bits`, `AreBytes`, `IsEndOfBytes`). With a run's moment of at most 64 bits `JsonLinesReadBack` speaks of
 -- such a line
 abbrev pub RecordsHavePlainMembers : Type 0
 RecordsHavePlainMembers =
-    (r : Entry) → FitsIn64Bits r.when → AreBytes r.name → r.command.target < 2 ^ 64 → IsAskedOfBytes r.command.call → IsEndOfBytes r.end → ArePlainMembers (members_after_run r)
+    (r : Entry) → FitsIn64Bits r.when → AreBytes r.name → r.command.target < 2 ^ 64 → IsEndOfBytes r.end → ArePlainMembers (members_after_run r)

@@ -10,7 +10,7 @@ ghost use Rattle.gc_values.specs.Params.{total_length};
 ghost use Rattle.gc_texts.specs.Endings.{ending_seen};
 ghost use Rattle.gc_rows.specs.declared.cell.TheConstants.{NAME_ROOM};
 ghost use Rattle.gc_rows.specs.declared.quantity.TheConstants.{QUANTITIES};
-ghost use Rattle.gc_rows.specs.declared.json_line.TheConstants.{TEXT_ROOM, OWN_ROOM, VALUE_ROOM, STRINGS_ROOM, LIST_ROOM, ANSWER_ROOM};
+ghost use Rattle.gc_rows.specs.declared.json_line.TheConstants.{TEXT_ROOM, OWN_ROOM, STRINGS_ROOM, LIST_ROOM, ANSWER_ROOM};
 ghost use Rattle.gc_rows.specs.Cells.{AreShort, IsShortContent, cell_seen, content_seen, member_room, members_in, members_of, members_room};
 ghost use Rattle.gc_rows.specs.Columns.{answer_cells, cells_from, end_cells, items_content, line_items, split_content, value_cells};
 ghost use Rattle.gc_rows.specs.JsonLines.{behind_backslash, member_front, string_text, text_member, number_member, comma_where, strings_text, texts_member, members_text, without_zeros, value_members};
@@ -31,7 +31,7 @@ use gc_values::{Items, Value, split};
 use itoa::Buffer;
 
 /// The most bytes of a line of JSON.
-pub(crate) const JSON_ROOM: usize = 40_960;
+pub(crate) const JSON_ROOM: usize = 20_480;
 
 // The most bytes of a member that is a string, besides those within its quotes. Each byte that the string holds takes at most
 // eight: it may be escaped as four, and each of these come after a backslash.
@@ -41,9 +41,6 @@ const TEXT_ROOM: usize = NAME_ROOM + 2;
 // number, and the number itself, have fewer.
 const OWN_ROOM: usize = TEXT_ROOM + 8 * QUANTITY_ROOM;
 
-// The most bytes of a value's members: those of a number and, as a string, what the reply wrote of it, of at most 512 bytes.
-const VALUE_ROOM: usize = OWN_ROOM + 8 * 512;
-
 // The most bytes of up to 16 strings that hold 512 bytes together: each byte may be escaped as four, each of these come after a
 // backslash, and each string has its quotes and a comma.
 const STRINGS_ROOM: usize = 8 * 512 + 3 * 16;
@@ -51,8 +48,9 @@ const STRINGS_ROOM: usize = 8 * 512 + 3 * 16;
 // The most bytes of the member `items`: its name, the brackets, and the strings.
 const LIST_ROOM: usize = NAME_ROOM + 2 + STRINGS_ROOM;
 
-// The most bytes of the members of an answer, which are those of its values, or the list of its items.
-const ANSWER_ROOM: usize = MOST_VALUES * VALUE_ROOM;
+// The most bytes of the members of an answer, which are those of its values, of which the reply wrote 512 bytes together, or the list
+// of its items.
+const ANSWER_ROOM: usize = MOST_VALUES * OWN_ROOM + 8 * 512;
 
 // Appends a text with a backslash before each double quote and each backslash.
 fn append_behind_backslashes<const N: usize>(line: &mut ArrayVec<u8, N>, text: &[u8])
@@ -182,8 +180,8 @@ fn append_values<const N: usize>(
 )
     requires fits { first + length values.now ≤ QUANTITIES }
     requires short { length came.now ≤ 512 }
-    requires room { array_vec_len line.old + VALUE_ROOM * length values.now ≤ N }
-    ensures { Adds line.old.items line.new.items (members_text (members_of (value_cells first values.now came.now))) (VALUE_ROOM * length values.now) }
+    requires room { array_vec_len line.old + (OWN_ROOM * length values.now + 8 * length came.now) ≤ N }
+    ensures { Adds line.old.items line.new.items (members_text (members_of (value_cells first values.now came.now))) (OWN_ROOM * length values.now + 8 * length came.now) }
 {
     let mut column = first;
     let mut rest = came;
@@ -294,8 +292,8 @@ pub(crate) fn json_line(ended: EndedCommand<'_>) -> ArrayVec<u8, JSON_ROOM>
     requires { length ended.name.now ≤ 64 }
     ensures { result.items ≡ record_of Json ended.entry }
 {
-    let request = request_line(ended);
     let mut line = ArrayVec::new();
+    let request = request_line(ended);
     append(&mut line, b"{\"run\":");
     append_string(&mut line, &stamp_text(ended.when.run));
     append_cells(&mut line, &first_cells(ended));

@@ -26,7 +26,7 @@ use gc_values::Value;
 use itoa::Buffer;
 
 /// The most bytes of a row.
-pub(crate) const ROW_ROOM: usize = 24_576;
+pub(crate) const ROW_ROOM: usize = 22_528;
 
 // The most bytes of a value in a row: a comma, and a field of at most 64 bytes, each of which may be escaped as four, and each of
 // these be doubled, within quotes.

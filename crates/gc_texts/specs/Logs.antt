@@ -1,6 +1,7 @@
 -- Lines of a log: what was on a link, in printable characters alone. Their form is this project's own.
 use Rattle.std.specs.Prelude.{◌≡◌, ◌<◌, ℕ, ◌/◌, ◌%◌, ◌+◌, ◌≤◌, ◌==◌, ◌&&◌, Bool, not, nat_lt, List, [], ◌∷◌, ◌++◌, All, if◌then◌else◌, codes}
 use Rattle.std.specs.List.{flat_map}
+pub use Rattle.gc_catalogue.specs.Bytes.{AreBytes}
 use Rattle.gc_texts.specs.Cuts.{Lacks}
 use Rattle.gc_texts.specs.Stamps.{stamp_text}
 use Rattle.gc_texts.specs.declared.log_line.LogMark.{LogMark}
@@ -33,10 +34,6 @@ IsPrintableByte b = (32 ≤ b) × (b ≤ 126)
 -- each byte of a text is printable ASCII
 abbrev pub IsPrintable : List ℕ → Type 0
 IsPrintable text = All IsPrintableByte text
-
--- each of these numbers is a byte, that is, below 256
-abbrev pub AreBytes : List ℕ → Type 0
-AreBytes bytes = All (λ b. b < 256) bytes
 
 -- bytes, each as it is or as \x and two digits
 abbrev pub escaped : List ℕ → List ℕ

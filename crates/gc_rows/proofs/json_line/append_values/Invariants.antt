@@ -1,6 +1,6 @@
 use Rattle.std.proofs.Common.{◌≡◌, ◌+◌, ◌*◌, ◌≤◌, ◌++◌, drop, length}
 use Rattle.arrayvec.specs.ArrayVec.{array_vec_len}
-use Rattle.gc_rows.specs.declared.json_line.TheConstants.{VALUE_ROOM}
+use Rattle.gc_rows.specs.declared.json_line.TheConstants.{OWN_ROOM}
 use Rattle.gc_rows.specs.Cells.{members_of}
 use Rattle.gc_rows.specs.Columns.{value_cells}
 use Rattle.gc_rows.specs.JsonLines.{members_text}
@@ -14,5 +14,5 @@ invariant-loop-value g l = record {
   short : length l.rest ≤ 512;
   written : l.line.items ++ members_text (members_of (value_cells l.column (drop l.value-index l.values) l.rest))
       ≡ l.initial.line.items ++ members_text (members_of (value_cells l.first l.values l.came));
-  room : array_vec_len l.line ≤ array_vec_len l.initial.line + VALUE_ROOM * l.value-index;
+  room : array_vec_len l.line + 8 * length l.rest ≤ array_vec_len l.initial.line + (OWN_ROOM * l.value-index + 8 * length l.came);
 }
