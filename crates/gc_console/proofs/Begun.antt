@@ -9,18 +9,19 @@ use Rattle.gc_subcommands.specs.declared.drill.Drilling.{Drilling}
 use Rattle.gc_console.specs.declared.traces.Traces.{Traces}
 use Rattle.gc_console.specs.Subcommands.{DoesCheck, DoesDrill, DoesExec, EndsFrom, opening, opening_ports}
 
--- what is known of the ports and the messages at the start is what is known of the streams; and what the output took is what is noted
+-- what is known of the ports and the messages at the start is what is known of the streams; and what output and messages took is what is
+-- noted
 pub ends_from : {T E : Type 0} (r : Result T E) (status_of : T → ℕ) (Does : EndSeen → Type 0) (remaining before : Option (List ℕ)) (traces : Traces) (old new : Ports)
-    (m told : Option (List ℕ)) → old ≡ opening_ports remaining → m ≡ before → new.taken ≡ Some traces.told.bytes
+    (m told : Option (List ℕ)) → old ≡ opening_ports remaining → m ≡ before → new.taken ≡ Some traces.told.bytes → told ≡ Some traces.said.bytes
     → IfOk r (λ x. Does (end_seen old new (status_of x) m told)) → IfOk r (λ x. EndsFrom Does (opening remaining before) traces (status_of x))
-ends_from (Ok x) status_of Does remaining before traces old new m told is same took does = record {
+ends_from (Ok x) status_of Does remaining before traces old new m told is same took noted does = record {
   new = new;
   took = took;
-  told = told;
-  does = subst (λ (ports : Ports). Does (end_seen ports new (status_of x) before told)) is
-      (subst (λ (b : Option (List ℕ)). Does (end_seen old new (status_of x) b told)) same does);
+  does = subst (λ (t : Option (List ℕ)). Does (end_seen (opening_ports remaining) new (status_of x) before t)) noted
+      (subst (λ (ports : Ports). Does (end_seen ports new (status_of x) before told)) is
+      (subst (λ (b : Option (List ℕ)). Does (end_seen old new (status_of x) b told)) same does));
 }
-ends_from (Err e) status_of Does remaining before traces old new m told is same took does = tt
+ends_from (Err e) status_of Does remaining before traces old new m told is same took noted does = tt
 
 -- the clauses of `exec`
 pub exec_did : {Name T E : Type 0} (r : Result T E) (status_of : T → ℕ) (scene : Option Name) (old new : Ports) (m told : Option (List ℕ))

@@ -1,17 +1,21 @@
--- Words for which no job was done: what is said of the status of their answer, together. `r` is its result.
-use Rattle.std.proofs.Common.{◌≡◌, ◌≤◌, ℕ, Bool, true, false, List, Option, Result, Ok, Err, IfOk}
+-- Words for which no job was done: what is said of their answer, together. `r` is its result.
+use Rattle.std.proofs.Common.{◌≡◌, ℕ, Bool, true, List, Option, Some, Result, Ok, Err, IfOk, subst}
 use Rattle.std.specs.List.{list_any}
 use Rattle.clap.specs.Takes.{takes}
 use Rattle.gc_subcommands.specs.Program.{program}
-use Rattle.gc_console.specs.Programs.{HasNoJob, IsAnswered, asks_for_text}
+use Rattle.gc_console.specs.Programs.{HasNoJob, IsAnswered, LacksMemory, asks_for_text}
 use Rattle.gc_console.specs.Stations.{HasNoRun}
 use Rattle.gc_console.specs.Subcommands.{Opening}
-use Rattle.gc_console.specs.declared.traces.Acted.{Acted}
+use Rattle.gc_console.specs.declared.traces.Traces.{Traces}
 
--- no job was done
-pub no_job : {T E : Type 0} (r : Result T E) (status_of : T → ℕ) (begun : Opening) (words : List (List ℕ)) (acted : Acted) (told : Option (List ℕ))
-    → IfOk r (λ x. IsAnswered (status_of x) begun.told told) → (list_any asks_for_text words ≡ false → IfOk r (λ x. 1 ≤ status_of x))
-    → (takes program words ≡ true → IfOk r (λ x. status_of x ≡ 1)) → HasNoRun acted → IfOk r (λ x. HasNoJob begun words acted (status_of x))
-no_job (Ok x) status_of begun words acted told answers asked taken none =
-    record { told = told; answers = answers; asked = asked; taken = taken; none = none }
-no_job (Err e) status_of begun words acted told answers asked taken none = tt
+-- no job was done. `asks` says whether a word asks for the help or the version, and `told` is what the messages have then
+pub no_job : {T E : Type 0} (r : Result T E) (status_of : T → ℕ) (begun : Opening) (words : List (List ℕ)) (traces : Traces) (asks : Bool) (told : Option (List ℕ))
+    → asks ≡ list_any asks_for_text words → told ≡ Some traces.said.bytes → IfOk r (λ x. IsAnswered asks (status_of x) begun.told told)
+    → (takes program words ≡ true → IfOk r (λ x. LacksMemory (status_of x) begun.told told)) → HasNoRun traces.acted → IfOk r (λ x. HasNoJob begun words traces (status_of x))
+no_job (Ok x) status_of begun words traces asks told same noted answers taken none = record {
+  answers = subst (λ (a : Bool). IsAnswered a (status_of x) begun.told (Some traces.said.bytes)) same
+      (subst (λ (t : Option (List ℕ)). IsAnswered asks (status_of x) begun.told t) noted answers);
+  taken = λ is. subst (λ (t : Option (List ℕ)). LacksMemory (status_of x) begun.told t) noted (taken is);
+  none = none;
+}
+no_job (Err e) status_of begun words traces asks told same noted answers taken none = tt

@@ -4,6 +4,7 @@
 use Rattle.std.specs.Prelude.{◌≡◌, ℕ, Bool, true, false, List, [], Option, Some, None, option_map, IfSome}
 use Rattle.std.specs.Option.{is_some}
 use Rattle.gc_files.specs.Rows.{appended}
+use Rattle.gc_files.specs.Sinks.{asks_sync}
 use Rattle.gc_files.specs.declared.past.Past.{Past}
 use Rattle.gc_lines.specs.Answering.{ports_of}
 use Rattle.gc_lines.specs.declared.ports.Sink.{Ghosts as Sink}
@@ -35,11 +36,12 @@ use Rattle.gc_console.specs.declared.traces.Traces.{Traces}
 
 -- how the ports of a station are seen: its input by the ghost members of `source`; by `onto` a run over its text that writes on the
 -- output, and by `into` one that appends to a file. `begun` says what holds of a file that was just opened, for these records of a
--- station with these settings, and `at` gives the path at which a file is
+-- station with these settings, `at` gives the path at which a file is, and `syncs` whether each of its rows is synced
 pub record Seeing (S T F K E : Type 0) : Type 1 where
   pub source : Source S
   pub begun : Recording → Settings → F → Type 0
   pub at : F → List ℕ
+  pub syncs : F → Bool
   pub onto : Views T K E
   pub into : Views T F E
 
@@ -48,9 +50,16 @@ pub record Seeing (S T F K E : Type 0) : Type 1 where
 abbrev pub seeing_by : {S T R K E : Type 0} → Source S → (over : Source T) → (sink : Sink K) → (lasts : K → Bool) → (file : Sink (Followed R)) → (file_lasts : Followed R → Bool)
     → (shown : E → Option (List ℕ)) → Seeing S T (Followed R) K E
 seeing_by source over sink lasts file file_lasts shown =
-    record { source = source; begun = IsBegunAt; at = path_of; onto = views_by over sink lasts shown; into = views_by over file file_lasts shown }
+    record {
+      source = source;
+      begun = IsBegunAt;
+      at = path_of;
+      syncs = λ followed. asks_sync followed.rows;
+      onto = views_by over sink lasts shown;
+      into = views_by over file file_lasts shown;
+    }
 
--- no link was made, no act was seen, and there was no file
+-- of no link, no act and no file anything is noted
 pub record HasNoRun (acted : Acted) : Type 0 where
   pub link : acted.link ≡ None
   pub turns : acted.kept.turns ≡ []
@@ -74,8 +83,8 @@ ActsAt site acted = IfSome acted.link (λ link. ∥ IsMeantRecord (place_seen si
 
 -- a station at this site that writes its records on the output ended with this status: its text was refused, and there was no link; or
 -- the input gave a text, and over exactly its commands the station ran: what its link recorded, its output took and its messages say is
--- as `ReadsAndMeasures` has it; with status 0 all commands were measured. What the link recorded are the system's calls at the site's
--- place (`ActsAt`). There is no file
+-- as `ReadsAndMeasures` has it; with status 0 the run is done, or its end was asked for. What the link recorded are the system's calls at
+-- the site's place (`ActsAt`). Of no file anything is noted
 pub record MeasuresOnto {S T F K E : Type 0} (seeing : Seeing S T F K E) (site : Site) (station : Settings) (old new : Streams (Heard S) K E)
     (acted : Acted) (status : ℕ) : Type 0 where
   pub ran : ReadsAndMeasures seeing.source seeing.onto (is_some site.log) station (stage_before old) (stage_after new acted) status
@@ -88,15 +97,17 @@ run_into old new acted file = record { before = stage_before old; after = stage_
 
 -- a station at this site that appends its records to a file ended with this status: its text was refused, and there was no link and no
 -- file; or the file couldn't be had, and nothing was sent; or the input gave a text, and over exactly its commands the station ran: what
--- its link recorded, the file took and the messages say is as `ReadsAndAppends` has it; with status 0 all commands were measured, with
--- their rows in the file. What the link recorded are the system's calls at the site's place (`ActsAt`). The file is at the recording's
--- path, and took exactly the bytes that are noted of it (`rows`); and nothing was written on the output
+-- its link recorded, the file took and the messages say is as `ReadsAndAppends` has it; with status 0 the run is done, or its end was asked
+-- for, and its rows are in the file. What the link recorded are the system's calls at the site's place (`ActsAt`). The file is at the
+-- recording's path, syncs exactly if the recording asks for that, and took exactly the bytes that are noted of it (`rows`); and nothing was
+-- written on the output
 pub record AppendsInto {S T F K E : Type 0} (seeing : Seeing S T F K E) (recording : Recording) (site : Site) (station : Settings) (old new : Streams (Heard S) K E)
     (acted : Acted) (status : ℕ) : Type 0 where
   pub file : Option F
   pub ran : ReadsAndAppends (seeing.begun recording station) seeing.source seeing.onto.source seeing.into (is_some site.log) station (run_into old new acted file) status
   pub place : ActsAt site acted
   pub path : IfSome file (λ left. seeing.at left ≡ recording.path.now)
+  pub sync : IfSome file (λ left. seeing.syncs left ≡ recording.sync)
   pub rows : option_map seeing.into.sink.taken file ≡ option_map rows_noted acted.file
   pub output : new.output ≡ old.output
 
@@ -143,7 +154,7 @@ DoesJob seeing shown standard (client.Ask place) old new acted status =
 
 -- a client's job was done over streams of which this is known at the start (`begun`): no read was answered yet, and nothing was written.
 -- If the standard streams are open, it did what `DoesJob` says, and else it wasn't begun, which is reported (`ReportsClosed`). The traces
--- have exactly the bytes that the input gave and those that the output took
+-- have exactly the bytes that the input gave, and those that the output and the messages took
 pub record DoesOver {S T F K E M : Type 0} (seeing : Seeing S T F K M) (shown : E → Option (List ℕ)) (standard : Standard) (begun : Opening)
     (job : ClientJob) (traces : Traces) (status : ℕ) : Type 0 where
   pub old : Streams (Heard S) K E
@@ -155,6 +166,7 @@ pub record DoesOver {S T F K E M : Type 0} (seeing : Seeing S T F K M) (shown : 
   pub messages : shown old.messages ≡ begun.told
   pub heard : new.input.heard.bytes ≡ traces.heard.bytes
   pub told : seeing.onto.sink.taken new.output ≡ Some traces.told.bytes
+  pub said : shown new.messages ≡ Some traces.said.bytes
   pub does : are_open standard ≡ true → DoesJob seeing shown standard job old new traces.acted status
   pub closed : are_open standard ≡ false
       → ReportsClosed standard status (shown old.messages) (shown new.messages) × HasNoRun traces.acted × (new.input ≡ old.input) × (new.output ≡ old.output)

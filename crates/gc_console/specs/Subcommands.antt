@@ -31,13 +31,12 @@ abbrev pub opening_ports : (remaining : Option (List ℕ)) → Ports
 opening_ports remaining =
     record { remaining = remaining; reads = 0; ended = false; source_failed = false; taken = Some []; sink_failed = false }
 
--- a subcommand that began over these streams ended with this status, and `Does` says what it did. `new` are its ports at the end, whose
--- output has taken exactly the bytes of the traces, and `told` is what the messages had taken then
+-- a subcommand that began over these streams ended with this status, and `Does` says what it did. `new` are its ports at the end; what its
+-- output and its messages have taken then are exactly the bytes of the traces
 pub record EndsFrom (Does : EndSeen → Type 0) (begun : Opening) (traces : Traces) (status : ℕ) : Type 0 where
   pub new : Ports
   pub took : new.taken ≡ Some traces.told.bytes
-  pub told : Option (List ℕ)
-  pub does : Does (end_seen (opening_ports begun.remaining) new status begun.told told)
+  pub does : Does (end_seen (opening_ports begun.remaining) new status begun.told (Some traces.said.bytes))
 
 -- `exec` answered the requests of its input: the scene was refused, or its instrument, the simulator where none is named, answered the
 -- lines in order, and the output took exactly its replies. Status 0 exactly where the last read was the end of the input; without a
@@ -81,7 +80,6 @@ abbrev pub DoesAsk : (at_terminal : Bool) → Place → EndSeen → Type 0
 DoesAsk at_terminal place seen = TellsAskAt place (seen_shown at_terminal seen)
 
 -- `serve` served the instrument of the scene at its place, as its words say: each connection that was served had the instrument's replies
--- to its lines, in order; or nothing was served. It reads no input and writes no output; `told` is what the messages had taken before
-pub record DoesServe (standard : Standard) (serving : Serving) (told : Option (List ℕ)) (status : ℕ) : Type 0 where
-  pub after : Option (List ℕ)
-  pub serves : TellsServe standard serving status told after
+-- to its lines, in order; or nothing was served. `old` and `new` are what the messages had taken before and after
+abbrev pub DoesServe : Standard → Serving → (old new : Option (List ℕ)) → (status : ℕ) → Type 0
+DoesServe standard serving old new status = TellsServe standard serving status old new

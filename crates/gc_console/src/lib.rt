@@ -3,6 +3,7 @@
 
 mod asking;
 mod program;
+mod said;
 mod system;
 mod traces;
 
@@ -17,4 +18,5 @@ pub use gc_station::Tally;
 pub use gc_texts::{Command, RunFault, Trouble, read_commands};
 pub use gc_words::{Choice, Layout, Settings, Watch};
 pub use program::run_program;
+pub use said::Said;
 pub use traces::{Acted, Traces};

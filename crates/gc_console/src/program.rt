@@ -1,21 +1,20 @@
 //! The command line of `geocom`: which subcommand runs, and the exit status if none does.
 
-ghost use Rattle.std.specs.Prelude.{◌≡◌, ◌≤◌, ◌⊎◌, false, [], map, IfOk};
+ghost use Rattle.std.specs.Prelude.{◌≡◌, [], map, IfErr, IfOk, Some};
 ghost use Rattle.clap.specs.Values.{kind_of};
 ghost use Rattle.clap.specs.declared.error.ErrorKind.{ErrorKind as Kind};
-ghost use Rattle.std.specs.Io.KnownBytes.{Appends};
+ghost use Rattle.std.specs.IoError.{error_kind};
 ghost use Rattle.std.specs.List.{list_any};
 ghost use Rattle.std.specs.Process.{exit_status};
 ghost use Rattle.std.specs.String.{string_bytes};
 ghost use Rattle.std.specs.Vec.Iter.{into_iter_items};
-ghost use Rattle.gc_texts.specs.declared.fault.RunFault.{RunFault};
-ghost use Rattle.gc_texts.specs.Faults.{run_fault_text, fault_line};
-ghost use Rattle.gc_console.specs.Programs.{AreReadFrom, DoesAsked, DoesProgram, DoesWords, IsAnswered, asks_for_text};
+ghost use Rattle.gc_console.specs.Programs.{AreReadFrom, DoesAsked, DoesProgram, DoesWords, IsAnswered, IsUnread, LacksMemory, RefusesUnread, ShowsText, asks_for_text};
 ghost use Rattle.gc_console.specs.Stations.{DoesOver, HasNoRun, seeing_by};
 ghost use Rattle.gc_messages.specs.Statuses.{IsStatusUpTo};
 ghost use Rattle.gc_lines.specs.Answering.{ports_of};
 ghost use Rattle.gc_console.specs.Subcommands.{DoesCheck, DoesDrill, DoesExec, DoesServe, EndsFrom, opening, opening_ports};
 
+use crate::said::Said;
 use crate::system::System;
 use crate::traces::{Acted, Traces};
 use clap::Error;
@@ -64,27 +63,30 @@ pub fn run_program<
     alloc: Global,
     standard: Standard,
     words: io::Result<Args>,
-    mut streams: Streams<I, O, E>,
+    streams: Streams<I, O, E>,
 ) -> (io::Result<ExitCode>, Traces)
-    // What was done is what the words ask for, and the status tells it. `result.1` has what the output took; of the messages it is said
-    // that they have the lines below, but they aren't handed back. Which bytes were read is tied to the input's reads for a station alone.
+    // What was done is what the words ask for, and the status tells it. `result.1` has what the output and the messages took, but not the
+    // text of the help or the version. Which bytes were read is tied to the input's reads for a station alone.
     // - `exec`, `check`: the output took exactly the replies, or the verdicts, on what was read. Status 0: to the input's end.
     // - `drill`: status 0 only if the input was read to its end, and the output took all that is written of its events.
     // - `loop`, `ask`: the output took exactly the lines of the settlements; of a terminal that isn't known. Status 0: of all commands.
     // - `serve`: each connection that was served had exactly the instrument's replies to its lines, in order; or none was served.
     // - `station`: over exactly the text that the input gave, by exactly the settings that the words give, it ran over the acts that the
     //   traces have, which are what the system's calls did at the place that the words name; and its output, or the file at the path that
-    //   they name, took exactly the rows that the traces have. Or the text was refused, or the file couldn't be had, and nothing was sent.
-    //   With `--check`: status 0 only if a station measures the text.
+    //   they name, which syncs exactly with `--sync`, took exactly the rows that the traces have. Or the text was refused, or the file
+    //   couldn't be had, and nothing was sent. With `--check`: status 0 only if a station measures the text. Of its messages nothing is said.
     // - `rehearse`: the status is at most 1, and nothing more is said here.
     // - `loop`, `ask` and `station` over a closed stream: that is reported, with status 1, and nothing was read or written else.
-    // - A place, a number or a `--stale` that is refused: status 2, and the line that says why.
-    // - No job: status 0 only if a word asks for help or version, and no message; status 1 and the line of a fault; or status 2.
+    // - A place, a number or a `--stale` that is refused: status 2, and the messages took exactly the line that says why.
+    // - No job: if a word asks for help or version, status 0 and no message, or status 1 and the line of the fault `Output`; status 2, only
+    //   for words that the command line doesn't take; or status 1, and the messages took exactly the line that memory ran out.
+    // - Words that couldn't be read: status 2 and the line that one is no text; or status 1 and the line that memory ran out.
+    // That memory did run out where that is reported, no clause can say.
     // Only of a station do the traces have acts or rows.
     ensures done { IfOk result.0 (λ status. DoesProgram (seeing_by ⟦<FromReader<I> as Source>⟧ ⟦<FromReader<&'a [u8]> as Source>⟧ ⟦<Told<ToWriter<O>> as Sink>⟧ ⟦<Told<ToWriter<O>> as Durable>⟧.is_durable
-        ⟦<Followed<'a, Noting<'a, R>> as Sink>⟧ ⟦<Followed<'a, Noting<'a, R>> as Durable>⟧.is_durable ⟦<Lossy<E> as Write>⟧.contents)
-        E.contents standard (opening (I.remaining streams.input) (E.contents streams.messages))
-        (λ args. map string_bytes (into_iter_items args)) words result.1 (exit_status status)) }
+        ⟦<Followed<'a, Noting<'a, R>> as Sink>⟧ ⟦<Followed<'a, Noting<'a, R>> as Durable>⟧.is_durable ⟦<Lossy<Said<E>> as Write>⟧.contents)
+        ⟦<Said<E> as Write>⟧.contents standard (opening (I.remaining streams.input) (Some []))
+        (λ args. map string_bytes (into_iter_items args)) error_kind words result.1 (exit_status status)) }
     ensures bound { IsStatusUpTo 2 result.0 }
 {
     let system = System {
@@ -92,13 +94,45 @@ pub fn run_program<
         alloc,
         standard,
     };
+    let mut noted = with_noted_messages(streams);
     match all_words(alloc, words) {
-        Ok(words) => system.run_words(words, streams),
-        Err(error) => (
-            refuse_unreadable(&error, &mut streams.messages),
-            Traces::nothing(),
-        ),
+        Ok(words) => system.run_words(words, noted),
+        Err(error) => {
+            let ended = refuse_unreadable(&error, &mut noted.messages);
+            (ended, said_of(noted))
+        }
     }
+}
+
+// These streams, with messages of which it is noted what they take.
+fn with_noted_messages<I, O, E>(streams: Streams<I, O, E>) -> Streams<I, O, Said<E>>
+    ensures input { result.input ≡ streams.input }
+    ensures fresh { result.messages.said.bytes ≡ [] }
+{
+    let Streams {
+        input,
+        output,
+        messages,
+    } = streams;
+    Streams {
+        input,
+        output,
+        messages: Said::new(messages),
+    }
+}
+
+// Lets streams go of which nothing is noted but what the messages took. Returns that.
+fn said_of<I: Drop, O: Drop, E: Drop>(streams: Streams<I, O, Said<E>>) -> Traces
+    ensures said { result.said ≡ streams.messages.said }
+    ensures none { HasNoRun result.acted }
+{
+    let Streams {
+        input: _,
+        output: _,
+        messages,
+    } = streams;
+    let Said { inner: _, said } = messages;
+    Traces::of_messages(said)
 }
 
 impl<'a, R: Net<Listener = TcpListener, Stream = TcpStream> + Clock + Files<File = File>> System<
@@ -109,11 +143,11 @@ impl<'a, R: Net<Listener = TcpListener, Stream = TcpStream> + Clock + Files<File
     fn run_words<I: Read + Drop, O: Write + Drop, E: Write + Drop>(
         &self,
         words: Vec<String>,
-        mut streams: Streams<I, O, E>,
+        mut streams: Streams<I, O, Said<E>>,
     ) -> (io::Result<ExitCode>, Traces)
         ensures done { IfOk result.0 (λ status. DoesWords (seeing_by ⟦<FromReader<I> as Source>⟧ ⟦<FromReader<&'a [u8]> as Source>⟧ ⟦<Told<ToWriter<O>> as Sink>⟧ ⟦<Told<ToWriter<O>> as Durable>⟧.is_durable
-            ⟦<Followed<'a, Noting<'a, R>> as Sink>⟧ ⟦<Followed<'a, Noting<'a, R>> as Durable>⟧.is_durable ⟦<Lossy<E> as Write>⟧.contents)
-            E.contents self.entry.now.standard (opening (I.remaining streams.input) (E.contents streams.messages))
+            ⟦<Followed<'a, Noting<'a, R>> as Sink>⟧ ⟦<Followed<'a, Noting<'a, R>> as Durable>⟧.is_durable ⟦<Lossy<Said<E>> as Write>⟧.contents)
+            ⟦<Said<E> as Write>⟧.contents self.entry.now.standard (opening (I.remaining streams.input) (Some streams.messages.said.bytes))
             (map string_bytes words.items) result.1 (exit_status status)) }
         ensures bound { IsStatusUpTo 2 result.0 }
     {
@@ -126,7 +160,7 @@ impl<'a, R: Net<Listener = TcpListener, Stream = TcpStream> + Clock + Files<File
                     &mut streams.output,
                     &mut streams.messages,
                 );
-                (ended, Traces::nothing())
+                (ended, said_of(streams))
             }
         }
     }
@@ -136,11 +170,11 @@ impl<'a, R: Net<Listener = TcpListener, Stream = TcpStream> + Clock + Files<File
     fn run_job<I: Read + Drop, O: Write + Drop, E: Write + Drop>(
         &self,
         job: Job<'_>,
-        mut streams: Streams<I, O, E>,
+        mut streams: Streams<I, O, Said<E>>,
     ) -> (io::Result<ExitCode>, Traces)
         ensures done { IfOk result.0 (λ status. DoesAsked (seeing_by ⟦<FromReader<I> as Source>⟧ ⟦<FromReader<&'a [u8]> as Source>⟧ ⟦<Told<ToWriter<O>> as Sink>⟧ ⟦<Told<ToWriter<O>> as Durable>⟧.is_durable
-            ⟦<Followed<'a, Noting<'a, R>> as Sink>⟧ ⟦<Followed<'a, Noting<'a, R>> as Durable>⟧.is_durable ⟦<Lossy<E> as Write>⟧.contents)
-            E.contents self.entry.now.standard (opening (I.remaining streams.input) (E.contents streams.messages))
+            ⟦<Followed<'a, Noting<'a, R>> as Sink>⟧ ⟦<Followed<'a, Noting<'a, R>> as Durable>⟧.is_durable ⟦<Lossy<Said<E>> as Write>⟧.contents)
+            ⟦<Said<E> as Write>⟧.contents self.entry.now.standard (opening (I.remaining streams.input) (Some streams.messages.said.bytes))
             job.entry result.1 (exit_status status)) }
         ensures bound { IsStatusUpTo 2 result.0 }
     {
@@ -148,15 +182,21 @@ impl<'a, R: Net<Listener = TcpListener, Stream = TcpStream> + Clock + Files<File
             Job::Exec { scene } => self.run_exec_job(scene, streams),
             Job::Check { log } => run_check_job(log, streams),
             Job::Drill(drilling) => self.run_drill_job(drilling, streams),
-            Job::Serve(serving) => (self.run_serve_job(serving, streams), Traces::nothing()),
+            Job::Serve(serving) => self.run_serve_job(serving, streams),
             Job::Rehearse(rehearsal) => self.run_rehearse_job(rehearsal, streams),
             Job::Client(job) => self.run_client_job(job, streams),
-            Job::Nowhere { serves } => (
-                refuse_place(serves, &mut streams.messages),
-                Traces::nothing(),
-            ),
-            Job::NumberMissing => (refuse_numbers(&mut streams.messages), Traces::nothing()),
-            Job::StaleTooSoon => (refuse_stale(&mut streams.messages), Traces::nothing()),
+            Job::Nowhere { serves } => {
+                let ended = refuse_place(serves, &mut streams.messages);
+                (ended, said_of(streams))
+            }
+            Job::NumberMissing => {
+                let ended = refuse_numbers(&mut streams.messages);
+                (ended, said_of(streams))
+            }
+            Job::StaleTooSoon => {
+                let ended = refuse_stale(&mut streams.messages);
+                (ended, said_of(streams))
+            }
         }
     }
 
@@ -165,9 +205,9 @@ impl<'a, R: Net<Listener = TcpListener, Stream = TcpStream> + Clock + Files<File
     fn run_exec_job<I: Read + Drop, O: Write + Drop, E: Write + Drop>(
         &self,
         scene: Option<&str>,
-        streams: Streams<I, O, E>,
+        streams: Streams<I, O, Said<E>>,
     ) -> (io::Result<ExitCode>, Traces)
-        ensures did { IfOk result.0 (λ status. EndsFrom (DoesExec scene.entry) (opening (I.remaining streams.input) (E.contents streams.messages)) result.1 (exit_status status)) }
+        ensures did { IfOk result.0 (λ status. EndsFrom (DoesExec scene.entry) (opening (I.remaining streams.input) (Some streams.messages.said.bytes)) result.1 (exit_status status)) }
         ensures none { HasNoRun result.1.acted }
         ensures bound { IsStatusUpTo 1 result.0 }
     {
@@ -187,9 +227,9 @@ impl<'a, R: Net<Listener = TcpListener, Stream = TcpStream> + Clock + Files<File
     fn run_drill_job<I: Read + Drop, O: Write + Drop, E: Write + Drop>(
         &self,
         drilling: Drilling<'_>,
-        streams: Streams<I, O, E>,
+        streams: Streams<I, O, Said<E>>,
     ) -> (io::Result<ExitCode>, Traces)
-        ensures did { IfOk result.0 (λ status. EndsFrom (DoesDrill drilling.entry) (opening (I.remaining streams.input) (E.contents streams.messages)) result.1 (exit_status status)) }
+        ensures did { IfOk result.0 (λ status. EndsFrom (DoesDrill drilling.entry) (opening (I.remaining streams.input) (Some streams.messages.said.bytes)) result.1 (exit_status status)) }
         ensures none { HasNoRun result.1.acted }
         ensures bound { IsStatusUpTo 2 result.0 }
     {
@@ -210,7 +250,7 @@ impl<'a, R: Net<Listener = TcpListener, Stream = TcpStream> + Clock + Files<File
     fn run_rehearse_job<I: Read + Drop, O: Write + Drop, E: Write + Drop>(
         &self,
         rehearsal: Rehearsal<'_>,
-        streams: Streams<I, O, E>,
+        streams: Streams<I, O, Said<E>>,
     ) -> (io::Result<ExitCode>, Traces)
         ensures none { HasNoRun result.1.acted }
         ensures bound { IsStatusUpTo 1 result.0 }
@@ -221,22 +261,24 @@ impl<'a, R: Net<Listener = TcpListener, Stream = TcpStream> + Clock + Files<File
         (ended, traces_of(ports, Acted::nothing()))
     }
 
-    // Serves a simulator, and reports how that ended.
+    // Serves a simulator, and reports how that ended. Returns what was noted of the messages.
     fn run_serve_job<I: Drop, O: Drop, E: Write + Drop>(
         &self,
         serving: Serving<'_>,
-        mut streams: Streams<I, O, E>,
-    ) -> io::Result<ExitCode>
-        ensures did { IfOk result (λ status. DoesServe self.entry.now.standard serving.entry (E.contents streams.messages) (exit_status status)) }
-        ensures bound { IsStatusUpTo 2 result }
+        mut streams: Streams<I, O, Said<E>>,
+    ) -> (io::Result<ExitCode>, Traces)
+        ensures did { IfOk result.0 (λ status. DoesServe self.entry.now.standard serving.entry (Some streams.messages.said.bytes) (Some result.1.said.bytes) (exit_status status)) }
+        ensures none { HasNoRun result.1.acted }
+        ensures bound { IsStatusUpTo 2 result.0 }
     {
-        serve_with_places_filled(
+        let ended = serve_with_places_filled(
             self.rt,
             self.alloc,
             self.standard,
             serving,
             &mut streams.messages,
-        )
+        );
+        (ended, said_of(streams))
     }
 
     // Runs `loop`, `ask` or `station`, and reports how that ended. Returns what was noted of the streams, and of a station's link and
@@ -244,11 +286,11 @@ impl<'a, R: Net<Listener = TcpListener, Stream = TcpStream> + Clock + Files<File
     fn run_client_job<I: Read + Drop, O: Write + Drop, E: Write + Drop>(
         &self,
         job: ClientJob<'_>,
-        streams: Streams<I, O, E>,
+        streams: Streams<I, O, Said<E>>,
     ) -> (io::Result<ExitCode>, Traces)
         ensures done { IfOk result.0 (λ status. DoesOver (seeing_by ⟦<FromReader<I> as Source>⟧ ⟦<FromReader<&'a [u8]> as Source>⟧ ⟦<Told<ToWriter<O>> as Sink>⟧ ⟦<Told<ToWriter<O>> as Durable>⟧.is_durable
-            ⟦<Followed<'a, Noting<'a, R>> as Sink>⟧ ⟦<Followed<'a, Noting<'a, R>> as Durable>⟧.is_durable ⟦<Lossy<E> as Write>⟧.contents)
-            E.contents self.entry.now.standard (opening (I.remaining streams.input) (E.contents streams.messages))
+            ⟦<Followed<'a, Noting<'a, R>> as Sink>⟧ ⟦<Followed<'a, Noting<'a, R>> as Durable>⟧.is_durable ⟦<Lossy<Said<E>> as Write>⟧.contents)
+            ⟦<Said<E> as Write>⟧.contents self.entry.now.standard (opening (I.remaining streams.input) (Some streams.messages.said.bytes))
             job.entry result.1 (exit_status status)) }
         ensures bound { IsStatusUpTo 2 result.0 }
     {
@@ -259,21 +301,28 @@ impl<'a, R: Net<Listener = TcpListener, Stream = TcpStream> + Clock + Files<File
 
 // Lets the ports of a run go. Returns what was noted of them, with what was noted of a station.
 fn traces_of<I: Drop, O: Drop, E: Drop>(
-    ports: Streams<Heard<I>, Told<O>, E>,
+    ports: Streams<Heard<I>, Told<O>, Said<E>>,
     acted: Acted,
 ) -> Traces
     ensures heard { result.heard ≡ ports.input.heard }
     ensures told { result.told ≡ ports.output.told }
+    ensures said { result.said ≡ ports.messages.said }
     ensures acted { result.acted ≡ acted }
 {
     let Streams {
         input,
         output,
-        messages: _,
+        messages,
     } = ports;
     let Heard { source: _, heard } = input;
     let Told { sink: _, told } = output;
-    Traces { heard, told, acted }
+    let Said { inner: _, said } = messages;
+    Traces {
+        heard,
+        told,
+        said,
+        acted,
+    }
 }
 
 // These streams, with the input as a source and the output as a sink, of which it is noted what they give and take.
@@ -324,9 +373,9 @@ fn as_noted_ports_ahead<I: Read, O: Write, E>(
 // streams.
 fn run_check_job<I: Read + Drop, O: Write + Drop, E: Write + Drop>(
     log: bool,
-    streams: Streams<I, O, E>,
+    streams: Streams<I, O, Said<E>>,
 ) -> (io::Result<ExitCode>, Traces)
-    ensures did { IfOk result.0 (λ status. EndsFrom (DoesCheck log) (opening (I.remaining streams.input) (E.contents streams.messages)) result.1 (exit_status status)) }
+    ensures did { IfOk result.0 (λ status. EndsFrom (DoesCheck log) (opening (I.remaining streams.input) (Some streams.messages.said.bytes)) result.1 (exit_status status)) }
     ensures none { HasNoRun result.1.acted }
     ensures bound { IsStatusUpTo 1 result.0 }
 {
@@ -348,9 +397,10 @@ fn answer_words<O: Write, E: Write>(
     output: &mut O,
     messages: &mut E,
 ) -> io::Result<ExitCode>
-    ensures answered { IfOk result (λ status. IsAnswered (exit_status status) (E.contents messages.old) (E.contents messages.new)) }
-    ensures asked { list_any (λ word. asks_for_text (string_bytes word)) words.now ≡ false → IfOk result (λ status. 1 ≤ exit_status status) }
-    ensures memory { kind_of error.now ≡ Kind.OutOfMemory → IfOk result (λ status. exit_status status ≡ 1) }
+    ensures answered { IfOk result (λ status. IsAnswered (list_any (λ word. asks_for_text (string_bytes word)) words.now)
+        (exit_status status) (E.contents messages.old) (E.contents messages.new)) }
+    ensures memory { kind_of error.now ≡ Kind.OutOfMemory
+        → IfOk result (λ status. LacksMemory (exit_status status) (E.contents messages.old) (E.contents messages.new)) }
     ensures bound { IsStatusUpTo 2 result }
 {
     if matches!(error.kind(), ErrorKind::OutOfMemory) {
@@ -379,8 +429,7 @@ fn asks_for_text(word: &str) -> bool
 // Writes the help or the version (`text`) on the output, with status 0. If that fails, the fault `Output` is reported, with
 // status 1.
 fn show<O: Write, E: Write>(text: &Error, output: &mut O, messages: &mut E) -> io::Result<ExitCode>
-    ensures { IfOk result (λ status. ((exit_status status ≡ 0) × (E.contents messages.new ≡ E.contents messages.old))
-        ⊎ ((exit_status status ≡ 1) × Appends (E.contents messages.old) (E.contents messages.new) (fault_line (run_fault_text RunFault.Output)))) }
+    ensures { IfOk result (λ status. ShowsText (exit_status status) (E.contents messages.old) (E.contents messages.new)) }
 {
     match write!(output, "{text}") {
         Ok(()) => Ok(ExitCode::SUCCESS),
@@ -416,17 +465,18 @@ fn refuse_unparsed<E: Write>(error: &Error, reads: bool, messages: &mut E) -> io
 
 // The words of the command line in a vector. It fails if one isn't UTF-8, or if memory ran out.
 fn all_words(alloc: Global, words: io::Result<Args>) -> io::Result<Vec<String>>
-    ensures { IfOk result (λ all. AreReadFrom into_iter_items words all.items) }
+    ensures read { IfOk result (λ all. AreReadFrom into_iter_items words all.items) }
+    ensures unread { IfErr result (λ error. IsUnread error_kind words error) }
 {
     Ok(words?.collect(alloc)?)
 }
 
 // Reports that the words couldn't be read: with status 2 if one isn't UTF-8, and with status 1 if memory ran out.
 fn refuse_unreadable<E: Write>(error: &io::Error, messages: &mut E) -> io::Result<ExitCode>
-    ensures refused { IfOk result (λ status. 1 ≤ exit_status status) }
+    ensures refused { IfOk result (λ status. RefusesUnread (error_kind error.now) (exit_status status) (E.contents messages.old) (E.contents messages.new)) }
     ensures bound { IsStatusUpTo 2 result }
 {
-    if error.kind() == io::ErrorKind::OutOfMemory {
+    if matches!(error.kind(), io::ErrorKind::OutOfMemory) {
         return report_out_of_memory(messages);
     }
     writeln!(messages, "error: a word of the command line is no text")?;
@@ -435,8 +485,7 @@ fn refuse_unreadable<E: Write>(error: &io::Error, messages: &mut E) -> io::Resul
 
 // Reports that memory ran out as the command line was read, with status 1, as any fault.
 fn report_out_of_memory<E: Write>(messages: &mut E) -> io::Result<ExitCode>
-    ensures { IfOk result (λ status. (exit_status status ≡ 1)
-        × Appends (E.contents messages.old) (E.contents messages.new) (fault_line (run_fault_text RunFault.Memory))) }
+    ensures { IfOk result (λ status. LacksMemory (exit_status status) (E.contents messages.old) (E.contents messages.new)) }
 {
     report_end(Err(RunFault::Memory), messages)
 }

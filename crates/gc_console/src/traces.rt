@@ -30,22 +30,26 @@ impl Acted {
     }
 }
 
-/// What was noted of a run of the program: the bytes that its input gave, those that its output took, and what a station did.
+/// What was noted of a run of the program: the bytes that its input gave, those that its output and its messages took, and what a
+/// station did.
 #[derive(Drop)]
 pub struct Traces {
     pub heard: Transcript,
     pub told: Transcript,
+    pub said: Transcript,
     pub acted: Acted,
 }
 
 impl Traces {
-    /// Of a run of which nothing is noted.
-    pub fn nothing() -> Traces
-        ensures { HasNoRun result.acted }
+    /// Of a run of which nothing is noted but what its messages took.
+    pub fn of_messages(said: Transcript) -> Traces
+        ensures said { result.said ≡ said }
+        ensures none { HasNoRun result.acted }
     {
         Traces {
             heard: Transcript::new(),
             told: Transcript::new(),
+            said,
             acted: Acted::nothing(),
         }
     }

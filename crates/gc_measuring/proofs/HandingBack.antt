@@ -33,7 +33,7 @@ pub reports_handed_back : {R X S K E : Type 0} (views : Views S K E) (has_log : 
 reports_handed_back views has_log station old streams run turns ended kept link left same known =
     handed_back (λ began acts status. ReportsAtSite views has_log station old (stage streams began acts turns) (exit_status status)) run ended kept link left same known
 
--- that all commands were measured, with status 0
+-- that the run is done or its end was asked for, with status 0
 pub measures_handed_back : {R X S K E : Type 0} (views : Views S K E) (station : Settings) (old : Stage S K E) (streams : Streams S K E) (run : ℕ) (turns : List Snapshot)
     (ended kept : Result ExitCode X) (link : Watched R) (left : Option (Watched R)) → IfOk kept (λ status. (ended ≡ Ok status) × (left ≡ Some link) × (link.began.utc ≡ run))
     → IfOk ended (λ status. exit_status status ≡ 0 → MeasuresAllAtLink views station old (stage streams (Some run) (Some link.history.acts) turns))
@@ -59,7 +59,7 @@ pub reports_left_back : {R X S K E : Type 0} (views : Views S (Followed R) E) (h
 reports_left_back views has_log station old new turns turns' ended kept given left same known =
     left_back (λ run status. ReportsAppending views has_log station run (exit_status status)) old new turns turns' ended kept given left same known
 
--- that all commands were measured, with status 0
+-- that the run is done or its end was asked for, with status 0
 pub appends_left_back : {R X S K E : Type 0} (views : Views S (Followed R) E) (station : Settings) (old new : Streams S K E) (turns turns' : List Snapshot)
     (ended kept : Result ExitCode X) (given : Appended R) (left : Option (Appended R)) → IfOk kept (λ status. (ended ≡ Ok status) × (left ≡ Some given))
     → IfOk ended (λ status. exit_status status ≡ 0 → AppendsAll views station (appending_run old new turns turns' (Some given)))

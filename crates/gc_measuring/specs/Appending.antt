@@ -31,7 +31,7 @@ appending_run old new turns turns' left =
     record { before = stage old None (Some []) turns; after = stage new (began_in left) (acts_in left) turns'; file = file_of left }
 
 -- a run over a file, of which `IsBegun` holds as the run began, from `old` to `new`, is reported with this status (`ReportsAtSite`);
--- and with status 0 all commands of a text were measured
+-- and with status 0 the run over the commands of a text is done, or its end was asked for
 pub record AppendsTo {S F E : Type 0} (IsBegun : F → Type 0) (views : Views S F E) (has_log : Bool) (station : Settings) (old new : Stage S F E) (status : ℕ) : Type 0 where
   pub begun : IsBegun old.streams.output
   pub told : ReportsAtSite views has_log (for_file station) old new status

@@ -63,8 +63,8 @@ pub record HoldsOverText {S T K E : Type 0} (source : Source S) (over : Source T
   pub output : after.streams.output ≡ ended.output
   pub holds : Holds (stage begun before.began before.acts before.turns) (stage ended after.began after.acts after.turns)
 
--- how a run at a site ended (`ReportsAtSite`), which left its caller these messages: and with status 0 all commands of its text were
--- measured (`MeasuresAllAtLink`)
+-- how a run at a site ended (`ReportsAtSite`), which left its caller these messages: and with status 0 it is done, or its end was asked for
+-- (`MeasuresAllAtLink`)
 pub record EndsAtSite {S K E : Type 0} (views : Views S K E) (has_log : Bool) (station : Settings) (left : E) (old new : Stage S K E)
     (status : ℕ) : Type 0 where
   pub told : ReportsAtSite views has_log station old new status

@@ -1,6 +1,6 @@
 //! A station that appends its records, as rows, to a file that outlasts the program.
 
-ghost use Rattle.std.specs.Prelude.{◌≡◌, ℕ, List, Option, Some, Ok, IfOk, IfSome, OnErr};
+ghost use Rattle.std.specs.Prelude.{◌≡◌, ℕ, true, List, Option, Some, Ok, IfOk, IfSome, OnErr};
 ghost use Rattle.std.specs.Io.KnownBytes.{Appends};
 ghost use Rattle.std.specs.Option.{is_some};
 ghost use Rattle.std.specs.Process.{exit_status};
@@ -14,6 +14,7 @@ ghost use Rattle.gc_measuring.specs.Noted.{IsMeantRecord};
 ghost use Rattle.gc_measuring.specs.Telling.{AppendsAll, ReportsAppending, acts_noted, acts_of, began_noted, began_of, views_by};
 ghost use Rattle.gc_measuring.specs.Texts.{ReadsAndAppends};
 ghost use Rattle.gc_files.specs.Rows.{appended};
+ghost use Rattle.gc_files.specs.Sinks.{asks_sync};
 ghost use Rattle.gc_messages.specs.Following.{bytes_in, path_of};
 ghost use Rattle.gc_messages.specs.Statuses.{IsStatusUpTo};
 
@@ -183,8 +184,9 @@ pub fn append_at<
     // The acts of the link that is handed back are what the system's calls did, at the site's place.
     ensures place { IfSome result.2 (λ left. IfSome left.link (λ link. ∥ IsMeantAt (place_seen spot.entry.site.place) (path_at spot.entry.site.until) link ∥₁)) }
 
-    // The file that is handed back is at the recording's path.
+    // The file that is handed back is at the recording's path, and syncs exactly if the recording asks for that.
     ensures path { IfSome result.2 (λ left. path_of left.file ≡ recording.entry.path.now) }
+    ensures sync { IfSome result.2 (λ left. asks_sync left.file.rows ≡ recording.entry.sync) }
     ensures bound { IsStatusUpTo 1 result.1 }
 {
     match open_records(rt, alloc, spot, recording, &mut streams.messages) {
@@ -195,7 +197,7 @@ pub fn append_at<
             let spot = Spot { station, ..spot };
             let (filed, ended, link) = measure_at(rt, alloc, spot, filed, kept);
             let (streams, file) = filed.with_output(output);
-            let (ended, left) = hand_back(recording.path, ended, Appended { file, link });
+            let (ended, left) = hand_back(recording, ended, Appended { file, link });
             (streams, ended, left)
         }
         Err(why) => {
@@ -206,22 +208,31 @@ pub fn append_at<
 }
 
 // What is left of a run that appended to a file, and how the run's end was reported. Nothing that takes rows changes at which path the
-// file is; but what a run does with a file is known by its rows alone, so this is compared. A file at another path, which there never
-// is, isn't handed back, and counts as a report that couldn't be written.
+// file is, or whether it syncs; but what a run does with a file is known by its rows alone, so both are compared. A file at another
+// path, or one that syncs otherwise than the recording asks for, which there never is, isn't handed back, and counts as a report that
+// couldn't be written.
 fn hand_back<'a, R: Files<File = File>>(
-    path: &str,
+    recording: Recording<'_>,
     ended: io::Result<ExitCode>,
     left: Appended<'a, R>,
 ) -> (io::Result<ExitCode>, Option<Appended<'a, R>>)
     ensures same { IfOk result.0 (λ status. (ended ≡ Ok status) × (result.1 ≡ Some left.entry)) }
     ensures given { IfSome result.1 (λ kept. kept ≡ left.entry) }
-    ensures path { IfSome result.1 (λ kept. path_of kept.file ≡ path.now) }
+    ensures path { IfSome result.1 (λ kept. path_of kept.file ≡ recording.entry.path.now) }
+    ensures sync { IfSome result.1 (λ kept. asks_sync kept.file.rows ≡ recording.entry.sync) }
 {
-    if left.file.is_for(path) {
+    if left.file.is_for(recording.path) && syncs_as(&left.file, recording.sync) {
         (ended, Some(left))
     } else {
         (Err(io::Error::from(ErrorKind::Other)), None)
     }
+}
+
+// Whether a file syncs exactly if that is asked for.
+fn syncs_as<R: Files<File = File>>(file: &Followed<'_, R>, asked: bool) -> bool
+    ensures { result ≡ true → asks_sync file.now.rows ≡ asked }
+{
+    file.rows.options().sync == asked
 }
 
 /// As [`append_at`], but the text is read first: if it is refused, that is reported with status 1, and no log and no file is opened or
@@ -246,8 +257,8 @@ pub fn append_text_at<
     Option<Appended<'a, R>>,
 )
     // Either the text was refused, which is reported with status 1, and there is no file and no link. Or the input gave a text to
-    // its end, and the run over exactly this text ended, and is told, as `append_at` says; with status 0 all commands were measured,
-    // and the file that is handed back has their rows.
+    // its end, and the run over exactly this text ended, and is told, as `append_at` says; with status 0 the run is done, or its end
+    // was asked for, and the file that is handed back has its rows.
     ensures told { IfOk result.1 (λ status. ReadsAndAppends (IsBegunAt recording.entry spot.entry.station) S.Source ⟦<FromReader<&'a [u8]> as Source>⟧
         (views_by ⟦<FromReader<&'a [u8]> as Source>⟧ ⟦<Followed<'a, R> as Sink>⟧ ⟦<Followed<'a, R> as Durable>⟧.is_durable E.contents)
         (is_some spot.entry.site.log) spot.entry.station
@@ -259,8 +270,9 @@ pub fn append_text_at<
     // The acts of the link that is handed back are what the system's calls did, at the site's place.
     ensures place { IfSome result.2 (λ left. IfSome left.link (λ link. ∥ IsMeantAt (place_seen spot.entry.site.place) (path_at spot.entry.site.until) link ∥₁)) }
 
-    // The file that is handed back is at the recording's path.
+    // The file that is handed back is at the recording's path, and syncs exactly if the recording asks for that.
     ensures path { IfSome result.2 (λ left. path_of left.file ≡ recording.entry.path.now) }
+    ensures sync { IfSome result.2 (λ left. asks_sync left.file.rows ≡ recording.entry.sync) }
     ensures bound { IsStatusUpTo 1 result.1 }
 {
     let text = match text_at(alloc, spot, &mut streams) {

@@ -80,7 +80,8 @@ pub fn measure_text_at<
     Option<Watched<'a, R>>,
 )
     // Either the text was refused, which is reported with status 1, and there is no link. Or the input gave a text to its end, and
-    // the run over exactly this text ended, and is told, as `measure_at` says; with status 0 all commands were measured.
+    // the run over exactly this text ended, and is told, as `measure_at` says; with status 0 it is done, or its end was
+    // asked for.
     ensures told { IfOk result.1 (λ status. ReadsAndMeasures S.Source
         (views_by ⟦<FromReader<&'a [u8]> as Source>⟧ K.Sink K.is_durable E.contents) (is_some spot.entry.site.log) spot.entry.station
         (stage streams None (Some []) kept.old.turns) (stage result.0 (began_of result.2) (acts_of result.2) kept.new.turns) (exit_status status)) }

@@ -149,7 +149,7 @@ module _ {R : Type 0} (m : RunMoment R) (is : IsRunMoment m) (reads : Asked → 
         others = seen.act ∷ seen.behind;
         order = acts_are;
         settled = settled_by;
-        syncs = is.seen.synced;
+        syncs = is.synced;
         lasts = sym is.seen.lasts ∙ seen.kept.lasts is_more;
         since = is.reached.since;
         begins = is.reached.begins;

@@ -24,10 +24,10 @@ use Rattle.gc_console.specs.Subcommands.{Opening}
 use Rattle.gc_console.specs.declared.traces.Acted.{Acted}
 use Rattle.gc_console.specs.declared.traces.Traces.{Traces}
 use Rattle.gc_promise.specs.Damaged.{AreFewByDamagedLines, HarmedRun, HasObjectsOwnOrDamaged, HasRowsOwnOrDamaged, HasTableOwnOrDamaged, OfEachHarmedRun, own_or_damaged_lines}
-use Rattle.gc_promise.specs.Lasting.{IsReached, IsRunMoment, IsRunOfFile, IsSeen, RunMoment}
+use Rattle.gc_promise.specs.Lasting.{IsRunMoment, IsRunOfFile, RunMoment}
 use Rattle.gc_promise.specs.Left.{LeavesObjects, LeavesTable}
 use Rattle.gc_promise.specs.Objects.{HasOwnObjects}
-use Rattle.gc_promise.specs.Programs.{HasLastingRows, HasTrueRows, HoldsInField, HoldsOverDamage, IsRunOfProgram, ProgramsAreFaithful, ProgramsWithoutActsWriteNoRow, field_run, harmed_run}
+use Rattle.gc_promise.specs.Programs.{HasLastingRows, HasTrueRows, HoldsInField, HoldsOverDamage, IsMomentOf, IsRunOfProgram, ProgramsAreFaithful, ProgramsWithoutActsWriteNoRow, field_run, harmed_run}
 use Rattle.gc_promise.specs.Tables.{FieldRun, HasOwnTable, IsStationRun, OfEachFieldRun, StationRun, acts_in, own_lines, program_of}
 use Rattle.gc_promise.proofs.Damaged.{objects_own_or_damaged, rows_few, rows_own_or_damaged, tables_own_or_damaged}
 use Rattle.gc_promise.proofs.Lasting.{rows_outlast_crashes, rows_outlast_failures}
@@ -45,12 +45,13 @@ module _ {R : Type 0} (run : StationRun) (is : IsStationRun run) (fresh : run.ol
   of_file : IsRunOfFile run filed.file
   of_file = record { is_run = is; headed = headed; fresh = fresh; took = filed.took }
 
-  -- each of its moments is one of a run that appends to a file which syncs
-  moment : (m : RunMoment R) → m.run ≡ run → m.file ≡ filed.file → IsSeen m → IsReached m → IsRunMoment m
-  moment m same same_file seen reached = record {
-    run = subst (λ (f : Followed R). IsRunOfFile m.run f) (sym same_file) (subst (λ (r : StationRun). IsRunOfFile r filed.file) (sym same) of_file);
-    seen = seen;
-    reached = reached;
+  -- each of its moments is one of a run that appends to a file which syncs, if the recording asks for that
+  moment : recording.sync ≡ true → (m : RunMoment R) → IsMomentOf run filed.file m → IsRunMoment m
+  moment asked m of = record {
+    run = subst (λ (f : Followed R). IsRunOfFile m.run f) (sym of.is_file) (subst (λ (r : StationRun). IsRunOfFile r filed.file) (sym of.is_run) of_file);
+    synced = of.same ∙ filed.syncs ∙ asked;
+    seen = of.seen;
+    reached = of.reached;
   }
 
 module _ (State : Type 0) (run : StationRun) (is : IsStationRun run) (fresh : run.old.taken ≡ Some []) where
@@ -87,8 +88,9 @@ module _ (State : Type 0) (run : StationRun) (is : IsStationRun run) (fresh : ru
     file = filed.file;
     is_of = of_file run is fresh headed recording filed;
     at = filed.at;
-    crashes = λ m same same_file seen reached. rows_outlast_crashes m (moment run is fresh headed recording filed m same same_file seen reached);
-    failures = λ m same same_file seen reached. rows_outlast_failures m (moment run is fresh headed recording filed m same same_file seen reached);
+    syncs = filed.syncs;
+    crashes = λ asked m of. rows_outlast_crashes m (moment run is fresh headed recording filed asked m of);
+    failures = λ asked m of. rows_outlast_failures m (moment run is fresh headed recording filed asked m of);
     table = in_field (λ ends kept reads x. LeavesTable R (own_lines ends AnyState kept reads x) reads x.run) left_tables_own;
     objects = in_field (λ ends kept reads x. LeavesObjects R (own_lines ends AnyState kept reads x) reads x.run) left_objects_own;
     damaged_table = over_damage (λ ends kept reads x. LeavesTable R (own_or_damaged_lines ends reads x) reads x.run) left_tables_own_or_damaged;
@@ -122,8 +124,8 @@ module _ {S T R K E M : Type 0} (source : Source S) (over : Source T) (sink : Si
 
   -- the law: if a link made any act, in what the program did by its words, these asked for a station, and of its run each law holds
   pub programs_faithful : ((f : Followed R) → file_sink.taken f ≡ Some (bytes_in f)) → (A X State : Type 0) → ProgramsAreFaithful seeing messages A X State
-  programs_faithful taken A X State standard begun texts words traces status does act acts made =
-      elim (by_words seeing messages standard begun texts words traces status does) [
+  programs_faithful taken A X State standard begun texts kind words traces status does act acts made =
+      elim (by_words seeing messages standard begun texts kind words traces status does) [
         | inl none ↦ absurd (no_run_no_act traces.acted act acts none made)
         | inr d ↦
             let noted = noted_over standard begun _ traces status d.over in
@@ -143,8 +145,8 @@ module _ {S T R K E M : Type 0} (source : Source S) (over : Source T) (sink : Si
 
   -- the law: if no act was made, no station ran, or it wrote no row
   pub idle_programs : (A X : Type 0) → ProgramsWithoutActsWriteNoRow seeing messages A X
-  idle_programs A X standard begun texts words traces status does idle =
-      elim (by_words seeing messages standard begun texts words traces status does) [
+  idle_programs A X standard begun texts kind words traces status does idle =
+      elim (by_words seeing messages standard begun texts kind words traces status does) [
         | inl none ↦ inl none
         | inr d ↦
             let noted = noted_over standard begun _ traces status d.over in

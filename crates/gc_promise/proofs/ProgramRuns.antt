@@ -2,6 +2,7 @@
 use Rattle.std.proofs.Common.{◌≡◌, inl, inr, ℕ, Bool, List, [], ◌∷◌, ◌++◌, Option, Some, None, IfSome, refl, sym, ap, ◌∙◌, subst, append-nil}
 use Rattle.std.proofs.lemmas.Option.{none-some, same_Some}
 use Rattle.std.specs.Io.KnownBytes.{Consumes, IsAtEnd}
+use Rattle.gc_files.specs.Sinks.{asks_sync}
 use Rattle.gc_lines.specs.declared.ports.Sink.{Ghosts as Sink}
 use Rattle.gc_lines.specs.declared.ports.Source.{Ghosts as Source}
 use Rattle.gc_links.specs.Acts.{Act}
@@ -54,11 +55,13 @@ noted_within seeing sink site recording station traces status old new r noted = 
   told = ap sink.taken (sym r.written) ∙ noted.told;
 }
 
--- a run of a station with a recording has a file at the recording's path, and what it wrote is what that file has taken
+-- a run of a station with a recording has a file at the recording's path, which syncs exactly if the recording asks for that; and what it
+-- wrote is what that file has taken
 pub record HasFile (R : Type 0) (run : StationRun) (recording : Recording) : Type 0 where
   pub file : Followed R
   pub took : run.new.taken ≡ Some (bytes_in file)
   pub at : path_of file ≡ recording.path.now
+  pub syncs : asks_sync file.rows ≡ recording.sync
 
 -- the program ran a station over all that its input gives (`given`), where that is known, with a file if records go to one
 pub record HasRun (R : Type 0) (standard : Standard) (given : Option (List ℕ)) (site : Site) (station : Settings) (recording : Option Recording) (traces : Traces) (status : ℕ)
@@ -115,6 +118,7 @@ module _ {S T R K M : Type 0} (source : Source S) (over : Source T) (sink : Sink
                   file = left;
                   took = taken left;
                   at = subst (λ (o : Option (Followed R)). IfSome o (λ x. path_of x ≡ recording.path.now)) f.filed.left a.path;
+                  syncs = subst (λ (o : Option (Followed R)). IfSome o (λ x. asks_sync x.rows ≡ recording.sync)) f.filed.left a.sync;
                 };
               }
         ]

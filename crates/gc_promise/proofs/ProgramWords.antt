@@ -1,5 +1,6 @@
 -- From the words of a command line to the station that they ask for, if they ask for one.
 use Rattle.std.proofs.Common.{◌≡◌, ◌⊎◌, inl, inr, ℕ, Bool, true, false, List, Option, Result, Ok, refl}
+use Rattle.std.specs.declared.io.ErrorKind.{ErrorKind}
 use Rattle.gc_messages.specs.Streams.{are_open}
 use Rattle.gc_messages.specs.declared.standard.Standard.{Standard}
 use Rattle.gc_subcommands.specs.Program.{IsJobOfWords}
@@ -18,7 +19,7 @@ use Rattle.gc_console.specs.declared.traces.Traces.{Traces}
 use Rattle.gc_promise.specs.Programs.{AskForStation}
 
 module _ {S T F K E M A X : Type 0} (seeing : Seeing S T F K M) (shown : E → Option (List ℕ)) (standard : Standard) (begun : Opening) (texts : A → List (List ℕ))
-    (words : Result A X) (traces : Traces) (status : ℕ) where
+    (kind : X → ErrorKind) (words : Result A X) (traces : Traces) (status : ℕ) where
   -- the words asked for a station, and it did this over its streams (`RecordsLossy`)
   pub record DoesStation : Type 0 where
     pub site : Site
@@ -66,11 +67,11 @@ module _ {S T F K E M A X : Type 0} (seeing : Seeing S T F K M) (shown : E → O
   by_job args read job.StaleTooSoon is does = inl does.1
 
   -- of what the program did by its words
-  pub by_words : DoesProgram seeing shown standard begun texts words traces status → Came
+  pub by_words : DoesProgram seeing shown standard begun texts kind words traces status → Came
   by_words d = elim d.is [
     | inl w ↦ elim w.2 [
       | inl j ↦ by_job w.0 w.1 j.job j.asked j.does
       | inr answered ↦ inl answered.none
     ]
-    | inr unread ↦ inl unread.1
+    | inr unread ↦ inl unread.none
   ]

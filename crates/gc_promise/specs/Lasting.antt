@@ -61,7 +61,7 @@ pub record RunMoment (R : Type 0) : Type 0 where
 
 -- the moment's turn was seen at an act of the run. The acts of `done` were done then, and the act was `next`: it sent, read,
 -- opened or closed something, so it is no mere reading of the clock. What was seen of the file, its bytes and whether it is durable,
--- is that of `was`; and `was` was opened so that it syncs
+-- is that of `was`
 pub record IsSeen {R : Type 0} (m : RunMoment R) : Type 0 where
   pub earlier : List Snapshot
   pub later : List Snapshot
@@ -73,7 +73,6 @@ pub record IsSeen {R : Type 0} (m : RunMoment R) : Type 0 where
   pub is_more : ReadsClock next → ⊥
   pub taken : m.turn.taken ≡ Some (bytes_in m.was)
   pub lasts : m.turn.lasts ≡ is_durable m.was.rows
-  pub synced : asks_sync m.was.rows ≡ true
 
 -- the moment's calls begin with those that the file had at the moment's act, and are the first of those that it has in the end.
 -- The rows didn't go on in another file in between
@@ -84,9 +83,10 @@ pub record IsReached {R : Type 0} (m : RunMoment R) : Type 0 where
   pub rest : List Step
   pub ends : steps_in m.file.rows ≡ m.calls ++ rest
 
--- this is a moment of a run that appends to a file which syncs
+-- this is a moment of a run that appends to a file which syncs: it was opened so that it does
 pub record IsRunMoment {R : Type 0} (m : RunMoment R) : Type 0 where
   pub run : IsRunOfFile m.run m.file
+  pub synced : asks_sync m.was.rows ≡ true
   pub seen : IsSeen m
   pub reached : IsReached m
 

@@ -2,6 +2,7 @@
 -- a run of the program, and `status` is its exit status.
 use Rattle.std.specs.Prelude.{◌≡◌, ◌⊎◌, ℕ, Bool, List, [], ◌∷◌, Option, Some, None, Result, Ok, Err, true, IfSome}
 use Rattle.std.specs.List.{AllByRecursion}
+use Rattle.std.specs.declared.io.ErrorKind.{ErrorKind}
 use Rattle.gc_catalogue.specs.declared.answer.Reading.{Reading}
 use Rattle.gc_catalogue.specs.declared.asked.Asked.{Asked}
 use Rattle.gc_console.specs.Programs.{DoesProgram}
@@ -14,6 +15,7 @@ use Rattle.gc_field.specs.Instrument.{AnyState, OfAnyInstrument}
 use Rattle.gc_field.specs.Runs.{IsInField, IsRunFaithful}
 use Rattle.gc_field.specs.World.{Ends}
 use Rattle.gc_files.specs.Rows.{IsFront}
+use Rattle.gc_files.specs.Sinks.{asks_sync}
 use Rattle.gc_files.specs.declared.past.Past.{Past}
 use Rattle.gc_harm.specs.Runs.{IsInHarmedField, IsRunLocal}
 use Rattle.gc_harm.specs.Stretches.{HarmedStretch}
@@ -150,15 +152,25 @@ pub record HasTrueRows (State : Type 0) (run : StationRun) : Type 0 where
   pub damaged_records : HoldsOverDamage {State = State} run (λ ends kept reads x. HasRowsOwnOrDamaged ends reads x)
   pub few : HoldsOverDamage {State = State} run (λ ends kept reads x. AreFewByDamagedLines ends reads x)
 
--- what the laws say of a run of a station with this recording: it is a run of a file at the recording's path (`IsRunOfFile`); at each of
--- its moments at which the file syncs, all rows that were settled by then outlast crashes of the machine and failed syncs; and what is left
--- of them are whole rows or objects, each its own, or, over a line that damages, by a line that is own or damaged
+-- a moment of this run of this file, seen at one of its acts. As it was then, the file syncs if it does so in the end: no call changes that
+pub record IsMomentOf {R : Type 0} (run : StationRun) (file : Followed R) (m : RunMoment R) : Type 0 where
+  pub is_run : m.run ≡ run
+  pub is_file : m.file ≡ file
+  pub same : asks_sync m.was.rows ≡ asks_sync file.rows
+  pub seen : IsSeen m
+  pub reached : IsReached m
+
+-- what the laws say of a run of a station with this recording: it is a run of a file at the recording's path (`IsRunOfFile`), which syncs
+-- exactly if the recording asks for that; if it does, then at each of the run's moments all rows that were settled by then outlast crashes
+-- of the machine and failed syncs; and what is left of them are whole rows or objects, each its own, or, over a line that damages, by a line
+-- that is own or damaged
 pub record HasLastingRows (R State : Type 0) (run : StationRun) (recording : Recording) : Type 0 where
   pub file : Followed R
   pub is_of : IsRunOfFile run file
   pub at : path_of file ≡ recording.path.now
-  pub crashes : (m : RunMoment R) → m.run ≡ run → m.file ≡ file → IsSeen m → IsReached m → OutlastsCrashes m
-  pub failures : (m : RunMoment R) → m.run ≡ run → m.file ≡ file → IsSeen m → IsReached m → OutlastsFailures m
+  pub syncs : asks_sync file.rows ≡ recording.sync
+  pub crashes : recording.sync ≡ true → (m : RunMoment R) → IsMomentOf run file m → OutlastsCrashes m
+  pub failures : recording.sync ≡ true → (m : RunMoment R) → IsMomentOf run file m → OutlastsFailures m
   pub table : HoldsInField {State = State} run (λ ends kept reads x. LeavesTable R (own_lines ends AnyState kept reads x) reads run)
   pub objects : HoldsInField {State = State} run (λ ends kept reads x. LeavesObjects R (own_lines ends AnyState kept reads x) reads run)
   pub damaged_table : HoldsOverDamage {State = State} run (λ ends kept reads x. LeavesTable R (own_or_damaged_lines ends reads x) reads run)
@@ -182,12 +194,12 @@ pub record RunsStation (R State : Type 0) {A X : Type 0} (standard : Standard) (
 -- station all laws hold (`RunsStation`)
 abbrev pub ProgramsAreFaithful : {S T R K E M : Type 0} → Seeing S T (Followed R) K M → (shown : E → Option (List ℕ)) → (A X State : Type 0) → Type 0
 ProgramsAreFaithful {R = R} seeing shown A X State =
-    (standard : Standard) (begun : Opening) (texts : A → List (List ℕ)) (words : Result A X) (traces : Traces) (status : ℕ)
-    → DoesProgram seeing shown standard begun texts words traces status → (act : Act) (acts : List Act) → acts_noted traces.acted.link ≡ Some (act ∷ acts)
+    (standard : Standard) (begun : Opening) (texts : A → List (List ℕ)) (kind : X → ErrorKind) (words : Result A X) (traces : Traces)
+    (status : ℕ) → DoesProgram seeing shown standard begun texts kind words traces status → (act : Act) (acts : List Act) → acts_noted traces.acted.link ≡ Some (act ∷ acts)
     → RunsStation R State standard begun texts words traces status
 
 -- these words asked for a station, and it wrote no row: what it wrote, if it came so far, is at most a front of what comes before the rows,
--- the header of a table on the output, and nothing in a file
+-- the header of a table on the output; to a file nothing was appended after its opening, which may have written the header of its table
 pub record WritesNoRow {A X : Type 0} (standard : Standard) (texts : A → List (List ℕ)) (words : Result A X) (traces : Traces) : Type 0 where
   pub site : Site
   pub station : Settings
@@ -200,6 +212,6 @@ pub record WritesNoRow {A X : Type 0} (standard : Standard) (texts : A → List 
 -- words asked for a station, which wrote no row (`WritesNoRow`)
 abbrev pub ProgramsWithoutActsWriteNoRow : {S T R K E M : Type 0} → Seeing S T (Followed R) K M → (shown : E → Option (List ℕ)) → (A X : Type 0) → Type 0
 ProgramsWithoutActsWriteNoRow seeing shown A X =
-    (standard : Standard) (begun : Opening) (texts : A → List (List ℕ)) (words : Result A X) (traces : Traces) (status : ℕ)
-    → DoesProgram seeing shown standard begun texts words traces status → ((act : Act) (acts : List Act) → acts_noted traces.acted.link ≡ Some (act ∷ acts) → ⊥)
+    (standard : Standard) (begun : Opening) (texts : A → List (List ℕ)) (kind : X → ErrorKind) (words : Result A X) (traces : Traces)
+    (status : ℕ) → DoesProgram seeing shown standard begun texts kind words traces status → ((act : Act) (acts : List Act) → acts_noted traces.acted.link ≡ Some (act ∷ acts) → ⊥)
     → HasNoRun traces.acted ⊎ WritesNoRow standard texts words traces

@@ -13,6 +13,7 @@ ghost use Rattle.gc_promise.specs.Tables.{TablesAreTheirOwn};
 ghost use Rattle.gc_promise.specs.Objects.{ObjectsAreTheirOwn};
 ghost use Rattle.gc_promise.specs.Witness.{SomeRowIsItsOwn};
 
+use gc_console::Said;
 use gc_lines::{Durable, FromReader, Sink, Source, ToWriter};
 use gc_messages::{Followed, Lossy, Noting, Told};
 use std::fs::File;
@@ -193,9 +194,9 @@ pub fn programs_are_faithful<
     State,
 >()
     ensures runs { ProgramsAreFaithful (seeing_by ⟦<FromReader<I> as Source>⟧ ⟦<FromReader<&'a [u8]> as Source>⟧ ⟦<Told<ToWriter<O>> as Sink>⟧ ⟦<Told<ToWriter<O>> as Durable>⟧.is_durable
-        ⟦<Followed<'a, Noting<'a, R>> as Sink>⟧ ⟦<Followed<'a, Noting<'a, R>> as Durable>⟧.is_durable ⟦<Lossy<E> as Write>⟧.contents) E.contents Words Refused State }
+        ⟦<Followed<'a, Noting<'a, R>> as Sink>⟧ ⟦<Followed<'a, Noting<'a, R>> as Durable>⟧.is_durable ⟦<Lossy<Said<E>> as Write>⟧.contents) ⟦<Said<E> as Write>⟧.contents Words Refused State }
 
     // If no link made an act, no station ran, and there was no file; or one was asked for, and wrote at most a front of the header.
     ensures idle { ProgramsWithoutActsWriteNoRow (seeing_by ⟦<FromReader<I> as Source>⟧ ⟦<FromReader<&'a [u8]> as Source>⟧ ⟦<Told<ToWriter<O>> as Sink>⟧ ⟦<Told<ToWriter<O>> as Durable>⟧.is_durable
-        ⟦<Followed<'a, Noting<'a, R>> as Sink>⟧ ⟦<Followed<'a, Noting<'a, R>> as Durable>⟧.is_durable ⟦<Lossy<E> as Write>⟧.contents) E.contents Words Refused }
+        ⟦<Followed<'a, Noting<'a, R>> as Sink>⟧ ⟦<Followed<'a, Noting<'a, R>> as Durable>⟧.is_durable ⟦<Lossy<Said<E>> as Write>⟧.contents) ⟦<Said<E> as Write>⟧.contents Words Refused }
 {}

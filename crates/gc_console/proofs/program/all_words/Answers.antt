@@ -4,8 +4,8 @@ use Rattle.std.proofs.lemmas.Iterator.Adapters.{YieldsList-from_vec}
 use Rattle.gc_console.proofs.Ends.{at_ok}
 use Rattle.gc_console.proofs.program.all_words.Goals as goal
 
-pub returns : goal.returns
-returns c =
+pub returns-clause-read : goal.returns-clause-read
+returns-clause-read c =
     let read = items_from_collect c.collect.result c.collect.ensures.ran (YieldsList-from_vec _ refl c.in_ok-words.field-0.rest.ok.0) in
     record {
       args = c.in_ok-words.field-0;

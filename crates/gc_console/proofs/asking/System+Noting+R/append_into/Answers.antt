@@ -1,8 +1,10 @@
-use Rattle.std.proofs.Common.{sym}
+use Rattle.std.proofs.Common.{◌≡◌, sym}
 use Rattle.std.proofs.lemmas.Result.{IfOk-weaker}
 use Rattle.gc_links.specs.Placed.{place_seen}
 use Rattle.gc_links.specs.Seeing.{path_at}
+use Rattle.gc_files.specs.Sinks.{asks_sync}
 use Rattle.gc_measuring.specs.Appending.{file_of}
+use Rattle.gc_messages.specs.Following.{path_of}
 use Rattle.gc_console.proofs.Left.{of_file}
 use Rattle.gc_console.proofs.asking.System+Noting+R.append_into.Goals as goal
 
@@ -14,7 +16,8 @@ returns-clause-told g c =
       file = file_of c.append_text_at-streams.result.2;
       ran = t;
       place = left.meant (place_seen c.args.spot.site.place) (path_at c.args.spot.site.until) c.append_text_at-streams.ensures.place;
-      path = of_file _ c.append_text_at-streams.result.2 c.append_text_at-streams.ensures.path;
+      path = of_file (λ file. path_of file ≡ c.args.recording.path.now) c.append_text_at-streams.result.2 c.append_text_at-streams.ensures.path;
+      sync = of_file (λ file. asks_sync file.rows ≡ c.args.recording.sync) c.append_text_at-streams.result.2 c.append_text_at-streams.ensures.sync;
       rows = left.rows;
       output = c.append_text_at-streams.ensures.output;
     })

@@ -18,8 +18,8 @@ returns-in-Drill-clause-done g c =
 
 pub returns-in-Serve-clause-done : goal.returns-in-Serve-clause-done
 returns-in-Serve-clause-done g c =
-    rw (c.in-Serve.is) (IfOk-weaker c.run_serve_job.result _ _
-    (λ status did. (did, c.nothing.ensures)) c.run_serve_job.ensures.did)
+    rw (c.in-Serve.is) (IfOk-weaker c.run_serve_job.result.0 _ _
+    (λ status did. (did, c.run_serve_job.ensures.none)) c.run_serve_job.ensures.did)
 
 pub returns-in-Rehearse-clause-done : goal.returns-in-Rehearse-clause-done
 returns-in-Rehearse-clause-done g c =
@@ -28,18 +28,15 @@ returns-in-Rehearse-clause-done g c =
 
 pub returns-in-Nowhere-clause-done : goal.returns-in-Nowhere-clause-done
 returns-in-Nowhere-clause-done g c =
-    rw (c.in-Nowhere.is) (IfOk-weaker c.refuse_place.result _ _
-    (λ status refuses. (record { told = g.E.Write.contents c.refuse_place.new.messages; refuses = refuses }, c.nothing-in-Nowhere.ensures))
-    c.refuse_place.ensures.told)
+    rw (c.in-Nowhere.is, c.said_of.ensures.said) (IfOk-weaker c.refuse_place-ended.result _ _
+    (λ status refuses. (refuses, c.said_of.ensures.none)) c.refuse_place-ended.ensures.told)
 
 pub returns-in-NumberMissing-clause-done : goal.returns-in-NumberMissing-clause-done
 returns-in-NumberMissing-clause-done g c =
-    rw (c.in-NumberMissing.is) (IfOk-weaker c.refuse_numbers.result _ _
-    (λ status refuses. (record { told = g.E.Write.contents c.refuse_numbers.new.messages; refuses = refuses }, c.nothing-in-NumberMissing.ensures))
-    c.refuse_numbers.ensures.told)
+    rw (c.in-NumberMissing.is, c.said_of-in-NumberMissing.ensures.said) (IfOk-weaker c.refuse_numbers-ended.result _ _
+    (λ status refuses. (refuses, c.said_of-in-NumberMissing.ensures.none)) c.refuse_numbers-ended.ensures.told)
 
 pub returns-in-StaleTooSoon-clause-done : goal.returns-in-StaleTooSoon-clause-done
 returns-in-StaleTooSoon-clause-done g c =
-    rw (c.in-StaleTooSoon.is) (IfOk-weaker c.refuse_stale.result _ _
-    (λ status refuses. (record { told = g.E.Write.contents c.refuse_stale.new.messages; refuses = refuses }, c.nothing-in-StaleTooSoon.ensures))
-    c.refuse_stale.ensures.told)
+    rw (c.in-StaleTooSoon.is, c.said_of-in-StaleTooSoon.ensures.said) (IfOk-weaker c.refuse_stale-ended.result _ _
+    (λ status refuses. (refuses, c.said_of-in-StaleTooSoon.ensures.none)) c.refuse_stale-ended.ensures.told)
