@@ -39,3 +39,10 @@ mod SameRules
 mod Laying
 mod Repeating
 mod FirstSendings
+mod WordLists
+mod FieldForms
+mod KindSteps
+mod ColumnSteps
+mod DescriptionForms
+mod DescribedLaws
+mod MeasuredSteps

@@ -35,3 +35,10 @@ pub mod Moments
 pub mod Chained
 pub mod Repeats
 pub mod SentTwice
+pub mod WordLists
+pub mod Fields
+pub mod KindLists
+pub mod ColumnNames
+pub mod Descriptions
+pub mod DescribedLaws
+pub mod Measured

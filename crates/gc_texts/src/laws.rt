@@ -2,6 +2,7 @@
 
 ghost use Rattle.std.specs.Prelude.{◌≡◌};
 ghost use Rattle.gc_texts.specs.FaultNumbers.{FaultsHaveTheirNumbers};
+ghost use Rattle.gc_texts.specs.DescribedLaws.{AreCheckedAsTheTables, ColumnExamples, DescriptionsReadBack, OneDescription};
 ghost use Rattle.gc_texts.specs.Chained.{TasksFollowTheirLines, PlacesHoldForAll, UnwatchedHoldForAll};
 ghost use Rattle.gc_texts.specs.Repeats.{ChainsGoOutAgain, RetriesHold};
 ghost use Rattle.gc_texts.specs.SentTwice.{SecondsFollowTheirFirsts};
@@ -118,4 +119,22 @@ pub fn distances_are_asked_for()
 /// the date of the day before.
 pub fn stamps_are_moments()
     ensures { StampsAreMoments }
+{}
+
+/// Descriptions of procedures read back: the text of what may be said of one is read as just that, and a text describes one procedure at
+/// most, in one way.
+pub fn descriptions_read_back()
+    ensures written { DescriptionsReadBack }
+    ensures one { OneDescription }
+{}
+
+/// The parameters of a described procedure are checked as those of a procedure of the table with the same kinds: with the same fault, or
+/// as the same values.
+pub fn described_parameters_are_the_tables()
+    ensures { AreCheckedAsTheTables }
+{}
+
+/// Worked examples of the names and columns of described procedures.
+pub fn columns_of_examples()
+    ensures { ColumnExamples }
 {}

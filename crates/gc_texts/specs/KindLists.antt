@@ -1,0 +1,61 @@
+-- Lists of kinds, and which lists of parameters have values of these kinds: the order of the faults is that of the table's
+-- procedures. That more items may follow is this project's own.
+use Rattle.std.specs.Prelude.{◌≡◌, ◌≤◌, ℕ, Bool, true, false, List, [], ◌∷◌, length, map, take}
+use Rattle.gc_values.specs.Item.{kind_of, IsItem}
+use Rattle.gc_values.specs.Lists.{FirstFault}
+use Rattle.gc_values.specs.Params.{AreTooMany, HasOpenQuote, IsParams}
+use Rattle.gc_values.specs.declared.fault.ValueFault.{ValueFault}
+use Rattle.gc_values.specs.declared.fault.ValueFault.TheVariants.{OpenQuote, TooMany, Count}
+use Rattle.gc_values.specs.declared.value.Kind.{Kind}
+use Rattle.gc_values.specs.declared.value.Value.{Value}
+use Rattle.gc_texts.specs.Fields.{FieldSeen}
+use Rattle.gc_texts.specs.declared.kinds.Kinds.{Kinds}
+
+-- kinds, and whether a list may have more items
+pub record KindsSeen : Type 0 where
+  pub kinds : List Kind
+  pub more : Bool
+
+-- kinds of the code as `KindsSeen`
+abbrev pub kinds_seen : Kinds → KindsSeen
+kinds_seen k = record { kinds = take k.len k.kinds; more = k.more }
+
+-- the kinds of fields, in order
+abbrev pub kinds_of_fields : List FieldSeen → List Kind
+kinds_of_fields fields = map (λ f. f.kind) fields
+
+-- a list of so many items may have values of so many kinds: it has as many items, or, where more may follow, at least as many
+abbrev pub SuitsCount : (more : Bool) → (items kinds : ℕ) → Type 0
+SuitsCount true items kinds = kinds ≤ items
+SuitsCount false items kinds = items ≡ kinds
+
+-- the first items are read as the values, one for each of the kinds, which are those of the values
+abbrev pub BeginAs : List Kind → (items : List (List ℕ)) → List Value → Type 0
+BeginAs [] items [] = Unit {0}
+BeginAs [] items (v ∷ vs) = ⊥
+BeginAs (k ∷ ks) items [] = ⊥
+BeginAs (k ∷ ks) [] (v ∷ vs) = ⊥
+BeginAs (k ∷ ks) (item ∷ items) (v ∷ vs) = (kind_of v ≡ k) × IsItem item v × BeginAs ks items vs
+
+-- as many items as these kinds allow have values of the kinds, which are these
+pub record HaveValues (kinds : KindsSeen) (items : List (List ℕ)) (values : List Value) : Type 0 where
+  pub count : SuitsCount kinds.more (length items) (length kinds.kinds)
+  pub read : BeginAs kinds.kinds items values
+
+-- why the items don't have values of the kinds: their number, or the fault of the first that isn't a value of its kind
+pub data IsItemsMisfit (kinds : KindsSeen) (items : List (List ℕ)) (e : ValueFault) : Type 0 where
+  wrong_count : e ≡ Count → (SuitsCount kinds.more (length items) (length kinds.kinds) → ⊥) → IsItemsMisfit kinds items e
+  faulty_item : SuitsCount kinds.more (length items) (length kinds.kinds) → FirstFault kinds.kinds items e → IsItemsMisfit kinds items e
+
+-- the parameters are a list of at most 16 items, which have these values of the kinds
+pub record AreOfKinds (kinds : KindsSeen) (params : List ℕ) (values : List Value) : Type 0 where
+  pub items : List (List ℕ)
+  pub split : IsParams params items
+  pub few : length items ≤ 16
+  pub have : HaveValues kinds items values
+
+-- why the parameters aren't a list of at most 16 items that have values of the kinds
+pub data IsKindsFault (kinds : KindsSeen) (params : List ℕ) (e : ValueFault) : Type 0 where
+  open_quote : e ≡ OpenQuote → HasOpenQuote params → IsKindsFault kinds params e
+  too_many : e ≡ TooMany → AreTooMany params → IsKindsFault kinds params e
+  faulty_items : (items : List (List ℕ)) → IsParams params items → length items ≤ 16 → IsItemsMisfit kinds items e → IsKindsFault kinds params e
