@@ -19,6 +19,8 @@
  *      geocom_client_begin instead, and discard nothing. Ids continue, and what is outstanding stays so.
  *   7. If as many requests are outstanding as the width allows, and all have timed out: geocom_client_restart, and 2 without the
  *      line feed. No pause is needed.
+ *   8. If a line of what you read has a sign-on in it (geocom_is_sign_on), the instrument was switched on or off: send nothing more before
+ *      all that is outstanding was settled or has timed out; then 7, and after it your setup, which the instrument may have forgotten.
  *
  * On a line that may damage a reply, so that it has another id, two rules keep the harm to the request that it answers, unless two lines
  * in a row that settle something are damaged. First, let the first request after each synchronization be a null procedure
@@ -236,6 +238,10 @@ geocom_count geocom_client_restart(geocom_client *state, geocom_settlement *sett
 /* How many requests are outstanding, those that timed out included. Fault: 63. */
 geocom_count geocom_client_waiting(const geocom_client *state);
 
+/* Whether a line has a sign-on in it, `%N1,` at its beginning or later, which an instrument sends when it is switched on or off: 1 or 0. The
+ * line is the bytes between two line feeds, without the CR at their end; a reply that was cut off may stand before the sign-on. */
+uint32_t geocom_is_sign_on(const uint8_t *line, size_t length);
+
 /* How many outstanding requests haven't timed out; 0 if the state is no client's. */
 static inline uint32_t geocom_client_current(const geocom_client *state) {
     uint32_t waiting = geocom_client_waiting(state).count, current = 0, k;
@@ -360,7 +366,8 @@ static inline int geocom_reconnect(geocom_client *state, const geocom_port *port
  * many requests are outstanding as the width allows, they are lost, and it restarts; a client that hasn't synchronized does so first, until
  * the deadline at the latest. It is for one request at a time. Returns 0 with the settlement; GEOCOM_FAILED, and then nothing is known of
  * this request; or GEOCOM_SILENT or a fault, and then it wasn't sent. Call it again after GEOCOM_SILENT: it continues where it was. It sends
- * no null procedure by itself, as a line that may damage replies asks for (see above): library/examples/station.c does. */
+ * no null procedure by itself, as a line that may damage replies asks for (see above): library/examples/station.c does. Nor does it look
+ * for sign-ons: let `read` do that, and call geocom_client_restart before the next request. */
 static inline int geocom_ask(geocom_client *state, const geocom_port *port, uint32_t target, uint16_t procedure, const char *params,
                              uint64_t patience, geocom_settlement *settlement, uint8_t *text) {
     const geocom_settlement lost = {target, procedure, 0, 0, 0, {{0, 0}}, GEOCOM_LOST, GEOCOM_NONE};

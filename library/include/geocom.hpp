@@ -50,6 +50,12 @@ struct settlement {
     std::vector<std::string> items; // the texts of its values, as they came
 };
 
+// Whether a line, without its CR LF, has a sign-on in it, which an instrument sends when it is switched on or off.
+inline bool is_sign_on(std::string_view line) {
+    const char *text = line.empty() ? "" : line.data();
+    return geocom_is_sign_on(reinterpret_cast<const std::uint8_t *>(text), line.size()) != 0;
+}
+
 class client {
 public:
     explicit client(std::uint8_t width = GEOCOM_WINDOW) { check(geocom_client_init(&state_, width)); }
@@ -234,12 +240,19 @@ public:
     explicit silent(const char *why = "geocom: no null procedure is answered") : std::runtime_error(why) {}
 };
 
+// A sign-on came after the call was made: the instrument was switched on or off, and the request wasn't sent. Send your setup again, and
+// then the request.
+class restarted : public silent {
+public:
+    restarted() : silent("geocom: the instrument was switched on or off") {}
+};
+
 // A station over two callables and a clock, by the rules of docs/OPERATING.md: it synchronizes, sends requests, and waits for each until
 // its deadline. It sends a null procedure where the rule of `send_raw` asks for one, and as its first request after each synchronization,
 // until a reply has settled one. It holds back: if the outstanding requests, and those that the last line settled that settled any, are
 // together seven, it restarts and synchronizes again. So a damaged line does no harm beyond the request that it answers, unless two in a row
-// that settle something are damaged. What the callables throw passes through: open a new connection then, and call `reconnected`. One thread
-// at a time.
+// that settle something are damaged. After a line with a sign-on it sends nothing before it has synchronized again. What the callables throw
+// passes through: open a new connection then, and call `reconnected`. One thread at a time.
 class station {
 public:
     // Returns what came within `milliseconds`, an empty string if nothing did. It throws if the connection ended or failed.
@@ -258,31 +271,39 @@ public:
     // Synchronizes, unless it has. The first request does this by itself. Throws `silent` if a null procedure was sent three times, and
     // never answered, or if a new connection wasn't quiet within three times the timeout and the quiet time.
     void begin() {
+        if (is_doubtful_) start_over();
         if (!is_clear_) clear(now_() + 3 * timeout_ + quiet_);
         synchronize(std::numeric_limits<std::uint64_t>::max());
     }
 
     // Requests a procedure of the table, and returns the settlement, at the deadline at the latest, `timeout` milliseconds after the call:
     // a request that isn't settled by then is returned as lost, as no answer will be taken for it. Throws `silent` if it couldn't be sent
-    // by then, and the fault of one that can't be sent.
+    // by then, `restarted` if a sign-on came before it was sent, and the fault of one that can't be sent.
     settlement ask(std::uint32_t target, std::uint16_t procedure, std::string_view params = "", std::uint64_t timeout = 0) {
-        return ask(false, target, procedure, params, timeout);
+        return ask(false, target, procedure, params, timeout, sign_ons_);
     }
 
     // The same for a procedure that isn't in the table.
     settlement ask_raw(std::uint32_t target, std::uint16_t procedure, std::string_view params = "", std::uint64_t timeout = 0) {
-        return ask(true, target, procedure, params, timeout);
+        return ask(true, target, procedure, params, timeout, sign_ons_);
     }
 
-    // Runs a chain: each command is sent once the one before it was answered with a value. It ends after the first that wasn't. A
+    // Runs a chain: each command is sent once the one before it was answered with a value. It ends after the first that wasn't, and before
+    // the first that a sign-on came before: `restarted` is thrown only if that is the chain's first. A
     // procedure that isn't in the table is requested as by `ask_raw`. An answer whose return code is in `accept` is a value, with this
     // code, if its items can be read. Throws the fault of any command that can't be sent before the first one is.
     std::vector<settlement> measure(std::uint32_t target, const std::vector<command> &chain, std::uint64_t timeout = 0,
                                     const std::vector<std::uint16_t> &accept = {}) {
         for (const command &each : chain) tried(each);
         std::vector<settlement> all;
+        const std::uint64_t known = sign_ons_;
         for (const command &each : chain) {
-            all.push_back(ask(tried(each).is_raw, target, each.first, each.second, timeout));
+            try {
+                all.push_back(ask(tried(each).is_raw, target, each.first, each.second, timeout, known));
+            } catch (const restarted &) {
+                if (all.empty()) throw;
+                break;
+            }
             if (std::find(accept.begin(), accept.end(), all.back().code) != accept.end()) read_values(all.back(), each);
             if (all.back().reading != reading::value) break;
         }
@@ -295,6 +316,10 @@ public:
         is_clear_ = is_discarding_ = false;
         quiet_ = quiet;
     }
+
+    // How many sign-ons came since the first request of the caller's was sent. If a call changes it, what that call returns may have been
+    // answered without your setup: send it again.
+    std::uint64_t sign_ons() const { return sign_ons_; }
 
     static std::uint64_t steady() {
         using std::chrono::milliseconds, std::chrono::steady_clock;
@@ -333,18 +358,60 @@ private:
         s.items = done[0].items;
     }
 
+    // What the reader returns, and whether it ended a line with a sign-on in it: then nothing is sent before the client has synchronized again.
+    std::string take(std::uint64_t milliseconds) {
+        std::string came = read_(milliseconds);
+        is_started_ = false;
+        for (const char each : came) {
+            if (each != '\n') {
+                if (piece_.size() < GEOCOM_LINE_ROOM) piece_ += each;
+                continue;
+            }
+            const bool is_line = !piece_.empty() && piece_.back() == '\r' && piece_.size() < GEOCOM_LINE_ROOM;
+            if (is_line && is_sign_on(std::string_view(piece_).substr(0, piece_.size() - 1))) {
+                is_started_ = true;
+                if (has_sent_) ++sign_ons_;
+            }
+            piece_.clear();
+        }
+        is_doubtful_ = is_doubtful_ || (is_started_ && client_.has_begun());
+        return came;
+    }
+
+    // Takes what came while nobody read, so that a sign-on, and a connection that ended, are seen before a request is lost with them.
+    void look(std::uint64_t end) {
+        if (!is_clear_ || !client_.has_begun()) return;
+        for (bool is_more = true; is_more;) {
+            const std::string came = take(0);
+            const std::uint64_t now = now_();
+            client_.expire(now);
+            hear(came);
+            is_more = !came.empty() && now < end;
+        }
+    }
+
+    // Settles all that is outstanding as lost: the client has to synchronize again.
+    void start_over() {
+        client_.restart();
+        raws_.clear();
+        behind_ = GEOCOM_WINDOW;
+        again_ = unanswered_ = 0;
+        is_doubtful_ = false;
+    }
+
     // A line feed discards half a request at the instrument, and half a line here. Throws `silent` if what came didn't end by `end`; the
     // next call continues.
     void clear(std::uint64_t end) {
         std::uint64_t now = now_();
         if (!is_discarding_) {
             write_("\n");
+            piece_.clear();
             since_ = now;
             is_discarding_ = true;
         }
         while (client_.has_begun() && is_discarding_) {
             const std::uint64_t until = std::min(since_ + quiet_, end);
-            const bool is_quiet = read_(until > now ? until - now : 0).empty();
+            const bool is_quiet = take(until > now ? until - now : 0).empty();
             now = now_();
             if (!is_quiet) since_ = now;
             is_discarding_ = now < since_ + quiet_;
@@ -361,18 +428,20 @@ private:
         again_ = unanswered_ = 0;
     }
 
-    // Null procedures, each again after the timeout, until all eight are answered, or the moment `end`.
+    // Null procedures, each again after the timeout, until all eight are answered, or the moment `end`. A sign-on before the eighth answer
+    // changes nothing.
     void synchronize(std::uint64_t end) {
         while (!client_.has_begun()) {
             const std::uint64_t now = now_();
             if (now >= end) throw silent();
-            const std::string came = now < again_ ? read_(std::min(again_, end) - now) : "";
+            const std::string came = now < again_ ? take(std::min(again_, end) - now) : "";
             if (now < again_ && came.empty()) continue;
             if (came.empty() && unanswered_ == 3) {
                 unanswered_ = 0;
                 throw silent();
             }
             const std::string line = client_.begin(came);
+            is_doubtful_ = !came.empty() && is_started_ && client_.has_begun();
             if (line.empty()) continue;
             unanswered_ = came.empty() ? unanswered_ + 1 : 1;
             write_(line);
@@ -380,29 +449,31 @@ private:
         }
     }
 
-    // Makes ready for a request: a client with no room for one restarts, as one request at a time is waited for. It holds back: after a line
-    // that settled several requests, which may be a damaged one, none is sent whose id a reply that is still in flight might have.
-    void begin_anew(std::uint64_t end) {
-        if (client_.waiting() + client_.last_ended() >= GEOCOM_WINDOW) {
-            client_.restart();
-            raws_.clear();
-            behind_ = GEOCOM_WINDOW;
-            again_ = unanswered_ = 0;
-        }
-        if (!is_clear_) clear(end);
-        synchronize(end);
+    // Makes ready for a request: a client with no room for one restarts, as one request at a time is waited for, and so does one that heard a
+    // sign-on. It holds back: after a line that settled several requests, which may be a damaged one, none is sent whose id a reply that is
+    // still in flight might have. Throws `restarted` if there are more sign-ons than are known.
+    void begin_anew(std::uint64_t end, std::uint64_t known) {
+        do {
+            if (sign_ons_ != known) throw restarted();
+            if (is_doubtful_ || client_.waiting() + client_.last_ended() >= GEOCOM_WINDOW) start_over();
+            if (!is_clear_) clear(end);
+            if (!is_doubtful_) synchronize(end);
+        } while (is_doubtful_ || sign_ons_ != known);
     }
 
-    settlement ask(bool is_raw, std::uint32_t target, std::uint16_t procedure, std::string_view params, std::uint64_t timeout) {
+    settlement ask(bool is_raw, std::uint32_t target, std::uint16_t procedure, std::string_view params, std::uint64_t timeout,
+                   std::uint64_t known) {
         const std::uint64_t end = now_() + (timeout != 0 ? timeout : timeout_);
-        begin_anew(end);
+        look(end);
+        begin_anew(end, known);
         // One of the seven requests before each is a call of the table that a reply settled: else a null procedure goes out first. So it is
         // after each synchronization, of which a reply may still come.
         while (behind_ >= GEOCOM_WINDOW) {
             exchange(false, 0, 0, "", std::min(end, now_() + timeout_));
-            begin_anew(end);
+            begin_anew(end, known);
             if (now_() >= end) throw silent();
         }
+        has_sent_ = true;
         return exchange(is_raw, target, procedure, params, end);
     }
 
@@ -425,7 +496,7 @@ private:
         write_(line);
         settlement ended{target, procedure, outcome::lost, reading::none, 0, {}, {}};
         while (client_.waiting() > 0 && now < end) {
-            const std::string came = read_(end - now);
+            const std::string came = take(end - now);
             now = now_();
             client_.expire(now);
             for (settlement &each : hear(came)) ended = std::move(each);
@@ -447,6 +518,11 @@ private:
     std::deque<bool> raws_;
     std::uint32_t behind_ = GEOCOM_WINDOW;
     bool is_clear_ = false, is_discarding_ = false;
+    // The bytes since the last line feed, of more than a line's room that many; whether the last piece ended a line with a sign-on in it, and
+    // whether one came since the client synchronized; whether a request of the caller's was sent, and how many sign-ons came after it.
+    std::string piece_;
+    bool is_started_ = false, is_doubtful_ = false, has_sent_ = false;
+    std::uint64_t sign_ons_ = 0;
 };
 
 } // namespace geocom

@@ -14,6 +14,7 @@ from decimal import Decimal
 
 import geocom
 import geocom.aio
+import station_starts
 import station_troubles
 from geocom import RC, Face, Outcome, PrismType
 from station_scripted import raised, scripted
@@ -260,7 +261,7 @@ def what_is_public():
 
 
 CASES = [it for name, it in list(globals().items()) if isinstance(it, types.FunctionType) and name not in ("scripted", "raised")]
-CASES += station_troubles.CASES
+CASES += station_starts.CASES + station_troubles.CASES
 if __name__ == "__main__":  # a process that a case starts reads this file, too
     for case in CASES:
         case()

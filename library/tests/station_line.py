@@ -5,6 +5,8 @@ import re
 
 REQUEST = re.compile(rb"%R1Q,(\d+),([0-7]):(.*)")
 RAW, ASKED = 2167, 2107
+# What comes between replies: noise, half a line, and sign-ons, of which one is behind half a reply.
+ODD = [b"noise\r\n", b"%R1P,0:0\r\n", b"%R1P,", b"\n", b"\xff\x00\r", b"%N1,0,255,,0%T0,0,0,:\r\n", b"%R1P,0,3%N1,0\r\n"]
 
 
 class Line:
@@ -52,7 +54,7 @@ class Line:
             self.free = max(self.free, at) + self.chance.choice([0.0, 0.1, self.slow])
             if (reply := self.reply(line)) and not self.odd():
                 if self.odd(0.5):
-                    self.pass_on(self.down, self.chance.choice([b"noise\r\n", b"%R1P,0:0\r\n", b"%R1P,", b"\n", b"\xff\x00\r"]), self.free)
+                    self.pass_on(self.down, self.chance.choice(ODD), self.free)
                 self.pass_on(self.down, reply + b"\r\n", self.free)
 
     def reply(self, line):

@@ -1,7 +1,8 @@
 // Cases of geocom::station and of geocom_ask on a bad line, and random schedules through both, over a line in memory with a clock of the
-// trial's own: stations COUNT. Each request has a number of its own, which its answer has; the line delays, loses, repeats and cuts, breaks
-// in the middle of requests, and outlives the runs; the instrument keeps its reply over raw requests. An answer has to be its own
-// request's, and each call has to end by its deadline. Where the line gives one reply another id, one answer may be another request's.
+// trial's own: stations COUNT. Each request has a number of its own, which its answer has; the line delays, loses, repeats and cuts, brings
+// sign-ons, breaks in the middle of requests, and outlives the runs; the instrument keeps its reply over raw requests. An answer has to be
+// its own request's, and each call has to end by its deadline. Where the line gives one reply another id, one answer may be another
+// request's.
 #include <cstdio>
 #include <cstdlib>
 #include <deque>
@@ -51,6 +52,7 @@ struct line {
         for (; !up.empty() && up.front().at <= now; up.pop_front()) {
             const std::string &text = up.front().text;
             if (happens(odd / 3)) kept_id = -1;
+            if (happens(odd / 3)) pass_on(down, "%N1,0,255,,0%T0,0,0,:\r\n");
             const std::size_t comma = text.find(',', 5), colon = text.find(':');
             const int procedure = std::atoi(text.c_str() + 5), id = std::atoi(text.c_str() + comma + 1);
             const bool is_raw = procedure == 2167;
@@ -114,6 +116,8 @@ struct scripted {
     std::uint64_t now = 1000, noise_every = 0, noise_at = 0;
     bool is_silent = false, breaks = false;
     int warned = 0; // the procedure that is answered with 1284
+    int starts_at = -1; // a sign-on comes before the reply to the next null procedure with this id
+    std::string front = "\n", behind; // if `front` is no line feed, each reply to 2107 is that, and this, without the reply's line end
     std::string cut, came;
     std::vector<int> executed;
     std::vector<std::pair<int, int>> sent; // procedures and ids
@@ -126,15 +130,21 @@ struct scripted {
             const int procedure = std::atoi(cut.c_str() + 5);
             sent.emplace_back(procedure, std::atoi(cut.c_str() + comma + 1));
             if (is_silent) continue;
+            if (procedure == 0 && sent.back().second == starts_at) {
+                came += "%N1,0,255,,0%T0,0,0,:\r\n";
+                starts_at = -1;
+            }
             if (procedure != 0) executed.push_back(procedure);
-            if (!breaks || procedure == 0)
+            if (procedure == 2107 && front != "\n")
+                came += front + (front.empty() ? "" : cut.substr(comma + 1, colon - comma - 1) + ":0,1.5") + behind;
+            else if (!breaks || procedure == 0)
                 came += "%R1P,0," + cut.substr(comma + 1, colon - comma - 1) + ":" + (procedure == warned && warned != 0 ? "1284" : "0") +
                         (procedure == 2107 ? ",1.5,0.5" : procedure == 2167 ? ",7" : "") + "\r\n";
         }
     }
 
     std::string read(std::uint64_t milliseconds) {
-        if (breaks && came.empty()) throw std::runtime_error("broken");
+        if (breaks && came.empty() && milliseconds > 0) throw std::runtime_error("broken");
         std::string all;
         all.swap(came);
         if (all.empty() && noise_every != 0 && noise_at <= now + milliseconds) {
@@ -150,13 +160,17 @@ struct scripted {
 const char *not_so = nullptr;
 #define SEE(E) if (!(E) && not_so == nullptr) not_so = #E
 
-// What the call throws: a fault's number, -2 if it is silent, -1 if the connection breaks, 0 if nothing is.
+// What the call throws: a fault's number, -3 if the instrument was switched on or off, -2 if it is silent, -1 if the connection breaks, 0 if
+// nothing is.
+constexpr int RESTARTED = -3;
 template <typename Call> int thrown(Call call) {
     try {
         call();
         return 0;
     } catch (const geocom::fault &fault) {
         return static_cast<int>(fault.number);
+    } catch (const geocom::restarted &) {
+        return RESTARTED;
     } catch (const geocom::silent &) {
         return GEOCOM_SILENT;
     } catch (const std::runtime_error &) {
@@ -290,6 +304,82 @@ void damage_is_held_back() {
     SEE(f.ask(1000) == 0 && f.line.sent.size() == 10 && f.line.sent[9] == std::make_pair(2107, 1));
 }
 
+// A sign-on between two requests, in place of a reply, and in the same line as a reply that it cut off: nothing more is sent before the
+// station has synchronized again, and the caller is told.
+void starts() {
+    using sent = std::vector<std::pair<int, int>>;
+    const std::string sign_on = "%N1,0,255,,0%T0,0,0,:\r\n";
+    const sent anew{{0, 6}, {0, 5}, {0, 4}, {0, 3}, {0, 2}, {0, 1}, {0, 0}, {0, 7}, {0, 0}, {2107, 1}};
+    const auto goes_on_anew = [&](fixture &f) {
+        f.line.sent.clear();
+        return f.ask(1000) == 0 && f.line.sent == anew;
+    };
+    SEE(geocom::is_sign_on("%R1P,0,1%N1,") && !geocom::is_sign_on("%N1") && !geocom::is_sign_on(""));
+    fixture f;
+    f.line.came = sign_on; // before anything was requested, so that the caller's setup comes anyway
+    SEE(goes_on_anew(f) && f.station.sign_ons() == 0);
+
+    f.line.sent.clear();
+    f.line.came = "%R1P,0,1:0,9.5,9.5\r\n%N2,0\r\n%N1,0\n%N1," + std::string(509, ' ') + "\r\n" + std::string(600, ' ') + sign_on; // no such line
+    SEE(f.ask(1000) == 0 && (f.line.sent == sent{{2107, 2}}));
+    f.line.came = sign_on + "%N1," + std::string(508, ' ') + "\r\n";
+    SEE(f.ask(1000) == RESTARTED && f.line.sent.size() == 1 && f.station.sign_ons() == 2);
+    SEE(goes_on_anew(f));
+
+    f.line.front = "", f.line.behind = sign_on;
+    const std::uint64_t end = f.line.now + 1000;
+    geocom::settlement s = f.station.ask(7, 2107, "1", 1000);
+    SEE(s.outcome == geocom::outcome::lost && f.line.now == end && f.station.sign_ons() == 3);
+    f.line.front = "\n";
+    f.line.came = "%R1P,0,2:0,9.5,9.5\r\n"; // late, and nobody's
+    SEE(goes_on_anew(f));
+
+    f.line.front = "%R1P,0,";
+    s = f.station.ask(7, 2107, "1", 1000);
+    SEE(s.outcome == geocom::outcome::answered && s.reading == geocom::reading::unreadable && f.station.sign_ons() == 4);
+    f.line.front = "\n";
+    SEE(goes_on_anew(f));
+
+    f.line.front = "%R1P,0,", f.line.behind = ",0.5\r\n" + sign_on; // behind the answer to a chain's first command, of whose others none is sent
+    f.line.sent.clear();
+    const auto all = f.station.measure(7, {{2107, "1"}, {2108, "5000,1"}});
+    SEE(all.size() == 1 && all[0].items.size() == 2 && f.line.sent.size() == 1 && f.station.sign_ons() == 5);
+    f.line.front = "\n";
+    SEE(goes_on_anew(f));
+    f.line.came = sign_on;
+    SEE(thrown([&] { f.station.measure(7, {{2107, "1"}}); }) == RESTARTED);
+
+    SEE(goes_on_anew(f));
+    f.line.came = sign_on; // over a new connection, while it discards what comes
+    f.station.reconnected(500);
+    SEE(f.ask(1000) == RESTARTED && goes_on_anew(f) && f.station.sign_ons() == 7);
+    f.line.came = sign_on;
+    SEE(f.ask(1000) == RESTARTED);
+    f.line.sent.clear();
+    f.station.begin(); // before the setup
+    SEE(f.line.sent.size() == 8 && f.ask(1000) == 0 && f.line.sent == anew && f.station.sign_ons() == 8);
+
+    f.line.came = sign_on;
+    SEE(f.ask(1000) == RESTARTED);
+    f.line.sent.clear();
+    f.line.starts_at = 3; // while it synchronizes, which goes on
+    SEE(f.ask(1000) == RESTARTED && f.line.sent.size() == 8 && f.station.sign_ons() == 10);
+    SEE(f.ask(1000) == 0 && f.line.sent == anew);
+
+    f.line.came = sign_on;
+    SEE(f.ask(1000) == RESTARTED);
+    f.line.starts_at = 7; // with the eighth answer, which may be behind it
+    SEE(f.ask(1000) == RESTARTED && goes_on_anew(f));
+
+    f.line.came = sign_on.substr(0, 9); // half a line ends with its connection
+    f.line.is_silent = true;
+    SEE(f.ask(1000) == 0);
+    f.line.is_silent = false;
+    f.station.reconnected(500);
+    f.line.came = sign_on.substr(9);
+    SEE(f.ask(1000) == 0 && f.station.sign_ons() == 12);
+}
+
 // Over lines one of whose replies gets another id: how many answers are another request's, over all lines, or -1 if one line has several.
 long damaged(unsigned long count) {
     long harmed = 0;
@@ -321,6 +411,7 @@ int main(int, char **words) {
     deadlines();
     chains();
     damage_is_held_back();
+    starts();
     if (not_so != nullptr) {
         std::printf("stations: not so: %s\n", not_so);
         return 1;

@@ -15,6 +15,7 @@ mod raws;
 mod rest;
 mod sends;
 mod settled;
+mod sign_on;
 mod state;
 
 pub use answers::{GeocomBeginning, GeocomCount, GeocomDeadline, GeocomHeard};
@@ -31,4 +32,5 @@ pub use raws::geocom_client_send_raw;
 pub use rest::GeocomRest;
 pub use sends::geocom_client_send;
 pub use settled::GeocomSettlement;
+pub use sign_on::geocom_is_sign_on;
 pub use state::{GeocomClient, GeocomWaiting};

@@ -50,7 +50,7 @@ from .chains import Chain, Cycle, Row
 from .client import Client, Kind
 from .codes import RC
 from .errors import BadParameters, BadScene, Fault, Late, Lost
-from .errors import NotReady, NoValue, Refused, Unreadable
+from .errors import NotReady, NoValue, Refused, Restarted, Unreadable
 from .errors import BadWidth as BadWidth
 from .errors import InTable as InTable
 from .errors import LineTooLong as LineTooLong
@@ -64,6 +64,7 @@ from .instrument import SIMULATOR, Instrument, Reply
 from .modes import DistanceMode, InclinationMode, MeasureCommand, PositioningMode, RecognitionMode
 from .program import Program as Program
 from .settlement import Outcome, Reading, Settlement
+from .sign_ons import is_sign_on
 from .station import Station
 from .values import Face, PrismType
 
@@ -93,6 +94,7 @@ __all__ = [
     "RecognitionMode",
     "Refused",
     "Reply",
+    "Restarted",
     "Row",
     "SIMULATOR",
     "Settlement",
@@ -103,6 +105,7 @@ __all__ = [
     "__version__",
     "degrees_to_rad",
     "gon_to_rad",
+    "is_sign_on",
     "rad_to_degrees",
     "rad_to_gon",
 ]

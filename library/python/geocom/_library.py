@@ -127,6 +127,7 @@ _TEXT = [ctypes.c_char_p, _SIZE]
 _SEND = [_STATE, ctypes.c_uint32, ctypes.c_uint64, ctypes.c_uint16, *_TEXT, *_TEXT]
 _CALLS: dict[str, tuple[Any, list[Any]]] = {
     "geocom_version": (ctypes.c_uint32, []),
+    "geocom_is_sign_on": (ctypes.c_uint32, _TEXT),
     "geocom_client_init": (ctypes.c_uint32, [_STATE, ctypes.c_uint8]),
     "geocom_client_begin": (_Beginning, [_STATE, *_TEXT, *_TEXT]),
     "geocom_client_send": (_Count, _SEND),

@@ -1,4 +1,4 @@
-"""What a station has to do, as the rules say it."""
+"""What a station has to do, as the rules say it, and how far its connection is."""
 
 from __future__ import annotations
 
@@ -16,6 +16,18 @@ class Act(enum.Enum):
     WRITE = 3
     READ = 4
     WAIT = 5
+
+
+class Phase(enum.Enum):
+    """How far a connection is: none, a pause before one, before its line feed, until it is quiet,
+    ready for requests.
+    """
+
+    DOWN = 1
+    PAUSING = 2
+    CLEARING = 3
+    DRAINING = 4
+    READY = 5
 
 
 class Step(NamedTuple):

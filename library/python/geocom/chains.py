@@ -135,12 +135,17 @@ def make_request(
     return Request(procedure, text, target, milliseconds(timeout), is_raw)
 
 
-def requests(chain: Chain, timeout: float) -> list[Request]:
-    """The requests of a chain. Raises what the library refuses of any, before one goes out."""
-    return [
+def requests(chain: Chain, timeout: float, known: int) -> list[Request]:
+    """The requests of a chain, of whose caller so many sign-ons are known. Raises what the library
+    refuses of any, before one goes out.
+    """
+    made = [
         make_request(procedure, parameters, chain.target, timeout, procedure not in TABLE)
         for procedure, parameters in chain.commands
     ]
+    for request in made:
+        request.known = known
+    return made
 
 
 def ended(place: int, request: Request, settlement: Settlement, accept: tuple[int, ...]) -> Row:

@@ -161,8 +161,18 @@ class NotReady(TimeoutError):
     """There was no connection to an instrument that answers, in time: the request was not sent."""
 
 
-def not_ready(failure: Exception | None) -> NotReady:
-    """That a request wasn't sent in time, and what the connection failed of."""
+class Restarted(NotReady):
+    """A sign-on came behind the call: the instrument was switched on or off, and the request was
+    not sent. Send your setup again, and then the request.
+    """
+
+
+def not_ready(failure: Exception | None, is_restarted: bool) -> NotReady:
+    """That a request wasn't sent: as the instrument was switched on or off, or in time, and what
+    the connection failed of.
+    """
+    if is_restarted:
+        return Restarted("the instrument was switched on or off, and the request wasn't sent")
     why = f": {failure}" if failure else ""
     return NotReady(f"no instrument was ready for it in time{why}")
 

@@ -12,36 +12,27 @@ reply has ended one: a reply to the eight before it may still come, with an id t
 requests get. And the station holds back: a request goes out only while those that wait, and those
 that the last line ended that ended any, are together fewer than seven. A damaged line that ended
 several so has it send none whose id a reply that is still under way might have.
+
+Behind a sign-on nothing goes out before all that wait are settled or given up, and the client has
+begun anew; and nothing that was wanted before, as the caller's setup comes first.
 """
 
 from __future__ import annotations
 
 import collections
 import datetime
-import enum
 import logging
 
 from ._library import WINDOW
-from .acts import Act, Step
+from .acts import Act, Phase, Step
 from .client import Client
-from .errors import Fault
+from .errors import Fault, NotReady, not_ready
 from .settlement import Outcome, Request, Settlement
+from .sign_ons import Listener
 
 log = logging.getLogger("geocom")
 LONGEST_PAUSE = 60_000
 NULL = 0
-
-
-class Phase(enum.Enum):
-    """How far a connection is: none, a pause before one, before its line feed, until it is quiet,
-    ready for requests.
-    """
-
-    DOWN = 1
-    PAUSING = 2
-    CLEARING = 3
-    DRAINING = 4
-    READY = 5
 
 
 class Rules:
@@ -70,11 +61,14 @@ class Rules:
         self._replies = 0
         # When the last turn ended behind which nothing was wanted.
         self._idle: int | None = None
+        self.sign_ons = Listener()
+        # Whether one came since the client has begun.
+        self._is_doubtful = False
 
     @property
     def is_ready(self) -> bool:
         """Whether it has begun, and requests may go out over a connection."""
-        return self.phase is Phase.READY and self.client.has_begun
+        return self.phase is Phase.READY and self.client.has_begun and not self._is_doubtful
 
     @property
     def is_busy(self) -> bool:
@@ -93,8 +87,15 @@ class Rules:
             self._idle = now
 
     def is_skipped(self, request: Request) -> bool:
-        """Whether it may go out no more: its chain's stretch is over."""
-        return request.stretch is None and request.within not in (None, self.stretch)
+        """Whether it may go out no more: its chain's stretch is over, or a sign-on came behind its
+        call.
+        """
+        is_broken = request.within not in (None, self.stretch)
+        return request.stretch is None and (is_broken or request.is_outdated(self.sign_ons.count))
+
+    def why_not(self, request: Request | None, failure: Exception | None) -> NotReady:
+        """Why a request wasn't sent, or a beginning not made."""
+        return not_ready(failure, bool(request and request.is_outdated(self.sign_ons.count)))
 
     def delay(self, now: int) -> int:
         """What remains of a pause, and the quiet time behind it."""
@@ -110,7 +111,7 @@ class Rules:
             request.give_up()
         self.waiting.clear()
         self._again, self._behind = 0, WINDOW
-        self._is_asked, self._idle = False, None
+        self._is_asked, self._is_doubtful, self._idle = False, False, None
         self.stretch += 1
         self.phase = Phase.CLEARING if is_connected else Phase.PAUSING
         self._since, self._pause = now, max(self._pause, self.quiet)
@@ -147,8 +148,15 @@ class Rules:
 
     def came(self, data: bytes, now: int) -> None:
         """Bytes were read, or none within the time."""
+        is_start = self.sign_ons.hears(data)
         if data:
             log.debug("< %r", data)
+        self._take(data, now)
+        if is_start:
+            self._is_doubtful = self.client.has_begun
+            log.info("the instrument was switched on or off")
+
+    def _take(self, data: bytes, now: int) -> None:
         if self.phase is Phase.CLEARING:
             return  # it was under way when something was broken off
         if self.phase is Phase.DRAINING:
@@ -165,6 +173,7 @@ class Rules:
     def _clear(self, now: int) -> Step:
         """A lone line feed drops half a request at the instrument, and half a line here."""
         has_begun = self.client.has_begun
+        self.sign_ons.clear()
         self.phase = Phase.DRAINING if has_begun else Phase.READY
         self._again, self._is_asked, self._since = 0, False, now
         if has_begun:
@@ -227,16 +236,17 @@ class Rules:
         while self.wanted and self._has_room() and not self._is_dead(now):
             if self._behind < WINDOW:
                 if step := self._send(self.wanted.popleft(), now):
+                    self.sign_ons.is_counting = True
                     return step
             elif self.client.current == 0:
                 return self._send(Request(NULL, "", 0, self.timeout), now) or self._wait(now)
             else:
                 break
-        return self._wait(now) if self.wanted else self._read(now)
+        return self._wait(now) if self.wanted or self._is_doubtful else self._read(now)
 
     def _has_room(self) -> bool:
         """Whether one more may be under way, with the station holding back."""
-        is_free = len(self.waiting) + self.client.last_ended < WINDOW
+        is_free = len(self.waiting) + self.client.last_ended < WINDOW and not self._is_doubtful
         return is_free and self.client.current < self.width
 
     def _wait(self, now: int) -> Step:
@@ -245,10 +255,10 @@ class Rules:
         """
         if self.client.current > 0 or self._is_dead(now):
             return self._read(now)
-        log.info("all that wait are given up: begins anew")
+        log.info("nothing may still be answered: begins anew")
         for settlement in self.client.restart():
             self._settle(settlement)
-        self._again, self._behind = 0, WINDOW
+        self._again, self._behind, self._is_doubtful = 0, WINDOW, False
         self.stretch += 1
         return self._begin(now)
 

@@ -117,6 +117,8 @@ class Request:
         #: The stretch that it has to go out in, where a chain asks for it: one ends with its
         #: connection, and where the station begins anew.
         self.within: int | None = None
+        #: How many sign-ons the caller knew of; behind a further one it goes out no more.
+        self.known: int | None = None
         #: The stretch that it went out in, and its deadline there.
         self.stretch: int | None = None
         self.deadline = 0
@@ -125,6 +127,10 @@ class Request:
         self.settlement: Settlement | None = None
         #: Why the library refused it: then it never went out.
         self.fault: Exception | None = None
+
+    def is_outdated(self, sign_ons: int) -> bool:
+        """Whether a sign-on came that its caller doesn't know of."""
+        return self.known not in (None, sign_ons)
 
     def is_over(self, now: int) -> bool:
         """Whether it is settled, refused, or given up by its deadline."""

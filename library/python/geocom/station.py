@@ -9,17 +9,17 @@ import time
 from collections.abc import Callable, Iterable, Iterator
 from typing import Any, Optional
 
-from .acts import Act, Step
 from .chains import Chain, Cycle, Pace, Row, ended, is_good, make_request, requests, skipped
-from .errors import NotReady, not_ready
+from .errors import NotReady
 from .named import Aut, Bap, Com, Csv, Tmc
-from .ports import Link, Where, opener
-from .rules import Rules, log
+from .ports import Where, opener
+from .rules import Rules
 from .settlement import Request, Settlement
+from .turns import Turns
 from .values import Parameter, milliseconds
 
 
-class Station:
+class Station(Turns):
     """A total station over a port: a path with a `/`, "HOST:PORT", a port of this machine, an open
     socket or port as pyserial has it, or a call that opens one.
 
@@ -46,11 +46,8 @@ class Station:
         sleep: Callable[[float], None] = time.sleep,
     ):
         self.timeout, self.accept = timeout, tuple(accept)
-        self._open = opener(port, baud)
-        self._clock, self._sleep = clock, sleep
-        self._rules = Rules(1, milliseconds(timeout), milliseconds(quiet, 0))
-        self._link: Optional[Link] = None
-        self._failure: Optional[Exception] = None
+        rules = Rules(1, milliseconds(timeout), milliseconds(quiet, 0))
+        super().__init__(opener(port, baud), rules, clock, sleep)
         self._lock, self._process = threading.RLock(), os.getpid()
         # Whether a call is under way; where the next one finds it so, an exception broke it off.
         self._is_under_way = False
@@ -114,8 +111,9 @@ class Station:
         will be taken, and whether the instrument acted isn't known. An answer is the reply to this
         very request, on the premises of `docs/GUARANTEE.md`.
 
-        Raises NotReady where the request could not go out within `timeout`; BadParameters and
-        UnknownProcedure as `Client.send` does. Nothing was asked then.
+        Raises NotReady where the request could not go out within `timeout`, and Restarted, which is
+        one, where a sign-on came first; BadParameters and UnknownProcedure as `Client.send` does.
+        Nothing was asked then.
         """
         timeout = self._patience(timeout)
         return self._ask(make_request(procedure, parameters, target, timeout, is_raw=False))
@@ -148,16 +146,26 @@ class Station:
         """
         return self.ask(number, *parameters, target=target, timeout=timeout).value(self.accept)
 
+    @property
+    def sign_ons(self) -> int:
+        """How many sign-ons came since the first request: each says that the instrument was
+        switched on or off. Where a call changes it, send your setup again.
+        """
+        return self._rules.sign_ons.count
+
     def measure(self, chain: Chain) -> list[Row]:
         """Runs a chain, and gives a row for each command.
 
-        A command goes out once the one before it was answered with a value, with no new connection
-        and no new beginning in between; else the rest of the chain is skipped. What the library
-        refuses of any command is raised before one goes out.
+        A command goes out once the one before it was answered with a value, with no new connection,
+        no new beginning and no sign-on in between; else the rest of the chain is skipped. What the
+        library refuses of any command is raised before one goes out.
         """
+        return self._measure(chain, self.sign_ons)
+
+    def _measure(self, chain: Chain, known: int) -> list[Row]:
         rows: list[Row] = []
         accept = (*self.accept, *chain.accept)
-        asked = requests(chain, self._patience(chain.timeout))
+        asked = requests(chain, self._patience(chain.timeout), known)
         within = None
         self._refuse_fork()
         with self._lock:
@@ -178,23 +186,21 @@ class Station:
     ) -> Iterator[Cycle]:
         """Measures all chains again and again, each cycle `every` seconds behind the beginning of
         the one before it; `count` cycles, or without end. A cycle that can't begin before the next
-        one is due is missed.
+        one is due is missed. A sign-on ends a cycle: its other commands are skipped.
         """
         chains, pace = list(chains), Pace(every)
         while not count or pace.number < count:
             if (wait := pace.due(self._clock())) > 0:
                 self._sleep(wait)
             if pace.begin(self._clock()):
-                rows = [row for chain in chains for row in self.measure(chain)]
+                known = self.sign_ons
+                rows = [row for chain in chains for row in self._measure(chain, known)]
                 yield Cycle(pace.number, rows)
             else:
                 yield Cycle(pace.number, [], is_missed=True)
 
     def _patience(self, timeout: Optional[float]) -> float:
         return self.timeout if timeout is None else timeout
-
-    def _now(self) -> int:
-        return round(self._clock() * 1000)
 
     def _refuse_fork(self) -> None:
         """Two processes can't share a connection; and the lock may be held in the second."""
@@ -217,6 +223,7 @@ class Station:
 
     def _ask(self, request: Request) -> Settlement:
         rules = self._rules
+        request.known = self.sign_ons if request.known is None else request.known
         self._refuse_fork()
         with self._lock:
             now = self._look(self._enter())
@@ -232,69 +239,5 @@ class Station:
                 rules.wanted.remove(request)
             self._leave(now)
         if not is_over:
-            raise not_ready(failure) from failure
+            raise rules.why_not(request, failure) from failure
         return request.end()
-
-    def _look(self, now: int) -> int:
-        """Takes what came while nobody read, so that a connection which ended is seen before a
-        request is lost with it. The moment after that."""
-        self._rules.resume(now)
-        if self._link:
-            try:
-                data = self._link.read(0.0)
-            except OSError as failure:
-                self._drop(failure)
-            else:
-                now = self._now()
-                if data:
-                    self._rules.came(data, now)
-        return now
-
-    def _turn(self, now: int, end: int) -> int:
-        """One act, which ends at `end` at the latest. The moment after it."""
-        step = self._rules.next(now)
-        wait = max(0, min(step.until, end) - now) / 1000
-        if step.act is Act.CLOSE:
-            self._drop()
-        elif step.act is Act.WAIT:
-            self._sleep(wait)
-        elif self._link or step.act is Act.OPEN:
-            try:
-                data = self._do(step, wait)
-            except OSError as failure:
-                self._drop(failure)
-            else:
-                self._did(step.act, data)
-        return self._now()
-
-    def _do(self, step: Step, wait: float) -> bytes:
-        """What is done to a connection; what was read. Raises OSError if it failed."""
-        if step.act is Act.OPEN:
-            self._link = self._open()
-        elif self._link and step.act is Act.WRITE:
-            self._link.write(step.data)
-        elif self._link:
-            return self._link.read(wait)
-        return b""
-
-    def _did(self, act: Act, data: bytes) -> None:
-        if act is Act.OPEN:
-            self._rules.opened(self._now())
-        elif act is Act.READ:
-            self._rules.came(data, self._now())
-
-    def _drop(self, failure: Optional[Exception] = None) -> None:
-        """The connection is no more."""
-        self._failure = failure
-        try:
-            if self._link:
-                self._link.close()
-        except OSError as failed:
-            log.info("the close failed: %s", failed)
-        except Exception:  # of a port of the caller's own
-            self._link = None
-            raise
-        self._link = None
-        self._rules.closed(self._now())
-        if failure:
-            log.info("the connection failed: %s", failure)

@@ -101,11 +101,19 @@ class Station:
         settlement = await self.ask(number, *parameters, target=target, timeout=timeout)
         return settlement.value(self.accept)
 
+    @property
+    def sign_ons(self) -> int:
+        """As `geocom.Station.sign_ons`."""
+        return self._rules.sign_ons.count
+
     async def measure(self, chain: Chain) -> list[Row]:
         """As `geocom.Station.measure`: what others ask waits until the chain is done."""
+        return await self._measure(chain, self.sign_ons)
+
+    async def _measure(self, chain: Chain, known: int) -> list[Row]:
         rows: list[Row] = []
         accept = (*self.accept, *chain.accept)
-        asked = requests(chain, self._patience(chain.timeout))
+        asked = requests(chain, self._patience(chain.timeout), known)
         within = None
         async with self._turns.join():
             for place, request in enumerate(asked):
@@ -130,7 +138,8 @@ class Station:
             if (wait := pace.due(loop.time())) > 0:
                 await asyncio.sleep(wait)
             if pace.begin(loop.time()):
-                rows = [row for chain in chains for row in await self.measure(chain)]
+                known = self.sign_ons
+                rows = [row for chain in chains for row in await self._measure(chain, known)]
                 yield Cycle(pace.number, rows)
             else:
                 yield Cycle(pace.number, [], is_missed=True)
@@ -140,6 +149,7 @@ class Station:
 
     async def _alone(self, request: Request) -> Settlement:
         """Asks once no chain is measured: nothing goes out between a chain's commands."""
+        request.known = self.sign_ons
         async with self._turns.join():
             pass
         return await self._ask(request)

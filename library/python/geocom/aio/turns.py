@@ -10,7 +10,7 @@ from collections.abc import Awaitable, Callable
 from typing import Optional
 
 from ..acts import Act
-from ..errors import NotReady, not_ready
+from ..errors import NotReady
 from ..rules import Rules, log
 from ..settlement import Request
 from .ports import Connection, Writer
@@ -158,7 +158,7 @@ class Turns:
             elif not request and self.failure:
                 future.set_exception(self.failure)
             elif now >= end or (request and self.rules.is_skipped(request)):
-                why = not_ready(self.failure)
+                why = self.rules.why_not(request, self.failure)
                 why.__cause__ = self.failure
                 future.set_exception(why)
                 if request and request in self.rules.wanted:
