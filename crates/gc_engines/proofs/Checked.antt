@@ -15,7 +15,8 @@ use Rattle.gc_lines.specs.declared.served.Served.{Served}
 use Rattle.gc_lines.specs.declared.served.ServeFault.{ServeFault}
 use Rattle.gc_lines.specs.declared.served.ServeFault.TheVariants.{Read, Write, TooManyReads}
 use Rattle.gc_lines.proofs.InOrder.{in_order_then, in_order_one}
-use Rattle.gc_engines.specs.Verdicts.{IsVerdict, AreVerdicts, verdict_text, verdict_line, verdict_lines_from, AreFrameVerdicts}
+use Rattle.gc_engines.specs.Verdicts.{IsVerdict, AreSaidOf, said_of, verdict_text, verdict_line, verdict_lines_from, AreFrameVerdicts}
+use Rattle.gc_engines.specs.Remarks.{frame_remark}
 use Rattle.gc_engines.specs.Checking.{WritesVerdictOn, JudgesFrame, WritesAll, WritesPart, Checks}
 use Rattle.gc_engines.specs.declared.check.Judge.{Judge}
 use Rattle.gc_engines.specs.declared.verdict.Verdict.{Verdict}
@@ -62,30 +63,30 @@ few_frames given = omega (arith, length-map (pieces_behind [] given) frame_of, f
 
 -- these texts are the lines of the verdicts on these frames, the first of which is frame n + 1
 record Judged (n : ℕ) (seen : List Frame) (texts : List (List ℕ)) : Type 0 where
-  verdicts : List Verdict
-  are : AreVerdicts seen verdicts
-  numbered : texts ≡ verdict_lines_from (n + 1) verdicts
+  said : List (List ℕ)
+  are : AreSaidOf seen said
+  numbered : texts ≡ verdict_lines_from (n + 1) said
 
 -- where n + 1 is below 2^64, the judge had counted n frames and wrote the verdict on the next (`WritesVerdictOn`), and `rest` are
 -- the lines of the verdicts on the later frames, from the count n + 1 on (`Judged`), the written text and `rest` are those of
 -- this frame and the later ones, from the count n on
 judged_next : (s u : Judge) (frame : Frame) (later : List Frame) (text : Option (List ℕ)) (rest : List (List ℕ)) (n : ℕ) → s.frames ≡ n → n + 1 < 2 ^ 64
     → WritesVerdictOn s frame u text → (u.frames ≡ n + 1 → Judged (n + 1) later rest) → Judged n (frame ∷ later) (option_to_list text ++ rest)
-judged_next s u frame later text rest n at few (v, is, counts, told) next =
+judged_next s u frame later text rest n at few (said, is, counts, told) next =
     let more : u.frames ≡ n + 1 = omega (arith, at, few, counts) in
     let k = next more in
     record {
-      verdicts = v ∷ k.verdicts;
+      said = said ∷ k.said;
       are = (is, k.are);
-      numbered = ap (λ (o : Option (List ℕ)). option_to_list o ++ rest) told ∙ ap (λ (m : ℕ). verdict_line m v ∷ rest) more
-          ∙ ap (λ (ts : List (List ℕ)). verdict_line (n + 1) v ∷ ts) k.numbered;
+      numbered = ap (λ (o : Option (List ℕ)). option_to_list o ++ rest) told ∙ ap (λ (m : ℕ). verdict_line m said ∷ rest) more
+          ∙ ap (λ (ts : List (List ℕ)). verdict_line (n + 1) said ∷ ts) k.numbered;
     }
 
 -- ended frames that were judged in order, from the count n on, got the lines of their verdicts, as long as 64 bits can count them
 judged_in_order : (s t : Judge) (seen : List Frame) (texts : List (List ℕ)) (n : ℕ) → s.frames ≡ n → n + length seen < 2 ^ 64 → AreEnded seen
     → AnswersInOrder Judge Frame JudgesFrame s seen t texts → Judged n seen texts
 unfolding AreEnded
-judged_in_order s t [] texts n at few ended h = record { verdicts = []; are = tt; numbered = h.1 }
+judged_in_order s t [] texts n at few ended h = record { said = []; are = tt; numbered = h.1 }
 judged_in_order s t (Line line ∷ later) texts n at few ended h = subst (Judged n (Line line ∷ later)) (sym h.5)
     (judged_next s h.0 (Line line) later h.1 h.2 n at (omega (arith, few)) h.3 (λ more. judged_in_order h.0 t later h.2 (n + 1) more (omega (arith, few)) ended h.4))
 judged_in_order s t (Cleared ∷ later) texts n at few ended h = subst (Judged n (Cleared ∷ later)) (sym h.5)
@@ -99,7 +100,7 @@ verdicts_of : (s t : Judge) (seen : List Frame) (texts : List (List ℕ)) → s.
     → AnswersInOrder Judge Frame JudgesFrame s seen t texts → AreFrameVerdicts seen texts
 verdicts_of s t seen texts at few ended h =
     let k = judged_in_order s t seen texts 0 at (omega (arith, few)) ended h in
-    record { verdicts = k.verdicts; are = k.are; numbered = k.numbered }
+    record { said = k.said; are = k.are; numbered = k.numbered }
 
 -- a judge that has counted no frame gets fewer than 2 ^ 64 bytes. a and b are what the sink had taken before and after, and
 -- `count` is how many lines of verdicts went out whole
@@ -153,22 +154,27 @@ few_reads old new most (Err (Read n)) h = omega (arith, h.0)
 few_reads old new most (Err (Write n bytes)) h = h.1
 few_reads old new most (Err (TooManyReads n)) h = omega (arith, h.0)
 
--- where a frame has this verdict, and the count grows by one, the line of the verdict is what `JudgesFrame` has the judge write
+-- where a frame has this verdict, and the count grows by one, the line of what is said of the frame is what `JudgesFrame` has the judge
+-- write
 pub judged_frame : (s u : Judge) (frame : Frame) (v : Verdict) → IsVerdict frame v → u.frames ≡ min (s.frames + 1) (2 ^ 64 - 1)
-    → JudgesFrame s frame u (Some (verdict_line u.frames v))
-judged_frame s u (Line line) v is counts = (v, is, counts, refl)
-judged_frame s u Cleared v is counts = (v, is, counts, refl)
-judged_frame s u Overlong v is counts = (v, is, counts, refl)
+    → JudgesFrame s frame u (Some (verdict_line u.frames (said_of frame v)))
+judged_frame s u (Line line) v is counts = (said_of (Line line) v, record { verdict = v; is = is; text = refl }, counts, refl)
+judged_frame s u Cleared v is counts = (said_of Cleared v, record { verdict = v; is = is; text = refl }, counts, refl)
+judged_frame s u Overlong v is counts = (said_of Overlong v, record { verdict = v; is = is; text = refl }, counts, refl)
 judged_frame s u More v is counts = absurd is
 
--- where the number n, a space (byte 32), the text of the verdict v and a line feed (10) were appended to `old`, one after the
--- other, the line of the verdict was appended to it
-pub line_of_parts : (n : ℕ) (v : Verdict) (old a b c d : List ℕ)
-    → a ≡ old ++ decimal n → b ≡ a ++ 32 ∷ [] → c ≡ b ++ verdict_text v → d ≡ c ++ 10 ∷ [] → d ≡ old ++ verdict_line n v
-line_of_parts n v old a b c d first second third last =
+-- where the number n, a space (byte 32), the text of the verdict v, what is remarked of the frame and a line feed (10) were appended to
+-- `old`, one after the other, the line of what is said of the frame was appended to it
+pub line_of_parts : (n : ℕ) (frame : Frame) (v : Verdict) (old a b c d e : List ℕ)
+    → a ≡ old ++ decimal n → b ≡ a ++ 32 ∷ [] → c ≡ b ++ verdict_text v → d ≡ c ++ frame_remark frame → e ≡ d ++ 10 ∷ []
+    → e ≡ old ++ verdict_line n (said_of frame v)
+line_of_parts n frame v old a b c d e first second third fourth last =
     let digits = decimal n in
     let verdict = verdict_text v in
-    let whole : d ≡ old ++ digits ++ 32 ∷ [] ++ verdict ++ 10 ∷ [] = last
-    ∙ ap (λ (xs : List ℕ). xs ++ 10 ∷ []) (third ∙ ap (λ (xs : List ℕ). xs ++ verdict) (second ∙ ap (λ (xs : List ℕ). xs ++ 32 ∷ []) first)) in
-    let line : d ≡ old ++ (digits ++ 32 ∷ [] ++ verdict ++ 10 ∷ []) = whole ∙ simp append_assoc in
+    let remark = frame_remark frame in
+    let said : d ≡ ((old ++ digits) ++ 32 ∷ []) ++ (verdict ++ remark) =
+    fourth ∙ ap (λ (xs : List ℕ). xs ++ remark) (third ∙ ap (λ (xs : List ℕ). xs ++ verdict) (second ∙ ap (λ (xs : List ℕ). xs ++ 32 ∷ []) first))
+    ∙ append_assoc ((old ++ digits) ++ 32 ∷ []) verdict remark in
+    let whole : e ≡ old ++ digits ++ 32 ∷ [] ++ (verdict ++ remark) ++ 10 ∷ [] = last ∙ ap (λ (xs : List ℕ). xs ++ 10 ∷ []) said in
+    let line : e ≡ old ++ (digits ++ 32 ∷ [] ++ (verdict ++ remark) ++ 10 ∷ []) = whole ∙ simp append_assoc in
     line

@@ -18,7 +18,7 @@ use Rattle.gc_lines.proofs.InOrder.{all_of-append}
 use Rattle.gc_lines.proofs.Known.{Appends-is}
 use Rattle.gc_texts.specs.Cuts.{Cuts, Lacks}
 use Rattle.gc_engines.specs.Checking.{WritesPart}
-use Rattle.gc_engines.specs.LogChecking.{AreLogVerdicts, AreVerdictsBetween, AreVerdictsFrom, HasChecked, HasJudged, JudgesLine, JudgesMore, KeepsLine, NoneWait, StopsWriting, TakesLine, TakesPiece, TakesPieceInPart, WritesVerdicts, WritesVerdictsInPart, WritesWaiting}
+use Rattle.gc_engines.specs.LogChecking.{AreVerdictsBetween, AreVerdictsFrom, HasChecked, HasJudged, JudgesLine, JudgesMore, KeepsLine, NoneWait, StopsWriting, TakesLine, TakesPiece, TakesPieceInPart, WritesVerdicts, WritesVerdictsInPart, WritesWaiting}
 use Rattle.gc_engines.specs.declared.check_log.LogCheck.{LogCheck}
 use Rattle.gc_engines.specs.declared.check_log.PartialLine.{PartialLine}
 use Rattle.gc_engines.specs.declared.log_client.LogClient.{LogClient}

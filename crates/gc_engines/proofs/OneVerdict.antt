@@ -13,7 +13,7 @@ use Rattle.gc_catalogue.proofs.CallLaws.{one_refusal, no_refusal}
 use Rattle.gc_catalogue.specs.declared.fault.CallFault.{CallFault}
 use Rattle.gc_texts.proofs.OneReading.{one_list}
 use Rattle.gc_engines.specs.Laws.{OneVerdict}
-use Rattle.gc_engines.specs.Verdicts.{IsRequestVerdict, reads, refuses, BeginsAsReply, IsLineVerdict, request, reply, no_reply, no_request, IsVerdict, AreVerdictLines, verdict_lines_from}
+use Rattle.gc_engines.specs.Verdicts.{IsRequestVerdict, reads, refuses, BeginsAsReply, IsLineVerdict, request, reply, no_reply, no_request, IsVerdict, IsSaidOf, said_of, AreVerdictLines, verdict_lines_from}
 use Rattle.gc_engines.specs.declared.verdict.Verdict.{Verdict}
 use Rattle.gc_engines.specs.declared.verdict.Verdict.TheVariants as verdict
 
@@ -73,10 +73,14 @@ one_frame_verdict Cleared v w says tells = says ∙ sym tells
 one_frame_verdict Overlong v w says tells = says ∙ sym tells
 one_frame_verdict More v w says tells = absurd says
 
+-- one text at most is what a check says of a frame
+one_said : (seen : Frame) (x y : List ℕ) → IsSaidOf seen x → IsSaidOf seen y → x ≡ y
+one_said seen x y says tells = says.text ∙ ap (said_of seen) (one_frame_verdict seen says.verdict tells.verdict says.is tells.is) ∙ sym tells.text
+
 -- a stream has one list of verdicts' lines at most
 one_stream_verdicts : (bytes : List ℕ) (xs ys : List (List ℕ)) → AreVerdictLines bytes xs → AreVerdictLines bytes ys → xs ≡ ys
 one_stream_verdicts bytes xs ys says tells =
-    says.numbered ∙ ap (λ (vs : List Verdict). verdict_lines_from 1 vs) (one_list IsVerdict one_frame_verdict (frames bytes) says.verdicts tells.verdicts says.are tells.are) ∙ sym tells.numbered
+    says.numbered ∙ ap (λ (xs : List (List ℕ)). verdict_lines_from 1 xs) (one_list IsSaidOf one_said (frames bytes) says.said tells.said says.are tells.are) ∙ sym tells.numbered
 
 -- the law: a frame has one verdict at most, and a stream one list of verdicts' lines
 pub one_verdict : OneVerdict

@@ -9,9 +9,8 @@ use Rattle.gc_lines.specs.declared.frame.Frame.{Frame}
 use Rattle.gc_lines.specs.declared.frame.Frame.TheVariants.{More}
 use Rattle.gc_lines.specs.declared.served.Served.{Served}
 use Rattle.gc_lines.specs.declared.served.ServeFault.{ServeFault}
-use Rattle.gc_engines.specs.Verdicts.{IsVerdict, verdict_line, AreFrameVerdicts}
+use Rattle.gc_engines.specs.Verdicts.{IsSaidOf, verdict_line, AreFrameVerdicts}
 use Rattle.gc_engines.specs.declared.check.Judge.{Judge}
-use Rattle.gc_engines.specs.declared.verdict.Verdict.{Verdict}
 
 -- the texts of all these pieces went out whole, and the count of texts grew by as many, from `before` to `count`
 pub record WritesAll {Piece : Type 0} (Written : List Piece → List (List ℕ) → Type 0) (pieces : List Piece) (old new : Option (List ℕ))
@@ -49,11 +48,11 @@ Checks given old new result = WritesBy AreFrameVerdicts (frames given) old new r
 abbrev pub IsChecking : (old new : Ports) → (most : ℕ) → Result Served ServeFault → Type 0
 IsChecking old new most result = IsRunOverPorts Checks old new most result
 
--- the judge counts one frame more than before, as far as 64 bits go, and `text` is the line of the verdict on that frame, which
+-- the judge counts one frame more than before, as far as 64 bits go, and `text` is the line of what is said of that frame, which
 -- begins with the new count
 abbrev pub WritesVerdictOn : (before : Judge) → Frame → (after : Judge) → (text : Option (List ℕ)) → Type 0
 WritesVerdictOn before frame after text =
-    (v : Verdict) × IsVerdict frame v × (after.frames ≡ min (before.frames + 1) (2 ^ 64 - 1)) × (text ≡ Some (verdict_line after.frames v))
+    (said : List ℕ) × IsSaidOf frame said × (after.frames ≡ min (before.frames + 1) (2 ^ 64 - 1)) × (text ≡ Some (verdict_line after.frames said))
 
 -- one step of the judge: of a frame it writes the line of the verdict (`WritesVerdictOn`); of a frame that no line feed has
 -- ended it writes nothing, and it doesn't count that frame. It serves the proofs of a check, and no promise speaks of it

@@ -1,7 +1,9 @@
--- What a check of a log remarks of a line behind its verdict: this project's own. Bytes that came may be no reply, because they are a
--- request of this end that came back, measured data in GSI, a line with a sign-on, or replies with another line end.
+-- What a check remarks of a line behind its verdict: this project's own. A line may be no reply, because it is measured data in GSI, has
+-- a sign-on in it, or is replies with another line end; or, of a log, because it is a request of this end that came back.
 use Rattle.std.specs.Prelude.{ℕ, ◌+◌, ◌==◌, ◌&&◌, ◌||◌, Bool, true, false, List, [], get_or, is_ok, if◌then◌else◌, codes}
 use Rattle.gc_lines.specs.Readers.{request_at}
+use Rattle.gc_lines.specs.declared.frame.Frame.{Frame}
+use Rattle.gc_lines.specs.declared.frame.Frame.TheVariants.{Line}
 use Rattle.gc_texts.specs.Cuts.{has_part}
 use Rattle.gc_texts.specs.SignOns.{is_sign_on}
 use Rattle.gc_texts.specs.declared.log_line.LogMark.{LogMark}
@@ -23,10 +25,19 @@ is_gsi line = if get_or line 0 0 == 42 then is_gsi_word 1 line else is_gsi_word 
 abbrev pub has_lone_return : List ℕ → Bool
 has_lone_return bytes = has_part (codes "\r%R1P,") bytes
 
--- what is remarked of a whole line that came
+-- what is remarked of a whole line, whichever way it went: that it has a sign-on in it, or a CR alone, or is measured data in GSI
+abbrev pub line_remark : List ℕ → List ℕ
+line_remark line =
+    if is_sign_on line then codes " sign-on" else if has_lone_return line then codes " CR alone" else if is_gsi line then codes " GSI" else []
+
+-- what is remarked of a frame: of a line that of `line_remark`, and nothing of any other
+abbrev pub frame_remark : Frame → List ℕ
+frame_remark (Line line) = line_remark line.items
+frame_remark _ = []
+
+-- what is remarked of a whole line that came: a request is one that came back, unless it has a sign-on in it
 abbrev pub came_remark : List ℕ → List ℕ
-came_remark bytes =
-    if is_sign_on bytes then codes " sign-on" else if is_ok (request_at bytes) then codes " echo" else if is_gsi bytes then codes " GSI" else []
+came_remark bytes = if is_sign_on bytes then codes " sign-on" else if is_ok (request_at bytes) then codes " echo" else line_remark bytes
 
 -- what is remarked of bytes that came and are no whole line
 abbrev pub part_remark : List ℕ → List ℕ

@@ -12,7 +12,7 @@ use Rattle.gc_values.specs.Decimals.{SpellsDecimal}
 use Rattle.gc_texts.specs.Procedures.{IsNumber, IsRpc}
 use Rattle.gc_texts.specs.Words.{second_word, third_word, fourth_word, after_two_words, after_three_words, after_four_words}
 use Rattle.gc_engines.specs.RuleScenes.{Begins, GivesClock, code_max, rc_in_answer, params_in_answer, scene_target_max}
-use Rattle.gc_engines.specs.TimedScenes.{delay_max}
+use Rattle.gc_engines.specs.TimedScenes.{SaysRestart, delay_max}
 use Rattle.gc_engines.specs.declared.scene_trouble.SceneTrouble.{SceneTrouble}
 use Rattle.gc_engines.specs.declared.scene_trouble.SceneTrouble.TheVariants as trouble
 use Rattle.gc_engines.specs.declared.scene_trouble.SceneWord.{SceneWord}
@@ -38,7 +38,7 @@ abbrev pub form_text : SceneWord → List ℕ
 form_text word.Serial = codes "serial N"
 form_text word.Name = codes "name TEXT"
 form_text word.Target = codes "target HZ V DISTANCE"
-form_text word.Fault = codes "fault RPC RC [after COUNT] [for COUNT]"
+form_text word.Fault = codes "fault RPC RC [after COUNT] [for COUNT] or fault RPC restart [after COUNT] [for COUNT]"
 form_text word.Answer = codes "answer RPC RC[,PARAMS]"
 form_text word.Blocked = codes "blocked TARGET FROM TO"
 form_text word.Drift = codes "drift TARGET HZ V D"
@@ -84,6 +84,7 @@ IsAnswerTrouble line t =
 abbrev pub IsSceneTrouble : List ℕ → SceneTrouble → Type 0
 IsSceneTrouble line trouble.NoWord = (w : SceneWord) → BeginsWith w line → ⊥
 IsSceneTrouble line trouble.Clock = NeedsClock line
+IsSceneTrouble line trouble.Restart = BeginsWith word.Fault line × SaysRestart line
 IsSceneTrouble line (trouble.Form w) = BeginsWith w line
 IsSceneTrouble line trouble.Serial = BeginsWith word.Serial line × ((n : ℤ) → NamesWhole (behind 32 line) n → FitsLong n → ⊥)
 IsSceneTrouble line trouble.Name = BeginsWith word.Name line × (text.IsText (behind 32 line) → ⊥)
@@ -108,6 +109,7 @@ IsSceneTrouble line trouble.Params = IsAnswerTrouble line trouble.Params
 abbrev pub scene_trouble_text : SceneTrouble → List ℕ
 scene_trouble_text trouble.NoWord = codes "no line of a scene begins so"
 scene_trouble_text trouble.Clock = codes "serve alone has a clock"
+scene_trouble_text trouble.Restart = codes "serve alone restarts an instrument at a request"
 scene_trouble_text (trouble.Form w) = codes "the form is " ++ form_text w
 scene_trouble_text trouble.Serial = codes "N is no whole number of 32 bits"
 scene_trouble_text trouble.Name = codes "TEXT has more than 64 bytes, a double quote or a carriage return"

@@ -15,6 +15,7 @@ use Rattle.gc_catalogue.specs.CallFault.{refusal_number}
 use Rattle.gc_catalogue.specs.Calls.{IsCall, IsRefusal}
 use Rattle.gc_catalogue.specs.declared.call.Call.{Call}
 use Rattle.gc_catalogue.specs.declared.fault.CallFault.{CallFault}
+use Rattle.gc_engines.specs.Remarks.{frame_remark}
 use Rattle.gc_engines.specs.declared.verdict.Verdict.{Verdict}
 use Rattle.gc_engines.specs.declared.verdict.Verdict.TheVariants as verdict
 
@@ -47,10 +48,6 @@ IsVerdict Cleared v = v ≡ verdict.Cleared
 IsVerdict Overlong v = v ≡ verdict.Overlong
 IsVerdict More v = ⊥
 
--- these verdicts are on these frames, one for one
-abbrev pub AreVerdicts : List Frame → List Verdict → Type 0
-AreVerdicts seen verdicts = AllZip IsVerdict seen verdicts
-
 -- a verdict as it is printed, a fault by its number
 abbrev pub verdict_text : Verdict → List ℕ
 verdict_text verdict.Cleared = codes "cleared"
@@ -60,20 +57,34 @@ verdict_text (verdict.RequestFault rpc fault) = codes "request " ++ decimal rpc 
 verdict_text (verdict.Reply rc_com rc) = codes "reply " ++ decimal rc_com ++ codes " " ++ decimal rc
 verdict_text (verdict.Fault fault) = numbered_fault (line_fault_number fault)
 
--- the line of the verdict on frame n
-abbrev pub verdict_line : ℕ → Verdict → List ℕ
-verdict_line n v = decimal n ++ codes " " ++ verdict_text v ++ codes "\n"
+-- what a check says of a frame: its verdict as it is printed, and what is remarked of it
+abbrev pub said_of : Frame → Verdict → List ℕ
+said_of frame v = verdict_text v ++ frame_remark frame
 
--- the lines of verdicts, the first of them on frame n
-abbrev pub verdict_lines_from : ℕ → List Verdict → List (List ℕ)
+-- this text is what a check says of a frame
+pub record IsSaidOf (frame : Frame) (said : List ℕ) : Type 0 where
+  pub verdict : Verdict
+  pub is : IsVerdict frame verdict
+  pub text : said ≡ said_of frame verdict
+
+-- these texts are what a check says of these frames, one for one
+abbrev pub AreSaidOf : List Frame → List (List ℕ) → Type 0
+AreSaidOf seen said = AllZip IsSaidOf seen said
+
+-- the line of what is said of frame n
+abbrev pub verdict_line : ℕ → (said : List ℕ) → List ℕ
+verdict_line n said = decimal n ++ codes " " ++ said ++ codes "\n"
+
+-- the lines of what is said of frames, the first of which is frame n
+abbrev pub verdict_lines_from : ℕ → List (List ℕ) → List (List ℕ)
 verdict_lines_from n [] = []
-verdict_lines_from n (v ∷ vs) = verdict_line n v ∷ verdict_lines_from (n + 1) vs
+verdict_lines_from n (s ∷ ss) = verdict_line n s ∷ verdict_lines_from (n + 1) ss
 
--- the lines of the verdicts on frames, counted from 1
+-- the lines of what is said of frames, counted from 1
 pub record AreFrameVerdicts (seen : List Frame) (lines : List (List ℕ)) : Type 0 where
-  pub verdicts : List Verdict
-  pub are : AreVerdicts seen verdicts
-  pub numbered : lines ≡ verdict_lines_from 1 verdicts
+  pub said : List (List ℕ)
+  pub are : AreSaidOf seen said
+  pub numbered : lines ≡ verdict_lines_from 1 said
 
 -- the lines of the verdicts on a whole stream
 abbrev pub AreVerdictLines : List ℕ → List (List ℕ) → Type 0

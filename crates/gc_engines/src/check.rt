@@ -1,11 +1,12 @@
-//! `check`: each frame of a source, named with its verdict.
+//! `check`: each frame of a source, named with its verdict, and what is remarked of it.
 
 ghost use Rattle.std.specs.Prelude.{◌≡◌, ◌+◌, ◌≤◌, length};
 ghost use Rattle.gc_engines.specs.Checking.{IsChecking};
 ghost use Rattle.gc_lines.specs.Answering.{ports_of};
 
+use crate::remark::frame_remark;
 use crate::verdict::{push_digits, push_verdict, verdict_of};
-use gc_lines::{Answers, Lent, Outgoing, ServeFault, Served, Sink, Source, answer_frames};
+use gc_lines::{Answers, Lent, Outgoing, ServeFault, Served, Sink, Source, answer_frames, append};
 
 // Judges frames, and counts them. The count saturates at 2^64 - 1, but no run gets there: it has fewer than 2^32 reads of at most
 // 256 bytes.
@@ -19,7 +20,8 @@ impl Answers for Judge {
 
     ghost answers = { JudgesFrame };
 
-    // If a line feed has ended the frame, appends a line with the frame's number and verdict, and returns true. Else returns false.
+    // If a line feed has ended the frame, appends a line with the frame's number and verdict, and what is remarked of it, and returns
+    // true. Else returns false.
     fn answer(&mut self, frame: Lent<'_>, text: &mut Outgoing) -> bool {
         let Some(verdict) = verdict_of(frame) else {
             return false;
@@ -28,13 +30,15 @@ impl Answers for Judge {
         push_digits(text, self.frames);
         text.push(b' ');
         push_verdict(text, verdict);
+        append(text, frame_remark(frame));
         text.push(b'\n');
         true
     }
 }
 
 /// Checks the frames of a source until its end, in at most `max_reads` reads of at most 256 bytes. For each frame it writes a
-/// line with LF into a sink: `N VERDICT`, N counted from 1.
+/// line with LF into a sink: `N VERDICT`, N counted from 1, and ` sign-on`, ` CR alone` or ` GSI` after it where that is remarked of a
+/// line (`line_remark`).
 ///
 /// | Frame | Verdict |
 /// |---|---|

@@ -1,10 +1,11 @@
-//! What a check of a log remarks of a line behind its verdict.
+//! What a check, of a stream or of a log, remarks of a line behind its verdict.
 
 ghost use Rattle.std.specs.Prelude.{◌≡◌, ◌+◌, ◌<◌, ◌≤◌, ◌^◌, get_or, is_ok, length};
+ghost use Rattle.gc_lines.specs.Lent.{lent_seen};
 ghost use Rattle.gc_lines.specs.Readers.{request_at};
-ghost use Rattle.gc_engines.specs.Remarks.{is_gsi_word, is_gsi, came_remark, part_remark, remark_text};
+ghost use Rattle.gc_engines.specs.Remarks.{is_gsi_word, is_gsi, has_lone_return, line_remark, frame_remark, came_remark, part_remark, remark_text};
 
-use gc_lines::read_request;
+use gc_lines::{Lent, read_request};
 use gc_texts::{LogMark, has_part, is_sign_on};
 
 // The byte at this place of a line; 0 if the line is shorter.
@@ -50,7 +51,41 @@ fn is_request(line: &[u8]) -> bool
     }
 }
 
-// What is remarked of a whole line that came: it has a sign-on in it, is a request that came back, or is measured data in GSI.
+// Whether bytes have a CR behind which the next reply begins, without a line feed.
+fn has_lone_return(bytes: &[u8]) -> bool
+    ensures { result ≡ has_lone_return bytes.now }
+{
+    has_part(b"\r%R1P,", bytes)
+}
+
+// What is remarked of a whole line, whichever way it went: it has a sign-on in it, or a CR alone, or is measured data in GSI.
+fn line_remark(line: &[u8]) -> &'static [u8]
+    ensures is { result.now ≡ line_remark line.now }
+    ensures short { length result.now ≤ 11 }
+{
+    if is_sign_on(line) {
+        b" sign-on"
+    } else if has_lone_return(line) {
+        b" CR alone"
+    } else if is_gsi(line) {
+        b" GSI"
+    } else {
+        b""
+    }
+}
+
+/// What is written behind the verdict on a frame: of a line what is remarked of it, and nothing of any other.
+pub(crate) fn frame_remark(frame: Lent<'_>) -> &'static [u8]
+    ensures is { result.now ≡ frame_remark (lent_seen frame.entry) }
+    ensures short { length result.now ≤ 11 }
+{
+    match frame {
+        Lent::Line(line) => line_remark(line),
+        _ => b"",
+    }
+}
+
+// What is remarked of a whole line that came: a request is one that came back, unless it has a sign-on in it; else as of any line.
 fn came_remark(bytes: &[u8]) -> &'static [u8]
     ensures is { result.now ≡ came_remark bytes.now }
     ensures short { length result.now ≤ 11 }
@@ -59,10 +94,8 @@ fn came_remark(bytes: &[u8]) -> &'static [u8]
         b" sign-on"
     } else if is_request(bytes) {
         b" echo"
-    } else if is_gsi(bytes) {
-        b" GSI"
     } else {
-        b""
+        line_remark(bytes)
     }
 }
 
@@ -71,7 +104,7 @@ fn part_remark(bytes: &[u8]) -> &'static [u8]
     ensures is { result.now ≡ part_remark bytes.now }
     ensures short { length result.now ≤ 11 }
 {
-    if has_part(b"\r%R1P,", bytes) {
+    if has_lone_return(bytes) {
         b" CR alone"
     } else {
         b""

@@ -185,7 +185,7 @@ fn read_after(words: &[u8]) -> Option<Span>
 }
 
 // Reads nothing, `after COUNT`, `for COUNT`, or both. `None`: the words have no such form.
-fn read_span(words: &[u8]) -> Option<Span>
+pub(crate) fn read_span(words: &[u8]) -> Option<Span>
     ensures { IsReadAs (IsSpan words.now) result }
 {
     if let Some(rest) = behind_word(b"after", words) {

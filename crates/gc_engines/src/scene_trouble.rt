@@ -6,6 +6,7 @@ ghost use Rattle.gc_texts.specs.Faults.{run_fault_text, fault_line};
 ghost use Rattle.gc_texts.specs.LineForms.{IsReadAs};
 ghost use Rattle.gc_texts.specs.declared.fault.RunFault.{RunFault};
 ghost use Rattle.gc_engines.specs.SceneTroubles.{BeginsWith, IsReplyTrouble, IsSceneTrouble, NeedsClock, NoDecimal, NoNumber, form_text, scene_trouble_text, scene_trouble_line, word_text};
+ghost use Rattle.gc_engines.specs.TimedScenes.{SaysRestart};
 ghost use Rattle.gc_engines.specs.declared.scene_trouble.SceneWord.{SceneWord};
 
 use crate::rule_line::{SCENE_TARGET_MAX, gives_clock};
@@ -42,6 +43,8 @@ pub enum SceneTrouble {
     NoWord,
     /// The line needs a clock, which `serve` alone has.
     Clock,
+    /// The line is a fault with the word `restart`, which `serve` alone takes.
+    Restart,
     /// The line begins with this word, but hasn't its form, and no single field is named: it has too few fields or too many, or what
     /// follows the fields doesn't read (of `repeats`, `behave` and `busy`, all that follows the word), or the parameters of `answer` are
     /// too long for a reply.
@@ -52,7 +55,7 @@ pub enum SceneTrouble {
     Name,
     /// The procedure is no number up to 65535.
     Rpc,
-    /// The return code is no number up to 65535.
+    /// The return code is no number up to 65535, nor, in a line `fault`, the word `restart`.
     Rc,
     /// The number of the target is no number up to 32.
     Target,
@@ -85,7 +88,9 @@ impl SceneWord {
             SceneWord::Serial => "serial N",
             SceneWord::Name => "name TEXT",
             SceneWord::Target => "target HZ V DISTANCE",
-            SceneWord::Fault => "fault RPC RC [after COUNT] [for COUNT]",
+            SceneWord::Fault => {
+                "fault RPC RC [after COUNT] [for COUNT] or fault RPC restart [after COUNT] [for COUNT]"
+            }
             SceneWord::Answer => "answer RPC RC[,PARAMS]",
             SceneWord::Blocked => "blocked TARGET FROM TO",
             SceneWord::Drift => "drift TARGET HZ V D",
@@ -125,6 +130,9 @@ impl SceneTrouble {
         match self {
             SceneTrouble::NoWord => writeln!(messages, "no line of a scene begins so"),
             SceneTrouble::Clock => writeln!(messages, "serve alone has a clock"),
+            SceneTrouble::Restart => {
+                writeln!(messages, "serve alone restarts an instrument at a request")
+            }
             SceneTrouble::Form(word) => tell_form(word.form(), messages),
             SceneTrouble::Serial => writeln!(messages, "N is no whole number of 32 bits"),
             SceneTrouble::Name => writeln!(
@@ -164,11 +172,13 @@ fn tell_form<E: Write>(form: &str, messages: &mut E) -> io::Result<()>
     writeln!(messages, "the form is {form}")
 }
 
-/// What is at fault in a faulty line of a scene. `has_clock`: the scene is read for `serve`, which has a clock. Of a line that isn't faulty
+/// What is at fault in a faulty line of a scene. `has_clock`: the scene is read for `serve`, which has a clock, and starts an instrument
+/// anew at a request. Of a line that isn't faulty
 /// the result says nothing.
 ///
 /// It is the first of these that holds:
 /// - `Clock`: the line needs a clock, and `has_clock` isn't set;
+/// - `Restart`: the line begins with `fault`, its third word is `restart`, and `has_clock` isn't set;
 /// - `NoWord`: no line of a scene begins with the line's first word;
 /// - `Form`: the line has too few fields, or too many. This isn't asked of `name` and `answer`, nor of `fault` whether it has too many;
 /// - a field doesn't read: the result names the first such field;
@@ -182,6 +192,9 @@ pub fn scene_trouble_of(line: &[u8], has_clock: bool) -> SceneTrouble
     if !has_clock && needs_clock(line) {
         return SceneTrouble::Clock;
     }
+    if !has_clock && is_start(line) {
+        return SceneTrouble::Restart;
+    }
     match word_of(before(b' ', line)) {
         Some(word) => trouble_behind(word, line),
         None => SceneTrouble::NoWord,
@@ -194,6 +207,20 @@ fn needs_clock(line: &[u8]) -> bool
 {
     let first = before(b' ', line);
     gives_clock(line) || is_word(b"delay", first) || is_word(b"busy", first)
+}
+
+// Whether the first word of a line is `fault`, and its third one `restart`.
+fn is_start(line: &[u8]) -> bool
+    ensures { IsTrue result → BeginsWith SceneWord.Fault line.now × SaysRestart line.now }
+{
+    is_word(b"fault", before(b' ', line)) && says_restart(line)
+}
+
+// Whether the third word of a line is `restart`.
+fn says_restart(line: &[u8]) -> bool
+    ensures { IsTrue result → SaysRestart line.now }
+{
+    is_word(b"restart", before(b' ', behind(b' ', behind(b' ', line))))
 }
 
 // The word of a scene that these bytes spell. `None`: no line of a scene begins with them.
@@ -324,8 +351,8 @@ fn target_trouble(line: &[u8]) -> SceneTrouble
     SceneTrouble::Form(SceneWord::Target)
 }
 
-// What is at fault in a line that begins with `fault`: if it has two fields or more, the first of `Rpc` and `Rc` that doesn't read; else
-// `Form`.
+// What is at fault in a line that begins with `fault`: if it has two fields or more, the first of `Rpc` and `Rc` that doesn't read, where
+// the word `restart` reads in place of a return code; else `Form`.
 fn fault_trouble(line: &[u8]) -> SceneTrouble
     requires { BeginsWith SceneWord.Fault line.now }
     ensures { IsSceneTrouble line.now result }
@@ -335,7 +362,7 @@ fn fault_trouble(line: &[u8]) -> SceneTrouble
         if is_no_number(before(b' ', from_rpc), CODE_MAX) {
             return SceneTrouble::Rpc;
         }
-        if is_no_number(before(b' ', behind(b' ', from_rpc)), CODE_MAX) {
+        if !says_restart(line) && is_no_number(before(b' ', behind(b' ', from_rpc)), CODE_MAX) {
             return SceneTrouble::Rc;
         }
     }

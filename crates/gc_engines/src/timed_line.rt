@@ -1,12 +1,12 @@
-//! The reading of one line of a scene that `serve` takes: a line of a scene with rules, or one with the word `delay` or `busy`. Besides
-//! `scene_trouble.rt`, these two words are known here alone.
+//! The reading of one line of a scene that `serve` takes: a line of a scene with rules, or one with the word `delay` or `busy`, or a
+//! fault with the word `restart`. Besides `scene_trouble.rt`, these three words are known here alone.
 
 ghost use Rattle.gc_texts.specs.LineForms.{IsReadAs};
-ghost use Rattle.gc_engines.specs.TimedScenes.{IsTimedLine, IsDelayLine};
+ghost use Rattle.gc_engines.specs.TimedScenes.{IsTimedLine, IsDelayLine, IsStartLine};
 
-use crate::rule_line::{RuleLine, behind_word, read_rule_line};
+use crate::rule_line::{RuleLine, behind_word, read_rule_line, read_span};
 use crate::scene_line::put_read;
-use gc_scenes::Delay;
+use gc_scenes::{Delay, Fault};
 use gc_texts::{LineForm, before, behind, is_word, u16_of, u32_of};
 
 // The longest delay in milliseconds: an hour.
@@ -19,6 +19,8 @@ pub enum TimedLine {
     Rule(RuleLine),
     /// The reply to a procedure goes out later, by a number of milliseconds.
     Delay(Delay),
+    /// The instrument starts anew at some requests of a procedure. The return code of the fault isn't used.
+    Start(Fault),
     /// Lines that come while the instrument is busy wait in order.
     Queues,
     /// Lines that come while the instrument is busy are discarded.
@@ -52,6 +54,9 @@ fn read_timed_line(line: &[u8]) -> Option<TimedLine>
     if let Some(delay) = read_delay(line) {
         return Some(TimedLine::Delay(delay));
     }
+    if let Some(start) = read_start(line) {
+        return Some(TimedLine::Start(start));
+    }
     if is_word(b"busy queue", line) {
         return Some(TimedLine::Queues);
     }
@@ -69,4 +74,16 @@ fn read_delay(line: &[u8]) -> Option<Delay>
     let rpc = u16_of(before(b' ', from_rpc))?;
     let ms = u32_of(behind(b' ', from_rpc), DELAY_MAX)?;
     Some(Delay { rpc, ms })
+}
+
+// Reads `fault RPC restart [after COUNT] [for COUNT]`: a procedure, and at which of its requests the instrument starts anew. Without
+// `for` the line may end in a space. The return code of the fault is 0. `None`: the line has no such form.
+fn read_start(line: &[u8]) -> Option<Fault>
+    ensures { IsReadAs (IsStartLine line.now) result }
+{
+    let from_rpc = behind_word(b"fault", line)?;
+    let rpc = u16_of(before(b' ', from_rpc))?;
+    let words = behind_word(b"restart", behind(b' ', from_rpc))?;
+    let span = read_span(words)?;
+    Some(Fault::new(rpc, 0, span.after, span.times))
 }

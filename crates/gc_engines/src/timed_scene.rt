@@ -1,26 +1,30 @@
-//! The text of a scene that `serve` takes, read into the instrument that it sets up, with its delays.
+//! The text of a scene that `serve` takes, read into the instrument that it sets up, with its delays and its starts.
 
 ghost use Rattle.std.specs.Prelude.{◌≡◌, [], Err, IfErr, IfOk, IsOk, MatchOption, false};
 ghost use Rattle.gc_texts.specs.LineForms.{FirstFaulty, NamesFaulty, RefusesLong};
 ghost use Rattle.gc_texts.specs.declared.fault.RunFault.{RunFault};
-ghost use Rattle.gc_engines.specs.TimedScenes.{HaveManyDelays, IsOverfullTimed, IsTimedLine, IsTimedScene, TimedFault, delays_of, drops_from, rules_of};
+ghost use Rattle.gc_engines.specs.TimedScenes.{HaveManyDelays, HaveManyStarts, IsOverfullTimed, IsTimedLine, IsTimedScene, TimedFault, delays_of, drops_from, rules_of, starts_of};
 
 use crate::rule_line::RuleLine;
 use crate::rule_scene::set_up;
 use crate::timed_line::{TimedForm, TimedLine};
 use arrayvec::ArrayVec;
-use gc_scenes::{Delay, SlowInstrument};
+use gc_scenes::{Delay, Fault, SlowInstrument};
 use gc_texts::{RunFault, read_items};
 use std::alloc::{AllocError, Global};
 
 // The most delays of an instrument.
 const MOST_DELAYS: usize = 32;
 
-/// Reads the text of a scene for `serve`: a scene with rules that may also have lines `delay RPC MS`, `busy queue` and `busy drop`.
-/// Returns the instrument that the text sets up, in its opening state. MS is in milliseconds, at most 3,600,000. Of several delays of one
-/// procedure, and of several lines `busy`, the last one counts. Without a line `busy` the instrument queues.
+// The most faults at which an instrument starts anew.
+const MOST_STARTS: usize = 32;
+
+/// Reads the text of a scene for `serve`: a scene with rules that may also have lines `delay RPC MS`, `busy queue`, `busy drop` and
+/// `fault RPC restart [after COUNT] [for COUNT]`. Returns the instrument that the text sets up, in its opening state. MS is in
+/// milliseconds, at most 3,600,000. Of several delays of one procedure, and of several lines `busy`, the last one counts. Without a
+/// line `busy` the instrument queues.
 ///
-/// The faults are those of `read_rule_scene`. `SceneFull` also refuses more than 32 delays. `Memory` also comes after all lines
+/// The faults are those of `read_rule_scene`. `SceneFull` also refuses more than 32 delays or 32 starts. `Memory` also comes after all lines
 /// were read, if memory is refused for a second list, of those lines that are lines of a scene with rules.
 pub fn read_timed_scene(alloc: Global, text: &[u8]) -> Result<SlowInstrument, RunFault>
     ensures found { IfOk result (λ slow. IsTimedScene text.now slow) }
@@ -36,8 +40,11 @@ pub fn read_timed_scene(alloc: Global, text: &[u8]) -> Result<SlowInstrument, Ru
     let Some(scene) = set_up(rules.as_slice()) else {
         return Err(RunFault::SceneFull);
     };
+    let Some(starts) = starts_of(lines.as_slice()) else {
+        return Err(RunFault::SceneFull);
+    };
     match delays_of(lines.as_slice()) {
-        Some(delays) => Ok(SlowInstrument::new(scene, delays, drops(lines.as_slice()))),
+        Some(delays) => Ok(SlowInstrument::new(scene, starts, delays, drops(lines.as_slice()))),
         None => Err(RunFault::SceneFull),
     }
 }
@@ -72,6 +79,22 @@ fn delays_of(lines: &[TimedLine]) -> Option<ArrayVec<Delay, MOST_DELAYS>>
         }
     }
     Some(delays)
+}
+
+// The faults of these lines at which the instrument starts anew, in order. `None`: they are more than `MOST_STARTS`.
+fn starts_of(lines: &[TimedLine]) -> Option<ArrayVec<Fault, MOST_STARTS>>
+    ensures { MatchOption result (HaveManyStarts lines.now) (λ starts. starts.items ≡ starts_of lines.now) }
+{
+    let mut starts = ArrayVec::new();
+    for line in lines {
+        let TimedLine::Start(start) = *line else {
+            continue;
+        };
+        if starts.try_push(start).is_err() {
+            return None;
+        }
+    }
+    Some(starts)
 }
 
 // Whether the instrument drops what comes while it is busy: as the last line `busy` says. If there is none, it doesn't.

@@ -411,7 +411,12 @@ fn slow_instrument(delay: Delay, drops: bool) -> SlowInstrument {
         repeats: true,
         ways: Ways::none(),
     };
-    SlowInstrument::new(SceneInstrument::new(7, slow_name(), rules), delays, drops)
+    SlowInstrument::new(
+        SceneInstrument::new(7, slow_name(), rules),
+        ArrayVec::new(),
+        delays,
+        drops,
+    )
 }
 
 // The name of the slow instrument. It is never empty, because plain bytes as these make a text.

@@ -7,3 +7,5 @@ pub mod Playing
 pub mod Shifts
 pub mod Turns
 pub mod Slowly
+pub mod Started
+pub mod StartLaws

@@ -6,8 +6,7 @@ use Rattle.gc_lines.specs.Requests.{RequestFields, IsRequest}
 use Rattle.gc_lines.specs.declared.fault.LineFault.{LineFault}
 use Rattle.gc_lines.specs.declared.request.Request.{Request}
 use Rattle.gc_lines.proofs.AnsweringLines.{faulty_is_no_request}
-use Rattle.gc_scenes.specs.SceneReplying.{IsPlayed}
-use Rattle.gc_scenes.specs.SceneState.{SceneState}
+use Rattle.gc_scenes.specs.Starting.{StartingState, StartsOrPlays}
 use Rattle.gc_catalogue.specs.Moments.{later}
 use Rattle.gc_scenes.specs.Slow.{SlowState, HearsLine, silent, replies, TakesUp, IsDelay, delay_of, scene_then, taken_up}
 use Rattle.gc_scenes.specs.declared.delay.Delay.{Delay}
@@ -28,27 +27,27 @@ delay_unread delays line view fault ms only = λ q reads. absurd (faulty_is_no_r
 
 -- Here a line is taken up. `v` equals the state `now` before the line, `then` is the scene's state when the instrument starts on
 -- the line, and `scene` that after it.
-module _ (v now : SlowState) (e : v ≡ now) (line : List ℕ) (at : ℕ) (then scene : SceneState) (old new : List ℕ)
+module _ (v now : SlowState) (e : v ≡ now) (line : List ℕ) (at : ℕ) (then scene : StartingState) (old new : List ℕ)
     (taken : TakesUp now at) (starts : then ≡ scene_then now at) where
   -- where the line gets no reply, `HearsLine` holds of it
-  pub silent_heard : AppendsAnswer (IsPlayed then line scene) old new false
+  pub silent_heard : AppendsAnswer (StartsOrPlays then line scene) old new false
       → AppendsAnswer (HearsLine now line at (record v { scene = scene })) old new false
   silent_heard h =
       subst (λ (b : SlowState). AppendsAnswer (HearsLine b line at (record v { scene = scene })) old new false) e (
         silent (subst (λ (b : SlowState). TakesUp b at) (sym e) taken) scene
-            (subst (λ (s : SceneState). IsPlayed s line scene None) (starts ∙ ap (λ (b : SlowState). scene_then b at) (sym e)) h.0) refl refl,
+            (subst (λ (s : StartingState). StartsOrPlays s line scene None) (starts ∙ ap (λ (b : SlowState). scene_then b at) (sym e)) h.0) refl refl,
         h.1,
       )
 
   -- where the line gets a reply, which takes `ms` milliseconds and goes out at the moment `due`, `HearsLine` holds of it
   pub reply_heard : (ms due : ℕ) → IsDelay now.delays line ms → due ≡ later (taken_up now at) ms
-      → AppendsAnswer (IsPlayed then line scene) old new true
+      → AppendsAnswer (StartsOrPlays then line scene) old new true
       → AppendsAnswer (HearsLine now line at (record v { scene = scene; free_from = due })) old new true
   reply_heard ms due delay is h =
       subst (λ (b : SlowState). AppendsAnswer (HearsLine b line at (record v { scene = scene; free_from = due })) old new true) e (
         h.0,
         replies (subst (λ (b : SlowState). TakesUp b at) (sym e) taken) scene h.0
-            (subst (λ (s : SceneState). IsPlayed s line scene (Some h.0)) (starts ∙ ap (λ (b : SlowState). scene_then b at) (sym e)) h.1) ms
+            (subst (λ (s : StartingState). StartsOrPlays s line scene (Some h.0)) (starts ∙ ap (λ (b : SlowState). scene_then b at) (sym e)) h.1) ms
             (subst (λ (b : SlowState). IsDelay b.delays line ms) (sym e) delay)
             (ap (λ (d : ℕ). record v { scene = scene; free_from = d }) (is ∙ ap (λ (b : SlowState). later (taken_up b at) ms) (sym e))) refl,
         h.2,

@@ -2,13 +2,16 @@
 use Rattle.std.specs.Prelude.{◌≡◌, ◌<◌, ◌≤◌, ℕ, List, [], ◌∷◌, ◌++◌, map, true, Option, Some, None}
 use Rattle.std.specs.List.{AllByRecursion}
 use Rattle.gc_lines.specs.AnsweringLines.{HasOneReply}
+use Rattle.gc_lines.specs.Replies.{ReplyFields, IsReply}
+use Rattle.gc_lines.specs.Requests.{RequestFields, IsRequest}
 use Rattle.gc_instrument.specs.Replying as table
 use Rattle.gc_instrument.specs.State.{State}
 use Rattle.gc_instrument.specs.declared.pointing.Pointing.{Pointing}
 use Rattle.gc_instrument.specs.declared.target.Target.{Target}
 use Rattle.gc_scenes.specs.Ways.{no_ways, apart, window, nearest}
 use Rattle.gc_scenes.specs.SceneReplying.{IsPlayed}
-use Rattle.gc_scenes.specs.SceneState.{SceneState, seeing}
+use Rattle.gc_scenes.specs.SceneState.{SceneState, scene_restarted, seeing}
+use Rattle.gc_scenes.specs.Starting.{StartingState, StartsOrPlays, is_start_due, sign_on}
 use Rattle.gc_scenes.specs.declared.rules.Prism.{Prism}
 
 -- a target that never moves and is never hidden
@@ -46,6 +49,24 @@ TableIsTheInstance = (before after : State) (line : List ℕ) (reply : Option (L
 -- a state, which contains the noise's seed, and a line determine the state after the line, and the reply or that there is none
 abbrev pub OneReply : Type 0
 OneReply = HasOneReply IsPlayed
+
+-- a scene's instrument that never starts anew at a request, in this state
+abbrev pub without_starts : SceneState → StartingState
+without_starts s = record { scene = s; starts = [] }
+
+-- of an instrument that starts anew at some requests
+pub record StartsAnew : Type 0 where
+  -- a state and a line determine the state after the line, and what is sent or that nothing is
+  pub one : HasOneReply StartsOrPlays
+  -- at a request at which a start is due it restarts, which leaves no reply stored, and sends the sign-on line
+  pub starts : (before after : StartingState) (line : List ℕ) (sent : Option (List ℕ)) (q : RequestFields)
+      → StartsOrPlays before line after sent → IsRequest line q → is_start_due q.rpc before.starts ≡ true
+      → (after.scene ≡ scene_restarted before.scene) × (after.scene.base.kept ≡ None) × (sent ≡ Some sign_on)
+  -- the sign-on line is no reply
+  pub no_reply : (fields : ReplyFields) → IsReply sign_on fields → ⊥
+  -- without starts it does what the scene's instrument does
+  pub without : (before after : SceneState) (line : List ℕ) (reply : Option (List ℕ)) → IsPlayed before line after reply
+      → StartsOrPlays (without_starts before) line (without_starts after) reply
 
 -- each target is beyond the window of target recognition
 abbrev pub IsFarOff : Pointing → List Target → Type 0

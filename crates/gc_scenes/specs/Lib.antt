@@ -9,7 +9,8 @@ pub mod SceneState
 pub mod SceneExecution
 pub mod SceneReplying
 pub mod SceneServing
-pub mod Laws
 pub mod Seen
 pub mod Appending
+pub mod Starting
+pub mod Laws
 pub mod Slow

@@ -5,8 +5,7 @@ use Rattle.gc_lines.specs.AnsweringLines.{AnswersLines}
 use Rattle.gc_lines.specs.Requests.{RequestFields, IsRequest}
 use Rattle.gc_lines.specs.declared.frame.Frame.{Frame}
 use Rattle.gc_catalogue.specs.Moments.{later}
-use Rattle.gc_scenes.specs.SceneReplying.{IsPlayed}
-use Rattle.gc_scenes.specs.SceneState.{SceneState, scene_restarted, at_moment}
+use Rattle.gc_scenes.specs.Starting.{StartingState, StartsOrPlays, starting_restarted, starting_at}
 use Rattle.gc_scenes.specs.declared.delay.Delay.{Delay}
 
 -- how long the reply to a request of this procedure takes with this delay, in milliseconds, if it takes `ms` without it
@@ -23,7 +22,7 @@ IsDelay delays line ms = (q : RequestFields) → IsRequest line q → ms ≡ del
 
 -- the state of a scene's instrument whose replies take time
 pub record SlowState : Type 0 where
-  pub scene : SceneState
+  pub scene : StartingState
   pub delays : List Delay
   -- whether lines that come while the instrument is busy are discarded
   pub drops : Bool
@@ -32,7 +31,7 @@ pub record SlowState : Type 0 where
 
 -- the state after a restart of the instrument, which is as busy as before
 abbrev pub slow_restarted : SlowState → SlowState
-slow_restarted s = record s { scene = scene_restarted s.scene }
+slow_restarted s = record s { scene = starting_restarted s.scene }
 
 -- the instrument takes up a line that comes at this moment, and doesn't discard it: it isn't busy then, or discards no lines
 abbrev pub TakesUp : SlowState → (at : ℕ) → Type 0
@@ -44,8 +43,8 @@ abbrev pub taken_up : SlowState → (at : ℕ) → ℕ
 taken_up s at = max at s.free_from
 
 -- the state of the scene's instrument when it starts on a line that came at the moment `came`
-abbrev pub scene_then : SlowState → (came : ℕ) → SceneState
-scene_then s came = at_moment (taken_up s came) s.scene
+abbrev pub scene_then : SlowState → (came : ℕ) → StartingState
+scene_then s came = starting_at (taken_up s came) s.scene
 
 -- what the instrument does with a line whose last byte came at the moment `at`, and its reply, if there is one. The reply goes
 -- out at `after.free_from`
@@ -53,11 +52,11 @@ pub data HearsLine (before : SlowState) (line : List ℕ) (at : ℕ) (after : Sl
   -- the instrument is busy, and discards the line: nothing is executed
   drops_it : before.drops ≡ true → at < before.free_from → after ≡ before → reply ≡ None → HearsLine before line at after reply
   -- the line gets no reply: it is no request
-  silent : TakesUp before at → (scene : SceneState) → IsPlayed (scene_then before at) line scene None
+  silent : TakesUp before at → (scene : StartingState) → StartsOrPlays (scene_then before at) line scene None
       → after ≡ record before { scene = scene } → reply ≡ None
       → HearsLine before line at after reply
-  -- the line is a request: its reply goes out `ms` milliseconds after the instrument started on it
-  replies : TakesUp before at → (scene : SceneState) → (text : List ℕ) → IsPlayed (scene_then before at) line scene (Some text) → (ms : ℕ)
+  -- the line is a request: its reply, or the sign-on line in its place, goes out `ms` milliseconds after the instrument started on it
+  replies : TakesUp before at → (scene : StartingState) → (text : List ℕ) → StartsOrPlays (scene_then before at) line scene (Some text) → (ms : ℕ)
       → IsDelay before.delays line ms
       → after ≡ record before { scene = scene; free_from = later (taken_up before at) ms } → reply ≡ Some text
       → HearsLine before line at after reply

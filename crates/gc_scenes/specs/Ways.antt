@@ -1,6 +1,6 @@
 -- The ways of real instruments that a scene's instrument may have, each by itself: this project's own, from memory, and no
 -- statement about an instrument. Angles are whole numbers of units, 10^-24 radians each.
-use Rattle.std.specs.Prelude.{ℕ, ℤ, ◌+◌, ◌-◌, ◌%◌, ◌==◌, ◌&&◌, ◌||◌, ◌+ℤ◌, ◌-ℤ◌, Bool, true, false, List, [], ◌∷◌, Option, Some, None, nat_le, int_le, int_lt, unsigned_abs, if◌then◌else◌, min, max}
+use Rattle.std.specs.Prelude.{ℕ, ℤ, ◌-◌, ◌%◌, ◌==◌, ◌&&◌, ◌||◌, ◌+ℤ◌, ◌-ℤ◌, Bool, true, false, List, [], ◌∷◌, Option, Some, None, nat_le, int_le, int_lt, unsigned_abs, if◌then◌else◌, min, max}
 use Rattle.gc_values.specs.Decimals.{units}
 use Rattle.gc_values.specs.Directions.{half_turn, turn}
 use Rattle.gc_values.specs.Fraction.{signed}

@@ -380,8 +380,8 @@ fn drifted(sight: &Sight, prisms: &[Prism]) -> ArrayVec<Prism, 32>
     moved
 }
 
-// The faults after one more request of this procedure.
-fn counted(rpc: u16, faults: &[Fault]) -> ArrayVec<Fault, 32>
+/// The faults after one more request of this procedure.
+pub(crate) fn counted(rpc: u16, faults: &[Fault]) -> ArrayVec<Fault, 32>
     requires { length faults.now ≤ 32 }
     ensures { result.items ≡ counted rpc faults.now }
 {

@@ -1,6 +1,6 @@
 //! What is proved of the definitions themselves. Each function does nothing: its contract is the law.
 
-ghost use Rattle.gc_scenes.specs.Laws.{TableIsTheInstance, OneReply, NearestIsNearest};
+ghost use Rattle.gc_scenes.specs.Laws.{TableIsTheInstance, OneReply, NearestIsNearest, StartsAnew};
 
 /// In a scene without rules the instrument does with a line what the instrument of the execution table does, and replies the
 /// same. How many looks are counted then isn't said.
@@ -17,4 +17,10 @@ pub fn one_reply()
 /// only if all targets are beyond the window.
 pub fn nearest_is_nearest()
     ensures { NearestIsNearest }
+{}
+
+/// An instrument that starts anew at a request restarts then, has no reply stored, and sends its sign-on line, which is no reply.
+/// Where no start is due it does what the scene's instrument does. A state and a line determine what it does.
+pub fn starts_keep_no_reply()
+    ensures { StartsAnew }
 {}

@@ -1,5 +1,5 @@
 //! The instrument of a scene with rules: faults, hidden and moving targets, noise, replies to procedures that aren't in the table, ways
-//! of real instruments, and replies that take time. It uses the execution table of `gc_instrument`, and in a scene without rules it
+//! of real instruments, replies that take time, and starts at some requests. It uses the execution table of `gc_instrument`, and in a scene without rules it
 //! does what the instrument there does.
 #![tactic(auto)]
 
@@ -14,6 +14,7 @@ mod ruling;
 mod serving;
 mod shifting;
 mod slow;
+mod starting;
 mod ways;
 
 pub use delay::Delay;

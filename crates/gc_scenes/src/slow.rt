@@ -8,6 +8,8 @@ ghost use Rattle.gc_scenes.specs.Slow.{HearsLine, IsDelay, TakesUp, delay_of, sl
 
 use crate::delay::Delay;
 use crate::instrument::SceneInstrument;
+use crate::rules::Fault;
+use crate::starting::StartingInstrument;
 use arrayvec::ArrayVec;
 use gc_lines::read_request;
 use std::marker::Model;
@@ -16,7 +18,7 @@ use std::marker::Model;
 /// order, or are discarded. Moments are milliseconds on one clock.
 #[derive(Drop)]
 pub struct SlowInstrument {
-    scene: SceneInstrument,
+    scene: StartingInstrument,
     delays: ArrayVec<Delay, 32>,
     // Whether it discards lines that come while it is busy.
     drops: bool,
@@ -33,13 +35,18 @@ impl Model for SlowInstrument {
 }
 
 impl SlowInstrument {
-    /// The instrument with these delays; of several for one procedure the last one counts. If `drops`, it discards lines that
-    /// come while it is busy.
-    pub fn new(scene: SceneInstrument, delays: ArrayVec<Delay, 32>, drops: bool) -> SlowInstrument
-        ensures { result ≡ record { scene = scene; delays = delays.items; drops = drops; free_from = 0 } }
+    /// The instrument that starts anew where one of the faults `starts` is due, with these delays; of several delays for one
+    /// procedure the last one counts. If `drops`, it discards lines that come while it is busy.
+    pub fn new(
+        scene: SceneInstrument,
+        starts: ArrayVec<Fault, 32>,
+        delays: ArrayVec<Delay, 32>,
+        drops: bool,
+    ) -> SlowInstrument
+        ensures { result ≡ record { scene = record { scene = scene; starts = starts.items }; delays = delays.items; drops = drops; free_from = 0 } }
     {
         SlowInstrument {
-            scene,
+            scene: StartingInstrument::new(scene, starts),
             delays,
             drops,
             free_from: 0,
@@ -68,7 +75,7 @@ impl SlowInstrument {
     }
 
     /// Answers a line whose last byte came at the moment `at`: appends the reply to `out`, without CR LF, and returns whether there is one.
-    /// The reply goes out at `free_from`. If the instrument is busy and `drops`, the line is discarded: nothing is executed, and there is
+    /// The reply goes out at `free_from`. Where the instrument starts anew at the line, the sign-on line stands for the reply. If the instrument is busy and `drops`, the line is discarded: nothing is executed, and there is
     /// no reply. A line that is no request gets none either. Without a reply `free_from` stays as it is. Unless the line is
     /// discarded, the moment at which the instrument starts on it is set in the scene's instrument
     /// (`SceneInstrument::set_moment`).
@@ -83,7 +90,7 @@ impl SlowInstrument {
         let from = self.taken_up(at);
         let due = moment_after(from, self.delay_of_line(line));
         self.scene.set_moment(from);
-        if !self.scene.reply_onto(line, out) {
+        if !self.scene.send_onto(line, out) {
             return false;
         }
         self.free_from = due;

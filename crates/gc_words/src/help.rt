@@ -22,6 +22,7 @@ A scene for `serve` and `rehearse`, which have a clock, may also have:
   behave clock|real                        runs the instrument's clock; `real` means all five words
 One for `serve` may also have:
   delay RPC MS                             sends the reply to a procedure MS milliseconds later, at most 3600000
+  fault RPC restart [after COUNT] [for COUNT]   restarts the instrument, which sends a sign-on line and executes nothing
   busy queue, busy drop                    what arrives meanwhile waits in order (default), or gets no reply
 
 Exit status: 0 on success, 1 after a fault, 2 for a command line that doesn't parse.
@@ -71,7 +72,8 @@ pub const VERDICTS: &str =
   N fault F                neither a request nor a reply: F is its first bad field, 1 to 5
   N cleared                a line feed without a CR before it: an instrument discards the line
   N overlong               more than 512 bytes
-Bytes after the last line feed are ignored.
+The verdict on a line has `sign-on`, `CR alone` or `GSI` after it if an instrument signs on in it, if a CR without a line feed
+ends a reply in it, or if it is measured data in GSI. Bytes after the last line feed are ignored.
 
 With --log it prints a line for each line of a log written by `station --log`: the time, the mark, and what the bytes are. `>` was
 sent and `<` received, as complete lines; `>|` and `<|` are `cleared` or `part`, since they didn't end in CR LF; `-` is the
