@@ -40,7 +40,7 @@ def at(number):
     return format(number, ".1f").removesuffix(".0")
 
 
-ORDER = ["ok", "warning", "unconfirmed", "disagree", "refused", "unanswered", "unsent"]
+ORDER = ["ok", "warning", "unconfirmed", "disagree", "unexpected", "refused", "unanswered", "unsent"]
 
 
 def parts_of(moments, span):

@@ -50,8 +50,8 @@ def with_columns(columns):
 
 COLUMNS_HEAD = ",".join(with_columns(ANSWER_COLUMNS)).encode() + b"\n"
 # In the order of the counts; those of a reply that came in time, and those of a command that wasn't sent.
-OUTCOMES = ["answered", "late", "lost", "skipped", "unreadable", "missed", "elsewhere", "disagree"]
-REPLIED = ["answered", "unreadable", "elsewhere", "disagree"]
+OUTCOMES = ["answered", "late", "lost", "skipped", "unreadable", "missed", "elsewhere", "unexpected", "disagree"]
+REPLIED = ["answered", "unreadable", "elsewhere", "unexpected", "disagree"]
 UNSENT = ["skipped", "missed"]
 # The qualities of an answer whose values read and count; and that of one whose command is sent once more, which counts only then.
 GOOD = ["ok", "warning"]

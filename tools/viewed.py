@@ -26,7 +26,8 @@ DAY = 86_400
 MOST_BYTES = 1 << 27
 # What a command came to, from good to worst, and of which outcomes.
 SORTS = {
-    "ok": ["ok"], "warning": ["warning"], "unconfirmed": ["unconfirmed"], "disagree": ["disagree"], "refused": ["refused"],
+    "ok": ["ok"], "warning": ["warning"], "unconfirmed": ["unconfirmed"], "disagree": ["disagree"],
+    "unexpected": ["unexpected"], "refused": ["refused"],
     "unanswered": ["late", "lost", "unreadable", "elsewhere"], "unsent": ["skipped", "missed"],
 }
 SORT_OF = {outcome: sort for sort, outcomes in SORTS.items() for outcome in outcomes}

@@ -29,7 +29,8 @@ def row(chance, number):
     target, name, hz, v, distance = TARGETS[number // len(COMMANDS) % len(TARGETS)]
     place = number % (len(COMMANDS) * len(TARGETS))
     procedure = COMMANDS[number % len(COMMANDS)]
-    outcome = chance.choices([b"answered", b"late", b"lost", b"skipped", b"unreadable", b"missed", b"elsewhere", b"disagree"], [80, 3, 3, 6, 1, 2, 1, 1])[0]
+    outcome = chance.choices([b"answered", b"late", b"lost", b"skipped", b"unreadable", b"missed", b"elsewhere", b"unexpected", b"disagree"],
+                             [80, 3, 3, 6, 1, 2, 1, 1, 1])[0]
     fault = rc_com = rc = values = quality = b""
     if outcome == b"answered":
         rc_com, rc, quality = b"0", b"0", b"ok"
@@ -48,7 +49,7 @@ def row(chance, number):
             quality = b"unconfirmed"
     elif outcome == b"unreadable":
         fault, rc_com, rc, values = b"11", b"0", b"0", rb'"x,\xff\x00%d"' % number
-    elif outcome in (b"elsewhere", b"disagree"):
+    elif outcome in (b"elsewhere", b"unexpected", b"disagree"):
         rc_com, rc, values = b"0", b"0", b'"%.9f,%.9f"' % (hz + 0.5, v)
     sent = b"" if outcome.decode() in UNSENT else stamp(moment - datetime.timedelta(milliseconds=1_234))
     fields = {

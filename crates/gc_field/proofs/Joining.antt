@@ -311,6 +311,7 @@ module _ {State : Type 0} (ends : Ends State) (Good : State → Type 0) (kept : 
     none (end.Unreadable l fault) out answered = cc
     none (end.Elsewhere l) out answered = cc
     none (end.Disagree l) out answered = cc
+    none (end.Unexpected l) out answered = cc
     none end.Late out answered = cc
     none end.Lost out answered = cc
     none end.Skipped out answered = cc

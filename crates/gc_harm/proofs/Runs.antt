@@ -342,6 +342,7 @@ module _ {State : Type 0} (ends : Ends State) (Good : State → Type 0) (kept : 
       none (end.Unreadable l fault) line out answered = cc
       none (end.Elsewhere l) line out answered = cc
       none (end.Disagree l) line out answered = cc
+      none (end.Unexpected l) line out answered = cc
       none end.Late line out answered = cc
       none end.Lost line out answered = cc
       none end.Skipped line out answered = cc

@@ -47,7 +47,7 @@ first_said (line ∷ lines) said later are = by_kept (is_kept line) refl are (fi
 pub reaches_a_line : (text : List ℕ) (deadline : ℕ) (chained : Bool) (all : TasksSeen) → IsTasks text deadline chained all → 0 < length all.tasks → ReachesASoundTaskLine text
 reaches_a_line text deadline chained all is some = by_said is.said is.lines.forms is.lines.follow (ap length is.tasks_are) where
   -- the lemma above, by what the lines say
-  by_said : (said : List Said) → AreLinesOf IsTaskLine (filter is_kept (text_lines text)) said → MayFollow [] [] [] said
+  by_said : (said : List Said) → AreLinesOf IsTaskLine (filter is_kept (text_lines text)) said → MayFollow [] [] [] 0 said
       → length all.tasks ≡ length (map (placed all.nears all.unwatched) (tasks_of (first_mode deadline chained) said)) → ReachesASoundTaskLine text
   by_said [] forms follow long = absurd (omega (arith, some, long))
   by_said (said ∷ later) forms follow long =

@@ -157,18 +157,18 @@ AllLast is_durable (Err _) = Unit {0}
 abbrev pub overrun_line : (cycle : ℕ) → List ℕ
 overrun_line cycle = codes "geocom: cycle " ++ decimal cycle ++ codes " was not done when the next was due\n"
 
--- the front of the line of the counts: how many commands were answered, how many of these were refused, and how many were late and
--- lost
+-- the front of the line of the counts: how many commands were answered, how many of these were refused, and how many were late
 abbrev pub main_counts_text : Tally → List ℕ
-main_counts_text t = codes "answered " ++ decimal t.answered ++ codes " (refused " ++ decimal t.refused ++ codes ") late " ++ decimal t.late ++ codes " lost " ++ decimal t.lost ++ codes " "
+main_counts_text t = codes "answered " ++ decimal t.answered ++ codes " (refused " ++ decimal t.refused ++ codes ") late " ++ decimal t.late ++ codes " "
 
--- what follows in the line of the counts: how many commands were skipped, unreadable and missed
+-- what follows in the line of the counts: how many commands were lost, skipped and unreadable
 abbrev pub other_counts_text : Tally → List ℕ
-other_counts_text t = codes "skipped " ++ decimal t.skipped ++ codes " unreadable " ++ decimal t.unreadable ++ codes " missed " ++ decimal t.missed ++ codes " "
+other_counts_text t = codes "lost " ++ decimal t.lost ++ codes " skipped " ++ decimal t.skipped ++ codes " unreadable " ++ decimal t.unreadable ++ codes " "
 
--- what follows then: how many commands were elsewhere and in disagreement
+-- what follows then: how many commands were missed, elsewhere, unexpected and in disagreement
 abbrev pub judged_counts_text : Tally → List ℕ
-judged_counts_text t = codes "elsewhere " ++ decimal t.elsewhere ++ codes " disagree " ++ decimal t.disagree
+judged_counts_text t =
+    codes "missed " ++ decimal t.missed ++ codes " elsewhere " ++ decimal t.elsewhere ++ codes " unexpected " ++ decimal t.unexpected ++ codes " disagree " ++ decimal t.disagree
 
 -- the end of the line of the counts: how many times a chain was sent again
 abbrev pub repeats_text : Tally → List ℕ

@@ -9,6 +9,7 @@ ghost use Rattle.gc_messages.specs.Transcripts.{hearing_of};
 
 use crate::bound::{outline_bound, report_tight_deadlines};
 use crate::counts::report_end_of_run;
+use crate::expecting::outline_expectation;
 use crate::plan::{commands_per_cycle, plan_of};
 use crate::sendings::{repeats_before, report_long_chains};
 use crate::stop::Stop;
@@ -26,8 +27,8 @@ use std::io::{self, Write};
 use std::process::ExitCode;
 
 /// Reads the text of a station, and writes on the output what a station would do with it: the setup, and the chains of a cycle
-/// with the names of their targets, the deadlines of their commands in milliseconds, and how often and after what they may be
-/// sent again; and, where cycles have due moments, by when a row is written. What looks wrong, and is no fault, is reported on the
+/// with the names of their targets, the deadlines of their commands in milliseconds, what is expected of their answers, and how often and
+/// after what they may be sent again; and, where cycles have due moments, by when a row is written. What looks wrong, and is no fault, is reported on the
 /// messages, as far as they can be written: angles outside one turn, targets of which the text says where they are, though no command
 /// measures their direction, chains that are too long for being sent twice, names of targets without a command, unwatched targets without a command of the cycle, spaces or tabs at
 /// ends of lines, and deadlines that add up to more than the time that a cycle has.
@@ -185,7 +186,7 @@ pub fn write_target<W: Write>(target: u32, name: &[u8], out: &mut W) -> io::Resu
 }
 
 // Writes a command after its target: the number of its procedure, `now` if it sets the clock to the moment at which it is sent,
-// and its deadline in milliseconds.
+// its deadline in milliseconds, and what is expected of its answer's values, if anything is.
 fn outline_command<W: Write>(task: &Task, outline: &mut W) -> io::Result<()> {
     let procedure = task.command.call.number();
     let deadline = task.deadline;
@@ -193,7 +194,11 @@ fn outline_command<W: Write>(task: &Task, outline: &mut W) -> io::Result<()> {
     if task.now {
         write!(outline, " now")?;
     }
-    write!(outline, " within {deadline} ms;")
+    write!(outline, " within {deadline} ms")?;
+    if let Some(expectation) = &task.expects {
+        outline_expectation(expectation, outline)?;
+    }
+    write!(outline, ";")
 }
 
 // Ends the line of a chain, if one is being written: whether it is sent twice, and how far apart the values may be, angles in radians
@@ -214,7 +219,7 @@ fn end_chain<W: Write>(chain: Option<ChainEnd>, outline: &mut W) -> io::Result<(
 }
 
 // Writes after which answers, by their return codes, and after which outcomes a chain is sent again, each after a space. An answer that
-// is `elsewhere` counts by that word alone, as does one that is `disagree`.
+// is `elsewhere` counts by that word alone, as does one that is `unexpected`, or `disagree`.
 fn outline_rule<W: Write>(rule: &Again, outline: &mut W) -> io::Result<()> {
     if rule.codes.codes[0] != 0 {
         write!(outline, " answered")?;
@@ -228,6 +233,7 @@ fn outline_rule<W: Write>(rule: &Again, outline: &mut W) -> io::Result<()> {
     let outcomes = [
         ("unreadable", rule.unreadable),
         ("elsewhere", rule.elsewhere),
+        ("unexpected", rule.unexpected),
         ("disagree", rule.disagree),
         ("late", rule.late),
         ("lost", rule.lost),

@@ -43,8 +43,8 @@ fn write_counts<E: Write>(tally: Tally, messages: &mut E) -> io::Result<()>
     write_repeats(tally, messages)
 }
 
-/// Writes the front of the line of the counts: how many commands were answered, how many of these were refused, how many were late and
-/// lost, and a space.
+/// Writes the front of the line of the counts: how many commands were answered, how many of these were refused, how many were late, and a
+/// space.
 pub fn write_main_counts<E: Write>(tally: Tally, messages: &mut E) -> io::Result<()>
     ensures { WritesIfOk E.contents messages.old messages.new result (main_counts_text tally) }
 {
@@ -52,42 +52,47 @@ pub fn write_main_counts<E: Write>(tally: Tally, messages: &mut E) -> io::Result
         answered,
         refused,
         late,
-        lost,
         ..
     } = tally;
     write!(
         messages,
-        "answered {answered} (refused {refused}) late {late} lost {lost} "
+        "answered {answered} (refused {refused}) late {late} "
     )
 }
 
-/// Writes what follows in the line of the counts after `write_main_counts`: how many commands were skipped, unreadable and missed, and
-/// a space.
+/// Writes what follows in the line of the counts after `write_main_counts`: how many commands were lost, skipped and unreadable, and a
+/// space.
 pub fn write_other_counts<E: Write>(tally: Tally, messages: &mut E) -> io::Result<()>
     ensures { WritesIfOk E.contents messages.old messages.new result (other_counts_text tally) }
 {
     let Tally {
+        lost,
         skipped,
         unreadable,
-        missed,
         ..
     } = tally;
     write!(
         messages,
-        "skipped {skipped} unreadable {unreadable} missed {missed} "
+        "lost {lost} skipped {skipped} unreadable {unreadable} "
     )
 }
 
-/// Writes what follows in the line of the counts after `write_other_counts`: how many commands were elsewhere and in disagreement.
+/// Writes what follows in the line of the counts after `write_other_counts`: how many commands were missed, elsewhere, unexpected and in
+/// disagreement.
 pub fn write_judged_counts<E: Write>(tally: Tally, messages: &mut E) -> io::Result<()>
     ensures { WritesIfOk E.contents messages.old messages.new result (judged_counts_text tally) }
 {
     let Tally {
+        missed,
         elsewhere,
+        unexpected,
         disagree,
         ..
     } = tally;
-    write!(messages, "elsewhere {elsewhere} disagree {disagree}")
+    write!(
+        messages,
+        "missed {missed} elsewhere {elsewhere} unexpected {unexpected} disagree {disagree}"
+    )
 }
 
 // Writes the end of the line of the counts, after `write_judged_counts`: how many times a chain was sent again.

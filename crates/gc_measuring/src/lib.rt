@@ -5,6 +5,7 @@ mod bound;
 mod checking;
 mod counts;
 mod doubts;
+mod expecting;
 pub mod laws;
 mod logging;
 mod measure;

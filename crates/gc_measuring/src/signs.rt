@@ -145,7 +145,7 @@ impl Signs {
     }
 
     // Notes that an answer came, also one with a return code other than 0, with values that can't be read, with a direction that is
-    // elsewhere, or in disagreement with the one before.
+    // elsewhere, with values that weren't expected, or in disagreement with the one before.
     fn note_answer(&mut self)
         ensures { self.new.counts ≡ self.old.counts }
     {
@@ -500,6 +500,7 @@ fn show_others<E: Write>(counts: Tally, row: &mut E) -> io::Result<()> {
         ("unreadable", counts.unreadable),
         ("missed", counts.missed),
         ("elsewhere", counts.elsewhere),
+        ("unexpected", counts.unexpected),
         ("disagree", counts.disagree),
     ] {
         show_count(name, count, row)?;

@@ -20,6 +20,8 @@ enum Why {
     Unreadable,
     /// It was measured elsewhere.
     Elsewhere,
+    /// Its values aren't those that its line `expect` says.
+    Unexpected,
     /// Its values don't agree with those of the chain's first sending.
     Disagree,
 }
@@ -31,6 +33,7 @@ impl Why {
             Ending::Answered(Quality::Refused, _, line) => Some(Why::of_refusal(line)),
             Ending::Unreadable(..) => Some(Why::Unreadable),
             Ending::Elsewhere(_) => Some(Why::Elsewhere),
+            Ending::Unexpected(_) => Some(Why::Unexpected),
             Ending::Disagree(_) => Some(Why::Disagree),
             Ending::Answered(..) => None,
             Ending::Late | Ending::Lost | Ending::Skipped | Ending::Missed => None,
@@ -54,6 +57,7 @@ impl Why {
             Why::Code(code) => writeln!(messages, "refused {code}"),
             Why::Unreadable => writeln!(messages, "unreadable"),
             Why::Elsewhere => writeln!(messages, "elsewhere"),
+            Why::Unexpected => writeln!(messages, "unexpected"),
             Why::Disagree => writeln!(messages, "disagree"),
         }
     }

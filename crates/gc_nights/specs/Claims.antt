@@ -9,7 +9,7 @@ use Rattle.gc_nights.specs.declared.halt.FalseRow.{FalseRow}
 use Rattle.gc_nights.specs.declared.halt.Halt.{Halt}
 use Rattle.gc_nights.specs.declared.halt.Halt.TheVariants.{Fault, Untrue}
 use Rattle.gc_rehearsal.specs.declared.truth.Truth.{Truth}
-use Rattle.gc_texts.specs.Endings.{End, Answered, Unreadable, Elsewhere, Disagree, Late}
+use Rattle.gc_texts.specs.Endings.{End, Answered, Unreadable, Elsewhere, Disagree, Unexpected, Late}
 use Rattle.gc_texts.specs.declared.fault.RunFault.TheVariants.{Memory}
 use Rattle.gc_texts.specs.declared.quality.Quality.TheVariants.{Unconfirmed}
 use Rattle.gc_texts.specs.declared.wish.Wish.{Wish}
@@ -20,14 +20,16 @@ speaks_of_reply (Answered quality answer line) = true
 speaks_of_reply (Unreadable line fault) = true
 speaks_of_reply (Elsewhere line) = true
 speaks_of_reply (Disagree line) = true
+speaks_of_reply (Unexpected line) = true
 speaks_of_reply Late = true
 speaks_of_reply _ = false
 
 -- whether the values of a row with this ending don't count, by what the row says itself: it is of a first sending, which is unconfirmed,
--- or of a second one that disagrees with it
+-- or of a second one that disagrees with it, or its answer isn't as expected
 abbrev pub is_in_doubt : End → Bool
 is_in_doubt (Answered Unconfirmed answer line) = true
 is_in_doubt (Disagree line) = true
+is_in_doubt (Unexpected line) = true
 is_in_doubt _ = false
 
 -- how many requests were sent once this command was too, before which `requests` ones were sent: null procedures aren't counted

@@ -95,18 +95,19 @@ fn speaks_of_reply(ending: Ending<'_>) -> bool
 {
     match ending {
         Ending::Answered(..) | Ending::Unreadable(..) => true,
-        Ending::Elsewhere(_) | Ending::Disagree(_) => true,
+        Ending::Elsewhere(_) | Ending::Unexpected(_) | Ending::Disagree(_) => true,
         Ending::Late => true,
         Ending::Lost | Ending::Skipped | Ending::Missed => false,
     }
 }
 
-// Whether the values of a row with this ending don't count, by what the row says itself: it is unconfirmed, or disagrees.
+// Whether the values of a row with this ending don't count, by what the row says itself: it is unconfirmed, unexpected, or disagrees.
 fn is_in_doubt(ending: Ending<'_>) -> bool
     ensures { result ≡ is_in_doubt (ending_seen ending.entry) }
 {
     match ending {
-        Ending::Answered(Quality::Unconfirmed, ..) | Ending::Disagree(_) => true,
+        Ending::Answered(Quality::Unconfirmed, ..) => true,
+        Ending::Unexpected(_) | Ending::Disagree(_) => true,
         _ => false,
     }
 }

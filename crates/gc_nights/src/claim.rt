@@ -26,7 +26,7 @@ pub struct Claim {
     pub line: Option<Line>,
     /// The row's moments, in milliseconds since 1970, the id of its request, and its cycle, place and turn.
     pub stamp: Stamp,
-    /// Whether the row's values don't count, by what it says itself: it is unconfirmed, or disagrees.
+    /// Whether the row's values don't count, by what it says itself: it is unconfirmed, unexpected, or disagrees.
     pub is_in_doubt: bool,
     /// The row's target.
     pub target: u32,

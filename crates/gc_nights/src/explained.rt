@@ -13,7 +13,7 @@ pub(crate) struct FalseRows {
     pub(crate) by_damaged: u64,
     /// How many are behind two damaged replies that came since the last true row.
     pub(crate) behind_two: u64,
-    /// How many of these say themselves that their values don't count: they are unconfirmed, or disagree.
+    /// How many of these say themselves that their values don't count: they are unconfirmed, unexpected, or disagree.
     pub(crate) in_doubt: u64,
 }
 

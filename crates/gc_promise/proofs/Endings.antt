@@ -3,7 +3,7 @@ use Rattle.std.proofs.Common.{◌≡◌, inl, inr, ℕ, List, [], get_or, Option
 use Rattle.std.specs.Prelude.{codes}
 use Rattle.gc_catalogue.specs.declared.answer.Answer.{Answer}
 use Rattle.gc_values.specs.declared.fault.ValueFault.{ValueFault}
-use Rattle.gc_texts.specs.Endings.{End, Answered, Unreadable, Elsewhere, Disagree, Late, Lost, Skipped, Missed, word_of, fault_of, quality_of, quality_text, line_of}
+use Rattle.gc_texts.specs.Endings.{End, Answered, Unreadable, Elsewhere, Disagree, Unexpected, Late, Lost, Skipped, Missed, word_of, fault_of, quality_of, quality_text, line_of}
 use Rattle.gc_texts.specs.declared.quality.Quality.{Quality}
 use Rattle.gc_rows.specs.Rows.{fault_field}
 use Rattle.gc_promise.specs.Fields.{IsOutcomeOfReply}
@@ -12,13 +12,14 @@ use Rattle.gc_promise.specs.Fields.{IsOutcomeOfReply}
 abbrev pub first_letter : List ℕ → ℕ
 first_letter word = get_or word 0 0
 
--- a word with the first letter of none of a reply's four outcomes is no outcome of a reply
+-- a word with the first letter of none of a reply's five outcomes, of which two begin alike, is no outcome of a reply
 pub no_outcome_of_reply : (word : List ℕ) → (first_letter word ≡ first_letter (codes "answered") → ⊥) → (first_letter word ≡ first_letter (codes "unreadable") → ⊥)
     → (first_letter word ≡ first_letter (codes "elsewhere") → ⊥) → (first_letter word ≡ first_letter (codes "disagree") → ⊥) → IsOutcomeOfReply word → ⊥
 no_outcome_of_reply word a u e d (inl is) = a (ap first_letter is)
 no_outcome_of_reply word a u e d (inr (inl is)) = u (ap first_letter is)
 no_outcome_of_reply word a u e d (inr (inr (inl is))) = e (ap first_letter is)
-no_outcome_of_reply word a u e d (inr (inr (inr is))) = d (ap first_letter is)
+no_outcome_of_reply word a u e d (inr (inr (inr (inl is)))) = d (ap first_letter is)
+no_outcome_of_reply word a u e d (inr (inr (inr (inr is)))) = u (ap first_letter is)
 
 -- if the outcome is that of a reply, a reply in time ended the command
 pub reply_ended : (end : End) → IsOutcomeOfReply (word_of end) → (line : List ℕ) × (line_of end ≡ Some line)
@@ -26,6 +27,7 @@ reply_ended (Answered quality answer line) is = (line, refl)
 reply_ended (Unreadable line fault) is = (line, refl)
 reply_ended (Elsewhere line) is = (line, refl)
 reply_ended (Disagree line) is = (line, refl)
+reply_ended (Unexpected line) is = (line, refl)
 reply_ended Late is = absurd (no_outcome_of_reply (codes "late") (λ e. omega (arith, e)) (λ e. omega (arith, e)) (λ e. omega (arith, e)) (λ e. omega (arith, e)) is)
 reply_ended Lost is = absurd (no_outcome_of_reply (codes "lost") (λ e. omega (arith, e)) (λ e. omega (arith, e)) (λ e. omega (arith, e)) (λ e. omega (arith, e)) is)
 reply_ended Skipped is = absurd (no_outcome_of_reply (codes "skipped") (λ e. omega (arith, e)) (λ e. omega (arith, e)) (λ e. omega (arith, e)) (λ e. omega (arith, e)) is)
@@ -45,10 +47,22 @@ is_answered (Answered quality values line) word = (quality, values, line, refl)
 is_answered (Unreadable l fault) word = absurd (not_answered (codes "unreadable") (λ e. omega (arith, e)) word)
 is_answered (Elsewhere l) word = absurd (not_answered (codes "elsewhere") (λ e. omega (arith, e)) word)
 is_answered (Disagree l) word = absurd (not_answered (codes "disagree") (λ e. omega (arith, e)) word)
+is_answered (Unexpected l) word = absurd (not_answered (codes "unexpected") (λ e. omega (arith, e)) word)
 is_answered Late word = absurd (not_answered (codes "late") (λ e. omega (arith, e)) word)
 is_answered Lost word = absurd (not_answered (codes "lost") (λ e. omega (arith, e)) word)
 is_answered Skipped word = absurd (not_answered (codes "skipped") (λ e. omega (arith, e)) word)
 is_answered Missed word = absurd (not_answered (codes "missed") (λ e. omega (arith, e)) word)
+
+-- the third letter of a word
+abbrev third_letter : List ℕ → ℕ
+third_letter word = get_or word 2 0
+
+-- the word `unexpected` isn't `unreadable`, which begins with the same two letters
+unexpected_reads : codes "unexpected" ≡ codes "unreadable" → ⊥
+unexpected_reads is = differ (ap third_letter is) where
+  -- the third letters differ
+  differ : third_letter (codes "unexpected") ≡ third_letter (codes "unreadable") → ⊥
+  differ e = omega (arith, e)
 
 -- a command whose outcome isn't `answered` has no quality
 pub without_quality : (end : End) → (word_of end ≡ codes "answered" → ⊥) → quality_text (quality_of end) ≡ []
@@ -56,6 +70,7 @@ without_quality (Answered quality values line) other = absurd (other refl)
 without_quality (Unreadable l fault) other = refl
 without_quality (Elsewhere l) other = refl
 without_quality (Disagree l) other = refl
+without_quality (Unexpected l) other = refl
 without_quality Late other = refl
 without_quality Lost other = refl
 without_quality Skipped other = refl
@@ -67,6 +82,7 @@ is_unreadable (Answered quality values l) word = absurd (not_unreadable (codes "
 is_unreadable (Unreadable line why) word = (line, why, refl)
 is_unreadable (Elsewhere l) word = absurd (not_unreadable (codes "elsewhere") (λ e. omega (arith, e)) word)
 is_unreadable (Disagree l) word = absurd (not_unreadable (codes "disagree") (λ e. omega (arith, e)) word)
+is_unreadable (Unexpected l) word = absurd (unexpected_reads word)
 is_unreadable Late word = absurd (not_unreadable (codes "late") (λ e. omega (arith, e)) word)
 is_unreadable Lost word = absurd (not_unreadable (codes "lost") (λ e. omega (arith, e)) word)
 is_unreadable Skipped word = absurd (not_unreadable (codes "skipped") (λ e. omega (arith, e)) word)
@@ -78,6 +94,7 @@ without_fault (Answered quality values line) other = refl
 without_fault (Unreadable l fault) other = absurd (other refl)
 without_fault (Elsewhere l) other = refl
 without_fault (Disagree l) other = refl
+without_fault (Unexpected l) other = refl
 without_fault Late other = refl
 without_fault Lost other = refl
 without_fault Skipped other = refl

@@ -12,7 +12,7 @@ use Rattle.gc_catalogue.specs.declared.answer.Reading.{Reading}
 use Rattle.gc_catalogue.specs.declared.answer.Reading.TheVariants as reading
 use Rattle.gc_catalogue.specs.declared.asked.Asked.{Asked}
 use Rattle.gc_catalogue.specs.declared.asked.Asked.TheVariants.{Table, Raw}
-use Rattle.gc_texts.specs.Endings.{End, Answered, Unreadable, Elsewhere, Disagree, Late, Lost, Skipped, Missed, word_of, fault_of, quality_of, quality_text}
+use Rattle.gc_texts.specs.Endings.{End, Answered, Unreadable, Elsewhere, Disagree, Unexpected, Late, Lost, Skipped, Missed, word_of, fault_of, quality_of, quality_text}
 use Rattle.gc_texts.specs.Logs.{escaped}
 use Rattle.gc_texts.specs.declared.quality.Quality.{Quality}
 use Rattle.gc_texts.specs.declared.quality.Quality.TheVariants as quality
@@ -54,6 +54,7 @@ word_plain (Answered quality answer line) = refl
 word_plain (Unreadable line fault) = refl
 word_plain (Elsewhere line) = refl
 word_plain (Disagree line) = refl
+word_plain (Unexpected line) = refl
 word_plain Late = refl
 word_plain Lost = refl
 word_plain Skipped = refl
@@ -118,6 +119,7 @@ no_cells asked (Answered q values line) other = absurd (other refl)
 no_cells asked (Unreadable line fault) other = refl
 no_cells asked (Elsewhere line) other = refl
 no_cells asked (Disagree line) other = refl
+no_cells asked (Unexpected line) other = refl
 no_cells asked Late other = refl
 no_cells asked Lost other = refl
 no_cells asked Skipped other = refl

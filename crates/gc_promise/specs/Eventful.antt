@@ -468,7 +468,7 @@ records =
 
 -- how many commands ended in each of the seven ways; no chain is sent again
 abbrev pub tally : Tally
-tally = record { answered = 3; refused = 0; late = 2; lost = 6; skipped = 1; unreadable = 1; missed = 7; elsewhere = 1; disagree = 0; again = 0 }
+tally = record { answered = 3; refused = 0; late = 2; lost = 6; skipped = 1; unreadable = 1; missed = 7; elsewhere = 1; unexpected = 0; disagree = 0; again = 0 }
 
 -- What the run shows.
 

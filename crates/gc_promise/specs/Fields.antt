@@ -75,7 +75,7 @@ pub record IsSetTo (at : List ℕ → List ℕ) (r : Record) : Type 0 where
 
 -- the outcome, as it is written in a row, is that of a command that a reply in time has ended
 abbrev pub IsOutcomeOfReply : List ℕ → Type 0
-IsOutcomeOfReply outcome = (outcome ≡ codes "answered") ⊎ (outcome ≡ codes "unreadable") ⊎ (outcome ≡ codes "elsewhere") ⊎ (outcome ≡ codes "disagree")
+IsOutcomeOfReply outcome = (outcome ≡ codes "answered") ⊎ (outcome ≡ codes "unreadable") ⊎ (outcome ≡ codes "elsewhere") ⊎ (outcome ≡ codes "disagree") ⊎ (outcome ≡ codes "unexpected")
 
 -- the name is that of a quantity's column
 abbrev pub IsQuantity : List ℕ → Type 0

@@ -20,7 +20,7 @@ use Rattle.gc_values.specs.declared.value.Value.{Value}
 use Rattle.gc_values.specs.declared.value.Value.TheVariants as value
 use Rattle.gc_lines.specs.Numbers.{IsSmallNumber}
 use Rattle.gc_texts.specs.Cuts.{before, behind}
-use Rattle.gc_texts.specs.Endings.{End, Answered, Unreadable, Elsewhere, Disagree, Late, Lost, Skipped, Missed, word_of, fault_of, line_of, quality_of, quality_text}
+use Rattle.gc_texts.specs.Endings.{End, Answered, Unreadable, Elsewhere, Disagree, Unexpected, Late, Lost, Skipped, Missed, word_of, fault_of, line_of, quality_of, quality_text}
 use Rattle.gc_texts.specs.Logs.{AreBytes}
 use Rattle.gc_texts.specs.declared.quality.Quality.{Quality}
 use Rattle.gc_texts.specs.declared.quality.Quality.TheVariants.{Fine, Warning, Unconfirmed, Refused}
@@ -121,6 +121,7 @@ outcome_plain (Answered quality answer line) = refl
 outcome_plain (Unreadable line fault) = refl
 outcome_plain (Elsewhere line) = refl
 outcome_plain (Disagree line) = refl
+outcome_plain (Unexpected line) = refl
 outcome_plain Late = refl
 outcome_plain Lost = refl
 outcome_plain Skipped = refl

@@ -1,6 +1,6 @@
 -- Each answer of a first sending that is kept is that of a record, and so is the one with which a mark has that of a second sending
 -- compared. `fs` are the kept answers; a fact of a record and of those before it goes from record to record (`AllAfter`).
-use Rattle.std.proofs.Common.{◌≡◌, ◌==◌, ◌&&◌, ◌-◌, ◌<◌, ℕ, zero, suc, ◌+◌, Bool, true, false, nat_lt, if◌then◌else◌, List, [], ◌∷◌, ◌++◌, take, Option, Some, None, refl, sym, ap, ◌∙◌, subst, append_assoc, append-nil, arith, inl, inr}
+use Rattle.std.proofs.Common.{◌≡◌, ◌==◌, ◌&&◌, ◌-◌, ℕ, ◌+◌, Bool, true, false, nat_lt, if◌then◌else◌, List, [], ◌∷◌, ◌++◌, take, Option, Some, None, refl, sym, ap, ◌∙◌, subst, append_assoc, append-nil, arith, inl, inr}
 use Rattle.std.specs.Prelude.{slice_get, unwrap_or}
 use Rattle.std.specs.List.{AllByRecursion}
 use Rattle.std.proofs.lemmas.Bool.{and_parts}
@@ -12,8 +12,8 @@ use Rattle.gc_texts.specs.declared.agree.Twice.{Twice}
 use Rattle.gc_texts.specs.declared.agree.Twice.TheVariants as twice
 use Rattle.gc_texts.specs.declared.quality.Quality.TheVariants.{Unconfirmed}
 use Rattle.gc_texts.specs.declared.turn.Turn.{Turn}
-use Rattle.gc_station.specs.Agreeing.{HasFirst, AgreesWithFirst, IsConfirmed}
-use Rattle.gc_station.specs.Firsts.{answer_of, answer_found, answer_first, put, first_noted, firsts_after}
+use Rattle.gc_station.specs.Agreeing.{HasFirst, IsConfirmed}
+use Rattle.gc_station.specs.Firsts.{answer_found, answer_first, put, first_noted, firsts_after}
 use Rattle.gc_station.specs.Records.{Record}
 use Rattle.gc_station.specs.declared.firsts.FirstAnswer.{FirstAnswer}
 use Rattle.gc_station.specs.declared.firsts.TheConstants.{FIRSTS}

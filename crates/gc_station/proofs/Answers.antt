@@ -23,6 +23,7 @@ use Rattle.gc_station.specs.declared.progress.Upcoming.{Upcoming}
 use Rattle.gc_links.specs.Acts.{Act, Told, Untold, Put, Cut, Gave, Silent, Ended, Broke, Opened, Unopened}
 use Rattle.gc_station.specs.Answers.{first_deadline, deadline_after, AnswerIsJustified}
 use Rattle.gc_station.specs.Ends.{LateIsJustified, LostIsJustified}
+use Rattle.gc_station.specs.Expecting.{IsByExpectation, AnswersAreAsExpected}
 use Rattle.gc_station.specs.Deciding.{later}
 use Rattle.gc_station.specs.Quiet.{IsAsking}
 use Rattle.gc_station.specs.Progressing.{turned, moment_noted, early_noted, cycle_begun, skipped, attempts_left_out, unsent_at, cleared, null_sent, resynchronized, sent, request_noted, loses_all, setup_sent}
@@ -64,8 +65,10 @@ put_honest plan commands scope acts requests f t act h = h
 -- a command that isn't sent is neither answered nor late nor lost, so its record is true, if its mark has the id 0
 unsent_true : (plan : Plan) (commands : List Task) (scope : Scope) (all : List Act) (missed : Bool) (utc : ℕ) (mark : Mark) (command : Wish)
     → mark.id ≡ 0 → IsJustified plan commands scope all (record_with utc mark None command (end_unsent missed))
-unsent_true plan commands scope all true utc mark command none = record { answered = λ line e. cc; late = λ e. cc; lost = λ e. cc; unsent = λ e. none }
-unsent_true plan commands scope all false utc mark command none = record { answered = λ line e. cc; late = λ e. cc; lost = λ e. cc; unsent = λ e. none }
+unsent_true plan commands scope all true utc mark command none =
+    record { answered = λ line e. cc; late = λ e. cc; lost = λ e. cc; unsent = λ e. none; expected = ((λ well. cc), (λ line e. cc)) }
+unsent_true plan commands scope all false utc mark command none =
+    record { answered = λ line e. cc; late = λ e. cc; lost = λ e. cc; unsent = λ e. none; expected = ((λ well. cc), (λ line e. cc)) }
 
 -- the record of the first of these commands, which isn't sent, is true, if its mark has the id 0
 skips_first_true : (plan : Plan) (commands : List Task) (scope : Scope) (all : List Act) (p : Progress) (m : Moment) (mark : Mark) (left : List Task)
@@ -252,7 +255,7 @@ module _ (plan : Plan) (commands : List Task) (scope : Scope) (acts : List Act) 
       let s = here in
       put_honest plan commands scope (acts ++ act ∷ []) _ (λ (x : Model). with_progress (setup_sent plan) (asks_setup plan commands x)) (with_progress turned s) act
       (setup_honest act (drop s.progress.prepared commands) (mark_setup_sent commands s) fine h
-      (record { sends = inr is; cycle = sym (prepare_cycle plan s is); place = sym (prepare_place plan commands s is); sent = refl; id = refl }) (within_window _ _ needs.3.1)
+      (record { sends = inr is; cycle = sym (prepare_cycle plan s is); place = sym (prepare_place plan commands s is); sent = refl; id = refl; expects = refl; before = refl }) (within_window _ _ needs.3.1)
       (ap (λ n. drop n commands) (prepare_place plan commands s is)) o)
   moved_honest actions.Send act tail fine h is needs o ends =
       let s = here in
@@ -261,7 +264,7 @@ module _ (plan : Plan) (commands : List Task) (scope : Scope) (acts : List Act) 
       (with_progress turned s) act
       (first_honest act (upcoming_after 1 commands s.progress)
       (drop (place_next commands s.progress) commands) (mark_sent plan commands s) fine h
-      (record { sends = inl is; cycle = sym (send_cycle plan s is); place = sym (send_place plan commands s is); sent = refl; id = refl }) (within_window _ _ needs.3.1)
+      (record { sends = inl is; cycle = sym (send_cycle plan s is); place = sym (send_place plan commands s is); sent = refl; id = refl; expects = refl; before = refl }) (within_window _ _ needs.3.1)
       (ap (λ n. drop n commands) (send_place plan commands s is)) o)
   moved_honest actions.Skip act tail fine h is needs o ends =
       let s = here in
@@ -311,6 +314,10 @@ all_true plan commands scope acts P step runs =
 -- each record of a command that wasn't sent has the id 0
 pub unsent_has_none : OfEachRecord (λ plan commands scope acts r. r.sent ≡ None → r.id ≡ 0)
 unsent_has_none plan commands scope acts runs = all_true plan commands scope acts (λ r. r.sent ≡ None → r.id ≡ 0) (λ r is. is.unsent) runs
+
+-- each record is as the text expects it, if it was answered well, and isn't, if it ended as unexpected
+pub as_expected : AnswersAreAsExpected
+as_expected plan commands scope acts runs = all_true plan commands scope acts (IsByExpectation plan commands scope acts) (λ r is. is.expected) runs
 
 -- each record of a reply in time is true
 pub answers_true : OfEachRecord AnswerIsJustified

@@ -11,6 +11,7 @@ use Rattle.gc_catalogue.specs.declared.answer.Answer.{Answer}
 use Rattle.gc_catalogue.specs.declared.asked.Asked.{Asked}
 use Rattle.gc_client.specs.Rule
 use Rattle.gc_client.specs.Rule.{heard, hears, restarts}
+use Rattle.gc_values.specs.declared.decimal.Decimal.{Decimal}
 use Rattle.gc_texts.specs.Endings.{Answered, Elsewhere, Disagree}
 use Rattle.gc_texts.specs.Nears.{is_elsewhere}
 use Rattle.gc_texts.specs.declared.agree.Twice.TheVariants as twice
@@ -70,10 +71,10 @@ none_known commands k answer e = by_front (drop k commands) e where
 
 module _ (plan : Plan) (commands : List Task) (scope : Scope) where
   -- a mark expects of its command's answer what the text says; of a command of the setup, in the attempt of its turn. With which answer of
-  -- a first sending it is compared, the text doesn't say
+  -- a first sending it is compared, and which number its counter had, the text doesn't say
   abbrev pub ExpectsAsText : Option Mark → Type 0
   ExpectsAsText None = Unit {0}
-  ExpectsAsText (Some mark) = mark.expected ≡ record (expected_of commands mark.cycle mark.expected.turn.attempt mark.place) { first = mark.expected.first }
+  ExpectsAsText (Some mark) = mark.expected ≡ record (expected_of commands mark.cycle mark.expected.turn.attempt mark.place) { first = mark.expected.first; before = mark.expected.before }
 
   -- the answer of a first sending with which a mark has its own compared, if there is one, is that of one of these records
   abbrev ComesFrom : List Record → Option Mark → Type 0
@@ -154,15 +155,15 @@ module _ (plan : Plan) (commands : List Task) (scope : Scope) where
         by_first (Some said) is agreed = record { said = said; first = from said is; agreed = agreed }
 
   -- once a cycle has begun, the mark of the next command of a cycle is `ExpectsAsText`, whatever its answer is compared with
-  next_expects : (p : Progress) (first : Option (Option Answer)) → 0 < cycles_begun plan p
-      → let mark = mark_next plan commands p in ExpectsAsText (Some (record mark { expected = record mark.expected { first = first } }))
-  next_expects p first many =
+  next_expects : (p : Progress) (first : Option (Option Answer)) (before : Option Decimal) → 0 < cycles_begun plan p
+      → let mark = mark_next plan commands p in ExpectsAsText (Some (record mark { expected = record mark.expected { first = first; before = before } }))
+  next_expects p first before many =
       let expected = expected_first (drop (place_next commands p) commands) in
-      ap (λ (b : Bool). record (expected_as b expected.turn.attempt expected) { first = first }) (sym (not_zero (cycles_begun plan p) many))
+      ap (λ (b : Bool). record (expected_as b expected.turn.attempt expected) { first = first; before = before }) (sym (not_zero (cycles_begun plan p) many))
 
   -- so is it if that isn't known
   next_expects_so_far : (p : Progress) → 0 < cycles_begun plan p → ExpectsAsText (Some (mark_next plan commands p))
-  next_expects_so_far p many = next_expects p (mark_next plan commands p).expected.first many
+  next_expects_so_far p many = next_expects p (mark_next plan commands p).expected.first (mark_next plan commands p).expected.before many
 
   -- `listed_after_settlements` of settlements is `any_listed` of their records, if their marks are `ExpectsAsText`
   listed_as_recorded : (utc : ℕ) (marks : List (Option Mark)) (xs : List (Rule.Settlement Asked)) (b : Bool) → AllByRecursion ExpectsAsText marks
@@ -279,7 +280,7 @@ module _ (plan : Plan) (commands : List Task) (scope : Scope) where
   next_keeps s many k =
       let mark = mark_sent plan commands s in
       first_along KeepsToText mark (drop (place_next commands s.progress) commands) s
-      (λ task. asks_keeps (request_for mark task) s (next_expects s.progress mark.expected.first many)
+      (λ task. asks_keeps (request_for mark task) s (next_expects s.progress mark.expected.first mark.expected.before many)
       (λ answer e. first_is_recorded s.records mark.cycle mark.expected.turn mark.expected.twice answer e) k) k
 
   -- `KeepsToText` is preserved by the send of the next command of the setup

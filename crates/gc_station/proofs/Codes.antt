@@ -2,7 +2,7 @@
 -- unless it was measured elsewhere than where its target is. `line` is the reply line of a command with this call, and `r` its
 -- fields; `reads` gives what each line says for a call (`AreReadings`), and `expected` what the command expects: the return
 -- codes that it accepts, and the place of its target.
-use Rattle.std.proofs.Common.{◌≡◌, ◌==◌, ◌&&◌, ◌||◌, ◌⊎◌, inl, inr, ℕ, zero, suc, replicate, Bool, true, false, not, List, Option, Some, None, if◌then◌else◌, refl, sym, ap, ◌∙◌}
+use Rattle.std.proofs.Common.{◌≡◌, ◌==◌, ◌&&◌, ◌||◌, ◌⊎◌, inl, inr, ℕ, zero, suc, replicate, Bool, true, false, not, List, Option, Some, if◌then◌else◌, refl, sym, ap, ◌∙◌}
 use Rattle.std.specs.List.{list_any}
 use Rattle.std.proofs.lemmas.Bool.Decides.{eqb_tells}
 use Rattle.std.proofs.lemmas.Bool.{both_ways}
@@ -16,6 +16,7 @@ use Rattle.gc_catalogue.specs.Asked.{IsAskedReading}
 use Rattle.gc_client.specs.Rule.{Answered}
 use Rattle.gc_texts.specs.Codes.{lists_code, no_codes}
 use Rattle.gc_texts.specs.Endings as ends
+use Rattle.gc_texts.specs.Expectations.{meets}
 use Rattle.gc_texts.specs.Nears.{is_elsewhere}
 use Rattle.gc_texts.specs.Qualities.{is_good}
 use Rattle.gc_texts.specs.Zeroed.{as_zero}
@@ -28,7 +29,7 @@ use Rattle.gc_texts.specs.declared.quality.Quality.TheVariants as quality
 use Rattle.gc_texts.proofs.ZeroReplies.{zero_reads}
 use Rattle.gc_station.specs.Codes.{WellIsAnAcceptedCode}
 use Rattle.gc_station.specs.Qualities.{GoodIsAnAnswer}
-use Rattle.gc_station.specs.Marks.{agrees_in, quality_in, answered_as, value_as, warned_as, refused_as, answer_as, end_of, is_well}
+use Rattle.gc_station.specs.Marks.{agrees_in, quality_in, agreed_as, answered_as, value_as, warned_as, refused_as, answer_as, end_of, is_well}
 use Rattle.gc_station.specs.Scopes.{AreReadings, Reads}
 
 -- a reply with a communication code other than 0 says that fault, whatever was asked
@@ -47,19 +48,28 @@ good_in twice.Once q good = good
 good_in twice.First q good = refl
 good_in (twice.Second agree nth) q good = good
 
--- a command whose reply has these values, or none, and a good quality is answered well exactly if they agree with those of the first
--- sending, if it is of a second one
-answered_well : (expected : Expected) (q : Quality) → is_good q ≡ true → (said : Option Answer) (line : List ℕ)
-    → is_well (answered_as expected q said line) ≡ agrees_in expected.twice expected.first said
-answered_well expected q good said line = by_test (agrees_in expected.twice expected.first said) where
+-- a command whose reply is as expected, and has these values, or none, and a good quality is answered well exactly if they agree with those
+-- of the first sending, if it is of a second one
+agreed_well : (expected : Expected) (q : Quality) → is_good q ≡ true → (said : Option Answer) (line : List ℕ)
+    → is_well (agreed_as expected q said line) ≡ agrees_in expected.twice expected.first said
+agreed_well expected q good said line = by_test (agrees_in expected.twice expected.first said) where
   -- the lemma above, by whether they agree
   by_test : (b : Bool) → is_well (if b then ends.Answered (quality_in expected.twice q) said line else ends.Disagree line) ≡ b
   by_test true = good_in expected.twice q good
   by_test false = refl
 
--- a command whose reply is an answer of a good quality is answered well exactly if it wasn't measured elsewhere, and agrees
+-- a command whose reply has these values, or none, and a good quality is answered well exactly if the line is as expected, and they agree so
+answered_well : (expected : Expected) (q : Quality) → is_good q ≡ true → (said : Option Answer) (line : List ℕ)
+    → is_well (answered_as expected q said line) ≡ (meets expected.expects expected.before line && agrees_in expected.twice expected.first said)
+answered_well expected q good said line = by_test (meets expected.expects expected.before line) where
+  -- the lemma above, by whether the line is as expected
+  by_test : (b : Bool) → is_well (if b then agreed_as expected q said line else ends.Unexpected line) ≡ (b && agrees_in expected.twice expected.first said)
+  by_test true = agreed_well expected q good said line
+  by_test false = refl
+
+-- a command whose reply is an answer of a good quality is answered well exactly if it wasn't measured elsewhere, and is as expected, and agrees
 value_well : (expected : Expected) (q : Quality) → is_good q ≡ true → (said : Answer) (line : List ℕ) (away : Bool)
-    → is_well (value_as expected q away said line) ≡ (not away && agrees_in expected.twice expected.first (Some said))
+    → is_well (value_as expected q away said line) ≡ (not away && meets expected.expects expected.before line && agrees_in expected.twice expected.first (Some said))
 value_well expected q good said line true = refl
 value_well expected q good said line false = answered_well expected q good (Some said) line
 

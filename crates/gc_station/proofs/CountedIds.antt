@@ -16,9 +16,8 @@ use Rattle.gc_station.specs.declared.progress.Action.{Action}
 use Rattle.gc_station.specs.declared.progress.Action.TheVariants as action
 use Rattle.gc_station.specs.Deciding.{has_begun}
 use Rattle.gc_station.specs.Links.{parts}
-use Rattle.gc_station.specs.Marks.{with_id}
-use Rattle.gc_station.specs.Model.{Model, action_at, after, is_heard, lines_completed, losing, mark_sent, moved, opening, request_or_null, Runs, waiting_of, with_losses, with_progress, Performs}
-use Rattle.gc_station.specs.NextCommand.{commands_left, mark_setup}
+use Rattle.gc_station.specs.Model.{Model, action_at, after, is_heard, lines_completed, losing, mark_sent, mark_setup_sent, moved, opening, request_or_null, Runs, waiting_of, with_losses, with_progress, Performs}
+use Rattle.gc_station.specs.NextCommand.{commands_left}
 use Rattle.gc_station.specs.Parts.{Part, client_after, client_part, client_stepped, course_at, first_request_part, heard_steps, in_front, parts_of, put_part, sync_part}
 use Rattle.gc_station.specs.Progressing.{loses_all, turned}
 use Rattle.gc_station.specs.Scopes.{Scope}
@@ -138,7 +137,7 @@ module _ (plan : Plan) (commands : List Task) where
   -- the request that an action sends has the client's next id
   count_put : (s : Model) (o : Action) → CountUp s.client.next (put_part plan commands s o).marks
   count_put s action.Flush = (tt, tt)
-  count_put s action.Prepare = (count_setup (with_id s.client.next (mark_setup commands s.progress)) (drop s.progress.prepared commands), tt)
+  count_put s action.Prepare = (count_setup (mark_setup_sent commands s) (drop s.progress.prepared commands), tt)
   count_put s action.Send = count_first s.progress.moment.elapsed (mark_sent plan commands s) (commands_left commands s.progress)
   count_put s o = tt
 

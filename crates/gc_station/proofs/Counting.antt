@@ -1,9 +1,9 @@
 -- A tally counts the records of the last attempts. `count` is one of its counts, and `so` says which endings it counts; no count
 -- exceeds 2^64 - 1 (`capped`).
 use Rattle.std.proofs.Common.{◌||◌, ◌&&◌, not, nat_eq, nat_lt, ◌≡◌, ℕ, suc, ◌+◌, Bool, true, false, List, [], ◌∷◌, if◌then◌else◌, refl, sym, ap, ◌∙◌, arith}
-use Rattle.gc_texts.specs.Endings.{End, Answered, Unreadable, Elsewhere, Disagree, Late, Lost, Skipped, Missed}
+use Rattle.gc_texts.specs.Endings.{End, Answered, Unreadable, Elsewhere, Disagree, Unexpected, Late, Lost, Skipped, Missed}
 use Rattle.gc_texts.specs.declared.quality.Quality.TheVariants.{Fine, Warning, Unconfirmed, Refused}
-use Rattle.gc_station.specs.Counting.{is_followed, last_attempts, further_attempts, how_many, ended_answered, ended_refused, ended_unreadable, ended_elsewhere, ended_disagree, ended_late, ended_lost, ended_skipped, ended_missed, TalliesCountRecords}
+use Rattle.gc_station.specs.Counting.{is_followed, last_attempts, further_attempts, how_many, ended_answered, ended_refused, ended_unreadable, ended_elsewhere, ended_disagree, ended_unexpected, ended_late, ended_lost, ended_skipped, ended_missed, TalliesCountRecords}
 use Rattle.gc_station.specs.Records.{Record}
 use Rattle.gc_station.specs.Tallies.{empty_tally, capped, one_more, counted, sum, empty_counts, tallied, total, tally_of}
 use Rattle.gc_station.specs.declared.tally.Counts.{Counts}
@@ -54,6 +54,7 @@ with_counted end t = record {
   missed = if ended_missed end then one_more t.missed else t.missed;
   elsewhere = if ended_elsewhere end then one_more t.elsewhere else t.elsewhere;
   disagree = if ended_disagree end then one_more t.disagree else t.disagree;
+  unexpected = if ended_unexpected end then one_more t.unexpected else t.unexpected;
   again = t.again;
 }
 
@@ -66,6 +67,7 @@ counted_by_ending (Answered Refused answer line) t = refl
 counted_by_ending (Unreadable line fault) t = refl
 counted_by_ending (Elsewhere line) t = refl
 counted_by_ending (Disagree line) t = refl
+counted_by_ending (Unexpected line) t = refl
 counted_by_ending Late t = refl
 counted_by_ending Lost t = refl
 counted_by_ending Skipped t = refl
@@ -146,5 +148,6 @@ count_records = record {
   missed = counts_all (λ (t : Tally). t.missed) ended_missed (λ end t. refl) (λ a b. refl) refl (λ t n. refl);
   elsewhere = counts_all (λ (t : Tally). t.elsewhere) ended_elsewhere (λ end t. refl) (λ a b. refl) refl (λ t n. refl);
   disagree = counts_all (λ (t : Tally). t.disagree) ended_disagree (λ end t. refl) (λ a b. refl) refl (λ t n. refl);
+  unexpected = counts_all (λ (t : Tally). t.unexpected) ended_unexpected (λ end t. refl) (λ a b. refl) refl (λ t n. refl);
   again = λ records. again_counts empty_counts records refl ∙ omega arith;
 }

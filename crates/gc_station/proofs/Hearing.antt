@@ -35,12 +35,13 @@ use Rattle.gc_station.specs.declared.progress.Waiting.{Waiting}
 use Rattle.gc_station.specs.declared.recorded.Recorded.{Recorded}
 use Rattle.gc_station.specs.declared.station.Station.{Station}
 use Rattle.gc_station.specs.Attempts.{listed_after_settlements}
+use Rattle.gc_station.specs.Counters.{counts_after_settlements}
 use Rattle.gc_station.specs.Firsts.{firsts_after}
-use Rattle.gc_station.specs.Marks.{commands_in, records_of, last_well}
+use Rattle.gc_station.specs.Marks.{commands_in, records_of, last_well, any_unexpected}
 use Rattle.gc_station.specs.Watching.{fresh_after, cut_to}
 use Rattle.gc_station.specs.Progressing.{behind_noted, ended_noted, doubt_noted, line_noted, bytes_noted, early_noted, after_failure, closed, failing, lines_synchronizing, line_synchronizing}
 use Rattle.gc_station.specs.Records.{Record, Grew, texts_of, WritesPart, WritesBy}
-use Rattle.gc_station.specs.Model.{Model, Performs, calls_for_renewal, line_doubted, line_came, lines_came, lines_completed, lines_taken, with_rest, with_progress, with_moment, waiting_of, settles, piece_heard}
+use Rattle.gc_station.specs.Model.{Model, Performs, calls_for_renewal, line_called, line_came, lines_came, lines_completed, lines_taken, with_rest, with_progress, with_moment, waiting_of, settles, piece_heard}
 use Rattle.gc_station.specs.Stations.{waiting_of_station, Refines, Took, TookPart, RefinesOrTookPart, Makes, ReadsMoment, DropsMarks, as_seen, station_expiring}
 use Rattle.gc_station.specs.Scopes.{AreReadings, ForEachReadings}
 use Rattle.gc_station.specs.Tallies.{empty_counts, tallied}
@@ -203,6 +204,7 @@ refines_kept station kept rest s stands is = record {
   fresh = stands.fresh;
   reads = stands.reads;
   firsts = stands.firsts;
+  counts = stands.counts;
 }
 
 -- As many marks are taken out as requests are settled.
@@ -298,9 +300,18 @@ module _ (text : Record → List ℕ) (old mid : Station) (s : Model) (x : Settl
           reads = stands.reads;
           firsts = ap (λ (r : Recorded). r.firsts) (kept stands.reads) ∙ ap (λ fs. firsts_after fs added) stands.firsts ∙ sym (firsts-append [] s.records added)
               ∙ ap (λ rs. firsts_after [] (s.records ++ rs)) records;
+          counts = λ are. ap (λ (r : Recorded). r.counts) (kept are) ∙ ap (λ b. counts_after_settlements s.reads b mid.marks.items xs) (stands.counts are)
+              ∙ ap (λ (ms : List (Option Mark)). counts_after_settlements s.reads s.counts ms xs) (ap (λ ms. ms.items) between.marks ∙ stands.marks)
+              ∙ ap (counts_after_settlements s.reads s.counts s.marks) same;
         },
         λ are. subst (λ (rs : List Record). Appends start taken' (texts_of text (s.records ++ rs))) records (wrote are),
       )
+
+  -- if these records were noted, and none had been noted as unexpected before, it is noted whether one of them is (`any_unexpected`)
+  pub settles_unexpected : (new : Station) → mid.recorded.unexpected ≡ false → UpdatesRecorded mid new xs
+      → new.recorded.unexpected ≡ any_unexpected false (records_of s.reads s.progress.moment.utc s.marks x.settlements)
+  settles_unexpected new none notes =
+      ap (λ (r : Recorded). r.unexpected) (notes s.reads stands.reads) ∙ ap (λ b. any_unexpected b to_write) none ∙ ap (any_unexpected false) records_same
 
   -- if the book failed at one of these records, it took the earlier records of the model and a part of the others
   pub settles_part : (start taken' : Option (List ℕ))
@@ -321,13 +332,39 @@ adds_acts_append (Some a) None c xs ys p q = absurd p
 adds_acts_append (Some a) (Some b) None xs ys p q = absurd q
 adds_acts_append (Some a) (Some b) (Some c) xs ys p q = q ∙ ap (λ zs. zs ++ ys) p ∙ append_assoc a xs ys
 
--- a station that noted whether a line that comes calls for a synchronization is as the model that noted it
-pub refines_doubted : (mid new : Station) (line : List ℕ) (s : Model) → Refines mid s → new ≡ record mid { progress = doubt_noted (calls_for_renewal mid.client.ids line) mid.progress }
-    → Refines new (line_doubted line s)
-refines_doubted mid new line s stands is =
-    subst (λ (x : Station). Refines x (line_doubted line s)) (sym is)
+-- a station is as a model, whatever it has noted of commands that ended as unexpected
+refines_forgetting : (station : Station) (b : Bool) (s : Model) → Refines station s → Refines (record station { recorded = record station.recorded { unexpected = b } }) s
+refines_forgetting station b s stands = record {
+  progress = stands.progress;
+  ids = stands.ids;
+  width = stands.width;
+  marks = stands.marks;
+  paired = stands.paired;
+  assembles = stands.assembles;
+  tally = stands.tally;
+  well = stands.well;
+  listed = stands.listed;
+  fresh = stands.fresh;
+  reads = stands.reads;
+  firsts = stands.firsts;
+  counts = stands.counts;
+}
+
+-- a station that noted whether a line that comes calls for a synchronization, and that no command ended as unexpected, is as the model that
+-- noted the former
+pub refines_called : (mid new : Station) (line : List ℕ) (s : Model) → Refines mid s
+    → new ≡ record mid { progress = doubt_noted (calls_for_renewal mid.client.ids line) mid.progress; recorded = record mid.recorded { unexpected = false } }
+    → Refines new (line_called line s)
+refines_called mid new line s stands is =
+    subst (λ (x : Station). Refines x (line_called line s)) (sym is)
+    (refines_forgetting (record mid { progress = doubt_noted (calls_for_renewal mid.client.ids line) mid.progress }) false (line_called line s)
     (refines_with mid (doubt_noted (calls_for_renewal mid.client.ids line) mid.progress) (doubt_noted (calls_for_renewal s.client line)) s stands
-    (ap (λ ids. doubt_noted (calls_for_renewal ids line) mid.progress) stands.ids))
+    (ap (λ ids. doubt_noted (calls_for_renewal ids line) mid.progress) stands.ids)))
+
+-- a station that noted whether a line ended a command as unexpected is as the model that noted it
+pub refines_doubted : (mid : Station) (p : Progress) (b b' : Bool) (s : Model) → Refines mid s → b ≡ b' → p ≡ doubt_noted b mid.progress
+    → Refines (record mid { progress = p }) (with_progress (doubt_noted b') s)
+refines_doubted mid p b b' s stands e is = refines_with mid p (doubt_noted b') s stands (is ∙ ap (λ t. doubt_noted t mid.progress) e)
 
 -- a station that noted whether a line was a reply is as the model that noted it
 pub refines_noted : (mid : Station) (p : Progress) (b b' : Bool) (s : Model) → Refines mid s → b ≡ b' → p ≡ line_noted b mid.progress
@@ -362,6 +399,7 @@ refines_expired station new p q m s stands e is = subst (λ (x : Station). Refin
   fresh = λ are. ap (map (cut_to m.elapsed)) (stands.fresh are);
   reads = stands.reads;
   firsts = stands.firsts;
+  counts = stands.counts;
 })
 
 -- a station whose requests timed out at a moment is as the model at that moment

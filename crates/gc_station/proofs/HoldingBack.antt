@@ -1,6 +1,6 @@
 -- The station holds back: it counts how many requests the last line ended that ended any, and sends none unless these and the
 -- outstanding ones are together fewer than seven; and it sends none once a line called for a synchronization. An act changes what the station notes of
--- lines as the client's steps of its part do (`lines_noted`). A part reaches from one synchronization to the next. An act is one call on
+-- lines at least as the client's steps of its part do (`lines_noted`): an answer that isn't as expected calls for one, too. A part reaches from one synchronization to the next. An act is one call on
 -- the link, with its result.
 use Rattle.std.proofs.Common.{◌≡◌, inl, inr, ℕ, ◌+◌, ◌<◌, ◌&&◌, ◌||◌, Bool, true, false, not, List, [], ◌∷◌, ◌++◌, length, map, drop, Some, refl, sym, ap, ◌∙◌, subst, append_assoc, if◌then◌else◌}
 use Rattle.std.specs.Prelude.{slice_get}
@@ -24,10 +24,11 @@ use Rattle.gc_station.specs.HoldingBack.{last_ended, RequestsAreHeldBack}
 use Rattle.gc_station.specs.InDoubt.{NothingIsSentInDoubt}
 use Rattle.gc_station.specs.Lines.{calls_for_renewal}
 use Rattle.gc_station.specs.Links.{parts}
+use Rattle.gc_station.specs.Marks.{any_unexpected}
 use Rattle.gc_station.specs.Parts.{Part, parts_joined, put_part, first_request_part, heard_steps, client_part, sync_part, part_of_act, in_front, parts_of, client_after, client_stepped}
 use Rattle.gc_station.specs.Progressing.{turned, time_passed, ended_last, is_over, loses_all}
 use Rattle.gc_station.specs.Reasons.{HoldsBefore}
-use Rattle.gc_station.specs.Model.{Model, opening, action_at, waiting_of, is_heard, with_progress, with_rest, line_came, lines_came, lines_completed, after_piece, moved, losing, after, Performs, Runs, with_losses, mark_sent}
+use Rattle.gc_station.specs.Model.{Model, opening, action_at, waiting_of, is_heard, with_progress, with_rest, line_came, lines_came, line_news, lines_completed, after_piece, moved, losing, after, Performs, Runs, with_losses, mark_sent}
 use Rattle.gc_station.specs.NextCommand.{place_next}
 use Rattle.gc_station.specs.Scopes.{Scope}
 use Rattle.gc_station.proofs.Asked.{steps_none, begun_if_nothing_lost}
@@ -68,24 +69,63 @@ abbrev pub noted_by : ById Asked → (n : Noted) → List (Step Asked) → Noted
 noted_by c n [] = n
 noted_by c n (step ∷ steps) = noted_by (client_stepped c step) (noted_at c n step) steps
 
+-- what `n` notes of lines is noted in `m`, too, which may note besides that a synchronization is called for
+abbrev pub IsNotedIn : (n m : Noted) → Type 0
+IsNotedIn n m = (n.ended ≡ m.ended) × (n.doubtful ≡ true → m.doubtful ≡ true)
+
+-- what is equal is noted in the other
+pub same_noted : (n m : Noted) → n ≡ m → IsNotedIn n m
+same_noted n m e = (ap (λ (x : Noted). x.ended) e, λ d. sym (ap (λ (x : Noted). x.doubtful) e) ∙ d)
+
+-- if one of two alternatives holds, so does one where the first (a) is replaced by what follows from it (b)
+either_way : (a b call : Bool) → (a ≡ true → b ≡ true) → (a || call) ≡ true → (b || call) ≡ true
+either_way true b call on e = ap (λ (x : Bool). x || call) (on refl)
+either_way false true call on e = refl
+either_way false false call on e = e
+
+-- a step keeps it so
+stepped_noted : (c : ById Asked) (n m : Noted) (step : Step Asked) → IsNotedIn n m → IsNotedIn (noted_at c n step) (noted_at c m step)
+stepped_noted c n m (Hear line) is =
+    (ap (ended_last (length (hears c line (heard line)).settlements)) is.0, λ d. either_way n.doubtful m.doubtful (calls_for_renewal c line) is.1 d)
+stepped_noted c n m step is = is
+
+-- so do steps
+steps_noted : (c : ById Asked) (n m : Noted) (steps : List (Step Asked)) → IsNotedIn n m → IsNotedIn (noted_by c n steps) (noted_by c m steps)
+steps_noted c n m [] is = is
+steps_noted c n m (step ∷ steps) is = steps_noted (client_stepped c step) (noted_at c n step) (noted_at c m step) steps (stepped_noted c n m step is)
+
 -- a request may be sent: those that are outstanding, and those that the last line ended, are together fewer than seven, and no line called
 -- for a synchronization
 abbrev HasRoomAt : ById Asked → Noted → Type 0
 HasRoomAt c n = (length c.waiting + n.ended < WINDOW) × (n.doubtful ≡ false)
 
+-- if it may be by all that is noted, it may be by what is noted of lines
+room_for_less : (c : ById Asked) (n m : Noted) → IsNotedIn n m → HasRoomAt c m → HasRoomAt c n
+room_for_less c n m is room =
+    (subst (λ (k : ℕ). length c.waiting + k < WINDOW) (sym is.0) room.0, by_test n.doubtful refl) where
+      -- a synchronization isn't called for by less
+      by_test : (b : Bool) → n.doubtful ≡ b → b ≡ false
+      by_test true e = let bad : true ≡ false = sym (is.1 e) ∙ room.1 in cc
+      by_test false e = refl
+
 -- What an act does.
 
--- lines that are heard change what is noted as the steps that hear them do
-lines_noted : (s : Model) (lines : List (List ℕ)) → noted_in (lines_came s lines).progress ≡ noted_by s.client (noted_in s.progress) (map Hear lines)
-lines_noted s [] = refl
-lines_noted s (line ∷ others) = lines_noted (line_came s line) others
+-- what the steps that hear lines note is noted by the model that heard them, if what was noted before them is
+lines_noted : (s : Model) (n : Noted) (lines : List (List ℕ)) → IsNotedIn n (noted_in s.progress) → IsNotedIn (noted_by s.client n (map Hear lines)) (noted_in (lines_came s lines).progress)
+lines_noted s n [] is = is
+lines_noted s n (line ∷ others) is =
+    lines_noted (line_came s line) (noted_at s.client n (Hear line)) others (
+      ap (ended_last (length (hears s.client line (heard line)).settlements)) is.0,
+      λ d. ap (λ (x : Bool). x || any_unexpected false (line_news line s)) (either_way n.doubtful s.progress.doubtful (calls_for_renewal s.client line) is.1 d),
+    )
 
--- once the station has synchronized, a piece changes it as the steps that hear its lines do
+-- once the station has synchronized, a piece changes it at least as the steps that hear its lines do
 came_noted : (heard : Bool) (word piece : List ℕ) (s : Model) → is_none_left word ≡ true
-    → noted_in (after_piece heard word piece s).progress ≡ noted_by s.client (noted_in s.progress) (heard_steps heard s.rest piece)
+    → IsNotedIn (noted_by s.client (noted_in s.progress) (heard_steps heard s.rest piece)) (noted_in (after_piece heard word piece s).progress)
 came_noted true (asked ∷ others) piece s begun = cc
-came_noted true [] piece s begun = lines_noted (with_rest (rest_behind s.rest piece) s) (lines_completed s.rest piece)
-came_noted false word piece s begun = refl
+came_noted true [] piece s begun =
+    lines_noted (with_rest (rest_behind s.rest piece) s) (noted_in s.progress) (lines_completed s.rest piece) (same_noted (noted_in s.progress) (noted_in s.progress) refl)
+came_noted false word piece s begun = same_noted (noted_in s.progress) (noted_in s.progress) refl
 
 -- the step that sends the first of some commands doesn't change it
 first_noted : (c : ById Asked) (n : Noted) (now : ℕ) (mark : Mark) (left : List Task) → n ≡ noted_by c n (first_request_part now mark left).steps
@@ -99,39 +139,44 @@ came_unchanged n true (asked ∷ others) piece s begins e = asked_along (λ (q :
 came_unchanged n false word piece s begins e = e
 
 module _ (plan : Plan) (commands : List Task) where
-  -- from s to t an act changes it as the steps of its part do
+  -- from s to t an act changes it at least as the steps of its part do
   abbrev pub IsNoted : Action → Model → Act → Model → Type 0
-  IsNoted o s act t = (noted_in t.progress) ≡ noted_by s.client (noted_in s.progress) (client_part plan commands s o act).steps
+  IsNoted o s act t = IsNotedIn (noted_by s.client (noted_in s.progress) (client_part plan commands s o act).steps) (noted_in t.progress)
+
+  -- what a model notes is noted in it
+  same : (s : Model) → IsNotedIn (noted_in s.progress) (noted_in s.progress)
+  same s = same_noted (noted_in s.progress) (noted_in s.progress) refl
 
   -- from s to t an act doesn't change it
   abbrev IsUnchanged : Model → Act → Model → Type 0
   IsUnchanged s act t = (noted_in t.progress) ≡ (noted_in s.progress)
 
-  -- once the station has synchronized, each act changes it as the steps of its part do, unless the station resynchronizes
+  -- once the station has synchronized, each act changes it at least as the steps of its part do, unless the station resynchronizes
   pub acts_noted : (s : Model) (o : Action) (act : Act) → (needs : HoldsBefore plan s.progress (waiting_of s) o) → (performs : Performs commands s o act)
       → (begun : has_begun s.progress ≡ true)
       → (still : has_begun (moved plan commands o (with_progress turned s) act).progress ≡ true) → IsNoted o s act (moved plan commands o (with_progress turned s) act)
   acts_noted s action.Renew (Told m) is obeys begun still = cc
-  acts_noted s action.Renew Untold is obeys begun still = refl
+  acts_noted s action.Renew Untold is obeys begun still = same_noted (noted_in s.progress) (noted_in s.progress) refl
   acts_noted s action.Renew act is obeys begun still = absurd obeys
   acts_noted s action.Ask act is obeys begun still = absurd (both_ways (has_begun s.progress) is.1 begun)
   acts_noted s action.Send act is obeys begun still =
       let left = drop (place_next commands s.progress) commands in
-      let one = first_noted s.client (noted_in s.progress) s.progress.moment.elapsed (mark_sent plan commands s) left in
+      let one = same_noted (noted_by s.client (noted_in s.progress) (first_request_part s.progress.moment.elapsed (mark_sent plan commands s) left).steps) (noted_in s.progress)
+      (sym (first_noted s.client (noted_in s.progress) s.progress.moment.elapsed (mark_sent plan commands s) left)) in
       walk plan commands (IsNoted action.Send s) action.Send (with_progress turned s) act obeys (λ m. one, λ n. one)
   acts_noted s (action.Read until) act is obeys begun still =
       walk plan commands (IsNoted (action.Read until) s) (action.Read until) (with_progress turned s) act obeys (
         λ bytes m. came_noted (is_heard s.progress.phase) s.progress.word bytes (piece_before m s) begun,
-        λ m. quieted_along (λ (q : Progress). noted_in q ≡ (noted_in s.progress)) plan s.progress.phase (time_passed until m (turned s.progress)) refl refl refl,
-        refl,
-        refl,
-        refl,
+        λ m. quieted_along (λ (q : Progress). IsNotedIn (noted_in s.progress) (noted_in q)) plan s.progress.phase (time_passed until m (turned s.progress)) (same s) (same s) (same s),
+        same s,
+        same s,
+        same s,
       )
   acts_noted s (action.Close why) act is obeys begun still =
       walk plan commands (IsNoted (action.Close why) s) (action.Close why) (with_progress turned s) act obeys
-      (closed_along (λ (q : Progress). noted_in q ≡ (noted_in s.progress)) plan (waiting_of (with_rest [] (with_progress turned s))) why (turned s.progress) refl refl)
+      (closed_along (λ (q : Progress). IsNotedIn (noted_in s.progress) (noted_in q)) plan (waiting_of (with_rest [] (with_progress turned s))) why (turned s.progress) (same s) (same s))
   acts_noted s (action.Stop why) act is obeys begun still = absurd obeys
-  acts_noted s o act is obeys begun still = walk plan commands (IsNoted o s) o (with_progress turned s) act obeys (λ m. refl, λ n. refl)
+  acts_noted s o act is obeys begun still = walk plan commands (IsNoted o s) o (with_progress turned s) act obeys (λ m. same s, λ n. same s)
 
   -- while the station synchronizes, an act doesn't change it
   unchanged_before : (s : Model) (o : Action) (act : Act) → HoldsBefore plan s.progress (waiting_of s) o → Performs commands s o act → has_begun s.progress ≡ false
@@ -167,6 +212,11 @@ abbrev IsHeldFrom : (c : ById Asked) (n : Noted) → Part → Type 0
 IsHeldFrom c n p =
     (front later : List (Step Asked)) (target : ℕ) (call : Asked) (deadline : ℕ) → p.steps ≡ front ++ Send target call deadline ∷ later
     → HasRoomAt (client_after c front) (noted_by c n front)
+
+-- if it is so by all that is noted, it is by what is noted of lines
+held_for_less : (c : ById Asked) (n m : Noted) (p : Part) → IsNotedIn n m → IsHeldFrom c m p → IsHeldFrom c n p
+held_for_less c n m p is held front later target call deadline e =
+    room_for_less (client_after c front) (noted_by c n front) (noted_by c m front) (steps_noted c n m front is) (held front later target call deadline e)
 
 -- it is so of a part of one step, if there is room for it
 one_held : (c : ById Asked) (n : Noted) (x : Step Asked) (front later : List (Step Asked)) (target : ℕ) (call : Asked) (deadline : ℕ) → x ∷ [] ≡ front ++ Send target call deadline ∷ later
@@ -240,6 +290,11 @@ held_all : (ps : List Part) → AreHeldFrom fresh none_noted ps → AllByRecursi
 held_all [] h = tt
 held_all (p ∷ ps) h = h
 
+-- if it holds by all that is noted, it does by what is noted of lines
+all_held_for_less : (c : ById Asked) (n m : Noted) (ps : List Part) → IsNotedIn n m → AreHeldFrom c m ps → AreHeldFrom c n ps
+all_held_for_less c n m [] is h = tt
+all_held_for_less c n m (p ∷ ps) is h = (held_for_less c n m p is h.0, h.1)
+
 -- with a part in front of the first
 front_held : (c : ById Asked) (n : Noted) (p : Part) (ps : List Part) → IsHeldFrom c n p → AreHeldFrom (client_after c p.steps) (noted_by c n p.steps) ps → AreHeldFrom c n (in_front p false ps)
 front_held c n p [] a h = (a, tt)
@@ -311,12 +366,13 @@ module _ (plan : Plan) (commands : List Task) where
         let same : u ≡ t = ap (λ b. losing b t) l in
         let still = begun_if_nothing_lost t l in
         let client : client_after s.client part.steps ≡ t.client = (leads plan commands s o act fine its obeys).client in
-        let n : noted_by s.client (noted_in s.progress) part.steps ≡ (noted_in t.progress) =
-        ap (noted_by s.client (noted_in s.progress)) (part_is true w) ∙ sym (acts_noted plan commands s o act its obeys w still) in
+        let n : IsNotedIn (noted_by s.client (noted_in s.progress) part.steps) (noted_in t.progress) =
+        subst (λ (steps : List (Step Asked)). IsNotedIn (noted_by s.client (noted_in s.progress) steps) (noted_in t.progress)) (sym (part_is true w))
+        (acts_noted plan commands s o act its obeys w still) in
         let there : AreHeldFrom t.client (noted_in t.progress) ps = subst (λ (x : Model). AreHeldFrom x.client (noted_in x.progress) ps) same next in
         front_held s.client (noted_in s.progress) part ps alone
         (subst (λ (c : ById Asked). AreHeldFrom c (noted_by s.client (noted_in s.progress) part.steps) ps) (sym client)
-        (subst (λ (m : Noted). AreHeldFrom t.client m ps) (sym n) there))
+        (all_held_for_less t.client (noted_by s.client (noted_in s.progress) part.steps) (noted_in t.progress) ps n there))
     with_part false all w l runs next =
         let kept = keeps_new_client plan commands s o act its obeys w (fine.begins w) in
         let steps : part.steps ≡ [] = part_is false w ∙ steps_none s o act in

@@ -1,6 +1,7 @@
 pub mod Acting
 mod Always
 mod Agreeing
+mod Expecting
 mod AsText
 pub mod Answers
 pub mod Beginnings

@@ -9,7 +9,7 @@ use Rattle.gc_catalogue.specs.declared.answer.Reading.{Reading}
 use Rattle.gc_catalogue.specs.declared.asked.Asked.{Asked}
 use Rattle.gc_client.specs.Rule
 use Rattle.gc_texts.specs.Again.{repeats_after, has_code}
-use Rattle.gc_texts.specs.Endings.{End, Answered, Unreadable, Elsewhere, Disagree, Late, Lost, Skipped, Missed, line_of}
+use Rattle.gc_texts.specs.Endings.{End, Answered, Unreadable, Elsewhere, Disagree, Unexpected, Late, Lost, Skipped, Missed, line_of}
 use Rattle.gc_texts.specs.Zeroed.{as_zero}
 use Rattle.gc_texts.specs.declared.again.Again.{Again}
 use Rattle.gc_texts.specs.declared.near.Expected.{Expected}
@@ -48,6 +48,7 @@ named_by reads again call code (Answered q said l) is = ap (has_code again.codes
 named_by reads again call code (Unreadable line fault) is = refl
 named_by reads again call code (Elsewhere line) is = refl
 named_by reads again call code (Disagree line) is = refl
+named_by reads again call code (Unexpected line) is = refl
 named_by reads again call code Late is = refl
 named_by reads again call code Lost is = refl
 named_by reads again call code Skipped is = refl

@@ -8,6 +8,7 @@ use Rattle.gc_catalogue.specs.declared.asked.Asked.{Asked}
 use Rattle.gc_client.specs.declared.pending.Pending.{Pending}
 use Rattle.gc_client.specs.Ids.{id_of}
 use Rattle.gc_client.specs.Rule.{ById, Settlement, Answered, Late, Lost, lost}
+use Rattle.gc_texts.specs.Endings.{Unexpected}
 use Rattle.gc_texts.specs.declared.tasks.Task.{Task}
 use Rattle.gc_station.specs.declared.cause.Cause.{Cause}
 use Rattle.gc_station.specs.declared.cause.Cause.TheVariants as cause
@@ -23,7 +24,7 @@ use Rattle.gc_links.specs.Acts.{Act, Cut}
 use Rattle.gc_station.specs.Deciding.{has_begun, is_up, action_of, action_in, action_without_turns}
 use Rattle.gc_station.specs.Answers.{IsWrittenAt}
 use Rattle.gc_station.specs.Ends.{Resynchronizes, IsLast, IsLostIn}
-use Rattle.gc_station.specs.Marks.{records_of}
+use Rattle.gc_station.specs.Marks.{records_of, end_of, is_well}
 use Rattle.gc_station.specs.Progressing.{turned, sent, failing, is_over, is_over_in, loses_all, setup_sent}
 use Rattle.gc_station.specs.Reasons.{HoldsBefore}
 use Rattle.gc_station.specs.Records.{Record}
@@ -180,6 +181,10 @@ module _ (plan : Plan) (commands : List Task) (scope : Scope) (acts : List Act) 
     late = λ e. absurd (not_late (sym outcome ∙ was_late r it.0 it.1 it.2 e));
     lost = λ e. on (cut_at_end_or_before acts a.before a.between act a.request a.order);
     unsent = λ e. some_sent r it.0 it.1 it.2 e;
+    expected = (
+      (λ well. let bad : false ≡ true = sym (ap is_well ended) ∙ well in cc),
+      (λ line e. absurd (not_unexpected line (sym ended ∙ e))),
+    );
   } where
     -- the settlement is of a request that is lost
     x : LostOf plan commands scope all it.1 (Some it.0)
@@ -192,6 +197,14 @@ module _ (plan : Plan) (commands : List Task) (scope : Scope) (acts : List Act) 
     -- the outcome is that it is lost
     outcome : it.1.outcome ≡ Lost
     outcome = ap (λ (y : Settlement Asked). y.outcome) x.is
+
+    -- so its command ends as lost
+    ended : r.end ≡ end_of it.2.reads it.0.expected it.1.call Lost
+    ended = it.2.ended ∙ ap (end_of it.2.reads it.0.expected it.1.call) outcome
+
+    -- and not as unexpected
+    not_unexpected : (line : List ℕ) → end_of it.2.reads it.0.expected it.1.call Lost ≡ Unexpected line → ⊥
+    not_unexpected line e = cc
 
     -- a request that is lost isn't answered
     not_answered : (line : List ℕ) → Lost ≡ Answered line → ⊥

@@ -9,7 +9,9 @@ use Rattle.gc_lines.specs.Assembler.{StandsFor}
 use Rattle.gc_catalogue.specs.declared.asked.Asked.{Asked}
 use Rattle.gc_client.specs.declared.window.TheConstants.{WINDOW}
 use Rattle.gc_client.specs.Rule.{ById, send_unless_full}
+use Rattle.gc_values.specs.declared.decimal.Decimal.{Decimal}
 use Rattle.gc_texts.specs.Endings.{End}
+use Rattle.gc_texts.specs.declared.near.Expected.{Expected}
 use Rattle.gc_texts.specs.declared.tasks.Task.{Task}
 use Rattle.gc_texts.specs.declared.turn.Turn.{Turn}
 use Rattle.gc_links.specs.declared.link.Moment.{Moment}
@@ -23,8 +25,9 @@ use Rattle.gc_station.specs.declared.progress.Until.{Until}
 use Rattle.gc_station.specs.declared.station.Station.{Station}
 use Rattle.gc_links.specs.Acts.{Act, AddsActs, put_act, IsPartIfErr}
 use Rattle.gc_station.specs.Deciding.{later}
+use Rattle.gc_station.specs.Counters.{count_noted}
 use Rattle.gc_station.specs.Firsts.{first_noted, firsts_after}
-use Rattle.gc_station.specs.Marks.{is_well, ended_confirmed, last_well, record_with}
+use Rattle.gc_station.specs.Marks.{is_well, ended_confirmed, last_well, record_with, unexpected_noted}
 use Rattle.gc_station.specs.Progressing.{failing, unsent_at}
 use Rattle.gc_station.specs.Records.{Record}
 use Rattle.gc_station.specs.ActKinds.{Puts, ReadsLink}
@@ -58,6 +61,7 @@ refines_with station p f s stands is = record {
   fresh = stands.fresh;
   reads = stands.reads;
   firsts = stands.firsts;
+  counts = stands.counts;
 }
 
 -- Bytes are put.
@@ -120,6 +124,7 @@ asks_refines old new s asking other stands room e is =
       fresh = λ are. ap (λ (n : Station). n.recorded.fresh) is ∙ stands.fresh are;
       reads = stands.reads;
       firsts = ap (λ (n : Station). n.recorded.firsts) is ∙ stands.firsts;
+      counts = λ are. ap (λ (n : Station). n.recorded.counts) is ∙ stands.counts are;
     }
 
 -- a station that is as the model `s` after it sent `task` with `mark` is as `s` after it sent the first of the commands in `list`
@@ -167,6 +172,16 @@ pub unsent_is_no_first : (cycle : ℕ) (turn : Turn) (missed : Bool) (fs : List 
 unsent_is_no_first cycle turn true fs = refl
 unsent_is_no_first cycle turn false fs = refl
 
+-- nor a line with a number of a counter
+unsent_counts_none : (expected : Expected) (missed : Bool) (counts : List (Option Decimal)) → count_noted expected (end_unsent missed) counts ≡ counts
+unsent_counts_none expected true counts = refl
+unsent_counts_none expected false counts = refl
+
+-- nor is it an unexpected one
+unsent_as_expected : (missed b : Bool) → unexpected_noted (end_unsent missed) b ≡ b
+unsent_as_expected true b = refl
+unsent_as_expected false b = refl
+
 -- what is noted of the first command of `list`, which isn't sent, if the two marks are equal: its record is counted, and it
 -- wasn't answered well
 pub noted_unsent : (p : Progress) (m : Moment) (mark mark' : Mark) (end : End) (list : List Task) (task : Task) (others : List Task) (r : Recorded)
@@ -182,6 +197,8 @@ noted_unsent p m mark mark' end list task others r is e ends =
       listed = listed_after r.listed mark'.expected None (end_unsent p.missed);
       fresh = map (renewed m.elapsed m.utc mark'.cycle mark'.expected.turn.place (end_unsent p.missed)) r.fresh;
       firsts = first_noted mark'.cycle mark'.expected.turn (end_unsent p.missed) r.firsts;
+      counts = count_noted mark'.expected (end_unsent p.missed) r.counts;
+      unexpected = unexpected_noted (end_unsent p.missed) r.unexpected;
     }) (unwell_end p.missed)
     ∙ ap (λ (ws : List Watch). record {
       tally = counted_in mark'.cycle mark'.expected.turn (end_unsent p.missed) r.tally;
@@ -189,6 +206,8 @@ noted_unsent p m mark mark' end list task others r is e ends =
       listed = listed_after r.listed mark'.expected None (end_unsent p.missed);
       fresh = ws;
       firsts = first_noted mark'.cycle mark'.expected.turn (end_unsent p.missed) r.firsts;
+      counts = count_noted mark'.expected (end_unsent p.missed) r.counts;
+      unexpected = unexpected_noted (end_unsent p.missed) r.unexpected;
     }) (unwell_changes_none m.elapsed m.utc mark'.cycle mark'.expected.turn.place (end_unsent p.missed) r.fresh (unconfirmed_end p.missed))
     ∙ ap (λ (fs : List (Option FirstAnswer)). record {
       tally = counted_in mark'.cycle mark'.expected.turn (end_unsent p.missed) r.tally;
@@ -196,7 +215,22 @@ noted_unsent p m mark mark' end list task others r is e ends =
       listed = listed_after r.listed mark'.expected None (end_unsent p.missed);
       fresh = r.fresh;
       firsts = fs;
+      counts = count_noted mark'.expected (end_unsent p.missed) r.counts;
+      unexpected = unexpected_noted (end_unsent p.missed) r.unexpected;
     }) (unsent_is_no_first mark'.cycle mark'.expected.turn p.missed r.firsts)
+    ∙ ap (λ (cs : List (Option Decimal)). record r {
+      tally = counted_in mark'.cycle mark'.expected.turn (end_unsent p.missed) r.tally;
+      well = false;
+      listed = listed_after r.listed mark'.expected None (end_unsent p.missed);
+      counts = cs;
+      unexpected = unexpected_noted (end_unsent p.missed) r.unexpected;
+    }) (unsent_counts_none mark'.expected p.missed r.counts)
+    ∙ ap (λ (b : Bool). record r {
+      tally = counted_in mark'.cycle mark'.expected.turn (end_unsent p.missed) r.tally;
+      well = false;
+      listed = listed_after r.listed mark'.expected None (end_unsent p.missed);
+      unexpected = b;
+    }) (unsent_as_expected p.missed r.unexpected)
     ∙ sym (ap (λ (left : List Task). recorded_unsent (first_unsent_record p m mark' left) (listed_after r.listed mark'.expected None (end_unsent p.missed)) r) is)
 
 -- after the record of the first of the commands in `list`, of which there is one, as not sent, the last command wasn't answered
@@ -230,6 +264,7 @@ skipped_refines old new s rs b b' stands unwell none same is = record {
   fresh = λ are. ap (λ (n : Station). n.recorded.fresh) is ∙ stands.fresh are;
   reads = stands.reads;
   firsts = ap (λ (n : Station). n.recorded.firsts) is ∙ stands.firsts ∙ sym (firsts-append [] s.records rs ∙ none (firsts_after [] s.records));
+  counts = λ are. ap (λ (n : Station). n.recorded.counts) is ∙ stands.counts are;
 }
 
 -- a model to which no records are added is as it was

@@ -13,7 +13,8 @@ use Rattle.gc_client.specs.Rule.{Settlement, hears, heard, restarts}
 use Rattle.gc_links.specs.Acts.{Act, Told, Gave}
 use Rattle.gc_links.specs.declared.link.Moment.{Moment}
 use Rattle.gc_texts.specs.Codes.{lists_code}
-use Rattle.gc_texts.specs.Endings.{Answered, Disagree, Unreadable, Missed, line_of}
+use Rattle.gc_texts.specs.Endings.{Answered, Disagree, Unexpected, Unreadable, Missed, line_of}
+use Rattle.gc_texts.specs.Expectations.{meets}
 use Rattle.gc_texts.specs.Nears.{is_elsewhere}
 use Rattle.gc_texts.specs.Zeroed.{as_zero}
 use Rattle.gc_texts.specs.declared.near.Expected.{Expected}
@@ -24,7 +25,7 @@ use Rattle.gc_values.specs.declared.fault.ValueFault.{ValueFault}
 use Rattle.gc_station.specs.ActKinds.{moment_in}
 use Rattle.gc_station.specs.Answers.{AnswerIsJustified, IsAnsweredIn, IsWrittenAt}
 use Rattle.gc_station.specs.Cycles.{UnsentIsJustified}
-use Rattle.gc_station.specs.Marks.{agrees_in, answer_as, answered_as, end_of, record_of, records_of, refused_as, quality_in, value_as, warned_as}
+use Rattle.gc_station.specs.Marks.{agrees_in, agreed_as, answer_as, answered_as, end_of, record_of, records_of, refused_as, quality_in, value_as, warned_as}
 use Rattle.gc_station.specs.Model.{Model, Performs, Runs, action_at, after, after_piece, end_unsent, first_unsent_record, is_heard, line_came, lines_completed, losing, moved, opening, with_moment, with_progress}
 use Rattle.gc_station.specs.NextCommand.{commands_left, mark_next}
 use Rattle.gc_station.specs.Progressing.{lines_synchronizing, loses_all, moment_noted, turned}
@@ -51,12 +52,20 @@ use Rattle.gc_station.specs.Moments.{AnswersHaveTheirMoments, CameAt, EachRecord
 -- What a reply's ending says of its line.
 
 module _ (expected : Expected) (l line : List ℕ) (why : ValueFault) where
-  -- `answered_as` never ends a command as unreadable
-  answered_reads : (q : Quality) (given : Option Answer) → answered_as expected q given l ≡ Unreadable line why → ⊥
-  answered_reads q given e = by_test (agrees_in expected.twice expected.first given) e where
+  -- `agreed_as` never ends a command as unreadable
+  agreed_reads : (q : Quality) (given : Option Answer) → agreed_as expected q given l ≡ Unreadable line why → ⊥
+  agreed_reads q given e = by_test (agrees_in expected.twice expected.first given) e where
     -- the lemma above, by whether the values agree
     by_test : (b : Bool) → (if b then Answered (quality_in expected.twice q) given l else Disagree l) ≡ Unreadable line why → ⊥
     by_test true e = cc
+    by_test false e = cc
+
+  -- nor does `answered_as`
+  answered_reads : (q : Quality) (given : Option Answer) → answered_as expected q given l ≡ Unreadable line why → ⊥
+  answered_reads q given e = by_test (meets expected.expects expected.before l) e where
+    -- the lemma above, by whether the line is as expected
+    by_test : (b : Bool) → (if b then agreed_as expected q given l else Unexpected l) ≡ Unreadable line why → ⊥
+    by_test true e = agreed_reads q given e
     by_test false e = cc
 
   -- nor does an answer

@@ -9,6 +9,10 @@ use Rattle.gc_client.specs.declared.pending.Pending.{Pending}
 use Rattle.gc_client.specs.Ids.{Waits, IsWithinLimits, id_of}
 use Rattle.gc_client.specs.Rule.{ById, Settlement, heard, hears}
 use Rattle.gc_client.proofs.Digits.{id_back, heard_digit}
+use Rattle.gc_values.specs.declared.decimal.Decimal.{Decimal}
+use Rattle.gc_texts.specs.Endings.{End, Answered, line_of}
+use Rattle.gc_texts.specs.Expectations.{meets}
+use Rattle.gc_texts.specs.declared.expectation.Expectation.{Expectation}
 use Rattle.gc_texts.specs.declared.tasks.Task.{Task}
 use Rattle.gc_station.specs.declared.mark.Mark.{Mark}
 use Rattle.gc_station.specs.declared.plan.Plan.{Plan}
@@ -16,7 +20,10 @@ use Rattle.gc_links.specs.declared.link.Moment.{Moment}
 use Rattle.gc_links.specs.Acts.{Act, Gave}
 use Rattle.gc_station.specs.Answers.{ReadsBefore, Completes, IsRepliedIn, IsAnsweredIn, IsOwnRequest, IsRecordedBy, IsWrittenAt}
 use Rattle.gc_station.specs.Ends.{OneReadsPast, IsLateIn, IsOvertaken}
-use Rattle.gc_station.specs.Marks.{records_of}
+use Rattle.gc_station.specs.Counters.{count_at}
+use Rattle.gc_station.specs.Expecting.{IsCompared, IsByExpectation}
+use Rattle.gc_station.specs.Marks.{records_of, is_well}
+use Rattle.gc_station.specs.NextCommand.{expected_at}
 use Rattle.gc_station.specs.Quiet.{IsAsking}
 use Rattle.gc_station.specs.Records.{Record}
 use Rattle.gc_station.specs.Runs.{state_after}
@@ -25,6 +32,7 @@ use Rattle.gc_station.specs.Model.{Model, action_at, next_request_text, with_res
 use Rattle.gc_station.proofs.Growing.{lines_records}
 use Rattle.gc_station.proofs.Lists.{all_append, all_split, cuts_on, AllRisingAt}
 use Rattle.gc_station.proofs.Meets.{HasPlace, EndedBy, heard_ended, hears_settles_oldest, left_within_limits, left_still_wait, all_records_at, IsRecordOf, is_record_of, some_sent, own_request, was_answered, was_late, was_lost}
+use Rattle.gc_station.proofs.Qualified.{ended_met, ended_unmet}
 use Rattle.gc_station.proofs.Waiting.{WasAsked, TimedOutAsRead, TimedOutAsReadBy, StillWaitsAt, IsJustified, IsHonest, as_read_after_moment, still_wait_at_moment, expired_within_limits, still_wait_after_moment, honest_after_moment}
 use Rattle.gc_station.specs.Scopes.{Scope, Reads}
 use Rattle.gc_station.proofs.Walk.{piece_before}
@@ -169,6 +177,39 @@ module _ (plan : Plan) (commands : List Task) (scope : Scope) (acts : List Act) 
           (as_read_after_moment (Gave piece m) m refl p.given_up p.deadline s.between s.stays));
     }
 
+    -- a record that is `WrittenDown`, of the request with this mark, was compared with what the text expects, as its line was with what the
+    -- mark does
+    compared_in_piece : (c : ById Asked) (number at : ℕ) (p : Pending Asked) (mark : Mark) (r : Record) (x : Settlement Asked) → IsRecordOf r mark x
+        → (s : WasPut c number at p (Some mark)) → WrittenDown s.before s.request s.between r → (line : List ℕ) (met : Bool) → line_of r.end ≡ Some line
+        → meets mark.expected.expects mark.expected.before line ≡ met → IsCompared plan commands scope up_to_piece r met
+    compared_in_piece c number at p mark r x of_it s down line met its is =
+        let sent = s.its mark refl in
+        let counts = (state s.before).counts in
+        record {
+          line = line;
+          its_line = its;
+          act = Gave piece m;
+          its = recorded_by s.before s.request s.between r down;
+          compared = ap (λ (k : ℕ). meets (expected_at commands k).expects (count_at counts (expected_at commands k).counter) line) of_it.place
+              ∙ ap (λ (expects : Option Expectation). meets expects (count_at counts (expected_at commands mark.place).counter) line) (sym sent.expects)
+              ∙ ap (λ (before : Option Decimal). meets mark.expected.expects before line) (sym sent.before) ∙ is;
+        }
+
+    -- such a record is as the text expects it, if it was answered well, and isn't, if it ended as unexpected
+    expected_in_piece : (c : ById Asked) (number at : ℕ) (p : Pending Asked) (mark : Mark) (r : Record) (x : Settlement Asked) → IsRecordOf r mark x
+        → (s : WasPut c number at p (Some mark)) → WrittenDown s.before s.request s.between r → IsByExpectation plan commands scope up_to_piece r
+    expected_in_piece c number at p mark r x of_it s down = (
+      (λ well. by_end r.end refl well),
+      (λ line e. compared_in_piece c number at p mark r x of_it s down line false (ap line_of e) (ended_unmet of_it.reads mark.expected x.call line x.outcome (sym of_it.ended ∙ e))),
+    ) where
+      -- a record that was answered well, by how it ended
+      by_end : (end : End) → r.end ≡ end → is_well end ≡ true → IsCompared plan commands scope up_to_piece r true
+      by_end (Answered k said line) e well =
+          let ends = sym of_it.ended ∙ e in
+          compared_in_piece c number at p mark r x of_it s down line true (ap line_of e)
+          (ended_met of_it.reads mark.expected x.call line x.outcome (ap line_of ends) (ap is_well ends ∙ well))
+      by_end end e well = cc
+
     -- if a line of the piece has the id of a request q that waits, and that was put after the request p, p is overtaken at the
     -- read that gave the piece (`IsOvertaken`)
     overtaken_in_piece : (c : ById Asked) (line : List ℕ) (number number' at there : ℕ) (p q : Pending Asked) (mark mark' : Option Mark) → IsLineOfPiece c line
@@ -223,6 +264,7 @@ module _ (plan : Plan) (commands : List Task) (scope : Scope) (acts : List Act) 
                 shown = inl (overtaken_in_piece c line x.number f.number at a.place x.pending f.one (Some mark) f.beside l s f.holds above a.above a.heard);
               };
           unsent = λ e. some_sent r mark it.2 of_it e;
+          expected = expected_in_piece c x.number at x.pending mark r it.2 of_it s down;
         }
 
     -- `HonestSoFar` is preserved by the lines of a piece that are left after those of `front`; `tail` are the records that are

@@ -3,6 +3,7 @@
 -- answer, a reply with an accepted code, and a refusal. A reading `z` is what the line says with return code 0. An answer is
 -- elsewhere (`away`) where its direction isn't near the target's place, or its distance isn't the target's.
 use Rattle.std.proofs.Common.{◌≡◌, inl, inr, ℕ, Bool, true, false, List, Option, Some, None, refl, sym, ap, ◌∙◌, subst, if◌then◌else◌}
+use Rattle.std.proofs.lemmas.Option.{same_Some}
 use Rattle.gc_catalogue.specs.declared.answer.Answer.{Answer}
 use Rattle.gc_catalogue.specs.declared.answer.Reading.{Reading}
 use Rattle.gc_catalogue.specs.declared.answer.Reading.TheVariants as reading
@@ -13,7 +14,8 @@ use Rattle.gc_client.specs.Settlements.{outcome_seen, IsReadBy}
 use Rattle.gc_client.specs.declared.settlement.Outcome.{Outcome}
 use Rattle.gc_client.specs.declared.settlement.Outcome.TheVariants as outcomes
 use Rattle.gc_texts.specs.Codes.{lists_code}
-use Rattle.gc_texts.specs.Endings.{End, Answered, Elsewhere, Disagree, line_of}
+use Rattle.gc_texts.specs.Endings.{End, Answered, Elsewhere, Disagree, Unexpected, line_of}
+use Rattle.gc_texts.specs.Expectations.{meets}
 use Rattle.gc_texts.specs.Nears.{is_elsewhere}
 use Rattle.gc_texts.specs.Zeroed.{as_zero}
 use Rattle.gc_texts.specs.Qualities.{is_good}
@@ -23,7 +25,7 @@ use Rattle.gc_texts.specs.declared.agree.Twice.TheVariants as twice
 use Rattle.gc_texts.specs.declared.near.Expected.{Expected}
 use Rattle.gc_texts.specs.declared.quality.Quality.{Quality}
 use Rattle.gc_texts.specs.declared.quality.Quality.TheVariants as quality
-use Rattle.gc_station.specs.Marks.{agrees_in, quality_in, answered_as, value_as, warned_as, refused_as, answer_as, end_of}
+use Rattle.gc_station.specs.Marks.{agrees_in, quality_in, agreed_as, answered_as, value_as, warned_as, refused_as, answer_as, end_of, is_well}
 use Rattle.gc_station.specs.Nearness.{HasAnswer}
 use Rattle.gc_station.specs.Qualities.{answer_in, IsRefusedReading, IsOfQuality, quality_as}
 use Rattle.gc_station.specs.Scopes.{AreReadings, Reads}
@@ -34,27 +36,47 @@ use Rattle.gc_station.proofs.Meets.{settled_answered}
 
 module _ (expected : Expected) (line : List ℕ) where
   -- what ends a command as answered, with these values and this quality: it would have the quality q if its chain were sent once, it has
-  -- these values (`given`), and they agree with those of the first sending, if the command is of a second one
+  -- these values (`given`), they agree with those of the first sending, if the command is of a second one, and the line is as expected
   pub record IsAnsweredSo (q k : Quality) (given said : Option Answer) : Type 0 where
     pub quality : quality_in expected.twice q ≡ k
     pub same : given ≡ said
     pub agrees : agrees_in expected.twice expected.first given ≡ true
+    pub expects : meets expected.expects expected.before line ≡ true
 
-  -- if `answered_as` ends a command as answered, it is so
-  pub answered_so : (q k : Quality) (given said : Option Answer) → answered_as expected q given line ≡ Answered k said line → IsAnsweredSo q k given said
-  answered_so q k given said e = by_test (agrees_in expected.twice expected.first given) refl e where
+  -- if `agreed_as` ends a command as answered by a line that is as expected, it is so
+  agreed_so : (q k : Quality) (given said : Option Answer) → meets expected.expects expected.before line ≡ true → agreed_as expected q given line ≡ Answered k said line
+      → IsAnsweredSo q k given said
+  agreed_so q k given said met e = by_test (agrees_in expected.twice expected.first given) refl e where
     -- the lemma above, by whether the values agree
     by_test : (b : Bool) → agrees_in expected.twice expected.first given ≡ b
         → (if b then Answered (quality_in expected.twice q) given line else Disagree line) ≡ Answered k said line → IsAnsweredSo q k given said
-    by_test true is e = let quality : quality_in expected.twice q ≡ k = cc in let same : given ≡ said = cc in record { quality = quality; same = same; agrees = is }
+    by_test true is e =
+        let quality : quality_in expected.twice q ≡ k = cc in let same : given ≡ said = cc in record { quality = quality; same = same; agrees = is; expects = met }
     by_test false is e = cc
 
-  -- `answered_as` never ends a command as elsewhere
-  answered_here : (q : Quality) (given : Option Answer) → answered_as expected q given line ≡ Elsewhere line → ⊥
-  answered_here q given e = by_test (agrees_in expected.twice expected.first given) e where
+  -- if `answered_as` ends a command as answered, it is so
+  pub answered_so : (q k : Quality) (given said : Option Answer) → answered_as expected q given line ≡ Answered k said line → IsAnsweredSo q k given said
+  answered_so q k given said e = by_test (meets expected.expects expected.before line) refl e where
+    -- the lemma above, by whether the line is as expected
+    by_test : (b : Bool) → meets expected.expects expected.before line ≡ b → (if b then agreed_as expected q given line else Unexpected line) ≡ Answered k said line
+        → IsAnsweredSo q k given said
+    by_test true is e = agreed_so q k given said is e
+    by_test false is e = cc
+
+  -- `agreed_as` never ends a command as elsewhere
+  agreed_here : (q : Quality) (given : Option Answer) → agreed_as expected q given line ≡ Elsewhere line → ⊥
+  agreed_here q given e = by_test (agrees_in expected.twice expected.first given) e where
     -- the lemma above, by whether the values agree
     by_test : (b : Bool) → (if b then Answered (quality_in expected.twice q) given line else Disagree line) ≡ Elsewhere line → ⊥
     by_test true e = cc
+    by_test false e = cc
+
+  -- nor does `answered_as`
+  answered_here : (q : Quality) (given : Option Answer) → answered_as expected q given line ≡ Elsewhere line → ⊥
+  answered_here q given e = by_test (meets expected.expects expected.before line) e where
+    -- the lemma above, by whether the line is as expected
+    by_test : (b : Bool) → (if b then agreed_as expected q given line else Unexpected line) ≡ Elsewhere line → ⊥
+    by_test true e = agreed_here q given e
     by_test false e = cc
 
   -- if an answer `a` ends a command as answered, with the answer `answer`, that answer isn't elsewhere
@@ -99,18 +121,19 @@ module _ (expected : Expected) (line : List ℕ) where
   refused_away true z e = (refl, warned_away z e)
   refused_away false z e = cc
 
-  -- what ends a command as answered, and not refused: it has this quality in its sending, and agrees with the answer of the first one, if
-  -- it is of a second
+  -- what ends a command as answered, and not refused: it has this quality in its sending, agrees with the answer of the first one, if it is
+  -- of a second, and its line is as expected
   pub record IsGoodSo (k : Quality) (said : Option Answer) : Type 0 where
     pub would_be : Quality
     pub quality : quality_in expected.twice would_be ≡ k
     pub agrees : agrees_in expected.twice expected.first said ≡ true
+    pub expects : meets expected.expects expected.before line ≡ true
 
   -- `answered_as` ends a command so
   answered_good : (q k : Quality) (given said : Option Answer) → answered_as expected q given line ≡ Answered k said line → IsGoodSo k said
   answered_good q k given said e =
       let so = answered_so q k given said e in
-      record { would_be = q; quality = so.quality; agrees = ap (agrees_in expected.twice expected.first) (sym so.same) ∙ so.agrees }
+      record { would_be = q; quality = so.quality; agrees = ap (agrees_in expected.twice expected.first) (sym so.same) ∙ so.agrees; expects = so.expects }
 
   -- so does an answer
   value_good : (q k : Quality) (a : Answer) (away : Bool) (said : Option Answer) → value_as expected q away a line ≡ Answered k said line → IsGoodSo k said
@@ -146,14 +169,22 @@ module _ (expected : Expected) (line : List ℕ) where
   second_of twice.First first given e = cc
   second_of (twice.Second agree nth) first given e = (agree, nth, refl)
 
-  -- so is one that `answered_as` ends as disagreeing
-  answered_second : (q : Quality) (given : Option Answer) → answered_as expected q given line ≡ Disagree line → IsSecond expected.twice
-  answered_second q given e = by_test (agrees_in expected.twice expected.first given) refl e where
+  -- so is one that `agreed_as` ends as disagreeing
+  agreed_second : (q : Quality) (given : Option Answer) → agreed_as expected q given line ≡ Disagree line → IsSecond expected.twice
+  agreed_second q given e = by_test (agrees_in expected.twice expected.first given) refl e where
     -- the lemma above, by whether the values agree
     by_test : (b : Bool) → agrees_in expected.twice expected.first given ≡ b
         → (if b then Answered (quality_in expected.twice q) given line else Disagree line) ≡ Disagree line → IsSecond expected.twice
     by_test true is e = cc
     by_test false is e = second_of expected.twice expected.first given is
+
+  -- so is one that `answered_as` ends as disagreeing
+  answered_second : (q : Quality) (given : Option Answer) → answered_as expected q given line ≡ Disagree line → IsSecond expected.twice
+  answered_second q given e = by_test (meets expected.expects expected.before line) e where
+    -- the lemma above, by whether the line is as expected
+    by_test : (b : Bool) → (if b then agreed_as expected q given line else Unexpected line) ≡ Disagree line → IsSecond expected.twice
+    by_test true e = agreed_second q given e
+    by_test false e = cc
 
   -- so is an answer
   value_second : (q : Quality) (a : Answer) (away : Bool) → value_as expected q away a line ≡ Disagree line → IsSecond expected.twice
@@ -179,6 +210,44 @@ module _ (expected : Expected) (line : List ℕ) where
   answer_second (reading.ComFault code) z e = cc
   answer_second (reading.Unreadable fault) z e = cc
 
+  -- `answered_as` ends a command as unexpected only by a line that isn't as expected
+  answered_unmet : (q : Quality) (given : Option Answer) → answered_as expected q given line ≡ Unexpected line → meets expected.expects expected.before line ≡ false
+  answered_unmet q given e = by_test (meets expected.expects expected.before line) refl e where
+    -- whether the values agree doesn't matter
+    by_agreed : (b : Bool) → (if b then Answered (quality_in expected.twice q) given line else Disagree line) ≡ Unexpected line → ⊥
+    by_agreed true e = cc
+    by_agreed false e = cc
+
+    -- the lemma above, by whether the line is as expected
+    by_test : (b : Bool) → meets expected.expects expected.before line ≡ b → (if b then agreed_as expected q given line else Unexpected line) ≡ Unexpected line
+        → meets expected.expects expected.before line ≡ false
+    by_test true is e = absurd (by_agreed (agrees_in expected.twice expected.first given) e)
+    by_test false is e = is
+
+  -- so does an answer
+  value_unmet : (q : Quality) (a : Answer) (away : Bool) → value_as expected q away a line ≡ Unexpected line → meets expected.expects expected.before line ≡ false
+  value_unmet q a true e = cc
+  value_unmet q a false e = answered_unmet q (Some a) e
+
+  -- and a reply with an accepted code
+  warned_unmet : (z : Reading) → warned_as expected z line ≡ Unexpected line → meets expected.expects expected.before line ≡ false
+  warned_unmet (reading.Value a) e = value_unmet quality.Warning a (is_elsewhere expected.near a) e
+  warned_unmet (reading.Refused code) e = answered_unmet quality.Warning None e
+  warned_unmet (reading.ComFault code) e = answered_unmet quality.Warning None e
+  warned_unmet (reading.Unreadable fault) e = answered_unmet quality.Warning None e
+
+  -- and any refusal
+  refused_unmet : (b : Bool) (z : Reading) → refused_as b expected z line ≡ Unexpected line → meets expected.expects expected.before line ≡ false
+  refused_unmet true z e = warned_unmet z e
+  refused_unmet false z e = cc
+
+  -- and any reply in time
+  answer_unmet : (x z : Reading) → answer_as expected x z line ≡ Unexpected line → meets expected.expects expected.before line ≡ false
+  answer_unmet (reading.Value a) z e = value_unmet quality.Fine a (is_elsewhere expected.near a) e
+  answer_unmet (reading.Refused code) z e = refused_unmet (lists_code expected.accepted code) z e
+  answer_unmet (reading.ComFault code) z e = cc
+  answer_unmet (reading.Unreadable fault) z e = cc
+
 module _ (reads : Reads) (expected : Expected) (call : Asked) (line : List ℕ) where
   -- if a command ends as answered, and isn't refused, it is so (`IsGoodSo`)
   pub ended_good : (o : Rule.Outcome) (k : Quality) (said : Option Answer) → end_of reads expected call o ≡ Answered k said line → is_good k ≡ true → IsGoodSo expected line k said
@@ -191,6 +260,21 @@ module _ (reads : Reads) (expected : Expected) (call : Asked) (line : List ℕ) 
   ended_second o e =
       let is : o ≡ Rule.Answered line = settled_answered reads expected call o line (ap line_of e) in
       answer_second expected line (reads call line) (reads call (as_zero line)) (subst (λ (x : Rule.Outcome). end_of reads expected call x ≡ Disagree line) is e)
+
+  -- if a command is answered well, its line is as expected
+  pub ended_met : (o : Rule.Outcome) → line_of (end_of reads expected call o) ≡ Some line → is_well (end_of reads expected call o) ≡ true → meets expected.expects expected.before line ≡ true
+  ended_met o its good = by_end (end_of reads expected call o) refl its good where
+    -- the lemma above, by how it ends
+    by_end : (end : End) → end_of reads expected call o ≡ end → line_of end ≡ Some line → is_well end ≡ true → meets expected.expects expected.before line ≡ true
+    by_end (Answered k said l) e its good =
+        let same : l ≡ line = same_Some l line its in (ended_good o k said (subst (λ (y : List ℕ). end_of reads expected call o ≡ Answered k said y) same e) good).expects
+    by_end end e its good = cc
+
+  -- if a command ends as unexpected, its line isn't as expected
+  pub ended_unmet : (o : Rule.Outcome) → end_of reads expected call o ≡ Unexpected line → meets expected.expects expected.before line ≡ false
+  ended_unmet o e =
+      let is : o ≡ Rule.Answered line = settled_answered reads expected call o line (ap line_of e) in
+      answer_unmet expected line (reads call line) (reads call (as_zero line)) (subst (λ (x : Rule.Outcome). end_of reads expected call x ≡ Unexpected line) is e)
 
   -- if a reply in time, which says x, ends a command as answered, with an answer, that answer isn't elsewhere
   answer_near : (x z : Reading) (k : Quality) (answer : Answer) → answer_as expected x z line ≡ Answered k (Some answer) line → is_elsewhere expected.near answer ≡ false

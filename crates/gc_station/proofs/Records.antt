@@ -10,6 +10,7 @@ use Rattle.gc_lines.specs.Ports.{TakesFront}
 use Rattle.gc_catalogue.specs.declared.answer.Answer.{Answer}
 use Rattle.gc_catalogue.specs.declared.answer.Reading.{Reading}
 use Rattle.gc_catalogue.specs.declared.answer.Reading.TheVariants as reading
+use Rattle.gc_values.specs.declared.decimal.Decimal.{Decimal}
 use Rattle.gc_values.specs.declared.fault.ValueFault.{ValueFault}
 use Rattle.gc_catalogue.specs.declared.asked.Asked.{Asked}
 use Rattle.gc_client.specs.declared.settlement.Settlement.{Settlement}
@@ -17,7 +18,8 @@ use Rattle.gc_client.specs.Rule
 use Rattle.gc_client.specs.Settlements.{settlement_seen}
 use Rattle.gc_station.specs.declared.mark.Mark.{Mark}
 use Rattle.gc_texts.specs.Codes.{lists_code}
-use Rattle.gc_texts.specs.Endings.{End, Answered, Unreadable, Elsewhere, Disagree}
+use Rattle.gc_texts.specs.Endings.{End, Answered, Unreadable, Elsewhere, Disagree, Unexpected}
+use Rattle.gc_texts.specs.Expectations.{meets}
 use Rattle.gc_texts.specs.Nears.{is_elsewhere}
 use Rattle.gc_texts.specs.declared.near.Expected.{Expected}
 use Rattle.gc_texts.specs.declared.quality.Quality.{Quality}
@@ -25,7 +27,8 @@ use Rattle.gc_texts.specs.declared.quality.Quality.TheVariants.{Fine, Warning, R
 use Rattle.gc_station.specs.Firsts.{first_noted, firsts_after}
 use Rattle.gc_station.specs.declared.firsts.FirstAnswer.{FirstAnswer}
 use Rattle.gc_station.specs.Attempts.{code_of, listed_after, listed_after_settlements}
-use Rattle.gc_station.specs.Marks.{commands_in, first_mark, agrees_in, quality_in, answered_as, value_as, warned_as, refused_as, answer_as, end_of, command_of, record_with, record_of, records_of, is_well, last_well}
+use Rattle.gc_station.specs.Counters.{counts_after_settlement, counts_after_settlements}
+use Rattle.gc_station.specs.Marks.{commands_in, first_mark, agrees_in, quality_in, agreed_as, answered_as, value_as, warned_as, refused_as, answer_as, end_of, command_of, record_with, record_of, records_of, is_well, last_well, unexpected_noted, any_unexpected}
 use Rattle.gc_station.specs.Watching.{renewed_by, fresh_after}
 use Rattle.gc_station.specs.declared.watching.Watch.{Watch}
 use Rattle.gc_station.specs.Records.{Record, Grew, texts_of, WritesPart}
@@ -65,48 +68,57 @@ commands_more marks i b below e =
 
 -- Endings.
 
--- a fact of endings holds of the ending by an answer, or without one, whether it agrees with that of a first sending or not, if it holds of
--- each answer by this line, and of the ending as disagreeing by it
-answered_along : (P : End → Type 0) (expected : Expected) (q : Quality) (said : Option Answer) (line : List ℕ)
-    → ((quality : Quality) (answer : Option Answer) → P (Answered quality answer line)) → P (Disagree line) → P (answered_as expected q said line)
-answered_along P expected q said line answered disagree = by_test (agrees_in expected.twice expected.first said) where
+-- a fact of endings holds of the ending by a line that is as expected, with an answer, or without one, whether that agrees with that of a
+-- first sending or not, if it holds of each answer by this line, and of the ending as disagreeing by it
+agreed_along : (P : End → Type 0) (expected : Expected) (q : Quality) (said : Option Answer) (line : List ℕ)
+    → ((quality : Quality) (answer : Option Answer) → P (Answered quality answer line)) → P (Disagree line) → P (agreed_as expected q said line)
+agreed_along P expected q said line answered disagree = by_test (agrees_in expected.twice expected.first said) where
   -- the lemma above, by whether it agrees
   by_test : (b : Bool) → P (if b then Answered (quality_in expected.twice q) said line else Disagree line)
   by_test true = answered (quality_in expected.twice q) said
   by_test false = disagree
 
+-- so it does of the ending by a line that is as expected or not, if it holds of the ending as unexpected by this line, too
+answered_along : (P : End → Type 0) (expected : Expected) (q : Quality) (said : Option Answer) (line : List ℕ)
+    → ((quality : Quality) (answer : Option Answer) → P (Answered quality answer line)) → P (Disagree line) → P (Unexpected line) → P (answered_as expected q said line)
+answered_along P expected q said line answered disagree unexpected = by_test (meets expected.expects expected.before line) where
+  -- the lemma above, by whether it is as expected
+  by_test : (b : Bool) → P (if b then agreed_as expected q said line else Unexpected line)
+  by_test true = agreed_along P expected q said line answered disagree
+  by_test false = unexpected
+
 -- a fact of endings holds of the ending by an answer, whether that is elsewhere or not, if it holds of each answer by this line,
--- and of the endings as elsewhere and as disagreeing by it
+-- and of the endings as elsewhere, as disagreeing and as unexpected by it
 value_along : (P : End → Type 0) (expected : Expected) (q : Quality) (away : Bool) (said : Answer) (line : List ℕ)
-    → ((quality : Quality) (answer : Option Answer) → P (Answered quality answer line)) → P (Elsewhere line) → P (Disagree line) → P (value_as expected q away said line)
-value_along P expected q true said line answered elsewhere disagree = elsewhere
-value_along P expected q false said line answered elsewhere disagree = answered_along P expected q (Some said) line answered disagree
+    → ((quality : Quality) (answer : Option Answer) → P (Answered quality answer line)) → P (Elsewhere line) → P (Disagree line) → P (Unexpected line) → P (value_as expected q away said line)
+value_along P expected q true said line answered elsewhere disagree unexpected = elsewhere
+value_along P expected q false said line answered elsewhere disagree unexpected = answered_along P expected q (Some said) line answered disagree unexpected
 
 -- so it does of the ending by a reply with an accepted code, whatever the line says with return code 0 (`zeroed`)
 warned_along : (P : End → Type 0) (expected : Expected) (zeroed : Reading) (line : List ℕ)
-    → ((quality : Quality) (answer : Option Answer) → P (Answered quality answer line)) → P (Elsewhere line) → P (Disagree line) → P (warned_as expected zeroed line)
-warned_along P expected (reading.Value said) line answered elsewhere disagree =
-    value_along P expected Warning (is_elsewhere expected.near said) said line answered elsewhere disagree
-warned_along P expected (reading.Refused code) line answered elsewhere disagree = answered_along P expected Warning None line answered disagree
-warned_along P expected (reading.ComFault code) line answered elsewhere disagree = answered_along P expected Warning None line answered disagree
-warned_along P expected (reading.Unreadable fault) line answered elsewhere disagree = answered_along P expected Warning None line answered disagree
+    → ((quality : Quality) (answer : Option Answer) → P (Answered quality answer line)) → P (Elsewhere line) → P (Disagree line) → P (Unexpected line) → P (warned_as expected zeroed line)
+warned_along P expected (reading.Value said) line answered elsewhere disagree unexpected =
+    value_along P expected Warning (is_elsewhere expected.near said) said line answered elsewhere disagree unexpected
+warned_along P expected (reading.Refused code) line answered elsewhere disagree unexpected = answered_along P expected Warning None line answered disagree unexpected
+warned_along P expected (reading.ComFault code) line answered elsewhere disagree unexpected = answered_along P expected Warning None line answered disagree unexpected
+warned_along P expected (reading.Unreadable fault) line answered elsewhere disagree unexpected = answered_along P expected Warning None line answered disagree unexpected
 
 -- so it does of the ending by a refused reply, whether its code is accepted or not
 refused_along : (P : End → Type 0) (accepted : Bool) (expected : Expected) (zeroed : Reading) (line : List ℕ)
-    → ((quality : Quality) (answer : Option Answer) → P (Answered quality answer line)) → P (Elsewhere line) → P (Disagree line) → P (refused_as accepted expected zeroed line)
-refused_along P true expected zeroed line answered elsewhere disagree = warned_along P expected zeroed line answered elsewhere disagree
-refused_along P false expected zeroed line answered elsewhere disagree = answered Refused None
+    → ((quality : Quality) (answer : Option Answer) → P (Answered quality answer line)) → P (Elsewhere line) → P (Disagree line) → P (Unexpected line) → P (refused_as accepted expected zeroed line)
+refused_along P true expected zeroed line answered elsewhere disagree unexpected = warned_along P expected zeroed line answered elsewhere disagree unexpected
+refused_along P false expected zeroed line answered elsewhere disagree unexpected = answered Refused None
 
 -- so it does of the ending by any reply in time, if it holds of each ending as unreadable by this line, too
 pub answer_along : (P : End → Type 0) (expected : Expected) (said zeroed : Reading) (line : List ℕ)
-    → ((quality : Quality) (answer : Option Answer) → P (Answered quality answer line)) → P (Elsewhere line) → P (Disagree line) → ((fault : ValueFault) → P (Unreadable line fault))
+    → ((quality : Quality) (answer : Option Answer) → P (Answered quality answer line)) → P (Elsewhere line) → P (Disagree line) → P (Unexpected line) → ((fault : ValueFault) → P (Unreadable line fault))
     → P (answer_as expected said zeroed line)
-answer_along P expected (reading.Value said) zeroed line answered elsewhere disagree unreadable =
-    value_along P expected Fine (is_elsewhere expected.near said) said line answered elsewhere disagree
-answer_along P expected (reading.Refused code) zeroed line answered elsewhere disagree unreadable =
-    refused_along P (lists_code expected.accepted code) expected zeroed line answered elsewhere disagree
-answer_along P expected (reading.ComFault code) zeroed line answered elsewhere disagree unreadable = answered Refused None
-answer_along P expected (reading.Unreadable fault) zeroed line answered elsewhere disagree unreadable = unreadable fault
+answer_along P expected (reading.Value said) zeroed line answered elsewhere disagree unexpected unreadable =
+    value_along P expected Fine (is_elsewhere expected.near said) said line answered elsewhere disagree unexpected
+answer_along P expected (reading.Refused code) zeroed line answered elsewhere disagree unexpected unreadable =
+    refused_along P (lists_code expected.accepted code) expected zeroed line answered elsewhere disagree unexpected
+answer_along P expected (reading.ComFault code) zeroed line answered elsewhere disagree unexpected unreadable = answered Refused None
+answer_along P expected (reading.Unreadable fault) zeroed line answered elsewhere disagree unexpected unreadable = unreadable fault
 
 -- Records.
 
@@ -175,6 +187,37 @@ listed-append reads (mark ∷ marks) [] ys b = refl
 listed-append reads (None ∷ marks) (x ∷ xs) ys b = listed-append reads marks xs ys b
 listed-append reads (Some mark ∷ marks) (x ∷ xs) ys b =
     listed-append reads marks xs ys (listed_after b mark.expected (code_of reads x.call x.outcome) (end_of reads mark.expected x.call x.outcome))
+
+-- the same of the counts: without settlements they stay as they were
+pub counts-none : (reads : Reads) (b : List (Option Decimal)) (marks : List (Option Mark)) → counts_after_settlements reads b marks [] ≡ b
+counts-none reads b [] = refl
+counts-none reads b (mark ∷ marks) = refl
+
+-- the counts after one settlement, which is of the oldest request, depend, but for b, on the first mark alone
+counts_here : (reads : Reads) (b : List (Option Decimal)) (mark : Option Mark) (marks : List (Option Mark)) (x : Rule.Settlement Asked)
+    → counts_after_settlements reads b (mark ∷ marks) (x ∷ []) ≡ counts_after_settlements reads b (mark ∷ []) (x ∷ [])
+counts_here reads b None marks x = counts-none reads b marks
+counts_here reads b (Some mark) marks x = counts-none reads _ marks
+
+-- the counts after one settlement depend, but for b, on the first mark alone
+counts_first : (reads : Reads) (b : List (Option Decimal)) (marks : List (Option Mark)) (x : Rule.Settlement Asked)
+    → counts_after_settlements reads b marks (x ∷ []) ≡ counts_after_settlements reads b (first_mark marks ∷ []) (x ∷ [])
+counts_first reads b [] x = refl
+counts_first reads b (m ∷ marks) x = counts_here reads b m marks x
+
+-- the counts after the settlements `xs` and then `ys`, from b on, are those after `ys` with the marks that are left, from those after `xs`
+-- on
+counts-append : (reads : Reads) (marks : List (Option Mark)) (xs ys : List (Rule.Settlement Asked)) (b : List (Option Decimal))
+    → counts_after_settlements reads b marks (xs ++ ys) ≡ counts_after_settlements reads (counts_after_settlements reads b marks xs) (drop (length xs) marks) ys
+counts-append reads [] [] ys b = refl
+counts-append reads [] (x ∷ xs) ys b = refl
+counts-append reads (mark ∷ marks) [] ys b = refl
+counts-append reads (None ∷ marks) (x ∷ xs) ys b = counts-append reads marks xs ys b
+counts-append reads (Some mark ∷ marks) (x ∷ xs) ys b = counts-append reads marks xs ys (counts_after_settlement reads b mark x)
+
+-- the counts after settlements as the code has them
+abbrev counts_seen : (reads : Reads) (counts : List (Option Decimal)) (marks : List (Option Mark)) → List (Settlement Asked) → List (Option Decimal)
+counts_seen reads counts marks ss = counts_after_settlements reads counts marks (map settlement_seen ss)
 
 -- `listed_after_settlements` of settlements as the code has them
 abbrev listed_seen : (reads : Reads) (listed : Bool) (marks : List (Option Mark)) → List (Settlement Asked) → Bool
@@ -274,21 +317,29 @@ pub firsts-append : (fs : List (Option FirstAnswer)) (xs ys : List Record) → f
 firsts-append fs [] ys = refl
 firsts-append fs (x ∷ xs) ys = firsts-append (first_noted x.cycle x.turn x.end fs) xs ys
 
+-- whether one of the records `xs` and then `ys` is of a command that ended as unexpected is known from `ys`, from what it is of `xs` on
+pub unexpected-append : (b : Bool) (xs ys : List Record) → any_unexpected b (xs ++ ys) ≡ any_unexpected (any_unexpected b xs) ys
+unexpected-append b [] ys = refl
+unexpected-append b (x ∷ xs) ys = unexpected-append (unexpected_noted x.end b) xs ys
+
 -- what is kept of records is equal where each of its fields is
-recorded_same : (a b : Recorded) → a.tally ≡ b.tally → a.well ≡ b.well → a.listed ≡ b.listed → a.fresh ≡ b.fresh → a.firsts ≡ b.firsts → a ≡ b
-recorded_same a b tally well listed fresh firsts =
+recorded_same : (a b : Recorded) → a.tally ≡ b.tally → a.well ≡ b.well → a.listed ≡ b.listed → a.fresh ≡ b.fresh → a.firsts ≡ b.firsts → a.counts ≡ b.counts
+    → a.unexpected ≡ b.unexpected → a ≡ b
+recorded_same a b tally well listed fresh firsts counts unexpected =
     ap (λ (x : Counts). record a { tally = x }) tally
     ∙ ap (λ (x : Bool). record a { tally = b.tally; well = x }) well
     ∙ ap (λ (x : Bool). record a { tally = b.tally; well = b.well; listed = x }) listed
     ∙ ap (λ (x : List Watch). record a { tally = b.tally; well = b.well; listed = b.listed; fresh = x }) fresh
     ∙ ap (λ (x : List (Option FirstAnswer)). record a { tally = b.tally; well = b.well; listed = b.listed; fresh = b.fresh; firsts = x }) firsts
+    ∙ ap (λ (x : List (Option Decimal)). record a { tally = b.tally; well = b.well; listed = b.listed; fresh = b.fresh; firsts = b.firsts; counts = x }) counts
+    ∙ ap (λ (x : Bool). record b { unexpected = x }) unexpected
 
 -- without settlements, what is kept of records stays as it was
 pub recorded-none : (reads : Reads) (now : Moment) (marks : List (Option Mark)) (r : Recorded) → recorded_after now marks [] reads r ≡ r
 recorded-none reads now marks r =
     let none = records-none reads now.utc marks in
     recorded_same (recorded_after now marks [] reads r) r (ap (tallied r.tally) none) (ap (last_well r.well) none) (listed-none reads r.listed marks)
-    (ap (fresh_after now.elapsed r.fresh) none) (ap (firsts_after r.firsts) none)
+    (ap (fresh_after now.elapsed r.fresh) none) (ap (firsts_after r.firsts) none) (counts-none reads r.counts marks) (ap (any_unexpected r.unexpected) none)
 
 -- `s` is the settlement at place i, and `mark` the first of the marks from place i on
 module _ (reads : Reads) (marks : List (Option Mark)) (ss : List (Settlement Asked)) (i : ℕ) (s : Settlement Asked) (mark : Option Mark)
@@ -319,6 +370,17 @@ module _ (reads : Reads) (marks : List (Option Mark)) (ss : List (Settlement Ask
       ∙ sym (listed-append reads marks front (settlement_seen s ∷ []) a)
       ∙ sym (ap (listed_after_settlements reads a marks) (map_more settlement_seen ss i s below ∙ ap (λ x. front ++ settlement_seen x ∷ []) (sym is)))
 
+  -- the same of the counts
+  counts_more : (a b c : List (Option Decimal)) → b ≡ counts_seen reads a marks (take i ss) → c ≡ counts_seen reads b (mark ∷ []) (s ∷ []) → c ≡ counts_seen reads a marks (take (i + 1) ss)
+  counts_more a b c so more =
+      let front = map settlement_seen (take i ss) in
+      more ∙ ap (λ x. counts_after_settlements reads x (mark ∷ []) (settlement_seen s ∷ [])) so
+      ∙ ap (λ k. counts_after_settlements reads (counts_after_settlements reads a marks front) (k ∷ []) (settlement_seen s ∷ [])) first
+      ∙ sym (counts_first reads (counts_after_settlements reads a marks front) (drop i marks) (settlement_seen s))
+      ∙ ap (λ n. counts_after_settlements reads (counts_after_settlements reads a marks front) (drop n marks) (settlement_seen s ∷ [])) (sym front_length)
+      ∙ sym (counts-append reads marks front (settlement_seen s ∷ []) a)
+      ∙ sym (ap (counts_after_settlements reads a marks) (map_more settlement_seen ss i s below ∙ ap (λ x. front ++ settlement_seen x ∷ []) (sym is)))
+
   -- if b is what the first i settlements make of a, and c what s makes of b, c is what the first i + 1 make of a
   pub recorded_more : (now : Moment) (a b c : Recorded) → b ≡ recorded_after now marks (map settlement_seen (take i ss)) reads a
       → c ≡ recorded_after now (mark ∷ []) (settlement_seen s ∷ []) reads b → c ≡ recorded_after now marks (map settlement_seen (take (i + 1) ss)) reads a
@@ -332,6 +394,8 @@ module _ (reads : Reads) (marks : List (Option Mark)) (ss : List (Settlement Ask
       (listed_more a.listed b.listed c.listed (ap (λ (r : Recorded). r.listed) so) (ap (λ (r : Recorded). r.listed) more))
       (fold_more (fresh_after now.elapsed) (fresh-append now.elapsed) a.fresh b.fresh c.fresh front one _ (ap (λ (r : Recorded). r.fresh) so) (ap (λ (r : Recorded). r.fresh) more) next)
       (fold_more firsts_after firsts-append a.firsts b.firsts c.firsts front one _ (ap (λ (r : Recorded). r.firsts) so) (ap (λ (r : Recorded). r.firsts) more) next)
+      (counts_more a.counts b.counts c.counts (ap (λ (r : Recorded). r.counts) so) (ap (λ (r : Recorded). r.counts) more))
+      (fold_more any_unexpected unexpected-append a.unexpected b.unexpected c.unexpected front one _ (ap (λ (r : Recorded). r.unexpected) so) (ap (λ (r : Recorded). r.unexpected) more) next)
 
 -- the record with the ending that a settlement gives is the record of the settlement
 pub record_of_ending : (reads : Reads) (utc : ℕ) (mark : Mark) (x : Rule.Settlement Asked) (end : End) → end ≡ end_of reads mark.expected x.call x.outcome

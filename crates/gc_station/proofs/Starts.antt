@@ -1,6 +1,6 @@
--- Once the station heard a sign-on, no command of a cycle is sent before the setup was sent anew, and answered well. The sign-on is noted
--- until the station resynchronizes, and while it is nothing is sent. An act is one call on the link, with its result.
-use Rattle.std.proofs.Common.{◌≡◌, inl, inr, ℕ, ◌||◌, Bool, true, false, List, [], ◌∷◌, ◌++◌, map, refl, sym, ap, ◌∙◌, subst, append_assoc, if◌then◌else◌}
+-- Once the station heard a sign-on, or anything else left it in doubt, no command of a cycle is sent before the setup was sent anew, and
+-- answered well. The doubt is noted until the station resynchronizes, and while it is nothing is sent. An act is one call on the link, with its result.
+use Rattle.std.proofs.Common.{◌≡◌, inl, inr, ℕ, ◌||◌, ◌<◌, Bool, true, false, List, [], ◌∷◌, ◌++◌, map, refl, sym, ap, ◌∙◌, subst, append_assoc, if◌then◌else◌}
 use Rattle.std.specs.List.{list_any}
 use Rattle.std.proofs.lemmas.Bool.{both_ways}
 use Rattle.gc_catalogue.specs.declared.asked.Asked.{Asked}
@@ -10,6 +10,7 @@ use Rattle.gc_texts.specs.SignOns.{is_sign_on}
 use Rattle.gc_texts.specs.declared.tasks.Task.{Task}
 use Rattle.gc_links.specs.Acts.{Act, Gave}
 use Rattle.gc_station.specs.declared.plan.Plan.{Plan}
+use Rattle.gc_station.specs.declared.progress.Action.TheVariants.{Send}
 use Rattle.gc_station.specs.declared.progress.Action.{Action}
 use Rattle.gc_station.specs.Deciding.{has_begun}
 use Rattle.gc_station.specs.Lines.{raises_doubt}
@@ -18,6 +19,7 @@ use Rattle.gc_station.specs.Parts.{client_part, client_stepped}
 use Rattle.gc_station.specs.Progressing.{turned}
 use Rattle.gc_station.specs.Reasons.{HoldsBefore}
 use Rattle.gc_station.specs.Runs.{state_after}
+use Rattle.gc_station.specs.Scopes.{Scope}
 use Rattle.gc_station.specs.Setups.{StaysUp, IsPrepared}
 use Rattle.gc_station.specs.Starts.{BringsSignOn, IsPreparedBehind, SetsUpAnewAfterASignOn}
 use Rattle.gc_station.proofs.Counts.{with_losses_progress}
@@ -52,14 +54,14 @@ module _ (plan : Plan) (commands : List Task) where
   abbrev IsInDoubt : Model → Type 0
   IsInDoubt s = (has_begun s.progress ≡ true) × (s.progress.doubtful ≡ true)
 
-  -- what an act of a run notes, if the station had synchronized before it and has after it
+  -- an act of a run notes a doubt that the steps of its part note, if the station had synchronized before it and has after it
   noted_after : (s : Model) (act : Act) → Performs commands s (action_at plan s) act → has_begun s.progress ≡ true → has_begun (after plan commands s act).progress ≡ true
-      → (after plan commands s act).progress.doubtful ≡ (noted_by s.client (noted_in s.progress) (client_part plan commands s (action_at plan s) act).steps).doubtful
-  noted_after s act performs begun still =
+      → (noted_by s.client (noted_in s.progress) (client_part plan commands s (action_at plan s) act).steps).doubtful ≡ true → (after plan commands s act).progress.doubtful ≡ true
+  noted_after s act performs begun still doubt =
       let t = moved plan commands (action_at plan s) (with_progress turned s) act in
       let same = with_losses_progress t in
       ap (λ p. p.doubtful) same
-      ∙ ap (λ (n : Noted). n.doubtful) (acts_noted plan commands s (action_at plan s) act (action_for plan s.progress (waiting_of s)) performs begun (sym (ap has_begun same) ∙ still))
+      ∙ (acts_noted plan commands s (action_at plan s) act (action_for plan s.progress (waiting_of s)) performs begun (sym (ap has_begun same) ∙ still)).1 doubt
 
   -- while no connection is closed, and the station doesn't resynchronize, a doubt stays
   stays_in_doubt : (s : Model) (acts : List Act) → Runs plan commands s acts → StaysUp plan commands s acts → IsInDoubt s → (after_all plan commands s acts).progress.doubtful ≡ true
@@ -67,13 +69,13 @@ module _ (plan : Plan) (commands : List Task) where
   stays_in_doubt s (act ∷ acts) runs up doubt =
       stays_in_doubt (after plan commands s act) acts runs.1 up.2 (
         up.1,
-        noted_after s act runs.0 doubt.0 up.1 ∙ doubt_stays s.client (noted_in s.progress) (client_part plan commands s (action_at plan s) act).steps doubt.1,
+        noted_after s act runs.0 doubt.0 up.1 (doubt_stays s.client (noted_in s.progress) (client_part plan commands s (action_at plan s) act).steps doubt.1),
       )
 
   -- an act that brings a sign-on leaves the station in doubt
   doubt_begins : (s : Model) (act : Act) → Performs commands s (action_at plan s) act → has_begun s.progress ≡ true → has_begun (after plan commands s act).progress ≡ true
       → BringsSignOn s act → (after plan commands s act).progress.doubtful ≡ true
-  doubt_begins s (Gave piece m) performs begun still brings = noted_after s (Gave piece m) performs begun still ∙ by_phase (is_heard s.progress.phase) refl where
+  doubt_begins s (Gave piece m) performs begun still brings = noted_after s (Gave piece m) performs begun still (by_phase (is_heard s.progress.phase) refl) where
     -- the lemma above, by whether lines are heard in the phase
     by_phase : (h : Bool) → is_heard s.progress.phase ≡ h
         → (noted_by s.client (noted_in s.progress) (client_part plan commands s (action_at plan s) (Gave piece m)).steps).doubtful ≡ true
@@ -89,30 +91,53 @@ module _ (plan : Plan) (commands : List Task) where
   up_behind s [] ys up begun = (up, begun)
   up_behind s (x ∷ xs) ys up begun = up_behind (after plan commands s x) xs ys up.2 up.1
 
+module _ (plan : Plan) (commands : List Task) (scope : Scope) (earlier behind : List Act) (start : Act) (runs : Runs plan commands (opening plan scope) (earlier ++ start ∷ behind)) where
+  -- the model after these acts
+  abbrev state : List Act → Model
+  state acts = state_after plan commands scope acts
+
+  -- the act leaves the station in doubt, if it had synchronized before the act, and has after it
+  abbrev pub LeavesInDoubt : Type 0
+  LeavesInDoubt =
+      has_begun (state earlier).progress ≡ true → has_begun (after plan commands (state earlier) start).progress ≡ true → (after plan commands (state earlier) start).progress.doubtful ≡ true
+
+  -- the run from the act on
+  run : Runs plan commands (state earlier) (start ∷ behind)
+  run = runs_behind plan commands (opening plan scope) earlier (start ∷ behind) runs
+
+  -- the station is in doubt at the end, if it is after the act, and no connection was closed, and the station didn't resynchronize, since
+  -- before the act
+  pub in_doubt_at_end : (after plan commands (state earlier) start).progress.doubtful ≡ true → StaysUp plan commands (state earlier) (start ∷ behind)
+      → (state (earlier ++ start ∷ behind)).progress.doubtful ≡ true
+  in_doubt_at_end doubt up =
+      ap (λ (t : Model). t.progress.doubtful) (after_all-append plan commands (opening plan scope) earlier (start ∷ behind))
+      ∙ stays_in_doubt plan commands (after plan commands (state earlier) start) behind run.1 up.2 (up.1, doubt)
+
+  -- a command of a cycle is sent only once each command of the setup was sent after such an act
+  pub set_up_anew_after_a_doubt : LeavesInDoubt → action_at plan (state (earlier ++ start ∷ behind)) ≡ Send → (place : ℕ) → place < plan.setup
+      → IsPreparedBehind plan commands scope (earlier ++ start ∷ []) (earlier ++ start ∷ behind) place
+  set_up_anew_after_a_doubt leaves sends place below = by_case (split p.before (p.request ∷ p.behind) earlier start behind (sym p.order)) where
+    -- how the command of the setup was prepared
+    p : IsPrepared plan commands scope (earlier ++ start ∷ behind) place
+    p = none_before_the_set_up plan commands scope (earlier ++ start ∷ behind) runs sends place below
+
+    -- its request is sent after the act, since otherwise the station would be in doubt
+    by_case : Splits p.before (p.request ∷ p.behind) earlier start behind → IsPreparedBehind plan commands scope (earlier ++ start ∷ []) (earlier ++ start ∷ behind) place
+    by_case (inl (mid, is)) = record { prepared = p; between = mid; order = is ∙ sym (append_assoc earlier (start ∷ []) mid) }
+    by_case (inr (rest, is, others)) =
+        let old = state p.before in
+        let s = state earlier in
+        let end = state (earlier ++ start ∷ behind) in
+        let begun = (subst (λ (o : Action). HoldsBefore plan old.progress (waiting_of old) o) p.sends (action_for plan old.progress (waiting_of old))).1 in
+        let both = up_behind plan commands old rest (start ∷ behind) (subst (StaysUp plan commands old) others p.stays) begun in
+        let here : s ≡ after_all plan commands old rest = ap state is ∙ after_all-append plan commands (opening plan scope) p.before rest in
+        let up = subst (λ (t : Model). StaysUp plan commands t (start ∷ behind)) (sym here) both.0 in
+        let was : has_begun s.progress ≡ true = ap (λ (t : Model). has_begun t.progress) here ∙ both.1 in
+        let needs = subst (λ (o : Action). HoldsBefore plan end.progress (waiting_of end) o) sends (action_for plan end.progress (waiting_of end)) in
+        absurd (both_ways end.progress.doubtful needs.3.2 (in_doubt_at_end (leaves was up.1) up))
+
 -- the law: a command of a cycle is sent only once each command of the setup was sent after the sign-on
 pub set_up_anew_after_a_sign_on : SetsUpAnewAfterASignOn
-set_up_anew_after_a_sign_on plan commands scope earlier behind start runs brings sends place below =
-    by_case (split p.before (p.request ∷ p.behind) earlier start behind (sym p.order)) where
-      -- how the command of the setup was prepared
-      p : IsPrepared plan commands scope (earlier ++ start ∷ behind) place
-      p = none_before_the_set_up plan commands scope (earlier ++ start ∷ behind) runs sends place below
-
-      -- its request is sent after the sign-on, since otherwise the station would be in doubt
-      by_case : Splits p.before (p.request ∷ p.behind) earlier start behind → IsPreparedBehind plan commands scope (earlier ++ start ∷ []) (earlier ++ start ∷ behind) place
-      by_case (inl (mid, is)) = record { prepared = p; between = mid; order = is ∙ sym (append_assoc earlier (start ∷ []) mid) }
-      by_case (inr (rest, is, others)) =
-          let state = state_after plan commands scope in
-          let old = state p.before in
-          let s = state earlier in
-          let end = state (earlier ++ start ∷ behind) in
-          let begun = (subst (λ (o : Action). HoldsBefore plan old.progress (waiting_of old) o) p.sends (action_for plan old.progress (waiting_of old))).1 in
-          let both = up_behind plan commands old rest (start ∷ behind) (subst (StaysUp plan commands old) others p.stays) begun in
-          let here : s ≡ after_all plan commands old rest = ap state is ∙ after_all-append plan commands (opening plan scope) p.before rest in
-          let up = subst (λ (t : Model). StaysUp plan commands t (start ∷ behind)) (sym here) both.0 in
-          let was : has_begun s.progress ≡ true = ap (λ (t : Model). has_begun t.progress) here ∙ both.1 in
-          let run = runs_behind plan commands (opening plan scope) earlier (start ∷ behind) runs in
-          let doubt = doubt_begins plan commands s start run.0 was up.1 brings in
-          let stays = stays_in_doubt plan commands (after plan commands s start) behind run.1 up.2 (up.1, doubt) in
-          let at_end = ap (λ (t : Model). t.progress.doubtful) (after_all-append plan commands (opening plan scope) earlier (start ∷ behind)) ∙ stays in
-          let needs = subst (λ (o : Action). HoldsBefore plan end.progress (waiting_of end) o) sends (action_for plan end.progress (waiting_of end)) in
-          absurd (both_ways end.progress.doubtful needs.3.2 at_end)
+set_up_anew_after_a_sign_on plan commands scope earlier behind start runs brings =
+    set_up_anew_after_a_doubt plan commands scope earlier behind start runs
+    (λ begun still. doubt_begins plan commands (state_after plan commands scope earlier) start (run plan commands scope earlier behind start runs).0 begun still brings)

@@ -20,6 +20,9 @@ use Rattle.gc_links.specs.Acts.{Act, Gave}
 use Rattle.gc_links.specs.declared.link.Moment.{Moment}
 use Rattle.gc_station.specs.Answers.{ReadsBefore, deadline_after, IsRecordedBy, IsRepliedIn, AnswerIsJustified}
 use Rattle.gc_station.specs.Ends.{OneReadsPast, LateIsJustified, LostIsJustified, IsLast}
+use Rattle.gc_station.specs.Counters.{count_at}
+use Rattle.gc_station.specs.Expecting.{IsCompared, IsAsExpected, IsNotAsExpected, IsByExpectation}
+use Rattle.gc_station.specs.NextCommand.{expected_at}
 use Rattle.gc_station.specs.Quiet.{IsAsking}
 use Rattle.gc_station.specs.Records.{Record}
 use Rattle.gc_station.specs.Runs.{state_after}
@@ -77,13 +80,16 @@ module _ (plan : Plan) (commands : List Task) (scope : Scope) where
   abbrev state : List Act → Model
   state acts = state_after plan commands scope acts
 
-  -- after these acts, the command with this mark is sent next
+  -- after these acts, the command with this mark is sent next; the mark has what the text expects of its answer, and the number that is
+  -- kept of its counter
   pub record Marked (acts : List Act) (mark : Mark) : Type 0 where
     pub sends : IsSending plan (state acts)
     pub cycle : mark.cycle ≡ cycle_to_send plan (state acts)
     pub place : mark.place ≡ place_to_send plan commands (state acts)
     pub sent : mark.sent ≡ (state acts).progress.moment.utc
     pub id : mark.id ≡ (state acts).client.next
+    pub expects : mark.expected.expects ≡ (expected_at commands mark.place).expects
+    pub before : mark.expected.before ≡ count_at (state acts).counts (expected_at commands mark.place).counter
 
   -- the request p that waits at the place `at`, with this id and mark, was put among these acts; `number` acts came before it,
   -- and `Stays` holds of the acts after it, by whether p has timed out and its deadline. If p isn't the oldest (`at` is above 0),
@@ -113,12 +119,14 @@ module _ (plan : Plan) (commands : List Task) (scope : Scope) where
   StillWaitsAt acts client now next count number at p mark =
       WasAsked acts (TimedOutAsReadBy now) number at (id_at_place next count at) p mark × Ids.Waits client (id_at_place next count at)
 
-  -- a record is true: if it is of a reply in time, late or lost, it came about as the law on such records says
+  -- a record is true: if it is of a reply in time, late or lost, it came about as the law on such records says; and it is as the text
+  -- expects it, or isn't, as its ending says
   pub record IsJustified (acts : List Act) (r : Record) : Type 0 where
     pub answered : AnswerIsJustified plan commands scope acts r
     pub late : LateIsJustified plan commands scope acts r
     pub lost : LostIsJustified plan commands scope acts r
     pub unsent : r.sent ≡ None → r.id ≡ 0
+    pub expected : IsByExpectation plan commands scope acts r
 
   -- what every run keeps: the outstanding requests at the client c, with these marks, were put among the acts, in order
   -- (`StillWaits`); and the records are true by `all` acts
@@ -200,11 +208,23 @@ module _ (plan : Plan) (commands : List Task) (scope : Scope) where
   true_more : (acts : List Act) (act : Act) (r : Record)
       → Performs commands (state acts) (action_at plan (state acts)) act
       → IsJustified acts r → IsJustified (acts ++ act ∷ []) r
-  true_more acts act r obeys is = record { answered = answered_more; late = late_more; lost = lost_more; unsent = is.unsent } where
+  true_more acts act r obeys is = record { answered = answered_more; late = late_more; lost = lost_more; unsent = is.unsent; expected = (met_more, unmet_more) } where
     -- a record of a reply in time is true by one act more
     answered_more : AnswerIsJustified plan commands scope (acts ++ act ∷ []) r
     answered_more line e =
         let a = is.answered line e in record { reply = replied_more acts act r line a.reply; waits = a.waits; in_time = a.in_time }
+
+    -- a record of a reply that was compared with what the text expects is so by one act more
+    compared_more : (met : Bool) → IsCompared plan commands scope acts r met → IsCompared plan commands scope (acts ++ act ∷ []) r met
+    compared_more met a = record { line = a.line; its_line = a.its_line; act = a.act; its = recorded_more acts act r a.act a.its; compared = a.compared }
+
+    -- a record that was answered well is as expected by one act more
+    met_more : IsAsExpected plan commands scope (acts ++ act ∷ []) r
+    met_more well = compared_more true (is.expected.0 well)
+
+    -- a record that ended as unexpected isn't as expected by one act more
+    unmet_more : IsNotAsExpected plan commands scope (acts ++ act ∷ []) r
+    unmet_more line e = compared_more false (is.expected.1 line e)
 
     -- a late record is true by one act more
     late_more : LateIsJustified plan commands scope (acts ++ act ∷ []) r

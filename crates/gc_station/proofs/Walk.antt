@@ -223,7 +223,7 @@ changed_by Send s t = record s { client = t.client; marks = t.marks }
 changed_by Skip s t = record s { client = t.client; records = t.records; listed = t.listed; fresh = t.fresh }
 changed_by Pass s t = record s { client = t.client; passes = t.passes; fresh = t.fresh }
 changed_by Flush s t = record s { client = t.client; marks = t.marks }
-changed_by (Read until) s t = record s { rest = t.rest; client = t.client; marks = t.marks; records = t.records; listed = t.listed; fresh = t.fresh }
+changed_by (Read until) s t = record s { rest = t.rest; client = t.client; marks = t.marks; records = t.records; listed = t.listed; counts = t.counts; fresh = t.fresh }
 changed_by (Close why) s t = record s { rest = t.rest }
 changed_by (Stop why) s t = s
 
@@ -253,6 +253,7 @@ piece_of s t = record s {
   marks = t.marks;
   records = t.records;
   listed = t.listed;
+  counts = t.counts;
   fresh = t.fresh;
 }
 

@@ -9,6 +9,7 @@ use Rattle.gc_catalogue.specs.declared.asked.Asked.{Asked}
 use Rattle.gc_client.specs.Rule.{Answered, Late, Lost}
 use Rattle.gc_texts.specs.Codes.{lists_code, no_codes}
 use Rattle.gc_texts.specs.Endings as end
+use Rattle.gc_texts.specs.Expectations.{meets}
 use Rattle.gc_texts.specs.Nears.{is_elsewhere}
 use Rattle.gc_texts.specs.declared.near.Expected.{Expected}
 use Rattle.gc_texts.specs.declared.quality.Quality.TheVariants as quality
@@ -23,8 +24,8 @@ IfAccepted expected call r zeroed claim =
     r.rc_com ≡ 0 → r.rc ≢ 0 → lists_code expected.accepted r.rc ≡ true → IsAskedReading call (record r { rc = 0 }) zeroed → claim
 
 -- how a command ended (`ended`) that asked for `call`, and whose reply, `line`, came in time. `r` has the reply's fields.
--- `expected` says where the command's target is, if the text says so, which return codes are accepted of it, and with which answer of a
--- first sending its own is compared
+-- `expected` says where the command's target is, if the text says so, which return codes are accepted of it, which values are expected, and
+-- with which answer of a first sending its own is compared
 pub record EndsByItsCodes (expected : Expected) (call : Asked) (line : List ℕ) (r : ReplyFields) (ended : end.End) : Type 0 where
   -- it was answered well only if the communication code is 0, and the return code is 0 or an accepted one
   pub only : is_well ended ≡ true → (r.rc_com ≡ 0) × ((r.rc ≡ 0) ⊎ (lists_code expected.accepted r.rc ≡ true))
@@ -34,21 +35,21 @@ pub record EndsByItsCodes (expected : Expected) (call : Asked) (line : List ℕ)
   pub unread : (said : Reading) → IsAskedReading call r said → ((answer : Answer) → said ≡ reading.Value answer → ⊥)
       → ((code : ℕ) → said ≡ reading.Refused code → lists_code expected.accepted code ≡ false) → is_well ended ≡ false
   -- if both codes are 0, and the parameters are an answer to what was asked, it was answered well, unless the answer was measured
-  -- elsewhere than the target is, or, in a second sending, doesn't agree with that of the first
+  -- elsewhere than the target is, or isn't as the text expects it, or, in a second sending, doesn't agree with that of the first
   pub found : (answer : Answer) → IsAskedReading call r (reading.Value answer)
-      → is_well ended ≡ (not (is_elsewhere expected.near answer) && agrees_in expected.twice expected.first (Some answer))
+      → is_well ended ≡ (not (is_elsewhere expected.near answer) && meets expected.expects expected.before line && agrees_in expected.twice expected.first (Some answer))
   -- and where the answer was measured elsewhere, it ended as elsewhere
   pub away : (answer : Answer) → IsAskedReading call r (reading.Value answer) → is_elsewhere expected.near answer ≡ true
       → ended ≡ end.Elsewhere line
   -- as `found`, with an accepted return code other than 0
   pub warned : (answer : Answer)
       → IfAccepted expected call r (reading.Value answer)
-      (is_well ended ≡ (not (is_elsewhere expected.near answer) && agrees_in expected.twice expected.first (Some answer)))
+      (is_well ended ≡ (not (is_elsewhere expected.near answer) && meets expected.expects expected.before line && agrees_in expected.twice expected.first (Some answer)))
   -- as `away`, with an accepted return code other than 0
   pub warned_away : (answer : Answer)
       → IfAccepted expected call r (reading.Value answer) (is_elsewhere expected.near answer ≡ true → ended ≡ end.Elsewhere line)
-  -- with an accepted return code other than 0, and parameters that don't read, it is answered with a warning, and without values; in a
-  -- chain that is sent twice as its sending has it (`answered_as`)
+  -- with an accepted return code other than 0, and parameters that don't read, it is answered with a warning, and without values, if the
+  -- line is as the text expects it; in a chain that is sent twice as its sending has it (`answered_as`)
   pub warned_without : (fault : ValueFault)
       → IfAccepted expected call r (reading.Unreadable fault) (ended ≡ answered_as expected quality.Warning None line)
 

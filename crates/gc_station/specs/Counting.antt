@@ -1,7 +1,7 @@
 -- A tally counts the records of the last attempts: this project's own.
 use Rattle.std.specs.Prelude.{◌≡◌, ℕ, suc, Bool, true, false, List, [], ◌∷◌, if◌then◌else◌, ◌||◌, ◌&&◌, not, nat_eq, nat_lt}
 use Rattle.gc_texts.specs.Qualities.{is_good}
-use Rattle.gc_texts.specs.Endings.{End, Answered, Unreadable, Elsewhere, Disagree, Late, Lost, Skipped, Missed}
+use Rattle.gc_texts.specs.Endings.{End, Answered, Unreadable, Elsewhere, Disagree, Unexpected, Late, Lost, Skipped, Missed}
 use Rattle.gc_station.specs.Records.{Record}
 use Rattle.gc_station.specs.Tallies.{capped, tally_of}
 use Rattle.gc_station.specs.declared.tally.Tally.{Tally}
@@ -35,6 +35,11 @@ ended_elsewhere _ = false
 abbrev pub ended_disagree : End → Bool
 ended_disagree (Disagree line) = true
 ended_disagree _ = false
+
+-- whether an ending is `Unexpected`
+abbrev pub ended_unexpected : End → Bool
+ended_unexpected (Unexpected line) = true
+ended_unexpected _ = false
 
 -- whether an ending is `Late`
 abbrev pub ended_late : End → Bool
@@ -90,4 +95,5 @@ pub record TalliesCountRecords : Type 0 where
   pub missed : CountsEndings (λ t. t.missed) ended_missed
   pub elsewhere : CountsEndings (λ t. t.elsewhere) ended_elsewhere
   pub disagree : CountsEndings (λ t. t.disagree) ended_disagree
+  pub unexpected : CountsEndings (λ t. t.unexpected) ended_unexpected
   pub again : (records : List Record) → (tally_of records).again ≡ capped (further_attempts records)

@@ -18,6 +18,7 @@ pub mod Keeping
 pub mod EachOnce
 pub mod Requests
 pub mod Attempts
+pub mod Counters
 pub mod Reasons
 pub mod Closing
 pub mod Answers
@@ -41,6 +42,7 @@ pub mod NullFirst
 pub mod HoldingBack
 pub mod InDoubt
 pub mod Starts
+pub mod Expecting
 pub mod Codes
 pub mod Counting
 pub mod Room

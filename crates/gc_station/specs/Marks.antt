@@ -10,6 +10,7 @@ use Rattle.gc_texts.specs.declared.wish.Wish.{Wish}
 use Rattle.gc_texts.specs.Agrees.{agrees}
 use Rattle.gc_texts.specs.Codes.{lists_code}
 use Rattle.gc_texts.specs.Endings.{End}
+use Rattle.gc_texts.specs.Expectations.{meets}
 use Rattle.gc_texts.specs.Nears.{is_elsewhere}
 use Rattle.gc_texts.specs.Qualities.{is_good, is_confirmed}
 use Rattle.gc_texts.specs.Zeroed.{as_zero}
@@ -57,11 +58,17 @@ abbrev pub quality_in : Twice → Quality → Quality
 quality_in twice.First q = quality.Unconfirmed
 quality_in _ q = q
 
--- how a command ends whose reply, `line`, has this answer, or none, and this quality: as answered, unless it is of a second sending and
--- doesn't agree with that of the first; then as disagreeing
+-- how a command ends whose reply, `line`, is as the text expects it, and has this answer, or none, and this quality: as answered, unless
+-- it is of a second sending and doesn't agree with that of the first; then as disagreeing
+abbrev pub agreed_as : Expected → Quality → (answer : Option Answer) → (line : List ℕ) → End
+agreed_as expected quality answer line =
+    if agrees_in expected.twice expected.first answer then end.Answered (quality_in expected.twice quality) answer line else end.Disagree line
+
+-- how a command ends whose reply, `line`, has this answer, or none, and this quality: as `agreed_as` says, unless the values of the line
+-- aren't as the text expects them; then as unexpected
 abbrev pub answered_as : Expected → Quality → (answer : Option Answer) → (line : List ℕ) → End
 answered_as expected quality answer line =
-    if agrees_in expected.twice expected.first answer then end.Answered (quality_in expected.twice quality) answer line else end.Disagree line
+    if meets expected.expects expected.before line then agreed_as expected quality answer line else end.Unexpected line
 
 -- how a command ends whose reply, `line`, has this answer. If the answer was measured elsewhere than the command's target is
 -- (`away`): as elsewhere. Otherwise as `answered_as` says, with this quality
@@ -77,15 +84,15 @@ warned_as expected (reading.Value answer) line = value_as expected quality.Warni
 warned_as expected _ line = answered_as expected quality.Warning None line
 
 -- how a command ends whose reply, `line`, has a return code other than 0, which is accepted or not. The line would say `zeroed`
--- with return code 0. `expected` says where the command's target is, if the text says so, and with which answer its own is compared
+-- with return code 0. `expected` says where the command's target is, if the text says so, which values are expected, and with which answer
+-- its own is compared
 abbrev pub refused_as : (accepted : Bool) → Expected → (zeroed : Reading) → (line : List ℕ) → End
 refused_as true expected zeroed line = warned_as expected zeroed line
 refused_as false expected zeroed line = end.Answered quality.Refused None line
 
 -- how a command ends whose reply, `line`, came in time. The line says `said`, and would say `zeroed` with return code 0;
--- `expected` says where the target is, if the text says so, which return codes are accepted, and with which answer of a first sending
--- the answer is compared. An answer ends it as `value_as`
--- says, and a return code as `refused_as` does. It is unreadable if its values don't read, and refused with a communication code
+-- `expected` says where the target is, if the text says so, which return codes are accepted, which values are expected, and with which
+-- answer of a first sending the answer is compared. An answer ends it as `value_as` says, and a return code as `refused_as` does. It is unreadable if its values don't read, and refused with a communication code
 abbrev pub answer_as : Expected → (said zeroed : Reading) → (line : List ℕ) → End
 answer_as expected (reading.Unreadable fault) zeroed line = end.Unreadable line fault
 answer_as expected (reading.Value answer) zeroed line = value_as expected quality.Fine (is_elsewhere expected.near answer) answer line
@@ -134,6 +141,16 @@ is_well _ = false
 abbrev pub ended_confirmed : End → Bool
 ended_confirmed (end.Answered quality answer line) = is_confirmed quality
 ended_confirmed _ = false
+
+-- whether a command that ended as unexpected was recorded, once one more command with this ending was; `was`: whether one had before
+abbrev pub unexpected_noted : End → (was : Bool) → Bool
+unexpected_noted (end.Unexpected line) was = true
+unexpected_noted _ was = was
+
+-- whether one of these records is of a command that ended as unexpected; true if `was` is
+abbrev pub any_unexpected : (was : Bool) → List Record → Bool
+any_unexpected was [] = was
+any_unexpected was (r ∷ others) = any_unexpected (unexpected_noted r.end was) others
 
 -- whether the last of these records is of a command that was answered well; if there are none, `well`
 abbrev pub last_well : (well : Bool) → List Record → Bool

@@ -4,6 +4,7 @@
 use Rattle.std.specs.Prelude.{◌≡◌, ℕ, ◌-◌, Bool, true, false, List, [], ◌∷◌, ◌++◌, length, drop, take, map, Option, Some, None, if◌then◌else◌, slice_get, ◌⊎◌}
 use Rattle.gc_lines.specs.Frames.{rest_behind}
 use Rattle.gc_lines.specs.Lines.{with_end}
+use Rattle.gc_values.specs.declared.decimal.Decimal.{Decimal}
 pub use Rattle.gc_lines.specs.Passing.{lines_completed}
 use Rattle.gc_catalogue.specs.declared.asked.Asked.{Asked}
 use Rattle.gc_catalogue.specs.declared.asked.Asked.TheVariants.{Table}
@@ -34,8 +35,9 @@ use Rattle.gc_station.specs.ActKinds.{Puts, ReadsClock, IsOpening, ReadsLink}
 use Rattle.gc_station.specs.Deciding.{later, is_none_left, is_preparing, action_of}
 pub use Rattle.gc_station.specs.Lines.{is_reply, calls_for_renewal}
 use Rattle.gc_station.specs.Attempts.{listed_after, listed_after_settlements}
+use Rattle.gc_station.specs.Counters.{no_counts, with_before, counts_after_settlements}
 use Rattle.gc_station.specs.Firsts.{firsts_after, with_first}
-use Rattle.gc_station.specs.Marks.{commands_in, with_id, record_with, records_of, last_well}
+use Rattle.gc_station.specs.Marks.{commands_in, with_id, record_with, records_of, last_well, any_unexpected}
 use Rattle.gc_station.specs.NextCommand.{place_next, commands_left, cycles_begun, mark_next, mark_setup, commands_before, upcoming_after}
 use Rattle.gc_station.specs.Progressing.{at_start, turned, moment_noted, cycle_begun, skipped, attempts_left_out, unsent_at, failing, opened, after_failure, cleared, request_noted, null_sent, resynchronized, sent, behind_noted, ended_noted, doubt_noted, line_noted, lines_synchronizing, bytes_noted, silent, early_noted, closed, loses_all, setup_sent}
 use Rattle.gc_station.specs.Records.{Record}
@@ -60,6 +62,8 @@ pub record Model : Type 0 where
   -- whether a recorded command of the current attempt ended in a way after which the text sends its chain again; false before the
   -- first record. A command of the setup leaves it as it is
   pub listed : Bool
+  -- of each counter of the text, the number in the answer that was recorded last
+  pub counts : List (Option Decimal)
   -- the commands of further attempts that were left out so far, in order
   pub passes : List RunRequest
   -- of each watched command, when it was recorded last as answered well
@@ -76,6 +80,7 @@ opening plan scope = record {
   marks = [];
   records = [];
   listed = false;
+  counts = no_counts;
   passes = [];
   fresh = map unanswered scope.watched;
   reads = scope.reads;
@@ -197,13 +202,15 @@ abbrev pub request_or_null : Plan → Mark → List Task → Outgoing
 request_or_null plan mark [] = null_request plan
 request_or_null plan mark (task ∷ others) = request_for mark task
 
--- the mark with which the setup's next command is sent: that of `mark_setup`, with the id that is next
+-- the mark with which the setup's next command is sent: that of `mark_setup`, with the id that is next, and with the number that is kept
+-- of its counter
 abbrev pub mark_setup_sent : List Task → Model → Mark
-mark_setup_sent commands s = with_id s.client.next (mark_setup commands s.progress)
+mark_setup_sent commands s = with_id s.client.next (with_before s.counts (mark_setup commands s.progress))
 
--- the request for the setup's next command at the progress `p`, with this id; if the list has none, the request for a null procedure
-abbrev pub request_of_setup : Plan → List Task → (id : ℕ) → Progress → Outgoing
-request_of_setup plan commands id p = request_or_null plan (with_id id (mark_setup commands p)) (drop p.prepared commands)
+-- the request for the setup's next command at the progress `p`, with this id and the number that these counts have at its counter; if the
+-- list has none, the request for a null procedure
+abbrev pub request_of_setup : Plan → List Task → (id : ℕ) → (counts : List (Option Decimal)) → Progress → Outgoing
+request_of_setup plan commands id counts p = request_or_null plan (with_id id (with_before counts (mark_setup commands p))) (drop p.prepared commands)
 
 -- the model `s` once the request `x` was sent, which waits from the moment read last on
 abbrev pub asks_for : Outgoing → Model → Model
@@ -221,10 +228,10 @@ asks_first mark (task ∷ others) s = asks_for (request_for mark task) s
 abbrev pub firsts_of : Model → List (Option FirstAnswer)
 firsts_of s = firsts_after [] s.records
 
--- the mark with which the cycle's next command is sent: that of `mark_next`, with the id that is next, and with the answer of the
--- first sending with which its own is compared
+-- the mark with which the cycle's next command is sent: that of `mark_next`, with the id that is next, with the answer of the first
+-- sending with which its own is compared, and with the number that is kept of its counter
 abbrev pub mark_sent : Plan → List Task → Model → Mark
-mark_sent plan commands s = with_id s.client.next (with_first (firsts_of s) (mark_next plan commands s.progress))
+mark_sent plan commands s = with_id s.client.next (with_before s.counts (with_first (firsts_of s) (mark_next plan commands s.progress)))
 
 -- the model `s` once the cycle's next command was sent
 abbrev pub asks_next : Plan → List Task → Model → Model
@@ -232,7 +239,7 @@ asks_next plan commands s = asks_first (mark_sent plan commands s) (commands_lef
 
 -- the model `s` once the setup's next command was sent
 abbrev pub asks_setup : Plan → List Task → Model → Model
-asks_setup plan commands s = asks_for (request_of_setup plan commands s.client.next s.progress) s
+asks_setup plan commands s = asks_for (request_of_setup plan commands s.client.next s.counts s.progress) s
 
 -- how a command ends that isn't sent: as missed if its cycle is missed, otherwise as skipped
 abbrev pub end_unsent : (missed : Bool) → End
@@ -279,11 +286,12 @@ abbrev pub with_more_records : List Record → Model → Model
 with_more_records records s = record s { records = s.records ++ records }
 
 -- the model `s` once these settlements of the oldest outstanding requests are recorded, by their marks, which are removed. The
--- records may change `listed` and `fresh`; the client of `s` stays
+-- records may change `listed`, `counts` and `fresh`; the client of `s` stays
 abbrev pub records_settled : List (Settlement Asked) → Model → Model
 records_settled settlements s = record s {
   records = s.records ++ records_of s.reads s.progress.moment.utc s.marks settlements;
   listed = listed_after_settlements s.reads s.listed s.marks settlements;
+  counts = counts_after_settlements s.reads s.counts s.marks settlements;
   marks = drop (length settlements) s.marks;
   fresh = fresh_after s.progress.moment.elapsed s.fresh (records_of s.reads s.progress.moment.utc s.marks settlements);
 }
@@ -308,8 +316,17 @@ line_settles x s =
     with_progress (λ p. ended_noted (length x.settlements) (behind_noted (ends_with_table x.settlements) (length x.client.waiting) p)) (settles x s)
 
 -- the model `s` once it is noted whether `line`, which its client is about to hear, calls for a synchronization (`calls_for_renewal`)
+abbrev pub line_called : List ℕ → Model → Model
+line_called line s = with_progress (doubt_noted (calls_for_renewal s.client line)) s
+
+-- the records that `line`, which the client of `s` is about to hear, adds to those of `s`
+abbrev pub line_news : List ℕ → Model → List Record
+line_news line s = records_of s.reads s.progress.moment.utc s.marks (hears s.client line (heard line)).settlements
+
+-- the model `s` once it is noted whether a synchronization is called for by `line`, which its client is about to hear: by itself
+-- (`line_called`), or because it ends a command as unexpected
 abbrev pub line_doubted : List ℕ → Model → Model
-line_doubted line s = with_progress (doubt_noted (calls_for_renewal s.client line)) s
+line_doubted line s = with_progress (doubt_noted (any_unexpected false (line_news line s))) (line_called line s)
 
 -- the model `s` after the client heard `line`
 abbrev pub line_came : Model → List ℕ → Model

@@ -34,13 +34,24 @@ cycles_begun plan p = plan.cycles - p.left
 abbrev pub no_turn : Turn
 no_turn = record { place = 0; attempt = 1; link = 0 }
 
--- what the text says of the answer of the first of these commands: where its target is, which return codes are accepted, and
--- which endings send the chain again; its turn, and which sending of its chain it is of. If there is no command: no place, no codes,
--- no endings, `no_turn`, and a chain that is sent once. With which answer its own is compared is known once it is sent
+-- what the text says of the answer of the first of these commands: where its target is, which return codes are accepted, which values
+-- are expected, and which endings send the chain again; its turn, and which sending of its chain it is of. If there is no command: no
+-- place, no codes, no values, no endings, `no_turn`, and a chain that is sent once. With which answer its own is compared, and which number
+-- its counter had, is known once it is sent
 abbrev pub expected_first : List Task → Expected
-expected_first [] = record { near = None; accepted = no_codes; again = no_again; turn = no_turn; twice = twice.Once; first = None }
+expected_first [] = record { near = None; accepted = no_codes; expects = None; counter = None; before = None; again = no_again; turn = no_turn; twice = twice.Once; first = None }
 expected_first (task ∷ others) =
-    record { near = task.near; accepted = task.accepted; again = task.again; turn = task.turn; twice = task.twice; first = None }
+    record {
+      near = task.near;
+      accepted = task.accepted;
+      expects = task.expects;
+      counter = task.counter;
+      before = None;
+      again = task.again;
+      turn = task.turn;
+      twice = task.twice;
+      first = None;
+    }
 
 -- what is expected of the answer of the command at `place` in the list `commands` (`expected_first`)
 abbrev pub expected_at : List Task → (place : ℕ) → Expected

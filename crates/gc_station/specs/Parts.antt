@@ -12,7 +12,7 @@ pub use Rattle.gc_client.specs.OneForOne.{course_at}
 use Rattle.gc_client.specs.Rule.{ById}
 use Rattle.gc_texts.specs.declared.near.Expected.{Expected}
 use Rattle.gc_texts.specs.declared.tasks.Task.{Task}
-use Rattle.gc_texts.specs.Endings.{End, Answered, Unreadable, Elsewhere, Disagree, Late, Lost, Skipped, Missed}
+use Rattle.gc_texts.specs.Endings.{End, Answered, Unreadable, Elsewhere, Disagree, Unexpected, Late, Lost, Skipped, Missed}
 use Rattle.gc_station.specs.declared.plan.Plan.{Plan}
 use Rattle.gc_station.specs.declared.mark.Mark.{Mark}
 use Rattle.gc_station.specs.declared.station.sending.Outgoing.{Outgoing}
@@ -82,7 +82,7 @@ first_request_part now mark (task ∷ others) = request_part now (request_for ma
 abbrev pub put_part : Plan → List Task → Model → Action → Part
 put_part plan commands s action.Flush = request_part s.progress.moment.elapsed (null_request plan)
 put_part plan commands s action.Prepare =
-    request_part s.progress.moment.elapsed (request_of_setup plan commands s.client.next s.progress)
+    request_part s.progress.moment.elapsed (request_of_setup plan commands s.client.next s.counts s.progress)
 put_part plan commands s action.Send =
     first_request_part s.progress.moment.elapsed (mark_sent plan commands s) (commands_left commands s.progress)
 put_part plan commands s _ = idle_part
@@ -150,6 +150,7 @@ went_out (Answered quality answer line) = true
 went_out (Unreadable line fault) = true
 went_out (Elsewhere line) = true
 went_out (Disagree line) = true
+went_out (Unexpected line) = true
 went_out Late = true
 went_out Lost = true
 went_out Skipped = false

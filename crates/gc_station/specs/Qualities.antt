@@ -1,6 +1,6 @@
 -- What the quality of an answer says of its line, this project's own: fine with both codes 0, a warning with a return code that
 -- the text accepts of that command, unconfirmed with either in the first sending of a chain that is sent twice, and else refused.
-use Rattle.std.specs.Prelude.{◌≡◌, ◌⊎◌, ℕ, true, false, List, Option, Some, None}
+use Rattle.std.specs.Prelude.{◌≡◌, ℕ, true, false, List, Option, Some, None}
 use Rattle.gc_catalogue.specs.declared.answer.Answer.{Answer}
 use Rattle.gc_catalogue.specs.declared.answer.Reading.{Reading}
 use Rattle.gc_catalogue.specs.declared.answer.Reading.TheVariants as reading

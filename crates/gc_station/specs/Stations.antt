@@ -70,6 +70,8 @@ pub record Refines (station : Station) (s : Model) : Type 0 where
   pub fresh : AreReadings s.reads → station.recorded.fresh ≡ s.fresh
   -- the kept answers of a first sending are those of the model's records
   pub firsts : station.recorded.firsts ≡ firsts_of s
+  -- the numbers that are kept of the counters are the model's
+  pub counts : AreReadings s.reads → station.recorded.counts ≡ s.counts
 
 -- from `start`, what it had taken before the run, to `taken` a book took the texts of the records of the model `s`, each
 -- written by `text`; if `s.reads` gives each reply's reading for its call

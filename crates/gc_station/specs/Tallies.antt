@@ -1,7 +1,7 @@
 -- How many commands ended how, this project's own: the counts are those of the last attempt of each chain. Commands of the setup
 -- aren't counted.
 use Rattle.std.specs.Prelude.{ℕ, ◌+◌, min, List, [], ◌∷◌, if◌then◌else◌, nat_eq, nat_lt}
-use Rattle.gc_texts.specs.Endings.{End, Answered, Unreadable, Elsewhere, Disagree, Late, Lost, Skipped, Missed}
+use Rattle.gc_texts.specs.Endings.{End, Answered, Unreadable, Elsewhere, Disagree, Unexpected, Late, Lost, Skipped, Missed}
 use Rattle.gc_texts.specs.Qualities.{is_good}
 use Rattle.gc_texts.specs.declared.quality.Quality.{Quality}
 use Rattle.gc_texts.specs.declared.turn.Turn.{Turn}
@@ -11,7 +11,7 @@ use Rattle.gc_station.specs.declared.tally.Tally.{Tally}
 
 -- the tally in which no command is counted
 abbrev pub empty_tally : Tally
-empty_tally = record { answered = 0; refused = 0; late = 0; lost = 0; skipped = 0; unreadable = 0; missed = 0; elsewhere = 0; disagree = 0; again = 0 }
+empty_tally = record { answered = 0; refused = 0; late = 0; lost = 0; skipped = 0; unreadable = 0; missed = 0; elsewhere = 0; disagree = 0; unexpected = 0; again = 0 }
 
 -- `n`, or 2^64 - 1 if `n` is greater: a count of a tally holds no greater number
 abbrev pub capped : ℕ → ℕ
@@ -34,6 +34,7 @@ counted Skipped t = record t { skipped = one_more t.skipped }
 counted (Unreadable line fault) t = record t { unreadable = one_more t.unreadable }
 counted (Elsewhere line) t = record t { elsewhere = one_more t.elsewhere }
 counted (Disagree line) t = record t { disagree = one_more t.disagree }
+counted (Unexpected line) t = record t { unexpected = one_more t.unexpected }
 counted Missed t = record t { missed = one_more t.missed }
 
 -- the sum of the tallies `a` and `b`, count by count, each up to 2^64 - 1
@@ -48,6 +49,7 @@ sum a b = record {
   missed = capped (a.missed + b.missed);
   elsewhere = capped (a.elsewhere + b.elsewhere);
   disagree = capped (a.disagree + b.disagree);
+  unexpected = capped (a.unexpected + b.unexpected);
   again = capped (a.again + b.again);
 }
 

@@ -7,8 +7,9 @@ use Rattle.gc_client.specs.declared.settlement.Settlement.{Settlement}
 use Rattle.gc_lines.specs.Ports.{FailsWith}
 use Rattle.gc_links.specs.declared.link.Moment.{Moment}
 use Rattle.gc_station.specs.Attempts.{listed_after, listed_after_settlements}
+use Rattle.gc_station.specs.Counters.{count_noted, counts_after_settlements}
 use Rattle.gc_station.specs.Firsts.{first_noted, firsts_after}
-use Rattle.gc_station.specs.Marks.{records_of, is_well, last_well}
+use Rattle.gc_station.specs.Marks.{records_of, is_well, last_well, unexpected_noted, any_unexpected}
 use Rattle.gc_station.specs.Records.{Record}
 use Rattle.gc_station.specs.Scopes.{ForEachReadings, Reads}
 use Rattle.gc_station.specs.Tallies.{counted_in, tallied}
@@ -32,6 +33,8 @@ noted mark now code end r = record {
   listed = listed_after r.listed mark.expected code end;
   fresh = map (renewed now.elapsed now.utc mark.cycle mark.expected.turn.place end) r.fresh;
   firsts = first_noted mark.cycle mark.expected.turn end r.firsts;
+  counts = count_noted mark.expected end r.counts;
+  unexpected = unexpected_noted end r.unexpected;
 }
 
 -- what is kept of the records, `r`, once `records`, of commands that weren't sent, are written; with `listed` in place of its own
@@ -48,6 +51,8 @@ recorded_after now marks settlements reads r =
       listed = listed_after_settlements reads r.listed marks settlements;
       fresh = fresh_after now.elapsed r.fresh news;
       firsts = firsts_after r.firsts news;
+      counts = counts_after_settlements reads r.counts marks settlements;
+      unexpected = any_unexpected r.unexpected news;
     }
 
 -- if the call with this result succeeded, what is kept of the records is `new`: what `recorded_after` makes of `old`, for each

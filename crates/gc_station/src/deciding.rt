@@ -431,8 +431,8 @@ impl Progress {
     // Whether another request may be sent: fewer that haven't timed out are in flight than `width` allows; all that are outstanding,
     // and those that the last line ended that ended any, are together fewer than the window has places; and no line called for a
     // synchronization (`doubtful`). So the station holds back: a damaged line that ended several requests has it send no request whose id a
-    // reply that is still in flight might have. And once a stray shows that a line was altered, or a sign-on that the instrument was
-    // switched on or off, nothing is sent before the next synchronization.
+    // reply that is still in flight might have. And once a stray shows that a line was altered, a sign-on that the instrument was switched
+    // on or off, or an unexpected answer that it isn't as the text takes it to be, nothing is sent before the next synchronization.
     fn has_room_to_ask(&self, plan: &Plan, waiting: Waiting) -> bool
         ensures { result ≡ has_room_to_ask plan.now self.now waiting }
     {

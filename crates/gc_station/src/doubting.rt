@@ -1,8 +1,9 @@
 //! Doubts. A stray that can't repeat the reply that settled last shows that a line was altered: the stray, or the line that settled
-//! last. The book is told of it. A sign-on shows that the instrument was switched on or off. After either nothing is sent before the next
-//! synchronization (`has_room_to_ask` of `deciding.rt`), after which the setup comes first.
+//! last. The book is told of it. A sign-on shows that the instrument was switched on or off, and so may an answer whose values the text
+//! didn't expect. After any of the three nothing is sent before the next synchronization (`has_room_to_ask` of `deciding.rt`), after which
+//! the setup comes first.
 
-ghost use Rattle.std.specs.Prelude.{◌≡◌};
+ghost use Rattle.std.specs.Prelude.{◌≡◌, false};
 ghost use Rattle.gc_station.specs.Lines.{calls_for_renewal, raises_doubt};
 ghost use Rattle.gc_station.specs.Progressing.{doubt_noted};
 
@@ -27,7 +28,7 @@ fn raises_doubt(client: &Client<SlotsOf<Asked>>, line: &[u8]) -> bool
 
 impl Progress {
     // Notes whether a line that came called for a synchronization, which stays noted until the station resynchronizes.
-    fn note_doubt(&mut self, raised: bool)
+    pub(crate) fn note_doubt(&mut self, raised: bool)
         ensures { self.new ≡ doubt_noted raised self.old }
     {
         self.doubtful = self.doubtful || raised;
@@ -35,9 +36,13 @@ impl Progress {
 }
 
 impl Station {
-    // Notes whether a line that its client is about to hear raises a doubt, of which it tells the book, or has a sign-on in it.
+    // Notes whether a line that its client is about to hear raises a doubt, of which it tells the book, or has a sign-on in it; and that no
+    // command that the line ends was recorded yet as unexpected.
     pub(crate) fn doubt<B: Book>(&mut self, book: &mut B, line: &[u8])
-        ensures notes { self.new ≡ record self.old { progress = doubt_noted (calls_for_renewal self.old.client.ids line.now) self.old.progress } }
+        ensures notes { self.new ≡ record self.old {
+          progress = doubt_noted (calls_for_renewal self.old.client.ids line.now) self.old.progress;
+          recorded = record self.old.recorded { unexpected = false };
+        } }
         ensures taken { B.taken book.new ≡ B.taken book.old }
         ensures failed { B.failed book.new ≡ B.failed book.old }
         ensures form { B.text book.new ≡ B.text book.old }
@@ -45,6 +50,7 @@ impl Station {
         let raised = raises_doubt(&self.client, line);
         let starts = is_sign_on(line);
         self.progress.note_doubt(raised || starts);
+        self.recorded.unexpected = false;
         if raised {
             book.doubts(self.progress.last_ended);
         }

@@ -5,7 +5,8 @@
 //! cycle by cycle. It resynchronizes where all outstanding requests have timed out and there is no room for another, or
 //! commands are outstanding and the cycle is overdue: two periods have passed since its due moment, and all that is outstanding has timed
 //! out. There is room if the outstanding requests, and those that the last line ended that ended any, are together fewer than seven,
-//! and since the synchronization neither a stray came that can't repeat the reply that settled last, nor a sign-on. A request is sent
+//! and since the synchronization neither a stray came that can't repeat the reply that settled last, nor a sign-on, nor an answer whose
+//! values aren't as the text expects them. A request is sent
 //! where its bytes are written, all of them or some. It is outstanding until it is settled, also once it has timed out at its deadline.
 //! A chain is a row of commands for one target, each sent only once the one before it was answered well.
 
@@ -23,6 +24,7 @@ ghost use Rattle.gc_station.specs.NullFirst.{SynchronizationsEndWithANull};
 ghost use Rattle.gc_station.specs.Beginnings.{NoneBeforeTheLastAnswer, SynchronizesInOrder, IsClearedAndQuiet};
 ghost use Rattle.gc_station.specs.Closing.{IsReasoned, ClosesForACause, EndsForTurnsOnlyAfterAsManyActs, StopsForACause};
 ghost use Rattle.gc_station.specs.Deciding.{dead_after};
+ghost use Rattle.gc_station.specs.Expecting.{TheSetUpIsAsExpected, ChainsAreAsExpected, RenewsAfterAnUnexpectedAnswer};
 ghost use Rattle.gc_station.specs.FirstActs.{FirstActsAreARun};
 ghost use Rattle.gc_station.specs.HoldingBack.{RequestsAreHeldBack};
 ghost use Rattle.gc_station.specs.InDoubt.{NothingIsSentInDoubt};
@@ -267,6 +269,24 @@ pub fn nothing_is_sent_in_doubt()
 /// sent before each command of the setup was sent anew, and answered well.
 pub fn the_set_up_is_done_anew_after_a_sign_on()
     ensures { SetsUpAnewAfterASignOn }
+{}
+
+/// Where a command of a cycle is sent, each command of the setup was answered on its connection, and after its synchronization, by a line
+/// whose values are as the text expects them.
+pub fn the_set_up_is_as_expected()
+    ensures { TheSetUpIsAsExpected }
+{}
+
+/// A command that goes on with a chain is sent only after an answer of the command before it whose values are as the text expects them.
+pub fn chains_are_as_expected()
+    ensures { ChainsAreAsExpected }
+{}
+
+/// Once the values of an answer weren't as the text expects them, be it to a command of a cycle or of the setup:
+/// - `set_up`: no command of a cycle is sent before each command of the setup was sent anew, and answered well.
+/// - `requests`: nothing is sent before a connection was closed or the next synchronization, nor is a null procedure of the station's own.
+pub fn the_set_up_is_done_anew_after_an_unexpected_answer()
+    ensures { RenewsAfterAnUnexpectedAnswer }
 {}
 
 /// If the plan's `every` is above 0 and the clock doesn't go back, each cycle begins at or after it is due: the first is due

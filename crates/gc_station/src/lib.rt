@@ -3,6 +3,7 @@
 
 mod book;
 mod cause;
+mod counters;
 mod deciding;
 mod doubting;
 mod firsts;

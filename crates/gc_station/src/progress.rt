@@ -162,8 +162,8 @@ pub(crate) struct Progress {
     /// How many requests the last line ended that ended any, since the station synchronized; 1 if none did.
     pub last_ended: usize,
     /// Whether since the station synchronized a line came that calls for another synchronization: a stray that can't repeat the reply that
-    /// settled last, so that a line was altered; or one with a sign-on in it, so that the instrument was switched on or off. Then nothing is
-    /// sent before that.
+    /// settled last, so that a line was altered; one with a sign-on in it, so that the instrument was switched on or off; or a reply whose
+    /// values aren't as the text expects them, so that the instrument isn't as the text takes it to be. Then nothing is sent before that.
     pub doubtful: bool,
     /// Whether there is a setup, and since the connection was made and the station synchronized no command of a cycle was sent, and, once
     /// something of the setup was sent, no cycle began, and no command of one was recorded without being sent, or left out.

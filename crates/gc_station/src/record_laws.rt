@@ -4,6 +4,7 @@
 ghost use Rattle.gc_station.specs.Agreeing.{AgreedRowsAgree};
 ghost use Rattle.gc_station.specs.Codes.{WellIsAnAcceptedCode};
 ghost use Rattle.gc_station.specs.Counting.{TalliesCountRecords};
+ghost use Rattle.gc_station.specs.Expecting.{AnswersAreAsExpected};
 ghost use Rattle.gc_station.specs.Moments.{AnswersHaveTheirMoments, EachRecordHasItsMoment, UnreadableAsTheyRead};
 ghost use Rattle.gc_station.specs.Nearness.{AnswersAreAtTheirTargets};
 ghost use Rattle.gc_station.specs.Qualities.{QualitiesAreAsListed, GoodIsAnAnswer};
@@ -52,8 +53,10 @@ pub fn unreadable_ones_do_not_read()
 
 /// A command was answered well only if the communication code of its reply is 0, and the return code is 0 or one that the text
 /// accepts. With both codes 0 it was answered well exactly if the parameters read as an answer of its call that wasn't measured
-/// elsewhere. With an accepted code it was, unless they read as an answer that was measured elsewhere. A command that is late,
-/// lost, skipped or missed never was answered well.
+/// elsewhere, the line's values are as the text expects them, and in a second sending the answer agrees with that of the first. With an
+/// accepted code it was, unless they read as an answer that was measured elsewhere, or the values aren't as the text expects them, or in a
+/// second sending the answer, if there is one, doesn't agree with that of the first. A command that is late, lost, skipped or missed never
+/// was answered well.
 pub fn answered_well_is_an_accepted_code()
     ensures { WellIsAnAcceptedCode }
 {}
@@ -90,6 +93,13 @@ pub fn answers_are_at_their_targets()
 /// sent. That isn't proved here: these runs know nothing of an instrument.
 pub fn agreed_rows_agree()
     ensures { AgreedRowsAgree }
+{}
+
+/// If a record is answered well, the values of its reply's line are as the text expects them of its command, and if it ended as unexpected,
+/// they aren't. An item `>` is compared with the number that the station kept when it sent the record's own request: the one in the
+/// answer to that command of the text which was recorded last by then, if one had a number there.
+pub fn answers_are_as_expected()
+    ensures { AnswersAreAsExpected }
 {}
 
 /// A tally counts the records of the last attempt of each chain: each count but `again` is how many of them have its ending.

@@ -1,16 +1,18 @@
 //! What a station keeps of the records that it wrote.
 
 ghost use Rattle.std.specs.Prelude.{◌≡◌, false, map, []};
+ghost use Rattle.gc_station.specs.Counters.{no_counts};
 ghost use Rattle.gc_station.specs.Tallies.{empty_counts};
 ghost use Rattle.gc_station.specs.Watching.{unanswered, places_of};
 ghost use Rattle.gc_station.specs.Writing.{noted};
 ghost use Rattle.gc_texts.specs.Endings.{ending_seen};
 
+use crate::counters::Counters;
 use crate::firsts::Firsts;
 use crate::mark::Mark;
 use crate::tally::Counts;
 use crate::watching::Watches;
-use crate::writing::{is_listed_after, is_well};
+use crate::writing::{is_listed_after, is_unexpected_after, is_well};
 use gc_links::Moment;
 use gc_texts::Ending;
 
@@ -29,12 +31,16 @@ pub(crate) struct Recorded {
     pub(crate) fresh: Watches,
     // The answers of the chain that was sent the first time last.
     pub(crate) firsts: Firsts,
+    // Of each counter of the text, the number in the answer that was recorded last.
+    pub(crate) counts: Counters,
+    // Whether a command was recorded that ended as unexpected, since `Station::doubt` made it `false` before the last line.
+    pub(crate) unexpected: bool,
 }
 
 impl Recorded {
     // Nothing was recorded yet, of these watched commands either.
     pub(crate) fn new(mut watches: Watches) -> Recorded
-        ensures { result ≡ record { tally = empty_counts; well = false; listed = false; fresh = map unanswered (places_of watches); firsts = [] } }
+        ensures { result ≡ record { tally = empty_counts; well = false; listed = false; fresh = map unanswered (places_of watches); firsts = []; counts = no_counts; unexpected = false } }
     {
         watches.begin();
         Recorded {
@@ -43,6 +49,8 @@ impl Recorded {
             listed: false,
             fresh: watches,
             firsts: Firsts::new(),
+            counts: Counters::new(),
+            unexpected: false,
         }
     }
 
@@ -56,5 +64,7 @@ impl Recorded {
         self.listed = is_listed_after(self.listed, &mark.expected, code, ending);
         self.fresh.note(mark, now, ending);
         self.firsts.note(mark, ending);
+        self.counts.note(&mark.expected, ending);
+        self.unexpected = is_unexpected_after(self.unexpected, ending);
     }
 }

@@ -4,6 +4,7 @@ ghost use Rattle.std.specs.Prelude.{◌≡◌, List, length, drop, Option, OnOk,
 ghost use Rattle.gc_catalogue.specs.Asked.{IsAskedReading};
 ghost use Rattle.gc_client.specs.Settlements.{AreReadBy};
 ghost use Rattle.gc_station.specs.Deciding.{action_of};
+ghost use Rattle.gc_station.specs.Counters.{with_before};
 ghost use Rattle.gc_station.specs.Firsts.{with_first};
 ghost use Rattle.gc_station.specs.Keeping.{reads_clock_alone};
 ghost use Rattle.gc_station.specs.Marks.{commands_in, with_id};
@@ -47,8 +48,8 @@ fn is_chained_at(commands: &[Task], place: usize) -> bool
 }
 
 // What is expected of the answer of the command at this place. If there is none, nothing is: no place of a target, no accepted
-// codes, no endings that send it again; its turn is place 0, attempt 1 and link 0; and its chain is sent once. With which answer of a
-// first sending its own is compared is known once it is sent (`mark_sent`).
+// codes, no values, no endings that send it again; its turn is place 0, attempt 1 and link 0; and its chain is sent once. With which
+// answer of a first sending its own is compared, and which number its counter had, is known once it is sent (`mark_sent`).
 fn expected_at(commands: &[Task], place: usize) -> Expected
     ensures { result ≡ expected_first (drop place commands.now) }
 {
@@ -56,6 +57,9 @@ fn expected_at(commands: &[Task], place: usize) -> Expected
         Some(task) => Expected {
             near: task.near,
             accepted: task.accepted,
+            expects: task.expects,
+            counter: task.counter,
+            before: None,
             again: task.again,
             turn: task.turn,
             twice: task.twice,
@@ -64,6 +68,9 @@ fn expected_at(commands: &[Task], place: usize) -> Expected
         None => Expected {
             near: None,
             accepted: Codes::none(),
+            expects: None,
+            counter: None,
+            before: None,
             again: Again::none(),
             turn: Turn {
                 place: 0,
@@ -180,14 +187,15 @@ impl Station {
         }
     }
 
-    // The mark with which the cycle's next command is sent: that of `mark`, with the client's next id, and with the answer of the
-    // first sending with which its own is compared.
+    // The mark with which the cycle's next command is sent: that of `mark`, with the client's next id, with the answer of the first
+    // sending with which its own is compared, and with the number that is kept of its counter.
     fn mark_sent(&self, plan: &Plan, commands: &[Task]) -> Mark
-        ensures { result ≡ with_id self.now.client.ids.next (with_first self.now.recorded.firsts (mark_next plan.now commands.now self.now.progress)) }
+        ensures { result ≡ with_id self.now.client.ids.next (with_before self.now.recorded.counts (with_first self.now.recorded.firsts (mark_next plan.now commands.now self.now.progress))) }
     {
         let mut mark = self.mark(plan, commands);
         mark.id = self.client.next_id();
         mark.expected.first = self.recorded.firsts.answer_for(mark.cycle, &mark.expected);
+        mark.expected.before = self.recorded.counts.at(mark.expected.counter);
         mark
     }
 

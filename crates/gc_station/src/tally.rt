@@ -9,7 +9,7 @@ use gc_texts::{Ending, Quality, Turn};
 /// How many commands ended how, of the last attempt of each chain. A count stops at 2^64 - 1.
 #[derive(Clone, Copy)]
 pub struct Tally {
-    /// A reply came in time, and it is none of `unreadable`, `elsewhere` and `disagree`. In a chain that is sent twice the commands of
+    /// A reply came in time, and it is none of `unreadable`, `elsewhere`, `disagree` and `unexpected`. In a chain that is sent twice the commands of
     /// both sendings are counted.
     pub answered: u64,
     /// How many of `answered` were refused: the reply's communication code isn't 0, or its return code is neither 0 nor an accepted
@@ -31,6 +31,8 @@ pub struct Tally {
     /// A reply came in time, with both codes 0 or an accepted return code, in the second sending of its chain, and its values don't
     /// agree with those of the first.
     pub disagree: u64,
+    /// A reply came in time, with both codes 0 or an accepted return code, whose values aren't as the text expects them.
+    pub unexpected: u64,
     /// How many times a chain was sent again.
     pub again: u64,
 }
@@ -50,6 +52,7 @@ impl Tally {
             missed: 0,
             elsewhere: 0,
             disagree: 0,
+            unexpected: 0,
             again: 0,
         }
     }
@@ -63,6 +66,7 @@ impl Tally {
             Ending::Unreadable(_, _) => self.unreadable = self.unreadable.saturating_add(1),
             Ending::Elsewhere(_) => self.elsewhere = self.elsewhere.saturating_add(1),
             Ending::Disagree(_) => self.disagree = self.disagree.saturating_add(1),
+            Ending::Unexpected(_) => self.unexpected = self.unexpected.saturating_add(1),
             Ending::Late => self.late = self.late.saturating_add(1),
             Ending::Lost => self.lost = self.lost.saturating_add(1),
             Ending::Skipped => self.skipped = self.skipped.saturating_add(1),
@@ -96,6 +100,7 @@ impl Tally {
             missed: self.missed.saturating_add(other.missed),
             elsewhere: self.elsewhere.saturating_add(other.elsewhere),
             disagree: self.disagree.saturating_add(other.disagree),
+            unexpected: self.unexpected.saturating_add(other.unexpected),
             again: self.again.saturating_add(other.again),
         }
     }

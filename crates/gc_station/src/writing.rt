@@ -5,7 +5,7 @@ ghost use Rattle.gc_catalogue.specs.declared.asked.Asked.{Asked};
 ghost use Rattle.gc_catalogue.specs.Asked.{IsAskedReading};
 ghost use Rattle.gc_client.specs.Settlements.{settlement_seen, outcome_seen, IsReadBy, AreReadBy};
 ghost use Rattle.gc_station.specs.Attempts.{code_of, listed_after};
-ghost use Rattle.gc_station.specs.Marks.{first_mark, agrees_in, quality_in, answered_as, value_as, refused_as, end_of, is_well, ended_confirmed};
+ghost use Rattle.gc_station.specs.Marks.{first_mark, agrees_in, quality_in, agreed_as, answered_as, value_as, refused_as, end_of, is_well, ended_confirmed, unexpected_noted};
 ghost use Rattle.gc_station.specs.Model.{ends_with_table};
 ghost use Rattle.gc_station.specs.Zeros.{IsZeroOf};
 ghost use Rattle.gc_station.specs.Scopes.{AreReadings, Reads};
@@ -24,7 +24,7 @@ use gc_client::{Outcome, Settlement, WINDOW};
 use gc_lines::{Line, PortFailed};
 use gc_links::Moment;
 use gc_texts::{
-    Ending, Expected, Quality, Stamp, Twice, Wish, agrees, is_elsewhere, reading_as_zero,
+    Ending, Expected, Quality, Stamp, Twice, Wish, agrees, is_elsewhere, meets, reading_as_zero,
 };
 
 // Removes the mark of the oldest outstanding request, and returns it. `None`: that request is a null procedure, or none is
@@ -61,8 +61,25 @@ fn quality_in(twice: &Twice, quality: Quality) -> Quality
     }
 }
 
-// The ending of a command whose reply, this line, has this answer, or none, and this quality: answered, unless it is of a second
-// sending and the answer doesn't agree with that of the first.
+// The ending of a command whose reply, this line, is as the text expects it, and has this answer, or none, and this quality: answered,
+// unless it is of a second sending and the answer doesn't agree with that of the first.
+fn agreed_ending<'a>(
+    expected: &Expected,
+    quality: Quality,
+    answer: Option<&'a Answer>,
+    line: &'a Line,
+) -> Ending<'a>
+    ensures { ending_seen result ≡ agreed_as expected.now quality (option_map (λ a. a.now) answer.entry) line.now.items }
+{
+    if agrees_in(expected, answer) {
+        Ending::Answered(quality_in(&expected.twice, quality), answer, line)
+    } else {
+        Ending::Disagree(line)
+    }
+}
+
+// The ending of a command whose reply, this line, has this answer, or none, and this quality: unexpected if the values of the line aren't
+// as the text expects them, else as `agreed_ending` says.
 fn answered_ending<'a>(
     expected: &Expected,
     quality: Quality,
@@ -71,10 +88,10 @@ fn answered_ending<'a>(
 ) -> Ending<'a>
     ensures { ending_seen result ≡ answered_as expected.now quality (option_map (λ a. a.now) answer.entry) line.now.items }
 {
-    if agrees_in(expected, answer) {
-        Ending::Answered(quality_in(&expected.twice, quality), answer, line)
+    if meets(&expected.expects, &expected.before, line) {
+        agreed_ending(expected, quality, answer, line)
     } else {
-        Ending::Disagree(line)
+        Ending::Unexpected(line)
     }
 }
 
@@ -151,7 +168,7 @@ fn ending_of<'a>(expected: &Expected, zero: &'a Reading, outcome: &'a Outcome) -
 }
 
 /// Whether a command with this ending was answered well: its reply has both codes 0 and values that read, or an accepted return
-/// code; and in either case it is neither elsewhere nor, in the second sending of its chain, apart from the first.
+/// code; and in either case it is neither elsewhere nor unexpected nor, in the second sending of its chain, apart from the first.
 pub fn is_well(ending: Ending<'_>) -> bool
     ensures { result ≡ is_well (ending_seen ending.entry) }
 {
@@ -168,6 +185,16 @@ pub(crate) fn is_confirmed(ending: Ending<'_>) -> bool
     match ending {
         Ending::Answered(quality, ..) => quality.is_confirmed(),
         _ => false,
+    }
+}
+
+// Whether a command that ended as unexpected was recorded, once one more command with this ending was. `was`: whether one had before.
+pub(crate) fn is_unexpected_after(was: bool, ending: Ending<'_>) -> bool
+    ensures { result ≡ unexpected_noted (ending_seen ending.entry) was }
+{
+    match ending {
+        Ending::Unexpected(_) => true,
+        _ => was,
     }
 }
 

@@ -111,6 +111,7 @@ impl Book for WordBook {
             Ending::Unreadable(line, _) => self.note_reply(b"u", line),
             Ending::Elsewhere(line) => self.note_reply(b"e", line),
             Ending::Disagree(line) => self.note_reply(b"d", line),
+            Ending::Unexpected(line) => self.note_reply(b"n", line),
             Ending::Late => note(&mut self.text, b"l"),
             Ending::Lost => note(&mut self.text, b"x"),
             Ending::Skipped => note(&mut self.text, b"s"),

@@ -1,13 +1,13 @@
 -- What is at fault in the numbers of a line `agree` is at fault in the line.
 use Rattle.std.proofs.Common.{◌≡◌, ℕ, List, codes}
 use Rattle.gc_texts.specs.Cuts.{behind}
-use Rattle.gc_texts.specs.Troubles.{IsAgreeTrouble, IsSettingTrouble}
+use Rattle.gc_texts.specs.Troubles.{IsAgreeTrouble, IsWordTrouble}
 use Rattle.gc_texts.specs.Words.{first_word}
 use Rattle.gc_texts.specs.declared.trouble.Trouble.{Trouble}
 use Rattle.gc_texts.specs.declared.trouble.Trouble.TheVariants as trouble
 
 -- the trouble of the numbers that follow the word `agree` is one of the line, which sets something
-pub agree_is_setting : (line : List ℕ) (t : Trouble) → first_word line ≡ codes "agree" → IsAgreeTrouble (behind 32 line) t → IsSettingTrouble line t
+pub agree_is_setting : (line : List ℕ) (t : Trouble) → first_word line ≡ codes "agree" → IsAgreeTrouble (behind 32 line) t → IsWordTrouble line t
 agree_is_setting line trouble.AgreeHz first is = (first, is)
 agree_is_setting line trouble.AgreeV first is = (first, is)
 agree_is_setting line trouble.AgreeDistance first is = (first, is)

@@ -12,6 +12,7 @@ use Rattle.gc_texts.specs.Chained.{section_after, setup_commands, cycle_commands
 use Rattle.gc_texts.specs.Attempts.{attempt_number, in_attempt, laid_out}
 use Rattle.gc_texts.specs.Repeats.{RetriesHold}
 use Rattle.gc_texts.specs.Codes.{no_codes}
+use Rattle.gc_texts.specs.Expectations.{counts}
 use Rattle.gc_texts.specs.Retries.{no_retry}
 use Rattle.gc_texts.specs.declared.again.Again.{Again}
 use Rattle.gc_texts.specs.declared.agree.Agree.{Agree}
@@ -21,14 +22,15 @@ use Rattle.gc_texts.specs.declared.attempts.Planned.{Planned}
 use Rattle.gc_texts.specs.Again.{no_again}
 use Rattle.gc_texts.specs.Nears.{near_of}
 use Rattle.gc_texts.specs.Watching.{is_unwatched}
-use Rattle.gc_texts.specs.Tasks.{TasksSeen, IsTasks, first_mode, mode_after, continues_group, chained_at, place_in_chain, task_at, setup_at, setup_of, planned_at, planned_of, tasks_of, placed}
+use Rattle.gc_texts.specs.Tasks.{TasksSeen, IsTasks, first_mode, mode_after, continues_group, chained_at, counter_at, counters_of, place_in_chain, task_at, setup_at, setup_of, planned_at, planned_of, tasks_of, placed}
+use Rattle.gc_texts.specs.declared.expectation.Expectation.{Expectation}
 use Rattle.gc_texts.specs.declared.wish.Wish.{Wish}
 use Rattle.gc_texts.specs.declared.near.Near.{Near}
 use Rattle.gc_texts.specs.declared.task_line.TaskLine.{TaskLine}
 use Rattle.gc_texts.specs.declared.task_line.TaskLine.TheVariants as says
 use Rattle.gc_texts.specs.declared.mode.Mode.{Mode}
 use Rattle.gc_texts.specs.declared.tasks.Task.{Task}
-use Rattle.gc_texts.proofs.TaskReading.{mode_after_lines, mode_after_both, given_both}
+use Rattle.gc_texts.proofs.TaskReading.{counters_after, mode_after_lines, mode_after_both, given_both}
 use Rattle.gc_texts.proofs.FirstAttempts.{chains_have_first}
 use Rattle.gc_texts.proofs.SameRules.{SameRules, same_rules}
 use Rattle.gc_texts.proofs.SentAs.{IsFirstSent}
@@ -48,9 +50,9 @@ one_task_more false t ts n e = omega (arith, e)
 -- the setup of lines has as many tasks as there are commands of it
 setup_count : (mode : Mode) (lines : List TaskLine) → length (setup_of mode lines) ≡ setup_commands mode.setup lines
 setup_count mode [] = refl
-setup_count mode (says.Command c now ∷ later) =
-    one_task_more mode.setup (task_at mode c now) (setup_of (mode_after mode (says.Command c now)) later) (setup_commands mode.setup later)
-    (setup_count (mode_after mode (says.Command c now)) later)
+setup_count mode (says.Command c now x ∷ later) =
+    one_task_more mode.setup (task_at mode c now x) (setup_of (mode_after mode (says.Command c now x)) later) (setup_commands mode.setup later)
+    (setup_count (mode_after mode (says.Command c now x)) later)
 setup_count mode (line ∷ later) = setup_count (mode_after mode line) later
 
 -- 1 that is added to n only where b is true may be added to k instead: the sum m is the same
@@ -66,16 +68,20 @@ counted_in_other_section false n m k e = omega (arith, e)
 -- after lines, the mode's count of the setup's commands (`begun`) is greater by as many of them as these lines have
 setup_counted : (mode : Mode) (lines : List TaskLine) → (mode_after_lines mode lines).begun ≡ mode.begun + setup_commands mode.setup lines
 setup_counted mode [] = omega arith
-setup_counted mode (says.Command c now ∷ later) = counted_in_section mode.setup mode.begun (mode_after_lines (mode_after mode (says.Command c now)) later).begun (setup_commands mode.setup later)
-    (setup_counted (mode_after mode (says.Command c now)) later)
+setup_counted mode (says.Command c now x ∷ later) = counted_in_section mode.setup mode.begun (mode_after_lines (mode_after mode (says.Command c now x)) later).begun (setup_commands mode.setup later)
+    (setup_counted (mode_after mode (says.Command c now x)) later)
 setup_counted mode (line ∷ later) = setup_counted (mode_after mode line) later
 
 -- after lines, the mode's count of the cycle's commands (`place`) is greater by as many of them as these lines have
 cycle_counted : (mode : Mode) (lines : List TaskLine) → (mode_after_lines mode lines).place ≡ mode.place + cycle_commands mode.setup lines
 cycle_counted mode [] = omega arith
-cycle_counted mode (says.Command c now ∷ later) = counted_in_other_section mode.setup mode.place (mode_after_lines (mode_after mode (says.Command c now)) later).place (cycle_commands mode.setup later)
-    (cycle_counted (mode_after mode (says.Command c now)) later)
+cycle_counted mode (says.Command c now x ∷ later) = counted_in_other_section mode.setup mode.place (mode_after_lines (mode_after mode (says.Command c now x)) later).place (cycle_commands mode.setup later)
+    (cycle_counted (mode_after mode (says.Command c now x)) later)
 cycle_counted mode (line ∷ later) = cycle_counted (mode_after mode line) later
+
+-- after lines of a text, the mode's count of items `>` is how many of these lines have one
+counters_counted : (deadline : ℕ) (chained : Bool) (lines : List TaskLine) → (mode_after_lines (first_mode deadline chained) lines).counters ≡ counters_of lines
+counters_counted deadline chained lines = counters_after (first_mode deadline chained) lines ∙ omega arith
 
 -- `mode` is what these lines say. Its deadline, its accepted codes, its retry, its `agree` and whether commands are chained are each as the
 -- last line that sets it says; where none does, they are `deadline`, none, none, none, and `chained`. Where the mode has a group, the
@@ -134,13 +140,14 @@ agree_after_one_more lines mode line is = still_set SaysNoAgree says.Agreeing No
 -- lines that end in the group of a target (`EndsInGroupOf`) still do so with one more line that keeps the group (`KeepsGroup`)
 still_in_group : (lines : List TaskLine) (line : TaskLine) (target : ℕ)
     → KeepsGroup line → EndsInGroupOf lines target → EndsInGroupOf (lines ++ line ∷ []) target
-still_in_group lines line target keeps (before, command, now, between, at, all, same) = (
+still_in_group lines line target keeps (before, command, now, expects, between, at, all, same) = (
   before,
   command,
   now,
+  expects,
   between ++ line ∷ [],
   ap (λ xs. xs ++ line ∷ []) at
-      ∙ append_assoc before (says.Command command now ∷ between) (line ∷ []),
+      ∙ append_assoc before (says.Command command now expects ∷ between) (line ∷ []),
   all_by_recursion_push KeepsGroup between line all keeps,
   same,
 )
@@ -149,7 +156,7 @@ still_in_group lines line target keeps (before, command, now, between, at, all, 
 -- mode after one more line, if it has one, is that of the last command of all of these lines
 group_after_one_more : (lines : List TaskLine) (mode : Mode) (line : TaskLine) → ((target : ℕ) → mode.group ≡ Some target → EndsInGroupOf lines target)
     → (target : ℕ) → (mode_after mode line).group ≡ Some target → EndsInGroupOf (lines ++ line ∷ []) target
-group_after_one_more lines mode (says.Command c now) group target e = (lines, c, now, [], refl, tt, same_Some c.target target e)
+group_after_one_more lines mode (says.Command c now x) group target e = (lines, c, now, x, [], refl, tt, same_Some c.target target e)
 group_after_one_more lines mode (says.Deadline d) group target e = still_in_group lines (says.Deadline d) target tt (group target e)
 group_after_one_more lines mode (says.Naming n) group target e = still_in_group lines (says.Naming n) target tt (group target e)
 group_after_one_more lines mode (says.Locating n) group target e = still_in_group lines (says.Locating n) target tt (group target e)
@@ -202,9 +209,9 @@ group_stays mode (line ∷ later) keeps = absurd keeps.0
 -- where the last command of lines is for a target, and only lines that keep its group (`KeepsGroup`) follow it, the group after
 -- them is of that target
 group_of : (mode : Mode) (lines : List TaskLine) (target : ℕ) → EndsInGroupOf lines target → (mode_after_lines mode lines).group ≡ Some target
-group_of mode lines target (before, command, now, between, at, keeps, same) =
-    ap (λ xs. (mode_after_lines mode xs).group) at ∙ ap (λ (m : Mode). m.group) (mode_after_both mode before (says.Command command now ∷ between))
-    ∙ group_stays (mode_after (mode_after_lines mode before) (says.Command command now)) between keeps ∙ ap Some same
+group_of mode lines target (before, command, now, expects, between, at, keeps, same) =
+    ap (λ xs. (mode_after_lines mode xs).group) at ∙ ap (λ (m : Mode). m.group) (mode_after_both mode before (says.Command command now expects ∷ between))
+    ∙ group_stays (mode_after (mode_after_lines mode before) (says.Command command now expects)) between keeps ∙ ap Some same
 
 -- whether commands are chained is the same before and after lines of which none is `chained` or `unchained`
 chaining_stays : (mode : Mode) (lines : List TaskLine) → AllByRecursion SaysNoChaining lines → (mode_after_lines mode lines).chained ≡ mode.chained
@@ -236,7 +243,7 @@ chained_in_cycle mode target e = ap (λ b. if b then nat_lt 0 mode.begun else mo
 
 -- the task of the command after the lines `front`, with any rule, place, count of others and place in its chain, in the sending that the
 -- lines say
-module _ (deadline : ℕ) (chained : Bool) (front : List TaskLine) (command : Wish) (now : Bool) (near : Option Near) (watched : Bool) (again : Again) (others link : ℕ) (twice : Twice) where
+module _ (deadline : ℕ) (chained : Bool) (front : List TaskLine) (command : Wish) (now : Bool) (expects : Option Expectation) (near : Option Near) (watched : Bool) (again : Again) (others link : ℕ) (twice : Twice) where
   -- the mode before the command
   abbrev mode : Mode
   mode = mode_after_lines (first_mode deadline chained) front
@@ -251,6 +258,8 @@ module _ (deadline : ℕ) (chained : Bool) (front : List TaskLine) (command : Wi
         near = near;
         watched = watched;
         accepted = mode.accepted;
+        expects = expects;
+        counter = counter_at mode expects;
         again = again;
         turn = record { place = if mode.setup then mode.begun else mode.place; attempt = attempt_number 1 twice; link = link };
         others = others;
@@ -264,11 +273,13 @@ module _ (deadline : ℕ) (chained : Bool) (front : List TaskLine) (command : Wi
 
   -- `its_task` is as the lines before the command say, as `IsTaskOf` has it
   task_follows_lines : attempt_number 1 twice ≡ 1 → (mode.setup ≡ true → twice ≡ Once) → (mode.setup ≡ false → IsSentAfter front twice)
-      → IsTaskOf deadline chained front command now its_task
+      → IsTaskOf deadline chained front command now expects its_task
   task_follows_lines first once sent =
       record {
         asks = refl;
         moment = refl;
+        expects_is = refl;
+        counter = ap (λ n. if counts expects then Some n else None) (counters_counted deadline chained front);
         first = first;
         deadline_is = mode_is_said.deadline_is;
         accepted_are = mode_is_said.accepted_are;
@@ -298,14 +309,14 @@ module _ (deadline : ℕ) (chained : Bool) (front : List TaskLine) (command : Wi
 -- a command of a text, after the lines `front`
 module _
     (text : List ℕ) (deadline : ℕ) (chained : Bool) (given : TasksSeen) (is : IsTasks text deadline chained given)
-    (front later : List TaskLine) (command : Wish) (now : Bool) (at : is.said ≡ front ++ says.Command command now ∷ later) where
+    (front later : List TaskLine) (command : Wish) (now : Bool) (expects : Option Expectation) (at : is.said ≡ front ++ says.Command command now expects ∷ later) where
   -- the mode before the command
   abbrev mode_before : Mode
   mode_before = mode_after_lines (first_mode deadline chained) front
 
   -- the task of the command, before it has its place
   abbrev own_task : Task
-  own_task = task_at mode_before command now
+  own_task = task_at mode_before command now expects
 
   -- the setup tasks before the command
   abbrev setup_before : List Task
@@ -317,7 +328,7 @@ module _
 
   -- the mode after the command
   abbrev mode_behind : Mode
-  mode_behind = mode_after mode_before (says.Command command now)
+  mode_behind = mode_after mode_before (says.Command command now expects)
 
   -- all tasks of the text without their places; `b` says whether the command is of the setup
   abbrev all_tasks : (b : Bool) → List Task
@@ -331,9 +342,9 @@ module _
   all_tasks_are b e =
       is.tasks_are ∙ ap (λ said. map (placed given.nears given.unwatched) (tasks_of (first_mode deadline chained) said)) at
       ∙ ap (λ ts. map (placed given.nears given.unwatched) (ts ++ laid_out (planned_of (first_mode deadline chained) (front
-      ++ says.Command command now ∷ later)))) (given_both setup_at (first_mode deadline chained) front (says.Command command now ∷ later))
-      ∙ ap (λ ps. map (placed given.nears given.unwatched) ((setup_before ++ setup_of mode_before (says.Command command now ∷ later)) ++ laid_out ps))
-      (given_both planned_at (first_mode deadline chained) front (says.Command command now ∷ later))
+      ++ says.Command command now expects ∷ later)))) (given_both setup_at (first_mode deadline chained) front (says.Command command now expects ∷ later))
+      ∙ ap (λ ps. map (placed given.nears given.unwatched) ((setup_before ++ setup_of mode_before (says.Command command now expects ∷ later)) ++ laid_out ps))
+      (given_both planned_at (first_mode deadline chained) front (says.Command command now expects ∷ later))
       ∙ ap (λ t. map (placed given.nears given.unwatched) (all_tasks t)) e
 
   -- the command as its first or only sending has it: its place in the chain, and which sending this is
@@ -351,21 +362,21 @@ module _
     twice = Once;
     same = is;
     one = refl;
-    sent = inl (subst (IsAgreeAfter front) e (mode_is_said deadline chained front command now None true no_again 0 0 Once).agree_is, refl);
+    sent = inl (subst (IsAgreeAfter front) e (mode_is_said deadline chained front command now expects None true no_again 0 0 Once).agree_is, refl);
   }
   first_is_sent (Some agree) first e is = record {
     link = is.1;
     twice = First;
     same = is.2;
     one = omega arith;
-    sent = inr (agree, subst (IsAgreeAfter front) e (mode_is_said deadline chained front command now None true no_again 0 0 First).agree_is, refl);
+    sent = inr (agree, subst (IsAgreeAfter front) e (mode_is_said deadline chained front command now expects None true no_again 0 0 First).agree_is, refl);
   }
 
   -- the law for this command, by whether it is of the setup (`b`)
   by_section : (b : Bool) → mode_before.setup ≡ b
       → (earlier : List Task) × (task : Task) × (others : List Task) × (given.tasks ≡ earlier ++ task ∷ others)
       × (section_after false front ≡ true → length earlier ≡ setup_commands false front) × (section_after false front ≡ false → given.setup ≤ length earlier)
-      × IsTaskOf deadline chained front command now task × (task.near ≡ near_of command.target given.nears)
+      × IsTaskOf deadline chained front command now expects task × (task.near ≡ near_of command.target given.nears)
       × (task.watched ≡ not (is_unwatched command.target given.unwatched))
   by_section true e =
       let rest = setup_of mode_behind later ++ laid_out (planned ++ planned_of mode_behind later) in (
@@ -376,7 +387,7 @@ module _
             ∙ map-append (placed given.nears given.unwatched) setup_before (own_task ∷ rest),
         (λ s. length-map setup_before (placed given.nears given.unwatched) ∙ setup_count (first_mode deadline chained) front),
         (λ s. let bad : true ≡ false = sym e ∙ section_after_lines (first_mode deadline chained) front ∙ s in cc),
-        task_follows_lines deadline chained front command now (near_of command.target given.nears) (not (is_unwatched command.target given.unwatched)) no_again 0
+        task_follows_lines deadline chained front command now expects (near_of command.target given.nears) (not (is_unwatched command.target given.unwatched)) no_again 0
             (place_in_chain mode_before (chained_at mode_before command.target)) Once refl (λ s. refl)
             (λ s. let bad : true ≡ false = sym e ∙ s in cc),
         refl,
@@ -386,13 +397,13 @@ module _
       let p : Planned = record { task = own_task; retry = mode_before.retry; agree = mode_before.agree } in
       let follow = same_rules (first_mode deadline chained) no_retry None is.said (inr (inl refl)) in
       let those : planned_of (first_mode deadline chained) is.said ≡ planned ++ p ∷ planned_of mode_behind later =
-      ap (planned_of (first_mode deadline chained)) at ∙ given_both planned_at (first_mode deadline chained) front (says.Command command now ∷ later)
+      ap (planned_of (first_mode deadline chained)) at ∙ given_both planned_at (first_mode deadline chained) front (says.Command command now expects ∷ later)
       ∙ ap (λ b. planned ++ ((if b then [] else p ∷ []) ++ planned_of mode_behind later)) e in
       let among = chains_have_first no_retry None [] planned (planned_of mode_behind later) p (subst (SameRules no_retry None) those follow) in
       let first = first_is_sent mode_before.agree among.first refl among.is in
       let in_front = setup_before ++ setup_of mode_behind later in
       let many : given.setup ≡ length in_front =
-      is.setup_is ∙ ap (λ said. length (setup_of (first_mode deadline chained) said)) at ∙ ap length (given_both setup_at (first_mode deadline chained) front (says.Command command now ∷ later))
+      is.setup_is ∙ ap (λ said. length (setup_of (first_mode deadline chained) said)) at ∙ ap length (given_both setup_at (first_mode deadline chained) front (says.Command command now expects ∷ later))
       ∙ ap (λ b. length (setup_before ++ ((if b then own_task ∷ [] else []) ++ setup_of mode_behind later))) e in
       let long : length (map (placed given.nears given.unwatched) (in_front ++ among.earlier)) ≡ length in_front + length among.earlier = length-map (in_front ++ among.earlier) (placed given.nears given.unwatched)
       ∙ length-append in_front among.earlier in (
@@ -404,8 +415,8 @@ module _
             ∙ map-append (placed given.nears given.unwatched) (in_front ++ among.earlier) (in_attempt 1 among.again among.commands among.first ∷ among.others),
         (λ s. let bad : false ≡ true = sym e ∙ section_after_lines (first_mode deadline chained) front ∙ s in cc),
         (λ s. omega (arith, many, long)),
-        subst (λ t. IsTaskOf deadline chained front command now (placed given.nears given.unwatched (in_attempt 1 among.again among.commands t))) (sym first.same)
-            (task_follows_lines deadline chained front command now (near_of command.target given.nears) (not (is_unwatched command.target given.unwatched)) among.again 0 first.link first.twice
+        subst (λ t. IsTaskOf deadline chained front command now expects (placed given.nears given.unwatched (in_attempt 1 among.again among.commands t))) (sym first.same)
+            (task_follows_lines deadline chained front command now expects (near_of command.target given.nears) (not (is_unwatched command.target given.unwatched)) among.again 0 first.link first.twice
             first.one (λ s. let bad : true ≡ false = sym s ∙ e in cc) (λ s. first.sent)),
         ap (λ (t : Task). near_of t.command.target given.nears) first.same,
         ap (λ (t : Task). not (is_unwatched t.command.target given.unwatched)) first.same,
@@ -415,21 +426,21 @@ module _
 -- any. Before the task of a command of the setup there are as many tasks as commands of the setup before that command, and before
 -- that of one of the cycle at least as many as the setup has
 pub tasks_follow_their_lines : TasksFollowTheirLines
-tasks_follow_their_lines text deadline chained given is front later command now at =
-    by_section text deadline chained given is front later command now at (mode_after_lines (first_mode deadline chained) front).setup refl
+tasks_follow_their_lines text deadline chained given is front later command now expects at =
+    by_section text deadline chained given is front later command now expects at (mode_after_lines (first_mode deadline chained) front).setup refl
 
 -- the law: a command of the cycle has the retry that the last line `retry` before it says, and what the last line `agree` says; without
 -- such lines it isn't repeated, and is sent once in an attempt
 pub retries_hold : RetriesHold
-retries_hold deadline chained front later command now cycle =
+retries_hold deadline chained front later command now expects cycle =
     let first = first_mode deadline chained in
     let mode = mode_after_lines first front in
     let said : Says deadline chained front mode = says_all deadline chained [] first front (says_none deadline chained) in
-    let p : Planned = record { task = task_at mode command now; retry = mode.retry; agree = mode.agree } in (
+    let p : Planned = record { task = task_at mode command now expects; retry = mode.retry; agree = mode.agree } in (
       p,
-      planned_of (mode_after mode (says.Command command now)) later,
-      given_both planned_at first front (says.Command command now ∷ later)
-          ∙ ap (λ b. planned_of first front ++ ((if b then [] else p ∷ []) ++ planned_of (mode_after mode (says.Command command now)) later)) (section_after_lines first front ∙ cycle),
+      planned_of (mode_after mode (says.Command command now expects)) later,
+      given_both planned_at first front (says.Command command now expects ∷ later)
+          ∙ ap (λ b. planned_of first front ++ ((if b then [] else p ∷ []) ++ planned_of (mode_after mode (says.Command command now expects)) later)) (section_after_lines first front ∙ cycle),
       refl,
       said.retry_is,
       said.agree_is,

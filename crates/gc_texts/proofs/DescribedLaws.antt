@@ -61,8 +61,8 @@ LackSpaces words = AllByRecursion (Lacks 32) words
 
 -- words without spaces, with one space between two, are read as these words
 words_spaced : (word : List ℕ) (words : List (List ℕ)) → Lacks 32 word → LackSpaces words → words_of (spaced (word ∷ words)) ≡ word ∷ words
-words_spaced word [] lacks others = words_lacking word lacks
-words_spaced word (next ∷ words) lacks others = words_behind word (spaced (next ∷ words)) lacks ∙ ap (λ l. word ∷ l) (words_spaced next words others.0 others.1)
+words_spaced word [] lacks others = words_lacking 32 word lacks
+words_spaced word (next ∷ words) lacks others = words_behind 32 word (spaced (next ∷ words)) lacks ∙ ap (λ l. word ∷ l) (words_spaced next words others.0 others.1)
 
 -- the bytes of names are no spaces
 name_bytes_lack : (bs : List ℕ) → list_all is_name_byte bs ≡ true → Lacks 32 bs

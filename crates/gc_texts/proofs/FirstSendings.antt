@@ -1,5 +1,5 @@
 -- Each second sending of a command follows its first.
-use Rattle.std.proofs.Common.{◌≡◌, ◌<◌, ◌≤◌, ◌+◌, ◌*◌, ◌-◌, ℕ, zero, suc, Bool, true, false, List, [], ◌∷◌, ◌++◌, length, map, Option, Some, None, arith, refl, ap, sym, subst, ◌∙◌, append_assoc, append-nil, if◌then◌else◌}
+use Rattle.std.proofs.Common.{◌≡◌, ◌<◌, ◌≤◌, ◌+◌, ◌*◌, ℕ, zero, suc, Bool, true, false, List, [], ◌∷◌, ◌++◌, length, map, Option, Some, None, arith, refl, ap, sym, subst, ◌∙◌, append_assoc, append-nil, if◌then◌else◌}
 use Rattle.std.specs.List.{AllByRecursion}
 use Rattle.std.proofs.lemmas.List.{map-append}
 use Rattle.std.proofs.SliceLists.{all_by_recursion_push}
@@ -277,11 +277,11 @@ module _ (nears : List Near) (unwatched : List ℕ) where
 -- the cycle's commands, as their lines give them, are no sendings of two
 cycle_once : (mode : Mode) (lines : List TaskLine) → AreOnce (tasks_planned (planned_of mode lines))
 cycle_once mode [] = tt
-cycle_once mode (says.Command c now ∷ later) = by_setup mode.setup (cycle_once (mode_after mode (says.Command c now)) later) where
+cycle_once mode (says.Command c now x ∷ later) = by_setup mode.setup (cycle_once (mode_after mode (says.Command c now x)) later) where
   -- the lemma above for a command and the lines after it, by whether the mode is that of the setup (`b`)
-  by_setup : (b : Bool) → AreOnce (tasks_planned (planned_of (mode_after mode (says.Command c now)) later))
+  by_setup : (b : Bool) → AreOnce (tasks_planned (planned_of (mode_after mode (says.Command c now x)) later))
       → AreOnce (tasks_planned
-      ((if b then [] else record { task = task_at mode c now; retry = mode.retry; agree = mode.agree } ∷ []) ++ planned_of (mode_after mode (says.Command c now)) later))
+      ((if b then [] else record { task = task_at mode c now x; retry = mode.retry; agree = mode.agree } ∷ []) ++ planned_of (mode_after mode (says.Command c now x)) later))
   by_setup true more = more
   by_setup false more = (refl, more)
 cycle_once mode (line ∷ later) = cycle_once (mode_after mode line) later
@@ -289,10 +289,10 @@ cycle_once mode (line ∷ later) = cycle_once (mode_after mode line) later
 -- the setup's commands are no sendings of two
 setup_once : (mode : Mode) (lines : List TaskLine) → AreOnce (setup_of mode lines)
 setup_once mode [] = tt
-setup_once mode (says.Command c now ∷ later) = by_setup mode.setup (setup_once (mode_after mode (says.Command c now)) later) where
+setup_once mode (says.Command c now x ∷ later) = by_setup mode.setup (setup_once (mode_after mode (says.Command c now x)) later) where
   -- the lemma above for a command and the lines after it, by whether the mode is that of the setup (`b`)
-  by_setup : (b : Bool) → AreOnce (setup_of (mode_after mode (says.Command c now)) later)
-      → AreOnce ((if b then task_at mode c now ∷ [] else []) ++ setup_of (mode_after mode (says.Command c now)) later)
+  by_setup : (b : Bool) → AreOnce (setup_of (mode_after mode (says.Command c now x)) later)
+      → AreOnce ((if b then task_at mode c now x ∷ [] else []) ++ setup_of (mode_after mode (says.Command c now x)) later)
   by_setup true more = (refl, more)
   by_setup false more = more
 setup_once mode (line ∷ later) = setup_once (mode_after mode line) later

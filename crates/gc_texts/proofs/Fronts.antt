@@ -1,6 +1,6 @@
 -- What is before the first mark of a text, and what follows it. A mark is a byte, as LF or a space.
-use Rattle.std.proofs.Common.{◌≡◌, ℕ, ◌==◌, List, [], ◌∷◌, ◌++◌, Option, Some, None, unwrap_or, refl, sym, ap, ◌∙◌}
-use Rattle.std.proofs.lemmas.Bool.{cond-true, cond-false, eq-eqb, ne_eqb}
+use Rattle.std.proofs.Common.{Bool, true, false, if◌then◌else◌, ◌≡◌, ℕ, ◌==◌, List, [], ◌∷◌, ◌++◌, Option, Some, None, unwrap_or, refl, sym, ap, ◌∙◌}
+use Rattle.std.proofs.lemmas.Bool.{cond-true, cond-false, eq-eqb, eqb-false, ne_eqb}
 use Rattle.gc_texts.specs.Cuts.{Lacks, Cuts, before, behind}
 
 -- in a text that is a front without the mark, then the mark, and then a rest, what is before the first mark is the front
@@ -14,6 +14,15 @@ pub behind_mark : (mark : ℕ) (front rest : List ℕ) → Lacks mark front → 
 behind_mark mark [] rest lacks = cond-true (mark == mark) rest (behind mark rest) (eq-eqb mark mark refl)
 behind_mark mark (b ∷ bs) rest lacks =
     cond-false (b == mark) (bs ++ mark ∷ rest) (behind mark (bs ++ mark ∷ rest)) (ne_eqb b mark lacks.0) ∙ behind_mark mark bs rest lacks.1
+
+-- what is before the first mark has none
+pub before_lacks : (mark : ℕ) (text : List ℕ) → Lacks mark (before mark text)
+before_lacks mark [] = tt
+before_lacks mark (b ∷ bs) = by_test (b == mark) refl (before_lacks mark bs) where
+  -- the lemma above, by whether the first byte is the mark (`z`)
+  by_test : (z : Bool) → (b == mark) ≡ z → Lacks mark (before mark bs) → Lacks mark (if z then [] else b ∷ before mark bs)
+  by_test true e more = tt
+  by_test false e more = (eqb-false b mark e, more)
 
 -- of a text without the mark, all of it counts as before the first mark
 pub before_none : (mark : ℕ) (text : List ℕ) → Lacks mark text → before mark text ≡ text

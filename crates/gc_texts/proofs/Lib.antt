@@ -14,6 +14,10 @@ mod WishForms
 mod WordForms
 mod CodeForms
 mod AgreeForms
+mod RequestForms
+mod Numerals
+mod Items
+mod ExpectForms
 mod TaskForms
 mod TaskReading
 mod TaskLaws

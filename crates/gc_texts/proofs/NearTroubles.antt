@@ -1,7 +1,7 @@
 -- What is at fault in the numbers of a line `near` is at fault in the line.
 use Rattle.std.proofs.Common.{◌≡◌, ℕ, List, inl, inr, refl, sym, subst, codes}
 use Rattle.gc_values.specs.Directions.{is_tolerance}
-use Rattle.gc_texts.specs.Troubles.{HasTarget, IsFit, fits_hz, fits_v, IsRestTrouble, IsNearTrouble, IsSettingTrouble}
+use Rattle.gc_texts.specs.Troubles.{HasTarget, IsFit, fits_hz, fits_v, IsRestTrouble, IsNearTrouble, IsWordTrouble}
 use Rattle.gc_texts.specs.Words.{first_word, second_word, third_word, after_two_words}
 use Rattle.gc_texts.specs.declared.trouble.Trouble.{Trouble}
 use Rattle.gc_texts.specs.declared.trouble.Trouble.TheVariants as trouble
@@ -17,7 +17,7 @@ rest_is_near numbers _ hz v tolerance (inr is) = absurd is.is
 
 -- the trouble of the numbers that follow `near T`, with a target's number T, is one of the line, which sets something
 pub near_is_setting : (line : List ℕ) (t : Trouble) → first_word line ≡ codes "near" → HasTarget (second_word line)
-    → IsNearTrouble (after_two_words line) t → IsSettingTrouble line t
+    → IsNearTrouble (after_two_words line) t → IsWordTrouble line t
 near_is_setting line trouble.NearHz first has is = (first, has, is)
 near_is_setting line trouble.NearV first has is = (first, has, is)
 near_is_setting line trouble.NearTolerance first has is = (first, has, is)

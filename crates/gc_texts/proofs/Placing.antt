@@ -13,7 +13,7 @@ use Rattle.gc_values.proofs.WithinLemmas.{is_within_exactly}
 use Rattle.gc_lines.proofs.Lists.{cons_head, cons_tail}
 use Rattle.gc_texts.specs.Chained.{PlacesHoldForAll, UnwatchedHoldForAll}
 use Rattle.gc_texts.specs.Nears.{has_near, near_of, direction_of, distance_of, is_away, is_out_of_range, is_elsewhere, IsThere, IsInAnotherDirection, IsAtAnotherDistance, IsAway}
-use Rattle.gc_texts.specs.Tasks.{first_mode, tasks_of, name_at, near_at, nears_of, unwatched_at, unwatched_of, placed, MayFollow}
+use Rattle.gc_texts.specs.Tasks.{counters_at, first_mode, tasks_of, name_at, near_at, nears_of, unwatched_at, unwatched_of, placed, MayFollow}
 use Rattle.gc_texts.specs.Watching.{is_unwatched}
 use Rattle.gc_texts.specs.declared.name.Name.{Name}
 use Rattle.gc_texts.specs.declared.near.Near.{Near}
@@ -24,13 +24,13 @@ use Rattle.gc_texts.specs.declared.tasks.Task.{Task}
 
 -- where lines may follow these names and places, and one of them says where a target is, neither `nears` nor a line before it
 -- says where that target is
-no_place_before : (names : List Name) (nears : List Near) (unwatched : List ℕ) (front later : List TaskLine) (near : Near)
-    → MayFollow names nears unwatched (front ++ says.Locating near ∷ later)
+no_place_before : (names : List Name) (nears : List Near) (unwatched : List ℕ) (counters : ℕ) (front later : List TaskLine) (near : Near)
+    → MayFollow names nears unwatched counters (front ++ says.Locating near ∷ later)
     → has_near near.target (nears ++ nears_of front) ≡ false
-no_place_before names nears unwatched [] later near follow =
+no_place_before names nears unwatched counters [] later near follow =
     ap (has_near near.target) (append-nil nears) ∙ not-true (has_near near.target nears) (and_parts (nat_lt (length nears) 64) (not (has_near near.target nears)) follow.0).1
-no_place_before names nears unwatched (line ∷ front) later near follow =
-    ap (has_near near.target) (sym (append_assoc nears (near_at line) (nears_of front))) ∙ no_place_before (names ++ name_at line) (nears ++ near_at line) (unwatched ++ unwatched_at line) front later near follow.1
+no_place_before names nears unwatched counters (line ∷ front) later near follow =
+    ap (has_near near.target) (sym (append_assoc nears (near_at line) (nears_of front))) ∙ no_place_before (names ++ name_at line) (nears ++ near_at line) (unwatched ++ unwatched_at line) (counters + counters_at line) front later near follow.1
 
 -- where none of `nears` is of the target of `near`, the place that is found of this target in `nears`, then
 -- `near`, then others, is `near`
@@ -54,10 +54,10 @@ each_has_its_place nears unwatched (t ∷ tasks) (u ∷ earlier) others task e =
 -- the law: a place holds for all commands of its target
 pub places_hold : PlacesHoldForAll
 places_hold text deadline chained all is front later near at earlier others task among same =
-    let follow : MayFollow [] [] [] (front ++ says.Locating near ∷ later) = subst (λ said. MayFollow [] [] [] said) at is.lines.follow in
+    let follow : MayFollow [] [] [] 0 (front ++ says.Locating near ∷ later) = subst (λ said. MayFollow [] [] [] 0 said) at is.lines.follow in
     let places : all.nears ≡ nears_of front ++ near ∷ nears_of later = is.nears_are ∙ ap nears_of at ∙ flat_map-append near_at front (says.Locating near ∷ later) in
     each_has_its_place all.nears all.unwatched (tasks_of (first_mode deadline chained) is.said) earlier others task (sym is.tasks_are ∙ among)
-    ∙ ap (λ t. near_of t all.nears) same ∙ ap (near_of near.target) places ∙ found_near (nears_of front) (nears_of later) near (no_place_before [] [] [] front later near follow)
+    ∙ ap (λ t. near_of t all.nears) same ∙ ap (near_of near.target) places ∙ found_near (nears_of front) (nears_of later) near (no_place_before [] [] [] 0 front later near follow)
 
 -- where a text gives these tasks their places (`placed`), each of them is watched unless its target is one of `unwatched`
 each_is_watched : (nears : List Near) (unwatched : List ℕ) (tasks earlier others : List Task) (task : Task)

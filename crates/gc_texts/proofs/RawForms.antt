@@ -32,6 +32,15 @@ raw_is_no_digits : (word : List ℕ) → AreDigits word → word ≡ codes "raw"
 raw_is_no_digits [] are e = let first : ◌≡◌ {A = ℕ} 0 114 = ap (λ bs. get_or bs 0 0) e in omega (arith, first)
 raw_is_no_digits (d ∷ ds) are e = let first : d ≡ 114 = ap (λ bs. get_or bs 0 0) e in omega (arith, first, are.0.1)
 
+-- nor is the word `expect`
+expect_is_no_digits : (word : List ℕ) → AreDigits word → word ≡ codes "expect" → ⊥
+expect_is_no_digits [] are e = let first : ◌≡◌ {A = ℕ} 0 101 = ap (λ bs. get_or bs 0 0) e in omega (arith, first)
+expect_is_no_digits (d ∷ ds) are e = let first : d ≡ 101 = ap (λ bs. get_or bs 0 0) e in omega (arith, first, are.0.1)
+
+-- the second word of a command's line isn't `expect`
+pub command_is_no_expect : (line : List ℕ) (command : Command) → IsCommand line command → second_word line ≡ codes "expect" → ⊥
+command_is_no_expect line command x e = expect_is_no_digits x.procedure_is.rpc_text x.procedure_is.number.names.digits (sym (number_word line command x) ∙ e)
+
 -- no line both has the form of a command and asks for a procedure that isn't in the table
 pub command_is_no_raw_wish : (line : List ℕ) (command : Command) (target : ℕ) (raw : RawCall) → IsCommand line command → IsRawWish line target raw → ⊥
 command_is_no_raw_wish line command target raw x y = raw_is_no_digits x.procedure_is.rpc_text x.procedure_is.number.names.digits (sym (number_word line command x) ∙ y.word)

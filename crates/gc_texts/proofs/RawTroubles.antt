@@ -1,4 +1,4 @@
--- What is at fault in a line whose second word is `raw`, and the names of procedures by their numbers.
+-- What is at fault in a request whose first word is `raw`, and the names of procedures by their numbers.
 use Rattle.std.proofs.Common.{◌≡◌, inl, inr, ℕ, List, [], ◌∷◌, ◌++◌, codes, append_assoc, cond, refl, ap, subst, sym, ◌∙◌}
 use Rattle.std.proofs.lemmas.Bool.{ne_eqb}
 use Rattle.gc_catalogue.specs.Calls.{call_fields, IsNoProcedure}
@@ -11,9 +11,11 @@ use Rattle.gc_catalogue.specs.declared.raw.RawFault.TheVariants.{InTable, NotPla
 use Rattle.gc_texts.specs.Laws.{NamesAreTheCatalogues}
 use Rattle.gc_texts.specs.ProcedureNames.{name_among}
 use Rattle.gc_texts.specs.Procedures.{IsRpc}
-use Rattle.gc_texts.specs.Troubles.{raw_trouble, IsRawLine, IsRawWordsTrouble, IsAskingTrouble}
-use Rattle.gc_texts.specs.Words.{third_word, after_three_words}
+use Rattle.gc_texts.specs.Troubles.{raw_trouble, IsRaw, IsRawWordsTrouble, IsRequestTrouble, IsAskingTrouble}
+use Rattle.gc_texts.specs.Cuts.{behind}
+use Rattle.gc_texts.specs.Words.{second_word, after_two_words}
 use Rattle.gc_texts.specs.declared.trouble.Trouble.{Trouble}
+use Rattle.gc_texts.specs.declared.trouble.Trouble.TheVariants as trouble
 
 -- the law: the name that is printed of a procedure's number is the catalogue's
 pub printed_names_are : NamesAreTheCatalogues
@@ -26,24 +28,31 @@ no_procedure_no_name [] rpc none = refl
 no_procedure_no_name (call ∷ calls) rpc none =
     ap (λ b. cond b (call_name call) (name_among calls rpc)) (ne_eqb (call_fields call).number rpc (none call)) ∙ no_procedure_no_name calls rpc none
 
--- a line whose second word is `raw`
-module _ (line : List ℕ) (word : IsRawLine line) where
-  -- where the third word is the number `rpc`, and `rpc` is refused with `fault` for a request with what follows that word
-  -- (`IsRawRefusal`), what `raw_trouble` reports of the two is at fault in the line (`IsAskingTrouble`)
-  refusal_is_trouble : (rpc : ℕ) (fault : RawFault) → IsRpc (third_word line) rpc → IsRawRefusal rpc (after_three_words line) fault
-      → IsAskingTrouble line (raw_trouble rpc fault)
+-- a request whose first word is `raw`
+module _ (request : List ℕ) (word : IsRaw request) where
+  -- where the second word is the number `rpc`, and `rpc` is refused with `fault` for a request with what follows that word
+  -- (`IsRawRefusal`), what `raw_trouble` reports of the two is at fault in the request (`IsRequestTrouble`)
+  refusal_is_trouble : (rpc : ℕ) (fault : RawFault) → IsRpc (second_word request) rpc → IsRawRefusal rpc (after_two_words request) fault
+      → IsRequestTrouble request (raw_trouble rpc fault)
   refusal_is_trouble rpc InTable number is = record { word = word; rpc = rpc; number = number; is = inl (InTable, is, refl) }
   refusal_is_trouble rpc NotPlain number is = record { word = word; rpc = rpc; number = number; is = inl (NotPlain, is, refl) }
   refusal_is_trouble rpc TooLong number is = record { word = word; rpc = rpc; number = number; is = inl (TooLong, is, refl) }
   refusal_is_trouble rpc OpenQuote number is = record { word = word; rpc = rpc; number = number; is = inl (OpenQuote, is, refl) }
   refusal_is_trouble rpc TooMany number is = record { word = word; rpc = rpc; number = number; is = inl (TooMany, is, refl) }
 
-  -- a trouble of what follows the word `raw` is a trouble of the line
-  pub raw_words_trouble_is_lines : (t : Trouble) → IsRawWordsTrouble (third_word line) (after_three_words line) t → IsAskingTrouble line t
-  raw_words_trouble_is_lines t (inl none) = subst (IsAskingTrouble line) (sym none.0) (inl (word, none.1))
-  raw_words_trouble_is_lines t (inr (rpc, number, inl (fault, is, told))) = subst (IsAskingTrouble line) (sym told) (refusal_is_trouble rpc fault number is)
-  raw_words_trouble_is_lines t (inr (rpc, number, inr (may, told))) =
-      subst (IsAskingTrouble line) (sym told) (inr (inr (record { word = word; rpc = rpc; number = number; is = inr (may, refl) })))
+  -- a trouble of what follows the word `raw` is a trouble of the request
+  pub raw_words_trouble_is_requests : (t : Trouble) → IsRawWordsTrouble (second_word request) (after_two_words request) t → IsRequestTrouble request t
+  raw_words_trouble_is_requests t (inl none) = subst (IsRequestTrouble request) (sym none.0) (inl (word, none.1))
+  raw_words_trouble_is_requests t (inr (rpc, number, inl (fault, is, told))) = subst (IsRequestTrouble request) (sym told) (refusal_is_trouble rpc fault number is)
+  raw_words_trouble_is_requests t (inr (rpc, number, inr (may, told))) =
+      subst (IsRequestTrouble request) (sym told) (inr (inr (record { word = word; rpc = rpc; number = number; is = inr (may, refl) })))
+
+-- a trouble of what follows the first word of a line that is taken for a command is one of the line
+pub request_is_asking : (line : List ℕ) (t : Trouble) → IsRequestTrouble (behind 32 line) t → IsAskingTrouble line t
+request_is_asking line trouble.Now is = absurd is.is
+request_is_asking line trouble.Target is = absurd is.is
+request_is_asking line trouble.NoForm is = is
+request_is_asking line t is = is
 
 -- where `t` is what is at fault in a word after `raw` and the parameters after it, it is at fault in an equal word and equal
 -- parameters

@@ -24,7 +24,8 @@ second_digit_low [] are = omega arith
 second_digit_low (a ∷ []) are = omega arith
 second_digit_low (a ∷ b ∷ bs) are = are.1.0.1
 
--- the kinds of words, distinguished by the second byte: 0 a code, and 1 to 6 the outcomes
+-- the kinds of words, distinguished by the second byte: 0 a code, and 1 to 6 the outcomes, of which `unreadable` and `unexpected` begin
+-- alike
 abbrev reason_kind : Reason → ℕ
 reason_kind (reason.Code code) = 0
 reason_kind reason.Unreadable = 1
@@ -33,6 +34,7 @@ reason_kind reason.Late = 3
 reason_kind reason.Lost = 4
 reason_kind reason.Skipped = 5
 reason_kind reason.Disagree = 6
+reason_kind reason.Unexpected = 1
 
 -- the kind of a word with this second byte: 110 is n, 108 l, 97 a, 111 o, 107 k and 105 i; any other is a code's
 abbrev kind_by_second_byte : ℕ → ℕ
@@ -53,6 +55,11 @@ second_byte_shows_kind word reason.Late is = ap (λ bs. kind_by_second_byte (get
 second_byte_shows_kind word reason.Lost is = ap (λ bs. kind_by_second_byte (get_or bs 1 0)) is
 second_byte_shows_kind word reason.Skipped is = ap (λ bs. kind_by_second_byte (get_or bs 1 0)) is
 second_byte_shows_kind word reason.Disagree is = ap (λ bs. kind_by_second_byte (get_or bs 1 0)) is
+second_byte_shows_kind word reason.Unexpected is = ap (λ bs. kind_by_second_byte (get_or bs 1 0)) is
+
+-- no word is both `unreadable` and `unexpected`
+unreadable_is_no_unexpected : (word : List ℕ) → word ≡ codes "unreadable" → word ≡ codes "unexpected" → ⊥
+unreadable_is_no_unexpected word e f = let third : ◌≡◌ {A = ℕ} 114 101 = ap (λ bs. get_or bs 2 0) (sym e ∙ f) in omega (arith, third)
 
 -- where a word is `a` and is `b`, and both are of one kind, they are the same
 same_reason : (word : List ℕ) (a b : Reason) → IsReason word a → IsReason word b → reason_kind a ≡ reason_kind b → a ≡ b
@@ -63,6 +70,9 @@ same_reason word reason.Late reason.Late x y h = refl
 same_reason word reason.Lost reason.Lost x y h = refl
 same_reason word reason.Skipped reason.Skipped x y h = refl
 same_reason word reason.Disagree reason.Disagree x y h = refl
+same_reason word reason.Unexpected reason.Unexpected x y h = refl
+same_reason word reason.Unreadable reason.Unexpected x y h = absurd (unreadable_is_no_unexpected word x y)
+same_reason word reason.Unexpected reason.Unreadable x y h = absurd (unreadable_is_no_unexpected word y x)
 same_reason word a b x y h = absurd (omega (arith, h))
 
 -- a word is one code or outcome at most
@@ -78,6 +88,7 @@ reason_lacks_space word reason.Late is = subst (Lacks 32) (sym is) (lacks_by_tes
 reason_lacks_space word reason.Lost is = subst (Lacks 32) (sym is) (lacks_by_test 32 (codes "lost") refl)
 reason_lacks_space word reason.Skipped is = subst (Lacks 32) (sym is) (lacks_by_test 32 (codes "skipped") refl)
 reason_lacks_space word reason.Disagree is = subst (Lacks 32) (sym is) (lacks_by_test 32 (codes "disagree") refl)
+reason_lacks_space word reason.Unexpected is = subst (Lacks 32) (sym is) (lacks_by_test 32 (codes "unexpected") refl)
 
 -- a word of a line `retry` has no space, and is one code or outcome at most
 reason_form : IsWordForm IsReason
@@ -144,6 +155,7 @@ count_grows_by_word count reason.Late = omega arith
 count_grows_by_word count reason.Lost = omega arith
 count_grows_by_word count reason.Skipped = omega arith
 count_grows_by_word count reason.Disagree = omega arith
+count_grows_by_word count reason.Unexpected = omega arith
 
 -- with more words there are no fewer codes
 codes_grow : (count : ℕ) (later : List Reason) → count ≤ count_with_words count later
@@ -167,6 +179,7 @@ no_room_exceeds_16 count reason.Late e = cc
 no_room_exceeds_16 count reason.Lost e = cc
 no_room_exceeds_16 count reason.Skipped e = cc
 no_room_exceeds_16 count reason.Disagree e = cc
+no_room_exceeds_16 count reason.Unexpected e = cc
 
 -- where there is room for a word, there are at most 16 codes with it
 room_keeps_to_16 : (count : ℕ) (r : Reason) → count ≤ 16 → allows_word count r ≡ true → count_with count r ≤ 16
@@ -177,6 +190,7 @@ room_keeps_to_16 count reason.Late few e = few
 room_keeps_to_16 count reason.Lost few e = few
 room_keeps_to_16 count reason.Skipped few e = few
 room_keeps_to_16 count reason.Disagree few e = few
+room_keeps_to_16 count reason.Unexpected few e = few
 
 -- the text `now` is left, and `word` is its next word
 module _

@@ -30,11 +30,11 @@ use Rattle.gc_texts.proofs.TaskLaws.{IsAsPlanned, AreAsPlanned, CommandsKeepTarg
 -- the cycle's commands, as their lines give them, are as planned (`AreAsPlanned`)
 cycle_as_planned : (mode : Mode) (lines : List TaskLine) → AreAsPlanned (planned_of mode lines)
 cycle_as_planned mode [] = tt
-cycle_as_planned mode (says.Command c now ∷ later) = by_setup mode.setup (cycle_as_planned (mode_after mode (says.Command c now)) later) where
+cycle_as_planned mode (says.Command c now x ∷ later) = by_setup mode.setup (cycle_as_planned (mode_after mode (says.Command c now x)) later) where
   -- the lemma above for a command and the lines after it, by whether the mode is that of the setup (`b`)
-  by_setup : (b : Bool) → AreAsPlanned (planned_of (mode_after mode (says.Command c now)) later)
+  by_setup : (b : Bool) → AreAsPlanned (planned_of (mode_after mode (says.Command c now x)) later)
       → AreAsPlanned
-      ((if b then [] else record { task = task_at mode c now; retry = mode.retry; agree = mode.agree } ∷ []) ++ planned_of (mode_after mode (says.Command c now)) later)
+      ((if b then [] else record { task = task_at mode c now x; retry = mode.retry; agree = mode.agree } ∷ []) ++ planned_of (mode_after mode (says.Command c now x)) later)
   by_setup true more = more
   by_setup false more = (record { near = refl; again = refl; attempt = refl; others = refl }, more)
 cycle_as_planned mode (line ∷ later) = cycle_as_planned (mode_after mode line) later

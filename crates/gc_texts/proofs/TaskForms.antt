@@ -15,6 +15,7 @@ use Rattle.gc_texts.specs.Wishes.{AsksFor}
 use Rattle.gc_texts.specs.Words.{first_word, second_word, third_word, after_three_words}
 use Rattle.gc_texts.specs.declared.codes.Codes.{Codes}
 use Rattle.gc_texts.specs.declared.wish.Wish.{Wish}
+use Rattle.gc_texts.specs.declared.expectation.Expectation.{Expectation}
 use Rattle.gc_texts.specs.declared.name.Name.{Name}
 use Rattle.gc_texts.specs.declared.near.Near.{Near}
 use Rattle.gc_texts.specs.declared.near.Range.{Range}
@@ -26,6 +27,7 @@ use Rattle.gc_texts.proofs.AgreeForms.{one_agreeing, accept_is_no_agree, agree_i
 use Rattle.gc_texts.proofs.ClockForms.{one_clock, wish_is_no_clock}
 use Rattle.gc_texts.proofs.CodeForms.{one_accepting}
 use Rattle.gc_texts.proofs.ReasonForms.{one_retrying}
+use Rattle.gc_texts.proofs.ExpectForms.{clock_is_no_expect, expects_of_target, one_expectation, wish_is_no_expect}
 use Rattle.gc_texts.proofs.RawForms.{digits_begin_low}
 use Rattle.gc_texts.proofs.WishForms.{one_wish}
 use Rattle.gc_texts.proofs.Procedures.{one_number}
@@ -63,7 +65,7 @@ module _ (line rest : List ℕ) (name : Name) (e : line ≡ codes "name " ++ res
 -- the kinds of lines, distinguished by the first byte: 0 a command, 1 `deadline`, 2 `chained`, 3 `unchained` or `unwatched`, which
 -- begin alike, 4 `name` or `near`, which begin alike, too, 5 `accept`, `agree` or `at start`, which begin alike, too, 6 `retry`, 7 `each cycle`
 abbrev said_kind : TaskLine → ℕ
-said_kind (says.Command command now) = 0
+said_kind (says.Command command now expects) = 0
 said_kind (says.Deadline deadline) = 1
 said_kind says.Chained = 2
 said_kind says.Unchained = 3
@@ -119,8 +121,11 @@ asking_line_kind line target (Raw raw) is = low_byte_is_of_command (get_or line 
 
 -- the first byte of a line shows the kind of what the line says
 first_byte_shows_kind : (line : List ℕ) (said : TaskLine) → IsTaskLine line said → line_kind line ≡ said_kind said
-first_byte_shows_kind line (says.Command wish false) is = asking_line_kind line wish.target wish.call is
-first_byte_shows_kind line (says.Command wish true) is = low_byte_is_of_command (get_or line 0 0) (digits_begin_low line is.target_is.names.digits is.target_is.names.some)
+first_byte_shows_kind line (says.Command wish false None) is = asking_line_kind line wish.target wish.call is
+first_byte_shows_kind line (says.Command wish false (Some e)) is =
+    let target = expects_of_target line wish e is in low_byte_is_of_command (get_or line 0 0) (digits_begin_low line target.names.digits target.names.some)
+first_byte_shows_kind line (says.Command wish true None) is = low_byte_is_of_command (get_or line 0 0) (digits_begin_low line is.target_is.names.digits is.target_is.names.some)
+first_byte_shows_kind line (says.Command wish true (Some e)) is = absurd is
 first_byte_shows_kind line (says.Deadline deadline) is = ap line_kind is.line_is
 first_byte_shows_kind line says.Chained is = ap line_kind is
 first_byte_shows_kind line says.Unchained is = ap line_kind is
@@ -246,17 +251,27 @@ accept_is_no_start : (line : List ℕ) (accepted : Codes) → SetsAccepted line 
 accept_is_no_start line accepted (inl alone) e = let second : ◌≡◌ {A = ℕ} 99 116 = ap (λ bs. get_or bs 1 0) (sym alone.0 ∙ e) in omega (arith, second)
 accept_is_no_start line accepted (inr is) e = let second : ◌≡◌ {A = ℕ} 99 116 = ap (λ bs. get_or bs 1 0) (sym is.line_is ∙ e) in omega (arith, second)
 
--- a line asks for one thing at most, and not both with the moment at which it is sent and without it
-one_asked_for : (line : List ℕ) (v w : Wish) (m n : Bool)
-    → IsCommandLine line v m → IsCommandLine line w n → says.Command v m ≡ says.Command w n
-one_asked_for line v w true true x y = ap (λ u. says.Command u true) (one_clock line v w x y)
-one_asked_for line v w false false x y = ap (λ u. says.Command u false) (one_wish line v w x y)
-one_asked_for line v w true false x y = absurd (wish_is_no_clock line w v y x)
-one_asked_for line v w false true x y = absurd (wish_is_no_clock line v w x y)
+-- a line asks for one thing at most, and not both with the moment at which it is sent and without it, and expects one thing at most of the
+-- answer
+one_asked_for : (line : List ℕ) (v w : Wish) (m n : Bool) (d e : Option Expectation)
+    → IsCommandLine line v m d → IsCommandLine line w n e → says.Command v m d ≡ says.Command w n e
+one_asked_for line v w true true None None x y = ap (λ u. says.Command u true None) (one_clock line v w x y)
+one_asked_for line v w false false None None x y = ap (λ u. says.Command u false None) (one_wish line v w x y)
+one_asked_for line v w false false (Some d) (Some e) x y =
+    let same = one_expectation line v w d e x y in
+    ap (λ u. says.Command u false (Some d)) same.0 ∙ ap (λ z. says.Command w false (Some z)) same.1
+one_asked_for line v w true false None None x y = absurd (wish_is_no_clock line w v y x)
+one_asked_for line v w false true None None x y = absurd (wish_is_no_clock line v w x y)
+one_asked_for line v w false false None (Some e) x y = absurd (wish_is_no_expect line v x y.word)
+one_asked_for line v w false false (Some d) None x y = absurd (wish_is_no_expect line w y x.word)
+one_asked_for line v w true false None (Some e) x y = absurd (clock_is_no_expect line v x y.word)
+one_asked_for line v w false true (Some d) None x y = absurd (clock_is_no_expect line w y x.word)
+one_asked_for line v w true n (Some d) e x y = absurd x
+one_asked_for line v w m true d (Some e) x y = absurd y
 
 -- where a line says `a` and says `b`, and both are of one kind, they are the same
 same_said : (line : List ℕ) (a b : TaskLine) → IsTaskLine line a → IsTaskLine line b → said_kind a ≡ said_kind b → a ≡ b
-same_said line (says.Command v m) (says.Command w n) x y h = one_asked_for line v w m n x y
+same_said line (says.Command v m d) (says.Command w n e) x y h = one_asked_for line v w m n d e x y
 same_said line (says.Deadline m) (says.Deadline n) x y h = ap says.Deadline (one_deadline line m n x y)
 same_said line says.Chained says.Chained x y h = refl
 same_said line says.Unchained says.Unchained x y h = refl

@@ -6,6 +6,7 @@ use Rattle.std.specs.List.{AllByRecursion, flat_map}
 use Rattle.std.proofs.lemmas.List.{length-map, map-append}
 use Rattle.std.proofs.SliceLists.{all_by_recursion_push}
 use Rattle.std.proofs.lemmas.Bool.{eqb-true, and_parts, both_ways}
+use Rattle.std.proofs.Math.Bool.{or-true}
 use Rattle.std.proofs.lemmas.Bool.Decides.{nat_tests}
 use Rattle.std.proofs.lemmas.Option.{same_Some}
 use Rattle.gc_texts.specs.Again.{no_again}
@@ -59,7 +60,7 @@ one_task_list text deadline chained one other h k =
 
 -- what the lines of a command text say as lines of a station's text: these commands, none of which sets a clock to its moment
 abbrev lines_of : List Command → List TaskLine
-lines_of commands = map (λ command. says.Command (wish_of command) false) commands
+lines_of commands = map (λ command. says.Command (wish_of command) false None) commands
 
 -- lines that have the forms of commands say these commands as lines of a station's text (`lines_of`)
 lines_have_forms : (lines : List (List ℕ)) (commands : List Command) → AreLinesOf IsCommand lines commands → AreLinesOf IsTaskLine lines (lines_of commands)
@@ -69,12 +70,12 @@ lines_have_forms (line ∷ lines) [] are = absurd are
 lines_have_forms (line ∷ lines) (c ∷ cs) are = (are.0, lines_have_forms lines cs are.1)
 
 -- lines of commands may follow any names, places and unwatched targets
-lines_follow : (names : List Name) (nears : List Near) (unwatched : List ℕ) (commands : List Command) → MayFollow names nears unwatched (lines_of commands)
-lines_follow names nears unwatched [] = tt
-lines_follow names nears unwatched (c ∷ cs) = (refl, lines_follow (names ++ []) (nears ++ []) (unwatched ++ []) cs)
+lines_follow : (names : List Name) (nears : List Near) (unwatched : List ℕ) (counters : ℕ) (commands : List Command) → MayFollow names nears unwatched counters (lines_of commands)
+lines_follow names nears unwatched counters [] = tt
+lines_follow names nears unwatched counters (c ∷ cs) = (or-true (nat_lt counters 16), lines_follow (names ++ []) (nears ++ []) (unwatched ++ []) (counters + 0) cs)
 
 -- where the line of a command gives nothing, as it gives no name and no place, the lines of commands give nothing
-lines_give_none : {Item : Type 0} (given_at : TaskLine → List Item) → ((c : Command) → given_at (says.Command (wish_of c) false) ≡ [])
+lines_give_none : {Item : Type 0} (given_at : TaskLine → List Item) → ((c : Command) → given_at (says.Command (wish_of c) false None) ≡ [])
     → (commands : List Command) → [] ≡ flat_map given_at (lines_of commands)
 lines_give_none given_at none [] = refl
 lines_give_none given_at none (c ∷ cs) = lines_give_none given_at none cs ∙ ap (λ items. items ++ flat_map given_at (lines_of cs)) (sym (none c))
@@ -166,6 +167,7 @@ module _ (deadline : ℕ) (chained : Bool) where
         begun = 0;
         place = place;
         link = link;
+        counters = 0;
       }
 
   -- how many commands the chain has after a command for this target, where it has `link` before it
@@ -211,7 +213,7 @@ commands_are_tasks text commands deadline chained are = (
   map (λ p. p.task) (planned_of (first_mode deadline chained) (lines_of commands)),
   record {
     said = lines_of commands;
-    lines = record { forms = lines_have_forms (filter is_kept (text_lines text)) commands are; follow = lines_follow [] [] [] commands };
+    lines = record { forms = lines_have_forms (filter is_kept (text_lines text)) commands are; follow = lines_follow [] [] [] 0 commands };
     tasks_are = tasks_are_asked deadline chained commands;
     setup_is = ap length (sym (no_setup deadline chained None 0 0 commands));
     names_are = lines_give_none name_at (λ c. refl) commands;
@@ -234,6 +236,8 @@ unchained_are_plain deadline group place link (c ∷ cs) =
       near = None;
       watched = true;
       accepted = no_codes;
+      expects = None;
+      counter = None;
       again = no_again;
       turn = record { place = place; attempt = 1; link = 0 };
       others = 0;
@@ -248,7 +252,7 @@ pub commands_are_plain : CommandsArePlain
 commands_are_plain text commands deadline are =
     record {
       said = lines_of commands;
-      lines = record { forms = lines_have_forms (filter is_kept (text_lines text)) commands are; follow = lines_follow [] [] [] commands };
+      lines = record { forms = lines_have_forms (filter is_kept (text_lines text)) commands are; follow = lines_follow [] [] [] 0 commands };
       tasks_are = unchained_are_plain deadline None 0 0 commands ∙ tasks_are_asked deadline false commands;
       setup_is = ap length (sym (no_setup deadline false None 0 0 commands));
       names_are = lines_give_none name_at (λ c. refl) commands;
@@ -276,15 +280,15 @@ CommandsKeepTargets before planned = KeepTargets before (tasks_planned planned)
 pub commands_keep_targets : (mode : Mode) (before : Option ℕ) (said : List TaskLine)
     → (mode.setup ≡ true) ⊎ ((mode.group ≡ None) ⊎ (mode.group ≡ before)) → CommandsKeepTargets before (planned_of mode said)
 commands_keep_targets mode before [] h = tt
-commands_keep_targets mode before (says.Command c now ∷ later) h =
-    by_setup mode.setup refl h (λ e. commands_keep_targets (mode_after mode (says.Command c now)) before later (inl e))
-    (commands_keep_targets (mode_after mode (says.Command c now)) (Some c.target) later (inr (inr refl))) where
+commands_keep_targets mode before (says.Command c now x ∷ later) h =
+    by_setup mode.setup refl h (λ e. commands_keep_targets (mode_after mode (says.Command c now x)) before later (inl e))
+    (commands_keep_targets (mode_after mode (says.Command c now x)) (Some c.target) later (inr (inr refl))) where
       -- the lemma above for a command and the lines after it, by whether the mode is that of the setup (`b`)
       by_setup : (b : Bool) → mode.setup ≡ b → (mode.setup ≡ true) ⊎ ((mode.group ≡ None) ⊎ (mode.group ≡ before))
-          → (mode.setup ≡ true → CommandsKeepTargets before (planned_of (mode_after mode (says.Command c now)) later))
-          → CommandsKeepTargets (Some c.target) (planned_of (mode_after mode (says.Command c now)) later)
+          → (mode.setup ≡ true → CommandsKeepTargets before (planned_of (mode_after mode (says.Command c now x)) later))
+          → CommandsKeepTargets (Some c.target) (planned_of (mode_after mode (says.Command c now x)) later)
           → CommandsKeepTargets before
-          ((if b then [] else record { task = task_at mode c now; retry = mode.retry; agree = mode.agree } ∷ []) ++ planned_of (mode_after mode (says.Command c now)) later)
+          ((if b then [] else record { task = task_at mode c now x; retry = mode.retry; agree = mode.agree } ∷ []) ++ planned_of (mode_after mode (says.Command c now x)) later)
       by_setup true e h at_start in_cycle = at_start e
       by_setup false e (inl is) at_start in_cycle = let bad : true ≡ false = sym is ∙ e in cc
       by_setup false e (inr is) at_start in_cycle = (
@@ -430,17 +434,17 @@ setup_chain nears unwatched mode [] = none_continues mode.begun where
   none_continues : (n : ℕ) → ContinueChain n []
   none_continues zero = tt
   none_continues (suc n) = tt
-setup_chain nears unwatched mode (says.Command c now ∷ later) = by_setup mode.setup refl (setup_chain nears unwatched (mode_after mode (says.Command c now)) later) where
+setup_chain nears unwatched mode (says.Command c now x ∷ later) = by_setup mode.setup refl (setup_chain nears unwatched (mode_after mode (says.Command c now x)) later) where
   -- the lemma above for a command and the lines after it, by whether the mode is that of the setup (`b`)
   by_setup : (b : Bool) → mode.setup ≡ b
-      → ContinueChain (mode_after mode (says.Command c now)).begun (map (placed nears unwatched) (setup_of (mode_after mode (says.Command c now)) later))
+      → ContinueChain (mode_after mode (says.Command c now x)).begun (map (placed nears unwatched) (setup_of (mode_after mode (says.Command c now x)) later))
       → ContinueChain mode.begun
-      (map (placed nears unwatched) ((if b then task_at mode c now ∷ [] else []) ++ setup_of (mode_after mode (says.Command c now)) later))
+      (map (placed nears unwatched) ((if b then task_at mode c now x ∷ [] else []) ++ setup_of (mode_after mode (says.Command c now x)) later))
   by_setup true e more =
-      chain_continued mode.begun (placed nears unwatched (task_at mode c now)) (map (placed nears unwatched) (setup_of (mode_after mode (says.Command c now)) later))
+      chain_continued mode.begun (placed nears unwatched (task_at mode c now x)) (map (placed nears unwatched) (setup_of (mode_after mode (says.Command c now x)) later))
       (ap (λ b. if b then nat_lt 0 mode.begun else mode.chained && continues_group mode.group c.target) e)
-      (subst (λ n. ContinueChain n (map (placed nears unwatched) (setup_of (mode_after mode (says.Command c now)) later))) (ap (λ b. if b then mode.begun + 1 else mode.begun) e) more)
-  by_setup false e more = subst (λ n. ContinueChain n (map (placed nears unwatched) (setup_of (mode_after mode (says.Command c now)) later))) (ap (λ b. if b then mode.begun + 1 else mode.begun) e) more
+      (subst (λ n. ContinueChain n (map (placed nears unwatched) (setup_of (mode_after mode (says.Command c now x)) later))) (ap (λ b. if b then mode.begun + 1 else mode.begun) e) more)
+  by_setup false e more = subst (λ n. ContinueChain n (map (placed nears unwatched) (setup_of (mode_after mode (says.Command c now x)) later))) (ap (λ b. if b then mode.begun + 1 else mode.begun) e) more
 setup_chain nears unwatched mode (line ∷ later) = setup_chain nears unwatched (mode_after mode line) later
 
 -- the law: the setup is one chain, and of the tasks after it the first isn't chained, and each chained one follows one for the

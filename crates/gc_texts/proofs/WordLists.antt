@@ -1,23 +1,36 @@
--- The words of a text, cut off one after the other at the first space (byte 32).
-use Rattle.std.proofs.Common.{◌≡◌, ℕ, ◌==◌, List, [], ◌∷◌, ◌++◌, Option, Some, None, refl, ap, ◌∙◌}
-use Rattle.std.proofs.lemmas.Bool.{cond-false, ne_eqb}
+-- The pieces of a text, cut off one after the other at the first mark.
+use Rattle.std.proofs.Common.{◌≡◌, ℕ, ◌==◌, ◌≤◌, ◌+◌, List, [], ◌∷◌, ◌++◌, length, Option, Some, None, refl, ap, ◌∙◌, arith}
+use Rattle.std.proofs.lemmas.Bool.{cond-true, cond-false, cond_both, ne_eqb, eq-eqb}
 use Rattle.gc_texts.specs.Cuts.{Lacks, Cuts}
-use Rattle.gc_texts.specs.WordLists.{with_front, words_of, words_left}
+use Rattle.gc_texts.specs.WordLists.{with_front, pieces_of, pieces_left}
 
--- a text without a space is one word
-pub words_lacking : (word : List ℕ) → Lacks 32 word → words_of word ≡ word ∷ []
-words_lacking [] lacks = refl
-words_lacking (b ∷ bs) lacks =
-    cond-false (b == 32) ([] ∷ words_of bs) (with_front b (words_of bs)) (ne_eqb b 32 lacks.0) ∙ ap (with_front b) (words_lacking bs lacks.1)
+-- a text without the mark is one piece
+pub words_lacking : (mark : ℕ) (word : List ℕ) → Lacks mark word → pieces_of mark word ≡ word ∷ []
+words_lacking mark [] lacks = refl
+words_lacking mark (b ∷ bs) lacks =
+    cond-false (b == mark) ([] ∷ pieces_of mark bs) (with_front b (pieces_of mark bs)) (ne_eqb b mark lacks.0) ∙ ap (with_front b) (words_lacking mark bs lacks.1)
 
--- where a text is a word without a space, then a space, and then a rest, its words are this word and those of the rest
-pub words_behind : (word rest : List ℕ) → Lacks 32 word → words_of (word ++ 32 ∷ rest) ≡ word ∷ words_of rest
-words_behind [] rest lacks = refl
-words_behind (b ∷ bs) rest lacks =
-    cond-false (b == 32) ([] ∷ words_of (bs ++ 32 ∷ rest)) (with_front b (words_of (bs ++ 32 ∷ rest))) (ne_eqb b 32 lacks.0)
-    ∙ ap (with_front b) (words_behind bs rest lacks.1)
+-- where a text is a piece without the mark, then the mark, and then a rest, its pieces are this piece and those of the rest
+pub words_behind : (mark : ℕ) (word rest : List ℕ) → Lacks mark word → pieces_of mark (word ++ mark ∷ rest) ≡ word ∷ pieces_of mark rest
+words_behind mark [] rest lacks = cond-true (mark == mark) ([] ∷ pieces_of mark rest) (with_front mark (pieces_of mark rest)) (eq-eqb mark mark refl)
+words_behind mark (b ∷ bs) rest lacks =
+    cond-false (b == mark) ([] ∷ pieces_of mark (bs ++ mark ∷ rest)) (with_front b (pieces_of mark (bs ++ mark ∷ rest))) (ne_eqb b mark lacks.0)
+    ∙ ap (with_front b) (words_behind mark bs rest lacks.1)
 
--- where a text is cut at its first space, its words are the one before it and those of the rest
-pub words_cut : (text word : List ℕ) (rest : Option (List ℕ)) → Cuts 32 text word rest → words_of text ≡ word ∷ words_left rest
-words_cut text word None cut = ap words_of cut.0 ∙ words_lacking word cut.1
-words_cut text word (Some rest) cut = ap words_of cut.0 ∙ words_behind word rest cut.1
+-- where a text is cut at its first mark, its pieces are the one before it and those of the rest
+pub words_cut : (mark : ℕ) (text word : List ℕ) (rest : Option (List ℕ)) → Cuts mark text word rest → pieces_of mark text ≡ word ∷ pieces_left mark rest
+words_cut mark text word None cut = ap (pieces_of mark) cut.0 ∙ words_lacking mark word cut.1
+words_cut mark text word (Some rest) cut = ap (pieces_of mark) cut.0 ∙ words_behind mark word rest cut.1
+
+-- a byte before the first piece leaves as many
+front_keeps_count : (b : ℕ) (pieces : List (List ℕ)) → length (with_front b pieces) ≡ length pieces
+front_keeps_count b [] = refl
+front_keeps_count b (piece ∷ pieces) = refl
+
+-- a text has at most one piece more than bytes
+pub pieces_few : (mark : ℕ) (text : List ℕ) → length (pieces_of mark text) ≤ length text + 1
+pieces_few mark [] = omega arith
+pieces_few mark (b ∷ bs) =
+    let few = pieces_few mark bs in
+    cond_both (b == mark) ([] ∷ pieces_of mark bs) (with_front b (pieces_of mark bs)) (λ ps. length ps ≤ length (b ∷ bs) + 1)
+    (λ _. omega (arith, few)) (λ _. omega (arith, few, front_keeps_count b (pieces_of mark bs)))

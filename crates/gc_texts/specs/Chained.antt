@@ -2,14 +2,16 @@
 use Rattle.std.specs.Prelude.{◌≡◌, ◌⊎◌, ℕ, ◌+◌, ◌≤◌, nat_lt, if◌then◌else◌, Bool, not, true, false, List, [], ◌∷◌, ◌++◌, length, Option, None, Some}
 use Rattle.std.specs.List.{AllByRecursion}
 use Rattle.gc_texts.specs.Codes.{no_codes}
+use Rattle.gc_texts.specs.Expectations.{counts}
 use Rattle.gc_texts.specs.Nears.{near_of}
-use Rattle.gc_texts.specs.Tasks.{TasksSeen, IsTasks}
+use Rattle.gc_texts.specs.Tasks.{TasksSeen, IsTasks, counters_of}
 use Rattle.gc_texts.specs.Retries.{no_retry}
 use Rattle.gc_texts.specs.Watching.{is_unwatched}
 use Rattle.gc_texts.specs.declared.agree.Agree.{Agree}
 use Rattle.gc_texts.specs.declared.agree.Twice.{Twice}
 use Rattle.gc_texts.specs.declared.agree.Twice.TheVariants.{Once, First}
 use Rattle.gc_texts.specs.declared.codes.Codes.{Codes}
+use Rattle.gc_texts.specs.declared.expectation.Expectation.{Expectation}
 use Rattle.gc_texts.specs.declared.retry.Retry.{Retry}
 use Rattle.gc_texts.specs.declared.wish.Wish.{Wish}
 use Rattle.gc_texts.specs.declared.near.Near.{Near}
@@ -33,7 +35,7 @@ section_after setup (line ∷ later) = section_after (section_by setup line) lat
 -- whether the setup holds before the lines
 abbrev pub commands_counted : (of_setup of_cycle : ℕ) (setup : Bool) → List TaskLine → ℕ
 commands_counted of_setup of_cycle setup [] = 0
-commands_counted of_setup of_cycle setup (says.Command command now ∷ later) =
+commands_counted of_setup of_cycle setup (says.Command command now expects ∷ later) =
     (if setup then of_setup else of_cycle) + commands_counted of_setup of_cycle setup later
 commands_counted of_setup of_cycle setup (line ∷ later) = commands_counted of_setup of_cycle (section_by setup line) later
 
@@ -119,8 +121,8 @@ KeepsGroup _ = ⊥
 -- the last command of these lines is for this target, and only deadlines, names, places, unwatched targets and codes follow it
 abbrev pub EndsInGroupOf : List TaskLine → ℕ → Type 0
 EndsInGroupOf lines target =
-    (before : List TaskLine) × (command : Wish) × (now : Bool) × (between : List TaskLine)
-    × (lines ≡ before ++ says.Command command now ∷ between) × AllByRecursion KeepsGroup between × (command.target ≡ target)
+    (before : List TaskLine) × (command : Wish) × (now : Bool) × (expects : Option Expectation) × (between : List TaskLine)
+    × (lines ≡ before ++ says.Command command now expects ∷ between) × AllByRecursion KeepsGroup between × (command.target ≡ target)
 
 -- the sending of a command of the cycle that follows the lines `front`, in its first task: the first of two where the last line `agree`
 -- says that chains are sent twice, and else the only one
@@ -145,10 +147,13 @@ pub record IsTaskOfSetUp (front : List TaskLine) (task : Task) : Type 0 where
   pub once : task.twice ≡ Once
 
 -- the task of a command that follows the lines `front`, in the first attempt of its chain, by what holds there. `deadline` and
--- `chained` hold where no line says otherwise; `now` says whether the command sets the clock to the moment at which it is sent
-pub record IsTaskOf (deadline : ℕ) (chained : Bool) (front : List TaskLine) (command : Wish) (now : Bool) (task : Task) : Type 0 where
+-- `chained` hold where no line says otherwise; `now` says whether the command sets the clock to the moment at which it is sent, and
+-- `expects` what is expected of its answer. An item `>` there is numbered by the commands with one among those lines
+pub record IsTaskOf (deadline : ℕ) (chained : Bool) (front : List TaskLine) (command : Wish) (now : Bool) (expects : Option Expectation) (task : Task) : Type 0 where
   pub asks : task.command ≡ command
   pub moment : task.now ≡ now
+  pub expects_is : task.expects ≡ expects
+  pub counter : task.counter ≡ (if counts expects then Some (counters_of front) else None)
   pub first : task.turn.attempt ≡ 1
   pub deadline_is : IsDeadlineAfter deadline front task.deadline
   pub accepted_are : AreAcceptedAfter front task.accepted
@@ -161,10 +166,10 @@ pub record IsTaskOf (deadline : ℕ) (chained : Bool) (front : List TaskLine) (c
 abbrev pub TasksFollowTheirLines : Type 0
 TasksFollowTheirLines =
     (text : List ℕ) (deadline : ℕ) (chained : Bool) (all : TasksSeen) (is : IsTasks text deadline chained all)
-    (front later : List TaskLine) (command : Wish) (now : Bool) → is.said ≡ front ++ says.Command command now ∷ later
+    (front later : List TaskLine) (command : Wish) (now : Bool) (expects : Option Expectation) → is.said ≡ front ++ says.Command command now expects ∷ later
     → (earlier : List Task) × (task : Task) × (others : List Task) × (all.tasks ≡ earlier ++ task ∷ others)
     × (section_after false front ≡ true → length earlier ≡ setup_commands false front) × (section_after false front ≡ false → all.setup ≤ length earlier)
-    × IsTaskOf deadline chained front command now task × (task.near ≡ near_of command.target all.nears)
+    × IsTaskOf deadline chained front command now expects task × (task.near ≡ near_of command.target all.nears)
     × (task.watched ≡ not (is_unwatched command.target all.unwatched))
 
 -- where a line says where a target is, it says so of each command of that target, before it and after it

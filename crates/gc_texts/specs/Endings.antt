@@ -20,6 +20,8 @@ pub data End : Type 0 where
   -- its reply came in time, with this line, in the second sending of its chain, and is an answer that isn't refused; but it doesn't agree with
   -- that of the same command in the first sending
   Disagree : (line : List ℕ) → End
+  -- its reply came in time, with this line, and is an answer that isn't refused; but its values aren't those that its line `expect` expects
+  Unexpected : (line : List ℕ) → End
   -- a reply to it came after it had timed out
   Late : End
   -- no reply came, and one that still comes will be ignored
@@ -36,6 +38,7 @@ ending_seen (ending.Answered quality answer line) = Answered quality (option_map
 ending_seen (ending.Unreadable line fault) = Unreadable line.now.items fault
 ending_seen (ending.Elsewhere line) = Elsewhere line.now.items
 ending_seen (ending.Disagree line) = Disagree line.now.items
+ending_seen (ending.Unexpected line) = Unexpected line.now.items
 ending_seen ending.Late = Late
 ending_seen ending.Lost = Lost
 ending_seen ending.Skipped = Skipped
@@ -47,6 +50,7 @@ word_of (Answered quality answer line) = codes "answered"
 word_of (Unreadable line fault) = codes "unreadable"
 word_of (Elsewhere line) = codes "elsewhere"
 word_of (Disagree line) = codes "disagree"
+word_of (Unexpected line) = codes "unexpected"
 word_of Late = codes "late"
 word_of Lost = codes "lost"
 word_of Skipped = codes "skipped"
@@ -63,6 +67,7 @@ line_of (Answered quality answer line) = Some line
 line_of (Unreadable line fault) = Some line
 line_of (Elsewhere line) = Some line
 line_of (Disagree line) = Some line
+line_of (Unexpected line) = Some line
 line_of _ = None
 
 -- the quality of the command's answer, if the ending is `Answered`

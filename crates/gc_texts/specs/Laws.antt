@@ -40,8 +40,8 @@ CommandsAreTasks =
     (tasks : List Task) × IsTasks text deadline chained (tasks_alone tasks) × (map (λ task. task.command) tasks ≡ map wish_of commands)
 
 -- the tasks of these commands, numbered from `place` on: each is in its first attempt, is sent once in it, has this deadline, isn't chained,
--- doesn't set the clock to the moment at which it is sent, is watched, and has no place of its target, no accepted code and no rule
--- of repetition
+-- doesn't set the clock to the moment at which it is sent, is watched, and has no place of its target, no accepted code, no expectation
+-- and no rule of repetition
 abbrev pub plain_tasks : (deadline place : ℕ) → List Command → List Task
 plain_tasks deadline place [] = []
 plain_tasks deadline place (command ∷ others) =
@@ -52,6 +52,8 @@ plain_tasks deadline place (command ∷ others) =
       near = None;
       watched = true;
       accepted = no_codes;
+      expects = None;
+      counter = None;
       again = no_again;
       turn = record { place = place; attempt = 1; link = 0 };
       others = 0;

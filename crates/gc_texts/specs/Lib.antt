@@ -1,4 +1,5 @@
 pub mod Cuts
+pub mod WordLists
 pub mod LineForms
 pub mod Words
 pub mod Procedures
@@ -11,6 +12,8 @@ pub mod Codes
 pub mod Agrees
 pub mod Qualities
 pub mod Zeroed
+pub mod Numerals
+pub mod Expectations
 pub mod TaskLines
 pub mod Tasks
 pub mod Sendings
@@ -35,7 +38,6 @@ pub mod Moments
 pub mod Chained
 pub mod Repeats
 pub mod SentTwice
-pub mod WordLists
 pub mod Fields
 pub mod KindLists
 pub mod ColumnNames

@@ -9,6 +9,7 @@ use Rattle.gc_texts.specs.Sendings.{sendings}
 use Rattle.gc_texts.specs.Tasks.{TasksSeen, IsTasks, first_mode, planned_of, placed}
 use Rattle.gc_texts.specs.declared.again.Again.{Again}
 use Rattle.gc_texts.specs.declared.agree.Agree.{Agree}
+use Rattle.gc_texts.specs.declared.expectation.Expectation.{Expectation}
 use Rattle.gc_texts.specs.declared.near.Near.{Near}
 use Rattle.gc_texts.specs.declared.retry.Retry.{Retry}
 use Rattle.gc_texts.specs.declared.task_line.TaskLine.{TaskLine}
@@ -74,7 +75,7 @@ ChainsGoOutAgain =
 -- its chain isn't repeated, and is sent once in an attempt
 abbrev pub RetriesHold : Type 0
 RetriesHold =
-    (deadline : ℕ) (chained : Bool) (front later : List TaskLine) (command : Wish) (now : Bool) → section_after false front ≡ false
-    → (planned : Planned) × (others : List Planned) × (planned_of (first_mode deadline chained) (front ++ says.Command command now ∷ later)
+    (deadline : ℕ) (chained : Bool) (front later : List TaskLine) (command : Wish) (now : Bool) (expects : Option Expectation) → section_after false front ≡ false
+    → (planned : Planned) × (others : List Planned) × (planned_of (first_mode deadline chained) (front ++ says.Command command now expects ∷ later)
     ≡ planned_of (first_mode deadline chained) front ++ planned ∷ others)
     × (planned.task.command ≡ command) × IsRetryAfter front planned.retry × IsAgreeAfter front planned.agree

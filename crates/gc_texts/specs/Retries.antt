@@ -8,7 +8,7 @@ use Rattle.gc_texts.specs.Procedures.{IsNumber}
 use Rattle.gc_texts.specs.Words.{AreWords, first_word}
 use Rattle.gc_texts.specs.declared.again.Again.{Again}
 use Rattle.gc_texts.specs.declared.retry.Reason.{Reason}
-use Rattle.gc_texts.specs.declared.retry.Reason.TheVariants.{Code, Unreadable, Elsewhere, Disagree, Late, Lost, Skipped}
+use Rattle.gc_texts.specs.declared.retry.Reason.TheVariants.{Code, Unreadable, Elsewhere, Disagree, Unexpected, Late, Lost, Skipped}
 use Rattle.gc_texts.specs.declared.retry.Retry.{Retry}
 
 -- the retry of a chain that isn't repeated
@@ -21,6 +21,7 @@ IsReason word (Code code) = IsCode word code
 IsReason word Unreadable = word ≡ codes "unreadable"
 IsReason word Elsewhere = word ≡ codes "elsewhere"
 IsReason word Disagree = word ≡ codes "disagree"
+IsReason word Unexpected = word ≡ codes "unexpected"
 IsReason word Late = word ≡ codes "late"
 IsReason word Lost = word ≡ codes "lost"
 IsReason word Skipped = word ≡ codes "skipped"
@@ -42,6 +43,7 @@ again_with again count (Code code) = record again { codes = record { codes = sli
 again_with again count Unreadable = record again { unreadable = true }
 again_with again count Elsewhere = record again { elsewhere = true }
 again_with again count Disagree = record again { disagree = true }
+again_with again count Unexpected = record again { unexpected = true }
 again_with again count Late = record again { late = true }
 again_with again count Lost = record again { lost = true }
 again_with again count Skipped = record again { skipped = true }

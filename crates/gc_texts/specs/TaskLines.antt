@@ -8,10 +8,12 @@ use Rattle.gc_texts.specs.Wishes.{IsWish}
 use Rattle.gc_texts.specs.Names.{is_name}
 use Rattle.gc_texts.specs.Nears.{IsNearText}
 use Rattle.gc_texts.specs.Procedures.{IsNumber, IsTarget}
-use Rattle.gc_texts.specs.Cuts.{behind}
+use Rattle.gc_texts.specs.Cuts.{Lacks, behind}
+use Rattle.gc_texts.specs.Expectations.{expectation_of, items_trouble}
 use Rattle.gc_texts.specs.Retries.{IsRetryRule, no_retry}
-use Rattle.gc_texts.specs.Words.{first_word}
+use Rattle.gc_texts.specs.Words.{first_word, second_word, after_two_words}
 use Rattle.gc_texts.specs.declared.agree.Agree.{Agree}
+use Rattle.gc_texts.specs.declared.expectation.Expectation.{Expectation}
 use Rattle.gc_texts.specs.declared.stamp.TheConstants.{FIRST_MOMENT}
 use Rattle.gc_texts.specs.declared.retry.Retry.{Retry}
 use Rattle.gc_texts.specs.declared.wish.Wish.{Wish}
@@ -71,16 +73,34 @@ pub record SetsClock (line : List ℕ) (wish : Wish) : Type 0 where
   pub rest_is : behind 32 line ≡ codes "5007 now"
   pub call_is : wish.call ≡ Table (SetDate FIRST_MOMENT)
 
--- the line of a command with this wish; `now` says whether the wish sets the clock to the moment at which it is sent
-abbrev pub IsCommandLine : (line : List ℕ) → Wish → (now : Bool) → Type 0
-IsCommandLine line wish true = SetsClock line wish
-IsCommandLine line wish false = IsWish line wish
+-- a text is a request without `=`, and its items: `REQUEST = ITEMS`
+pub record AreRequestAndItems (text request items : List ℕ) : Type 0 where
+  pub are : text ≡ request ++ (codes " = " ++ items)
+  pub plain : Lacks 61 request
+
+-- `T expect REQUEST = ITEMS`: a command for target T with this request, and what is expected of the values of its answer
+pub record IsExpectLine (line : List ℕ) (wish : Wish) (expectation : Expectation) : Type 0 where
+  pub request : List ℕ
+  pub items : List ℕ
+  pub word : second_word line ≡ codes "expect"
+  pub parts : AreRequestAndItems (after_two_words line) request items
+  pub asks : IsWish (first_word line ++ 32 ∷ request) wish
+  pub sound : items_trouble items ≡ None
+  pub expects : expectation ≡ expectation_of items
+
+-- the line of a command with this wish, of whose answer this is expected; `now` says whether the wish sets the clock to the moment at which
+-- it is sent, and nothing is expected of the answer to such a one
+abbrev pub IsCommandLine : (line : List ℕ) → Wish → (now : Bool) → Option Expectation → Type 0
+IsCommandLine line wish true None = SetsClock line wish
+IsCommandLine line wish true (Some expectation) = ⊥
+IsCommandLine line wish false None = IsWish line wish
+IsCommandLine line wish false (Some expectation) = IsExpectLine line wish expectation
 
 -- what a line says: a command, a deadline, that commands are chained or that they aren't, a name, where a target is, that a
 -- target isn't watched, which return codes are accepted, how often chains are repeated, whether they are sent twice, or that
 -- the commands after it are setup or those of each cycle
 abbrev pub IsTaskLine : List ℕ → TaskLine → Type 0
-IsTaskLine line (says.Command wish now) = IsCommandLine line wish now
+IsTaskLine line (says.Command wish now expects) = IsCommandLine line wish now expects
 IsTaskLine line (says.Deadline deadline) = IsDeadlineLine line deadline
 IsTaskLine line says.Chained = line ≡ codes "chained"
 IsTaskLine line says.Unchained = line ≡ codes "unchained"

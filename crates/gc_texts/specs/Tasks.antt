@@ -2,9 +2,9 @@
 -- project's own. The mode at a
 -- line is what holds for a command there: its deadline, whether commands are chained, the target of the group that it may
 -- continue, the codes that are accepted, how often its chain is repeated and whether it is sent twice, whether it is setup, how many
--- commands of each section are in front, and how many of those in front are in the last chain. A group is a run of commands for one
+-- commands of each section are in front, how many of those in front are in the last chain, and how many have an item `>`. A group is a run of commands for one
 -- target, with no line `chained`, `unchained`, `retry`, `agree`, `at start` or `each cycle` between them.
-use Rattle.std.specs.Prelude.{◌≡◌, ℕ, ◌+◌, ◌≤◌, ◌⊎◌, ◌==◌, ◌&&◌, Bool, true, false, not, nat_lt, List, [], ◌∷◌, ◌++◌, length, map, filter, Option, None, Some, Vec, vec_capacity, vec_len, if◌then◌else◌}
+use Rattle.std.specs.Prelude.{◌≡◌, ℕ, ◌+◌, ◌≤◌, ◌⊎◌, ◌==◌, ◌&&◌, ◌||◌, Bool, true, false, not, nat_lt, List, [], ◌∷◌, ◌++◌, length, map, filter, Option, None, Some, Vec, vec_capacity, vec_len, if◌then◌else◌}
 use Rattle.std.specs.List.{flat_map}
 use Rattle.gc_catalogue.specs.declared.asked.Asked.{Asked}
 use Rattle.gc_catalogue.specs.declared.asked.Asked.TheVariants.{Table}
@@ -12,6 +12,7 @@ use Rattle.gc_catalogue.specs.declared.call.Call.TheVariants.{SetDate}
 use Rattle.gc_texts.specs.Again.{no_again}
 use Rattle.gc_texts.specs.Attempts.{laid_out}
 use Rattle.gc_texts.specs.Codes.{no_codes}
+use Rattle.gc_texts.specs.Expectations.{counts}
 use Rattle.gc_texts.specs.LineForms.{text_lines, is_kept, AreLinesOf, HasKeptLine, TextFaultBy}
 use Rattle.gc_texts.specs.Names.{is_named}
 use Rattle.gc_texts.specs.Nears.{has_near, near_of}
@@ -20,6 +21,7 @@ use Rattle.gc_texts.specs.Stamps.{date_time}
 use Rattle.gc_texts.specs.TaskLines.{IsTaskLine}
 use Rattle.gc_texts.specs.Watching.{is_unwatched}
 use Rattle.gc_texts.specs.declared.agree.Twice.TheVariants.{Once}
+use Rattle.gc_texts.specs.declared.expectation.Expectation.{Expectation}
 use Rattle.gc_texts.specs.declared.fault.RunFault.{RunFault}
 use Rattle.gc_texts.specs.declared.name.Name.{Name}
 use Rattle.gc_texts.specs.declared.near.Near.{Near}
@@ -48,6 +50,7 @@ first_mode deadline chained =
       begun = 0;
       place = 0;
       link = 0;
+      counters = 0;
     }
 
 -- each count of a mode is at most n
@@ -55,6 +58,7 @@ pub record CountsAtMost (mode : Mode) (n : ℕ) : Type 0 where
   pub begun : mode.begun ≤ n
   pub place : mode.place ≤ n
   pub link : mode.link ≤ n
+  pub counters : mode.counters ≤ n
 
 -- whether a command for `target` continues the group before it, where there is one: that group is for the target `before`
 abbrev pub continues_group : Option ℕ → ℕ → Bool
@@ -75,14 +79,23 @@ place_in_chain mode chained = if mode.setup then mode.begun else if chained then
 abbrev pub turn_at : Mode → (chained : Bool) → Turn
 turn_at mode chained = record { place = if mode.setup then mode.begun else mode.place; attempt = 1; link = place_in_chain mode chained }
 
--- the mode after a command for this target
-abbrev pub mode_after_command : Mode → ℕ → Mode
-mode_after_command mode target =
+-- how many commands have an item `>` with one more of which this is expected, where `counters` have one before it
+abbrev pub counters_with : (counters : ℕ) → Option Expectation → ℕ
+counters_with counters expects = if counts expects then counters + 1 else counters
+
+-- which of the text's items `>`, counted from 0, is in what is expected of a command, if one is
+abbrev pub counter_at : Mode → Option Expectation → Option ℕ
+counter_at mode expects = if counts expects then Some mode.counters else None
+
+-- the mode after a command for this target, of whose answer this is expected
+abbrev pub mode_after_command : Mode → ℕ → Option Expectation → Mode
+mode_after_command mode target expects =
     record mode {
       group = Some target;
       begun = if mode.setup then mode.begun + 1 else mode.begun;
       place = if mode.setup then mode.place else mode.place + 1;
       link = place_in_chain mode (chained_at mode target) + 1;
+      counters = counters_with mode.counters expects;
     }
 
 -- the mode after a line. After a command the group is of its target, and the command is counted. A line `deadline` sets the deadline, and
@@ -90,7 +103,7 @@ mode_after_command mode target =
 -- repeated, `agree` whether they are sent twice, and `at start` and `each cycle` the section; these lines also end the group. A name, a
 -- place or a target that isn't watched changes nothing
 abbrev pub mode_after : Mode → TaskLine → Mode
-mode_after mode (says.Command command now) = mode_after_command mode command.target
+mode_after mode (says.Command command now expects) = mode_after_command mode command.target expects
 mode_after mode (says.Deadline deadline) = record mode { deadline = deadline }
 mode_after mode says.Chained = record mode { chained = true; group = None }
 mode_after mode says.Unchained = record mode { chained = false; group = None }
@@ -103,11 +116,12 @@ mode_after mode (says.Agreeing agree) = record mode { agree = agree; group = Non
 mode_after mode says.AtStart = record mode { setup = true; group = None }
 mode_after mode says.EachCycle = record mode { setup = false; group = None }
 
--- the task of a command in its first attempt; `now` says whether the command sets the clock to the moment at which it is sent. The place
+-- the task of a command in its first attempt; `now` says whether the command sets the clock to the moment at which it is sent, and
+-- `expects` what is expected of its answer. The place
 -- of its target is set later (`placed`), and whether it is watched; so are the rule of its chain and its sending, if the command is one
 -- of the cycle (`laid_out`)
-abbrev pub task_at : Mode → Wish → (now : Bool) → Task
-task_at mode command now =
+abbrev pub task_at : Mode → Wish → (now : Bool) → Option Expectation → Task
+task_at mode command now expects =
     record {
       command = command;
       deadline = mode.deadline;
@@ -115,6 +129,8 @@ task_at mode command now =
       near = None;
       watched = true;
       accepted = mode.accepted;
+      expects = expects;
+      counter = counter_at mode expects;
       again = no_again;
       turn = turn_at mode (chained_at mode command.target);
       others = 0;
@@ -129,7 +145,7 @@ given_by given_at mode (line ∷ later) = given_at mode line ++ given_by given_a
 
 -- the task that a line gives the setup, as a list of one, where `mode` holds before it; none if it is no setup command
 abbrev pub setup_at : Mode → TaskLine → List Task
-setup_at mode (says.Command command now) = if mode.setup then task_at mode command now ∷ [] else []
+setup_at mode (says.Command command now expects) = if mode.setup then task_at mode command now expects ∷ [] else []
 setup_at mode _ = []
 
 -- the tasks of the setup that these lines give, where `mode` holds before them
@@ -139,7 +155,7 @@ setup_of mode lines = given_by setup_at mode lines
 -- the command that a line gives each cycle, with the rules of its chain, as a list of one, where `mode` holds before it; none if it is no
 -- command of each cycle
 abbrev pub planned_at : Mode → TaskLine → List Planned
-planned_at mode (says.Command command now) = if mode.setup then [] else record { task = task_at mode command now; retry = mode.retry; agree = mode.agree } ∷ []
+planned_at mode (says.Command command now expects) = if mode.setup then [] else record { task = task_at mode command now expects; retry = mode.retry; agree = mode.agree } ∷ []
 planned_at mode _ = []
 
 -- the commands of each cycle that these lines give, where `mode` holds before them
@@ -178,6 +194,16 @@ unwatched_at _ = []
 abbrev pub unwatched_of : List TaskLine → List ℕ
 unwatched_of lines = flat_map unwatched_at lines
 
+-- how many commands a line gives that have an item `>`: one, or none
+abbrev pub counters_at : TaskLine → ℕ
+counters_at (says.Command command now expects) = counters_with 0 expects
+counters_at _ = 0
+
+-- how many commands of these lines have an item `>`
+abbrev pub counters_of : List TaskLine → ℕ
+counters_of [] = 0
+counters_of (line ∷ later) = counters_at line + counters_of later
+
 -- these are the commands of the setup and of each cycle, the names and the places, and the targets left unwatched, that these lines
 -- give, where `first` holds before them
 pub record LinesGave (first : Mode) (lines : List TaskLine) (given : Given) : Type 0 where
@@ -208,25 +234,29 @@ HasFullList given = (IsAtCapacity given.setup ⊎ IsAtCapacity given.cycle) ⊎ 
 abbrev pub placed : List Near → (unwatched : List ℕ) → Task → Task
 placed nears unwatched task = record task { near = near_of task.command.target nears; watched = not (is_unwatched task.command.target unwatched) }
 
--- whether a line may follow lines that gave these names and places, and left these targets unwatched: a name only where there are
--- fewer than 64 names and its target has none, a place only where there are fewer than 64 places and its target has none, a line
--- `unwatched` only where fewer than 64 targets are unwatched and its target isn't one of them, and any other line always
-abbrev pub may_follow : List Name → List Near → (unwatched : List ℕ) → TaskLine → Bool
-may_follow names nears unwatched (says.Naming name) = nat_lt (length names) 64 && not (is_named name.target names)
-may_follow names nears unwatched (says.Locating near) = nat_lt (length nears) 64 && not (has_near near.target nears)
-may_follow names nears unwatched (says.Unwatching target) = nat_lt (length unwatched) 64 && not (is_unwatched target unwatched)
-may_follow names nears unwatched _ = true
+-- whether a line may follow lines that gave these names and places, left these targets unwatched, and have so many commands with an item
+-- `>`: a name only where there are fewer than 64 names and its target has none, a place only where there are fewer than 64 places and its
+-- target has none, a line `unwatched` only where fewer than 64 targets are unwatched and its target isn't one of them, a command with an
+-- item `>` only where there are fewer than 16, and any other line always
+abbrev pub may_follow : List Name → List Near → (unwatched : List ℕ) → (counters : ℕ) → TaskLine → Bool
+may_follow names nears unwatched counters (says.Naming name) = nat_lt (length names) 64 && not (is_named name.target names)
+may_follow names nears unwatched counters (says.Locating near) = nat_lt (length nears) 64 && not (has_near near.target nears)
+may_follow names nears unwatched counters (says.Unwatching target) = nat_lt (length unwatched) 64 && not (is_unwatched target unwatched)
+may_follow names nears unwatched counters (says.Command command now expects) = nat_lt counters 16 || not (counts expects)
+may_follow names nears unwatched counters _ = true
 
--- each of these lines may follow (`may_follow`) these names, places and unwatched targets, and those of the lines before it
-abbrev pub MayFollow : List Name → List Near → (unwatched : List ℕ) → List TaskLine → Type 0
-MayFollow names nears unwatched [] = Unit {0}
-MayFollow names nears unwatched (line ∷ later) =
-    (may_follow names nears unwatched line ≡ true) × MayFollow (names ++ name_at line) (nears ++ near_at line) (unwatched ++ unwatched_at line) later
+-- each of these lines may follow (`may_follow`) these names, places and unwatched targets, so many commands with an item `>`, and what the
+-- lines before it give of them
+abbrev pub MayFollow : List Name → List Near → (unwatched : List ℕ) → (counters : ℕ) → List TaskLine → Type 0
+MayFollow names nears unwatched counters [] = Unit {0}
+MayFollow names nears unwatched counters (line ∷ later) =
+    (may_follow names nears unwatched counters line ≡ true)
+    × MayFollow (names ++ name_at line) (nears ++ near_at line) (unwatched ++ unwatched_at line) (counters + counters_at line) later
 
 -- a station's text may have these lines, and those that aren't skipped say this: each has its form, and may follow those before it
 pub record AreTaskLines (lines : List (List ℕ)) (said : List TaskLine) : Type 0 where
   pub forms : AreLinesOf IsTaskLine (filter is_kept lines) said
-  pub follow : MayFollow [] [] [] said
+  pub follow : MayFollow [] [] [] 0 said
 
 -- what a station's text gives: its tasks, of which the first `setup` are the setup, the names of targets, where targets are, and
 -- which targets aren't watched
@@ -261,7 +291,7 @@ pub record FirstFaultyTaskLine (text : List ℕ) (n : ℕ) : Type 0 where
   pub place : n ≡ length front + 1
   pub before : List TaskLine
   pub lines : AreTaskLines front before
-  pub faulty : (said : TaskLine) → IsTaskLine line said → may_follow (names_of before) (nears_of before) (unwatched_of before) said ≡ false
+  pub faulty : (said : TaskLine) → IsTaskLine line said → may_follow (names_of before) (nears_of before) (unwatched_of before) (counters_of before) said ≡ false
 
 -- the text has a line that isn't skipped, has a form and may follow the lines before it, and none of these is faulty: a reader
 -- comes to such a line, and memory may be refused there
@@ -273,7 +303,7 @@ pub record ReachesASoundTaskLine (text : List ℕ) : Type 0 where
   pub lines : AreTaskLines front before
   pub said : TaskLine
   pub form : IsTaskLine line said
-  pub allowed : may_follow (names_of before) (nears_of before) (unwatched_of before) said ≡ true
+  pub allowed : may_follow (names_of before) (nears_of before) (unwatched_of before) (counters_of before) said ≡ true
 
 -- why the reading of a station's text gave no tasks (`TextFaultBy`)
 abbrev pub TaskFault : List ℕ → RunFault → Type 0

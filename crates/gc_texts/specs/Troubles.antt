@@ -1,5 +1,5 @@
 -- Which field of a faulty line of a station's text, or of a text of commands, is at fault: this project's own.
-use Rattle.std.specs.Prelude.{◌≡◌, ◌≢◌, ℕ, ◌<◌, ◌⊎◌, Bool, true, false, List, ◌∷◌, ◌++◌, length, Some, codes}
+use Rattle.std.specs.Prelude.{◌≡◌, ◌≢◌, ℕ, ◌<◌, ◌⊎◌, Bool, true, false, List, ◌∷◌, ◌++◌, length, Some, None, codes}
 use Rattle.std.specs.Fmt.{decimal}
 use Rattle.gc_catalogue.specs.Calls.{IsCall, IsParameterCount, IsRefusal}
 use Rattle.gc_catalogue.specs.Raws.{IsRawCall, IsRawRefusal}
@@ -14,10 +14,11 @@ use Rattle.gc_values.specs.Directions.{is_place, is_tolerance}
 use Rattle.gc_values.specs.declared.decimal.Decimal.{Decimal}
 use Rattle.gc_texts.specs.Procedures.{IsRpc, IsTarget}
 use Rattle.gc_texts.specs.Cuts.{Cuts, Lacks, behind}
+use Rattle.gc_texts.specs.Expectations.{items_trouble}
 use Rattle.gc_texts.specs.Nears.{is_length}
 use Rattle.gc_texts.specs.ProcedureNames.{name_in_table}
-use Rattle.gc_texts.specs.TaskLines.{IsTaskLine}
-use Rattle.gc_texts.specs.Words.{first_word, second_word, third_word, after_two_words, after_three_words}
+use Rattle.gc_texts.specs.TaskLines.{AreRequestAndItems, IsTaskLine}
+use Rattle.gc_texts.specs.Words.{first_word, second_word, third_word, after_two_words}
 use Rattle.gc_texts.specs.declared.task_line.TaskLine.{TaskLine}
 use Rattle.gc_texts.specs.declared.trouble.Trouble.{Trouble}
 use Rattle.gc_texts.specs.declared.trouble.Trouble.TheVariants as trouble
@@ -76,27 +77,26 @@ NoRpc text = (rpc : ℕ) → IsRpc text rpc → ⊥
 abbrev pub IsRawWordsTrouble : (word params : List ℕ) → Trouble → Type 0
 IsRawWordsTrouble word params t = ((t ≡ trouble.Number) × NoRpc word) ⊎ ((rpc : ℕ) × IsRpc word rpc × IsRawTrouble rpc params t)
 
--- the second word of a line is a procedure's number, and that number and the parameters after it have this trouble
-pub record IsCommandTrouble (line : List ℕ) (t : Trouble) : Type 0 where
+-- the first word of a request is a procedure's number, and that number and the parameters after it have this trouble
+pub record IsTableTrouble (request : List ℕ) (t : Trouble) : Type 0 where
   pub rpc : ℕ
-  pub number : IsRpc (second_word line) rpc
-  pub is : IsCallTrouble rpc (after_two_words line) t
+  pub number : IsRpc (first_word request) rpc
+  pub is : IsCallTrouble rpc (behind 32 request) t
 
--- the second word of a line is `raw`
-abbrev pub IsRawLine : List ℕ → Type 0
-IsRawLine line = second_word line ≡ codes "raw"
+-- the first word of a request is `raw`
+abbrev pub IsRaw : List ℕ → Type 0
+IsRaw request = first_word request ≡ codes "raw"
 
--- the third word of a line is a procedure's number after the word `raw`, and that number and the parameters after it have
+-- the second word of a request is a procedure's number after the word `raw`, and that number and the parameters after it have
 -- this trouble
-pub record IsRawCommandTrouble (line : List ℕ) (t : Trouble) : Type 0 where
-  pub word : IsRawLine line
+pub record IsRawRequestTrouble (request : List ℕ) (t : Trouble) : Type 0 where
+  pub word : IsRaw request
   pub rpc : ℕ
-  pub number : IsRpc (third_word line) rpc
-  pub is : IsRawTrouble rpc (after_three_words line) t
+  pub number : IsRpc (second_word request) rpc
+  pub is : IsRawTrouble rpc (after_two_words request) t
 
--- the first word of a line is none of `deadline`, `name`, `near`, `unwatched`, `accept`, `retry`, `agree`, `at` and `each`: the line is
--- taken for a command
-pub record BeginsAsCommand (line : List ℕ) : Type 0 where
+-- the first word of a line is none of `deadline`, `name`, `near`, `unwatched`, `accept`, `retry`, `agree`, `at` and `each`
+pub record BeginsNoSetting (line : List ℕ) : Type 0 where
   pub no_deadline : first_word line ≢ codes "deadline"
   pub no_name : first_word line ≢ codes "name"
   pub no_near : first_word line ≢ codes "near"
@@ -106,6 +106,11 @@ pub record BeginsAsCommand (line : List ℕ) : Type 0 where
   pub no_agree : first_word line ≢ codes "agree"
   pub no_at : first_word line ≢ codes "at"
   pub no_each : first_word line ≢ codes "each"
+
+-- a line is taken for a command: its first word is none of these, and its second isn't `expect`
+pub record BeginsAsCommand (line : List ℕ) : Type 0 where
+  pub no_setting : BeginsNoSetting line
+  pub no_expect : second_word line ≢ codes "expect"
 
 -- a text is no decimal, or one that doesn't fit
 pub record IsUnfit (fits : Decimal → Bool) (text : List ℕ) : Type 0 where
@@ -176,46 +181,83 @@ IsAgreeTrouble numbers _ = ⊥
 abbrev pub IsAgreeLineTrouble : List ℕ → Trouble → Type 0
 IsAgreeLineTrouble line t = (first_word line ≡ codes "agree") × IsAgreeTrouble (behind 32 line) t
 
--- a line whose first word is `deadline`, `name`, `near`, `unwatched`, `accept`, `retry`, `agree`, `at` or `each` is at fault in its target,
--- or in what it sets
-abbrev pub IsSettingTrouble : List ℕ → Trouble → Type 0
-IsSettingTrouble line trouble.Deadline = first_word line ≡ codes "deadline"
-IsSettingTrouble line trouble.Name = (first_word line ≡ codes "name") × HasTarget (second_word line)
-IsSettingTrouble line trouble.NearHz = IsNearLineTrouble line trouble.NearHz
-IsSettingTrouble line trouble.NearV = IsNearLineTrouble line trouble.NearV
-IsSettingTrouble line trouble.NearTolerance = IsNearLineTrouble line trouble.NearTolerance
-IsSettingTrouble line trouble.NearDistance = IsNearLineTrouble line trouble.NearDistance
-IsSettingTrouble line trouble.NearDistanceTolerance = IsNearLineTrouble line trouble.NearDistanceTolerance
-IsSettingTrouble line trouble.Near = IsNearLineTrouble line trouble.Near
-IsSettingTrouble line trouble.Unwatched = (first_word line ≡ codes "unwatched") × HasTarget (behind 32 line)
-IsSettingTrouble line trouble.Accept = first_word line ≡ codes "accept"
-IsSettingTrouble line trouble.Retry = first_word line ≡ codes "retry"
-IsSettingTrouble line trouble.AgreeHz = IsAgreeLineTrouble line trouble.AgreeHz
-IsSettingTrouble line trouble.AgreeV = IsAgreeLineTrouble line trouble.AgreeV
-IsSettingTrouble line trouble.AgreeDistance = IsAgreeLineTrouble line trouble.AgreeDistance
-IsSettingTrouble line trouble.Agree = IsAgreeLineTrouble line trouble.Agree
-IsSettingTrouble line trouble.AtStart = first_word line ≡ codes "at"
-IsSettingTrouble line trouble.EachCycle = first_word line ≡ codes "each"
-IsSettingTrouble line trouble.Target =
-    ((first_word line ≡ codes "name") × NoTarget (second_word line))
-    ⊎ (((first_word line ≡ codes "near") × NoTarget (second_word line)) ⊎ ((first_word line ≡ codes "unwatched") × NoTarget (behind 32 line)))
-IsSettingTrouble line t = ⊥
-
--- of a line that is taken for a command neither a procedure's number nor the parameters are at fault: the line is one word, with or
--- without a space after it; or number and parameters make a call, or may be asked for after the word `raw`
+-- neither a procedure's number nor the parameters are at fault in a request: it is empty; or number and parameters make a call, or may be
+-- asked for after the word `raw`
 abbrev pub HasNoCallAtFault : List ℕ → Type 0
-HasNoCallAtFault line = (length (behind 32 line) ≡ 0) ⊎ (IsCommandTrouble line trouble.NoForm ⊎ IsRawCommandTrouble line trouble.NoForm)
+HasNoCallAtFault request = (length request ≡ 0) ⊎ (IsTableTrouble request trouble.NoForm ⊎ IsRawRequestTrouble request trouble.NoForm)
+
+-- a request has this trouble; more than one may fit it
+abbrev pub IsRequestTrouble : List ℕ → Trouble → Type 0
+IsRequestTrouble request trouble.Number = (IsRaw request × NoRpc (second_word request)) ⊎ ((IsRaw request → ⊥) × NoRpc (first_word request))
+IsRequestTrouble request trouble.NoForm = HasNoCallAtFault request
+IsRequestTrouble request (trouble.RawInTable rpc) = IsRawRequestTrouble request (trouble.RawInTable rpc)
+IsRequestTrouble request trouble.RawParameters = IsRawRequestTrouble request trouble.RawParameters
+IsRequestTrouble request trouble.RawTooLong = IsRawRequestTrouble request trouble.RawTooLong
+IsRequestTrouble request t = IsTableTrouble request t
 
 -- a line that is taken for a command has this trouble; more than one may fit a line
 abbrev pub IsAskingTrouble : List ℕ → Trouble → Type 0
 IsAskingTrouble line trouble.Now = (second_word line ≡ codes "5007") × (third_word line ≡ codes "now")
 IsAskingTrouble line trouble.Target = NoTarget (first_word line)
-IsAskingTrouble line trouble.Number = (IsRawLine line × NoRpc (third_word line)) ⊎ ((IsRawLine line → ⊥) × NoRpc (second_word line))
-IsAskingTrouble line trouble.NoForm = HasNoCallAtFault line
-IsAskingTrouble line (trouble.RawInTable rpc) = IsRawCommandTrouble line (trouble.RawInTable rpc)
-IsAskingTrouble line trouble.RawParameters = IsRawCommandTrouble line trouble.RawParameters
-IsAskingTrouble line trouble.RawTooLong = IsRawCommandTrouble line trouble.RawTooLong
-IsAskingTrouble line t = IsCommandTrouble line t
+IsAskingTrouble line t = IsRequestTrouble (behind 32 line) t
+
+-- of the request and the items of a line `expect` the request has this trouble; or it has none, and the items have it; or they have none,
+-- either, which is reported as `Expect`
+abbrev pub IsPartsTrouble : (request items : List ℕ) → Trouble → Type 0
+IsPartsTrouble request items t =
+    ((t ≢ trouble.NoForm) × IsRequestTrouble request t)
+    ⊎ (HasNoCallAtFault request × ((items_trouble items ≡ Some t) ⊎ ((items_trouble items ≡ None) × (t ≡ trouble.Expect))))
+
+-- what follows the word `expect` in a line is a request and items, and these have this trouble
+pub record HasPartsTrouble (text : List ℕ) (t : Trouble) : Type 0 where
+  pub request : List ℕ
+  pub items : List ℕ
+  pub parts : AreRequestAndItems text request items
+  pub is : IsPartsTrouble request items t
+
+-- what follows the word `expect` in a line is no request and items
+abbrev pub NoRequestAndItems : List ℕ → Type 0
+NoRequestAndItems text = (request items : List ℕ) → AreRequestAndItems text request items → ⊥
+
+-- a line whose second word is `expect` is at fault in its target, its form, its request or its items
+abbrev pub IsExpectTrouble : List ℕ → Trouble → Type 0
+IsExpectTrouble line t =
+    ((t ≡ trouble.Target) × NoTarget (first_word line))
+    ⊎ (((t ≡ trouble.ExpectForm) × NoRequestAndItems (after_two_words line)) ⊎ HasPartsTrouble (after_two_words line) t)
+
+-- the second word of a line is `expect`, and the line has this trouble
+pub record IsExpectLineTrouble (line : List ℕ) (t : Trouble) : Type 0 where
+  pub word : second_word line ≡ codes "expect"
+  pub is : IsExpectTrouble line t
+
+-- a line whose first word is `deadline`, `name`, `near`, `unwatched`, `accept`, `retry`, `agree`, `at` or `each` is at fault in its target,
+-- or in what it sets
+abbrev pub IsWordTrouble : List ℕ → Trouble → Type 0
+IsWordTrouble line trouble.Deadline = first_word line ≡ codes "deadline"
+IsWordTrouble line trouble.Name = (first_word line ≡ codes "name") × HasTarget (second_word line)
+IsWordTrouble line trouble.NearHz = IsNearLineTrouble line trouble.NearHz
+IsWordTrouble line trouble.NearV = IsNearLineTrouble line trouble.NearV
+IsWordTrouble line trouble.NearTolerance = IsNearLineTrouble line trouble.NearTolerance
+IsWordTrouble line trouble.NearDistance = IsNearLineTrouble line trouble.NearDistance
+IsWordTrouble line trouble.NearDistanceTolerance = IsNearLineTrouble line trouble.NearDistanceTolerance
+IsWordTrouble line trouble.Near = IsNearLineTrouble line trouble.Near
+IsWordTrouble line trouble.Unwatched = (first_word line ≡ codes "unwatched") × HasTarget (behind 32 line)
+IsWordTrouble line trouble.Accept = first_word line ≡ codes "accept"
+IsWordTrouble line trouble.Retry = first_word line ≡ codes "retry"
+IsWordTrouble line trouble.AgreeHz = IsAgreeLineTrouble line trouble.AgreeHz
+IsWordTrouble line trouble.AgreeV = IsAgreeLineTrouble line trouble.AgreeV
+IsWordTrouble line trouble.AgreeDistance = IsAgreeLineTrouble line trouble.AgreeDistance
+IsWordTrouble line trouble.Agree = IsAgreeLineTrouble line trouble.Agree
+IsWordTrouble line trouble.AtStart = first_word line ≡ codes "at"
+IsWordTrouble line trouble.EachCycle = first_word line ≡ codes "each"
+IsWordTrouble line trouble.Target =
+    ((first_word line ≡ codes "name") × NoTarget (second_word line))
+    ⊎ (((first_word line ≡ codes "near") × NoTarget (second_word line)) ⊎ ((first_word line ≡ codes "unwatched") × NoTarget (behind 32 line)))
+IsWordTrouble line t = ⊥
+
+-- a line that sets something, or whose second word is `expect`, has this trouble
+abbrev pub IsSettingTrouble : List ℕ → Trouble → Type 0
+IsSettingTrouble line t = IsWordTrouble line t ⊎ IsExpectLineTrouble line t
 
 -- a line begins with the byte order mark of UTF-8, EF BB BF, or with one of UTF-16, FF FE or FE FF
 abbrev pub IsMarkTrouble : List ℕ → Trouble → Type 0
@@ -265,6 +307,12 @@ IsFaultOfCommand line t = IsMarkTrouble line t ⊎ (HasNoMark line × IsUnmarked
 abbrev pub in_table_text : ℕ → List ℕ → List ℕ
 in_table_text rpc name = decimal rpc ++ codes " is " ++ name ++ codes ": leave out raw"
 
+-- the text that the item with this number is none
+abbrev pub item_text : ℕ → List ℕ
+item_text place =
+    codes "expect: item " ++ decimal place
+    ++ codes " is no *, no >, no LOW..HIGH of two decimals with LOW up to HIGH, and no value: printable ASCII without a space at an end"
+
 -- the text of a trouble, as it is printed after the line's number
 abbrev pub trouble_text : Trouble → List ℕ
 trouble_text (trouble.NoProcedure rpc) = codes "no procedure " ++ decimal rpc
@@ -289,6 +337,12 @@ trouble_text trouble.AgreeDistance = codes "agree: D is no decimal from 0 to 100
 trouble_text trouble.Agree = codes "agree: the form is agree HZ V D, or agree alone"
 trouble_text trouble.AtStart = codes "at start"
 trouble_text trouble.EachCycle = codes "each cycle"
+trouble_text trouble.ExpectForm = codes "expect: the form is T expect REQUEST = ITEMS, with a space on both sides of ="
+trouble_text trouble.ExpectLong = codes "expect: ITEMS has more than 128 bytes"
+trouble_text trouble.ExpectMany = codes "expect: more than 16 items"
+trouble_text trouble.ExpectTwo = codes "expect: more than one item is >"
+trouble_text (trouble.ExpectItem place) = item_text place
+trouble_text trouble.Expect = codes "expect: a 17th line with an item >"
 trouble_text trouble.Now = codes "5007 now"
 trouble_text (trouble.RawInTable rpc) = in_table_text rpc (name_in_table rpc)
 trouble_text trouble.RawParameters = codes "more than 16 parameters, a double quote without its end, or a carriage return"

@@ -6,7 +6,8 @@ use Rattle.gc_catalogue.specs.declared.asked.Asked.TheVariants.{Table, Raw}
 use Rattle.gc_catalogue.specs.RawTexts.{raw_bytes}
 use Rattle.gc_catalogue.specs.declared.raw.RawCall.{RawCall}
 use Rattle.gc_texts.specs.Commands.{IsCommand}
-use Rattle.gc_texts.specs.Procedures.{IsRpc, IsTarget}
+use Rattle.gc_texts.specs.Procedures.{IsProcedureText, IsRpc, IsTarget}
+use Rattle.gc_texts.specs.Cuts.{behind}
 use Rattle.gc_texts.specs.Words.{first_word, second_word, third_word, after_two_words, after_three_words}
 use Rattle.gc_texts.specs.declared.commands.Command.{Command}
 use Rattle.gc_texts.specs.declared.wish.Wish.{Wish}
@@ -23,6 +24,18 @@ pub record IsRawWish (line : List ℕ) (target : ℕ) (raw : RawCall) : Type 0 w
   pub number : IsRpc (third_word line) raw.rpc
   pub params_are : raw_bytes raw.params ≡ after_three_words line
   pub some : (length (third_word line) ≡ length (after_two_words line)) ⊎ (0 < length (after_three_words line))
+
+-- what follows the target in such a line: `raw RPC` or `raw RPC PARAMS`
+pub record IsRawRequest (text : List ℕ) (raw : RawCall) : Type 0 where
+  pub word : first_word text ≡ codes "raw"
+  pub number : IsRpc (second_word text) raw.rpc
+  pub params_are : raw_bytes raw.params ≡ after_two_words text
+  pub some : (length (second_word text) ≡ length (behind 32 text)) ⊎ (0 < length (after_two_words text))
+
+-- what follows a target in a line asks for this: a procedure of the table, or any other after the word `raw`
+abbrev pub IsRequest : List ℕ → Asked → Type 0
+IsRequest text (Table call) = IsProcedureText text call
+IsRequest text (Raw raw) = IsRawRequest text raw
 
 -- the line asks this target for `asked`: a call of the table has the form of a command, and any other procedure follows the word
 -- `raw`

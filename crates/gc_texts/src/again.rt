@@ -18,6 +18,8 @@ pub struct Again {
     pub elsewhere: bool,
     /// Whether the chain is repeated after an answer that doesn't agree with that of the first sending.
     pub disagree: bool,
+    /// Whether the chain is repeated after an answer whose values aren't those that are expected.
+    pub unexpected: bool,
     /// Whether the chain is repeated after a late reply.
     pub late: bool,
     /// Whether the chain is repeated after a command that was sent and got no reply.
@@ -36,6 +38,7 @@ impl Again {
             unreadable: false,
             elsewhere: false,
             disagree: false,
+            unexpected: false,
             late: false,
             lost: false,
             skipped: false,
@@ -64,6 +67,7 @@ impl Again {
             Ending::Unreadable(..) => self.unreadable,
             Ending::Elsewhere(_) => self.elsewhere,
             Ending::Disagree(_) => self.disagree,
+            Ending::Unexpected(_) => self.unexpected,
             Ending::Late => self.late,
             Ending::Lost => self.lost,
             Ending::Skipped => self.skipped,

@@ -23,6 +23,9 @@ pub enum Ending<'a> {
     /// Its reply came in time, with this line, in the second sending of its chain, and has no code or value at fault; but it doesn't agree
     /// with the answer of the same command in the first.
     Disagree(&'a Line),
+    /// Its reply came in time, with this line, and has no code or value at fault; but its values aren't those that the command's line
+    /// `expect` expects.
+    Unexpected(&'a Line),
     /// A reply to it came after it had timed out.
     Late,
     /// No reply came, and one that still comes will be ignored.
@@ -45,6 +48,7 @@ impl<'a> Ending<'a> {
             Ending::Unreadable(..) => b"unreadable",
             Ending::Elsewhere(_) => b"elsewhere",
             Ending::Disagree(_) => b"disagree",
+            Ending::Unexpected(_) => b"unexpected",
             Ending::Late => b"late",
             Ending::Lost => b"lost",
             Ending::Skipped => b"skipped",
@@ -89,8 +93,10 @@ impl<'a> Ending<'a> {
     {
         match self {
             Ending::Answered(_, _, line) | Ending::Unreadable(line, _) => Some(line),
-            // The codes and values of a reply that was measured elsewhere, or that disagrees, are in the row, too.
-            Ending::Elsewhere(line) | Ending::Disagree(line) => Some(line),
+            // The codes and values of a reply that was measured elsewhere, that disagrees, or that is unexpected, are in the row, too.
+            Ending::Elsewhere(line) | Ending::Disagree(line) | Ending::Unexpected(line) => {
+                Some(line)
+            }
             Ending::Late | Ending::Lost | Ending::Skipped | Ending::Missed => None,
         }
     }

@@ -8,6 +8,7 @@ ghost use Rattle.gc_texts.specs.Repeats.{ChainsGoOutAgain, RetriesHold};
 ghost use Rattle.gc_texts.specs.SentTwice.{SecondsFollowTheirFirsts};
 ghost use Rattle.gc_texts.specs.Moments.{StampsAreMoments};
 ghost use Rattle.gc_texts.specs.Nears.{DirectionsAreAskedFor, DistancesAreAskedFor};
+ghost use Rattle.gc_texts.specs.Numerals.{DecimalsAreSpelled};
 ghost use Rattle.gc_texts.specs.Laws.{OneCommandList, OneTaskList, CommandsAreTasks, CommandsArePlain, ChainsKeepTargets, NamesAreTheCatalogues, LogLinesReadBack, LogLinesArePrintable};
 ghost use Rattle.gc_texts.specs.declared.text.TheConstants.{TEXT_LIMIT};
 
@@ -83,8 +84,9 @@ pub fn faults_have_their_numbers()
     ensures { FaultsHaveTheirNumbers }
 {}
 
-/// Each command of a station's text has the deadline of the last line `deadline` before it, or else the caller's, and the codes of the
-/// last line `accept` before it, or else none. One of the cycle is chained exactly if two things hold: the last line `chained` or
+/// Each command of a station's text has the deadline of the last line `deadline` before it, or else the caller's, the codes of the
+/// last line `accept` before it, or else none, and the expectation of its own line `expect`, or else none; an item `>` there has the number
+/// of commands with such an item before it. One of the cycle is chained exactly if two things hold: the last line `chained` or
 /// `unchained` before it says `chained`, or there is none and the caller says so; and the command before it is for the same target, with no
 /// line `chained`, `unchained`, `retry`, `at start` or `each cycle` between the two. One of the setup is chained exactly if another is
 /// before it, and all of the setup is sent before the cycle, once. The task of one of the cycle is the only sending of the command in the
@@ -119,6 +121,11 @@ pub fn distances_are_asked_for()
 /// the date of the day before.
 pub fn stamps_are_moments()
     ensures { StampsAreMoments }
+{}
+
+/// The number that lines `expect` take a text for is the one that the text spells; there is none exactly if the text spells none.
+pub fn numbers_are_those_spelled()
+    ensures { DecimalsAreSpelled }
 {}
 
 /// Descriptions of procedures read back: the text of what may be said of one is read as just that, and a text describes one procedure at

@@ -4,12 +4,13 @@
 //! `each cycle` between them. Where commands are chained, each command of a group but the first is chained to the one before it. All
 //! commands of the setup are one chain.
 
-ghost use Rattle.std.specs.Prelude.{◌≡◌};
-ghost use Rattle.gc_texts.specs.Tasks.{CountsAtMost, first_mode, mode_after, mode_after_command, continues_group, chained_at, place_in_chain, task_at};
+ghost use Rattle.std.specs.Prelude.{◌≡◌, ◌≤◌};
+ghost use Rattle.gc_texts.specs.Tasks.{CountsAtMost, first_mode, mode_after, mode_after_command, continues_group, chained_at, counter_at, counters_with, place_in_chain, task_at};
 
 use crate::again::Again;
 use crate::agree::{Agree, Twice};
 use crate::codes::Codes;
+use crate::expectation::{Expectation, counts};
 use crate::retry::Retry;
 use crate::task_line::TaskLine;
 use crate::tasks::Task;
@@ -39,6 +40,8 @@ pub(crate) struct Mode {
     pub(crate) place: usize,
     // How many commands before the line are in the last chain.
     pub(crate) link: usize,
+    // How many commands before the line have an item `>`.
+    pub(crate) counters: usize,
 }
 
 // The mode before the first line of a text: the caller's deadline, and whether the caller has commands chained.
@@ -56,6 +59,7 @@ pub(crate) fn first_mode(deadline: u64, chained: bool) -> Mode
         begun: 0,
         place: 0,
         link: 0,
+        counters: 0,
     }
 }
 
@@ -85,17 +89,42 @@ fn chained_at(mode: Mode, target: u32) -> bool
     }
 }
 
-// The mode after a command for this target: the command is counted, and its target is that of the group.
-fn mode_after_command(mode: Mode, target: u32) -> Mode
+// How many commands have an item `>` with one more of which this is expected, where `counters` have one before it.
+fn counters_with(counters: usize, expects: &Option<Expectation>) -> usize
+    requires { counters ≤ 4294967295 }
+    ensures { result ≡ counters_with counters expects.now }
+{
+    if counts(expects) {
+        counters + 1
+    } else {
+        counters
+    }
+}
+
+// Which of the text's items `>` is in what is expected of a command; `mode` is the mode before it. `None`: none is.
+fn counter_at(mode: Mode, expects: &Option<Expectation>) -> Option<usize>
+    ensures { result ≡ counter_at mode expects.now }
+{
+    if counts(expects) {
+        Some(mode.counters)
+    } else {
+        None
+    }
+}
+
+// The mode after a command for this target, of whose answer this is expected: the command is counted, and its target is that of the group.
+fn mode_after_command(mode: Mode, target: u32, expects: &Option<Expectation>) -> Mode
     requires { CountsAtMost mode 4294967295 }
-    ensures { result ≡ mode_after_command mode target }
+    ensures { result ≡ mode_after_command mode target expects.now }
 {
     let link = place_in_chain(mode, chained_at(mode, target)) + 1;
+    let counters = counters_with(mode.counters, expects);
     if mode.setup {
         Mode {
             group: Some(target),
             begun: mode.begun + 1,
             link,
+            counters,
             ..mode
         }
     } else {
@@ -103,6 +132,7 @@ fn mode_after_command(mode: Mode, target: u32) -> Mode
             group: Some(target),
             place: mode.place + 1,
             link,
+            counters,
             ..mode
         }
     }
@@ -118,7 +148,9 @@ pub(crate) fn mode_after(mode: Mode, said: &TaskLine) -> Mode
     ensures { result ≡ mode_after mode said.now }
 {
     match said {
-        TaskLine::Command(command, _) => mode_after_command(mode, command.target),
+        TaskLine::Command(command, _, expects) => {
+            mode_after_command(mode, command.target, expects)
+        }
         TaskLine::Deadline(deadline) => Mode {
             deadline: *deadline,
             ..mode
@@ -173,10 +205,10 @@ fn continues_group(group: Option<u32>, target: u32) -> bool
 }
 
 // The task of a command in the first attempt of its chain; `now` says whether the command sets the clock to the moment at which
-// it is sent. It has no place of its target yet, and is watched (`place_tasks` sets both), and it has no rule of its chain
+// it is sent, and `expects` what is expected of its answer. It has no place of its target yet, and is watched (`place_tasks` sets both), and it has no rule of its chain
 // nor is sent twice (`lay_out` sets both in the cycle).
-pub(crate) fn task_at(mode: Mode, command: Wish, now: bool) -> Task
-    ensures { result ≡ task_at mode command now }
+pub(crate) fn task_at(mode: Mode, command: Wish, now: bool, expects: Option<Expectation>) -> Task
+    ensures { result ≡ task_at mode command now expects }
 {
     let chained = chained_at(mode, command.target);
     Task {
@@ -186,6 +218,8 @@ pub(crate) fn task_at(mode: Mode, command: Wish, now: bool) -> Task
         near: None,
         watched: true,
         accepted: mode.accepted,
+        expects,
+        counter: counter_at(mode, &expects),
         again: Again::none(),
         turn: Turn {
             place: if mode.setup { mode.begun } else { mode.place },

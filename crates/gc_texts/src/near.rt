@@ -10,6 +10,7 @@ use crate::again::Again;
 use crate::agree::Twice;
 use crate::codes::Codes;
 use crate::cuts::{before, behind, cut_at};
+use crate::expectation::Expectation;
 use crate::procedure::target_of;
 use crate::turn::Turn;
 use gc_catalogue::{Answer, Asked, Call};
@@ -48,6 +49,12 @@ pub struct Expected {
     pub near: Option<Near>,
     /// The return codes that are accepted, beside 0.
     pub accepted: Codes,
+    /// What is expected of the values, if the command's line is one `expect`.
+    pub expects: Option<Expectation>,
+    /// Which of the text's items `>` is among these, counted from 0. `None`: none is.
+    pub counter: Option<usize>,
+    /// The number in the place of that item in the answer to this command before. `None`: there was none.
+    pub before: Option<Decimal>,
     /// After which endings of the command its chain is repeated.
     pub again: Again,
     /// Which command of the text it is, and in which attempt of its chain or, for a command of the setup, of the setup.

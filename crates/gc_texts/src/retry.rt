@@ -40,6 +40,7 @@ enum Reason {
     Unreadable,
     Elsewhere,
     Disagree,
+    Unexpected,
     Late,
     Lost,
     Skipped,
@@ -57,6 +58,9 @@ fn reason_of(word: &[u8]) -> Option<Reason>
     }
     if is_word(b"disagree", word) {
         return Some(Reason::Disagree);
+    }
+    if is_word(b"unexpected", word) {
+        return Some(Reason::Unexpected);
     }
     if is_word(b"late", word) {
         return Some(Reason::Late);
@@ -114,6 +118,10 @@ fn again_with(again: Again, count: usize, reason: Reason) -> Again
         },
         Reason::Disagree => Again {
             disagree: true,
+            ..again
+        },
+        Reason::Unexpected => Again {
+            unexpected: true,
             ..again
         },
         Reason::Late => Again {

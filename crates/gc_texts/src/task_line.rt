@@ -1,17 +1,22 @@
 //! Reads one line of a station's text.
 
+ghost use Rattle.std.specs.Prelude.{ℕ, List, IfSome, IfNone};
 ghost use Rattle.gc_texts.specs.LineForms.{IsReadAs};
-ghost use Rattle.gc_texts.specs.TaskLines.{IsDeadlineLine, IsNameLine, IsNearLine, IsUnwatchedLine, SetsAccepted, SetsRetry, SetsAgree, SetsClock, IsTaskLine};
+ghost use Rattle.gc_texts.specs.TaskLines.{AreRequestAndItems, IsDeadlineLine, IsExpectLine, IsNameLine, IsNearLine, IsUnwatchedLine, SetsAccepted, SetsRetry, SetsAgree, SetsClock, IsTaskLine};
+ghost use Rattle.gc_texts.specs.declared.expectation.Expectation.{Expectation};
+ghost use Rattle.gc_texts.specs.declared.wish.Wish.{Wish};
 
 use crate::agree::{Agree, read_agree};
 use crate::codes::{Codes, read_code_list};
 use crate::cuts::{after_prefix, before, behind, cut_at, is_word};
+use crate::expectation::Expectation;
+use crate::item::items_trouble;
 use crate::name::{Name, is_name};
 use crate::near::{Near, read_near};
 use crate::procedure::{number_of, target_of};
 use crate::retry::{Retry, read_retry_rule};
 use crate::stamp::FIRST_MOMENT;
-use crate::wish::{Wish, read_wish};
+use crate::wish::{Wish, read_request, read_wish};
 use gc_catalogue::{Asked, Call};
 
 // The greatest deadline of a line, in milliseconds: a day.
@@ -20,8 +25,9 @@ const DEADLINE_MAX: u64 = 86400000;
 // What a line of a station's text says.
 #[derive(Drop)]
 pub(crate) enum TaskLine {
-    // A command, for every cycle or the setup; `true`: it sets the clock to the moment at which it is sent.
-    Command(Wish, bool),
+    // A command, for every cycle or the setup; `true`: it sets the clock to the moment at which it is sent. `Some`: what is expected
+    // of its answer.
+    Command(Wish, bool, Option<Expectation>),
     // The deadline of the commands after it, in milliseconds.
     Deadline(u64),
     // The commands after it are chained.
@@ -141,6 +147,37 @@ fn read_clock_setting(line: &[u8]) -> Option<Wish>
     })
 }
 
+// Cuts `REQUEST = ITEMS` at its first `=`: returns the request and the items. `None`: it has no `=`, or no space before and behind the first.
+pub(crate) fn cut_items(text: &[u8]) -> Option<(&[u8], &[u8])>
+    ensures found { IfSome result (λ r. AreRequestAndItems text.now r.0.now r.1.now) }
+    ensures none { IfNone result ((request items : List ℕ) → AreRequestAndItems text.now request items → ⊥) }
+{
+    let (front, rest) = cut_at(b'=', text);
+    let items = after_prefix(b" ", rest?)?;
+    let (last, request) = front.split_last()?;
+    if *last != b' ' {
+        return None;
+    }
+    Some((request, items))
+}
+
+// Reads `T expect REQUEST = ITEMS`: a command, and what is expected of the values of its answer. `None`: the line has no such form, the
+// command is refused (`read_request`), or the items are (`items_trouble`).
+fn read_expecting(line: &[u8]) -> Option<(Wish, Expectation)>
+    ensures { IsReadAs (λ (r : Wish × Expectation). IsExpectLine line.now r.0 r.1) result }
+{
+    let rest = behind(b' ', line);
+    if !is_word(b"expect", before(b' ', rest)) {
+        return None;
+    }
+    let (request, items) = cut_items(behind(b' ', rest))?;
+    let wish = read_request(before(b' ', line), request)?;
+    if items_trouble(items).is_some() {
+        return None;
+    }
+    Some((wish, Expectation::new(items)))
+}
+
 // Reads one line of a station's text. `None`: the line has none of the forms.
 pub(crate) fn read_task_line(line: &[u8]) -> Option<TaskLine>
     ensures { IsReadAs (IsTaskLine line.now) result }
@@ -179,10 +216,13 @@ pub(crate) fn read_task_line(line: &[u8]) -> Option<TaskLine>
         return Some(TaskLine::EachCycle);
     }
     if let Some(wish) = read_clock_setting(line) {
-        return Some(TaskLine::Command(wish, true));
+        return Some(TaskLine::Command(wish, true, None));
+    }
+    if let Some((wish, expectation)) = read_expecting(line) {
+        return Some(TaskLine::Command(wish, false, Some(expectation)));
     }
     match read_wish(line) {
-        Some(wish) => Some(TaskLine::Command(wish, false)),
+        Some(wish) => Some(TaskLine::Command(wish, false, None)),
         None => None,
     }
 }

@@ -14,6 +14,7 @@ use crate::again::Again;
 use crate::agree::Twice;
 use crate::attempts::{Planned, lay_out};
 use crate::codes::Codes;
+use crate::expectation::{COUNTERS, Expectation, counts};
 use crate::fault::RunFault;
 use crate::line_forms::{cut_line, is_skipped};
 use crate::mode::{Mode, first_mode, mode_after, task_at};
@@ -43,6 +44,10 @@ pub struct Task {
     pub watched: bool,
     /// The return codes that are accepted of its answer, beside 0.
     pub accepted: Codes,
+    /// What is expected of the values of its answer, if its line is one `expect`.
+    pub expects: Option<Expectation>,
+    /// Which of the text's items `>` is among these, counted from 0; below 16. `None`: none is.
+    pub counter: Option<usize>,
     /// After which endings of its command the chain is repeated.
     pub again: Again,
     /// Which command of the text it is, and which attempt of its chain it belongs to.
@@ -151,9 +156,10 @@ impl Given {
 
     // Whether a line may follow the lines that gave this. A line `name` may if there are fewer than 64 names and its target has
     // none yet; a line `near` if there are fewer than 64 places and its target has none yet; a line `unwatched` if fewer than 64
-    // targets are unwatched and its target isn't yet; any other line always.
-    fn allows(&self, said: &TaskLine) -> bool
-        ensures { result ≡ may_follow self.now.names.items self.now.nears.items self.now.unwatched.items said.now }
+    // targets are unwatched and its target isn't yet; a line with an item `>` if fewer than 16 lines had one, and these are `counters`;
+    // any other line always.
+    fn allows(&self, counters: usize, said: &TaskLine) -> bool
+        ensures { result ≡ may_follow self.now.names.items self.now.nears.items self.now.unwatched.items counters said.now }
     {
         match said {
             TaskLine::Naming(name) => self.names.len() < NAMES_MAX
@@ -162,6 +168,7 @@ impl Given {
                 && !has_near(near.target, self.nears.as_slice()),
             TaskLine::Unwatching(target) => self.unwatched.len() < UNWATCHED_MAX
                 && !is_unwatched(*target, self.unwatched.as_slice()),
+            TaskLine::Command(_, _, expects) => counters < COUNTERS || !counts(expects),
             _ => true,
         }
     }
@@ -172,8 +179,8 @@ impl Given {
         ensures wants { OnErr result (HasFullList self.old) }
     {
         match said {
-            TaskLine::Command(command, now) => {
-                let task = task_at(mode, command, now);
+            TaskLine::Command(command, now, expects) => {
+                let task = task_at(mode, command, now, expects);
                 if mode.setup {
                     self.setup.push(task)?;
                 } else {
@@ -222,8 +229,9 @@ fn place_tasks(tasks: &mut Vec<Task>, nears: &[Near], unwatched: &[u32])
 ///
 /// Empty lines and those that begin with `#` are skipped. Fails with `InputTooLong` if the text has more than 65,536 bytes, before any
 /// line is read; with `Schedule` and the number of the line, counted from 1, at the first faulty line: one that has no form, or gives a
-/// target a second name or place, or gives a 65th name or place, or leaves a target unwatched a second time, or a 65th target; and with `Memory` if memory was refused, at a line that isn't faulty
-/// and follows no faulty one, or, after the last line, for the attempts of the chains.
+/// target a second name or place, or gives a 65th name or place, or leaves a target unwatched a second time, or a 65th target, or is a 17th
+/// with an item `>`; and with `Memory` if memory was refused, at a line that isn't faulty and follows no faulty one, or, after the last
+/// line, for the attempts of the chains.
 pub fn read_tasks(
     alloc: Global,
     text: &[u8],
@@ -267,7 +275,7 @@ fn read_task_lines(
         let Some(said) = read_task_line(line) else {
             return Err(RunFault::Schedule { line: number });
         };
-        if !given.allows(&said) {
+        if !given.allows(mode.counters, &said) {
             return Err(RunFault::Schedule { line: number });
         }
         let next = mode_after(mode, &said);

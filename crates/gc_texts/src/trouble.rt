@@ -2,12 +2,13 @@
 
 ghost use Rattle.std.specs.Prelude.{◌≡◌, ◌++◌, IsTrue, IsFalse, MatchOption, codes};
 ghost use Rattle.gc_lines.specs.Ports.{WritesIfOk};
-ghost use Rattle.gc_texts.specs.Troubles.{parameters_trouble, raw_trouble, IsCallTrouble, IsRawTrouble, IsRawWordsTrouble, HasTarget, NoTarget, BeginsAsCommand, IsSettingTrouble, IsAskingTrouble, IsMarkTrouble, HasNoMark, IsUnmarkedTrouble, IsTrouble, IsForStation, IsNotForStation, IsUnmarkedCommandTrouble, IsFaultOfCommand, for_command, in_table_text, trouble_text, trouble_line};
+ghost use Rattle.gc_texts.specs.Troubles.{parameters_trouble, raw_trouble, IsCallTrouble, IsRawTrouble, IsRawWordsTrouble, HasTarget, NoTarget, BeginsNoSetting, BeginsAsCommand, IsWordTrouble, IsSettingTrouble, IsRequestTrouble, IsAskingTrouble, IsMarkTrouble, HasNoMark, IsUnmarkedTrouble, IsTrouble, IsForStation, IsNotForStation, IsUnmarkedCommandTrouble, IsFaultOfCommand, for_command, in_table_text, item_text, trouble_text, trouble_line};
 ghost use Rattle.gc_texts.specs.Words.{second_word, third_word};
 ghost use Rattle.gc_texts.specs.ProcedureNames.{name_in_table};
 
 use crate::agree_numbers::agree_trouble;
 use crate::cuts::{after_prefix, before, behind, is_word};
+use crate::expect_trouble::expect_trouble;
 use crate::near_numbers::near_trouble;
 use crate::procedure::{target_of, u16_of};
 use crate::task_line::read_task_line;
@@ -71,6 +72,18 @@ pub enum Trouble {
     AtStart,
     /// The line's first word is `each`, and the line isn't `each cycle`.
     EachCycle,
+    /// A line `T expect ..` isn't `T expect REQUEST = ITEMS`, with a space before and behind its first `=`.
+    ExpectForm,
+    /// The items of a line `expect` have more than 128 bytes.
+    ExpectLong,
+    /// A line `expect` has more than 16 items.
+    ExpectMany,
+    /// More than one item of a line `expect` is `>`.
+    ExpectTwo,
+    /// The item with this number, from 1, is none: it is empty, isn't printable ASCII, has a space at an end, or is no range of two numbers.
+    ExpectItem(usize),
+    /// A line `expect` reads, but it is a 17th with an item `>`.
+    Expect,
     /// More follows `5007 now`.
     Now,
     /// The line has no form: it is one word, with or without a space after it, or it ends in a space after a procedure's number.
@@ -156,6 +169,15 @@ impl Trouble {
             Trouble::Agree => writeln!(messages, "agree: the form is agree HZ V D, or agree alone"),
             Trouble::AtStart => writeln!(messages, "at start"),
             Trouble::EachCycle => writeln!(messages, "each cycle"),
+            Trouble::ExpectForm => writeln!(
+                messages,
+                "expect: the form is T expect REQUEST = ITEMS, with a space on both sides of ="
+            ),
+            Trouble::ExpectLong => writeln!(messages, "expect: ITEMS has more than 128 bytes"),
+            Trouble::ExpectMany => writeln!(messages, "expect: more than 16 items"),
+            Trouble::ExpectTwo => writeln!(messages, "expect: more than one item is >"),
+            Trouble::ExpectItem(place) => tell_item(place, messages),
+            Trouble::Expect => writeln!(messages, "expect: a 17th line with an item >"),
             Trouble::Now => writeln!(messages, "5007 now"),
             Trouble::RawInTable(rpc) => tell_in_table(rpc, name_in_table(rpc), messages),
             Trouble::RawParameters => {
@@ -184,6 +206,16 @@ fn tell_in_table<E: Write>(rpc: u16, name: &str, messages: &mut E) -> io::Result
     ensures { WritesIfOk E.contents messages.old messages.new result (in_table_text rpc name.now ++ codes "\n") }
 {
     writeln!(messages, "{rpc} is {name}: leave out raw")
+}
+
+// Writes what an item is, for the one with this number, which is none, and a line feed.
+fn tell_item<E: Write>(place: usize, messages: &mut E) -> io::Result<()>
+    ensures { WritesIfOk E.contents messages.old messages.new result (item_text place ++ codes "\n") }
+{
+    writeln!(
+        messages,
+        "expect: item {place} is no *, no >, no LOW..HIGH of two decimals with LOW up to HIGH, and no value: printable ASCII without a space at an end"
+    )
 }
 
 // The name of the procedure of the table with this number; empty where there is none.
@@ -254,6 +286,22 @@ fn raw_words_trouble(number: &[u8], params: &[u8]) -> Trouble
     }
 }
 
+// Which field is at fault of a request, of a procedure of the table, or, if its first word is `raw`, of one that isn't there. `NoForm`: each
+// of its fields reads.
+pub(crate) fn request_trouble(request: &[u8]) -> Trouble
+    ensures { IsRequestTrouble request.now result }
+{
+    let word = before(b' ', request);
+    let words = behind(b' ', request);
+    if is_word(b"raw", word) {
+        return raw_words_trouble(before(b' ', words), behind(b' ', words));
+    }
+    match u16_of(word) {
+        Some(rpc) => call_trouble(rpc, words),
+        None => Trouble::Number,
+    }
+}
+
 // Which field is at fault of a line that is taken for a command, or, if its second word is `raw`, for a request of a procedure
 // that isn't in the table. `Now`: its first three words are a target's number, `5007` and `now`. `NoForm`: it is one word, with
 // or without a space after it, or each of its fields reads.
@@ -270,15 +318,7 @@ fn asking_trouble(line: &[u8]) -> Trouble
     if target_of(before(b' ', line)).is_none() {
         return Trouble::Target;
     }
-    let word = before(b' ', rest);
-    let words = behind(b' ', rest);
-    if is_word(b"raw", word) {
-        return raw_words_trouble(before(b' ', words), behind(b' ', words));
-    }
-    match u16_of(word) {
-        Some(rpc) => call_trouble(rpc, words),
-        None => Trouble::Number,
-    }
+    request_trouble(rest)
 }
 
 // Whether the first three words of a line are a target's number, `5007` and `now`. The contract says this of the second
@@ -302,8 +342,8 @@ fn has_target(line: &[u8]) -> bool
 
 // Which field is at fault of a line whose first word is `deadline`, `name`, `near`, `unwatched`, `accept`, `retry`, `agree`, `at` or `each`.
 // `None`: the first word is none of these.
-fn setting_trouble(line: &[u8]) -> Option<Trouble>
-    ensures { MatchOption result (BeginsAsCommand line.now) (λ t. IsSettingTrouble line.now t) }
+fn word_trouble(line: &[u8]) -> Option<Trouble>
+    ensures { MatchOption result (BeginsNoSetting line.now) (λ t. IsWordTrouble line.now t) }
 {
     let first = before(b' ', line);
     if is_word(b"deadline", first) {
@@ -348,6 +388,19 @@ fn setting_trouble(line: &[u8]) -> Option<Trouble>
     None
 }
 
+// What is at fault of a line that sets something (`word_trouble`), or whose second word is `expect`. `None`: it does neither.
+fn setting_trouble(line: &[u8]) -> Option<Trouble>
+    ensures { MatchOption result (BeginsAsCommand line.now) (λ t. IsSettingTrouble line.now t) }
+{
+    if let Some(trouble) = word_trouble(line) {
+        return Some(trouble);
+    }
+    if is_word(b"expect", before(b' ', behind(b' ', line))) {
+        return Some(expect_trouble(line));
+    }
+    None
+}
+
 // The trouble of a line that begins with a byte order mark, of UTF-8 or of UTF-16. `None`: it begins with none.
 fn mark_trouble(line: &[u8]) -> Option<Trouble>
     ensures { MatchOption result (HasNoMark line.now) (λ t. IsMarkTrouble line.now t) }
@@ -376,7 +429,8 @@ fn unmarked_trouble(line: &[u8]) -> Trouble
 
 /// Which field of a line is at fault, if the line is a faulty one of a station's text. A line that begins with a byte order mark has
 /// that as its trouble. A line whose first word is `deadline`, `name`, `near`, `unwatched`, `accept`, `retry`, `agree`, `at` or `each` is
-/// at fault in its target or in what it sets. Any other line is taken for a command, or, if its second word is `raw`, for a request of a procedure
+/// at fault in its target or in what it sets. A line whose second word is `expect` is at fault in its form, in its target, in its request or
+/// in its items. Any other line is taken for a command, or, if its second word is `raw`, for a request of a procedure
 /// that isn't in the table. Of these a line whose first three words are `T 5007 now`, with a target's number T, gives `Now`; one that
 /// is one word, with or without a space after it, or each of whose fields reads, gives `NoForm`; and any other is at fault in its first
 /// field that doesn't read. Of a line that isn't faulty the result says nothing: a command gives `NoForm`, for example, and a line

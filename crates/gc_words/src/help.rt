@@ -137,9 +137,14 @@ written: at most 16, and the request at most 512 bytes. The other lines say how 
 called, and where it is:
   deadline MS   1 to 86400000: how long each command after it waits for its reply
   T 5007 now    sets the clock of T to the time at which the request is sent: `sent` in its row, UTC, cut to seconds
+  T expect RPC [PARAMS] = ITEMS
+                a command whose answer has to have these values, one for each item, with commas between: * is any value, > a
+                number greater than in the answer to it before, LOW..HIGH a number from LOW to HIGH, and anything else
+                itself. Any other answer is reported as unexpected: nothing more is sent before the station has
+                resynchronized and the setup was sent anew. `T expect raw RPC [PARAMS] = ITEMS` likewise
   chained       consecutive commands for one target form a chain: each but the first is sent once the one before it was answered
-                well: with both codes 0 and values that parse, or with an accepted return code, and neither elsewhere nor in
-                disagreement. Otherwise, or where the connection was closed meanwhile, the rest of the chain is skipped
+                well: with both codes 0 and values that parse, or with an accepted return code, and not elsewhere, unexpected or
+                in disagreement. Otherwise, or where the connection was closed meanwhile, the rest of the chain is skipped
   unchained     each command is sent by itself
   name T TEXT   1 to 64 bytes, for all rows of target T; the first is none of = + - @
   near T HZ V TOLERANCE [DISTANCE TOLERANCE]
@@ -150,7 +155,8 @@ called, and where it is:
                 accept alone: none
   retry N W W ..
                 where a command of a chain after it ends with one of these return codes or outcomes (unreadable, elsewhere,
-                disagree, late, lost, skipped), the whole chain is sent again, at most N times in a cycle, 1 to 9; retry 0: never
+                unexpected, disagree, late, lost, skipped), the whole chain is sent again, at most N times in a cycle, 1 to 9;
+                retry 0: never
   agree HZ V D  each chain after it is sent twice in a cycle: the first sending's answers are unconfirmed, and one of the second
                 is reported as disagree if a horizontal direction is further than HZ from the first's, another angle than V,
                 both in radians, a length than D metres, or anything else differs; agree alone: sent once
@@ -171,6 +177,7 @@ Each command is sent once in each cycle, or in each attempt of its chain, and ge
   missed        it wasn't sent: its cycle couldn't begin before the next was due
   elsewhere     its reply came before its deadline, with both codes 0 or an accepted one, but its direction isn't near where
                 its target is, or its distance isn't the target's
+  unexpected    the same, but its values aren't those that its line says (expect)
   disagree      the same, but its values don't agree with those of the chain's first sending (agree)
 
 A request that timed out keeps its id and doesn't hold up others. The station reconnects where the connection ends or fails, and
@@ -197,7 +204,7 @@ writes two lines like
   2026-11-22T23:08:27.123Z 0 7 answered %R1P,0,0:0,123456
   2026-11-22T23:08:27.124Z 1 8 answered %R1P,0,1:0,0
 and at the end, on standard error,
-  answered 2 (refused 0) late 0 lost 0 skipped 0 unreadable 0 missed 0 elsewhere 0 disagree 0 again 0";
+  answered 2 (refused 0) late 0 lost 0 skipped 0 unreadable 0 missed 0 elsewhere 0 unexpected 0 disagree 0 again 0";
 
 /// What the help of `rehearse` ends with.
 pub const REHEARSAL: &str =

@@ -251,11 +251,12 @@ def test_outcomes_of_a_day(folder):
     rows += [line(40_000, 7, "answered,,0,1285,,refused", cycle=cycle), line(39_000, 7, 'answered,,0,1283,"2,1.5,50",warning', cycle=cycle + 1)]
     first, apart = 'answered,,0,0,"2,1.5,50",unconfirmed', 'disagree,,0,0,"2,1.5,51",'
     rows += [line(38_000, 7, first, cycle=cycle + 2), line(37_000, 7, apart, cycle=cycle + 2, attempt=2), line(36_000, 7, first, cycle=cycle + 3)]
+    rows += [line(35_000, 7, 'unexpected,,0,0,"2,1.5,50",', cycle=cycle + 4)]
     (folder / "rows/north.csv").write_bytes(HEAD + b"".join(rows))
     station = station_of(folder)
     text = Seen(text_of(station, time.time())).text()
-    assert counts(station, "7") == {"warning": 1, "unconfirmed": 1, "disagree": 1, "refused": 1, "unanswered": 7, "unsent": 6}, counts(station, "7")
-    said = "1 with a warning, 1 unconfirmed, 1 in disagreement (disagree), 1 refused, 7 not answered in time, 6 not sent"
+    assert counts(station, "7") == {"warning": 1, "unconfirmed": 1, "disagree": 1, "unexpected": 1, "refused": 1, "unanswered": 7, "unsent": 6}, counts(station, "7")
+    said = "1 with a warning, 1 unconfirmed, 1 in disagreement (disagree), 1 not as expected (unexpected), 1 refused, 7 not answered in time, 6 not sent"
     assert f"7 {said}, good 10 h 50 min ago" in text, text
 
 

@@ -254,16 +254,77 @@ def test_sent_twice(program, what):
     assert (rows[-1]["procedure"], rows[-1]["quality"], rows[-1]["attempt"]) == ("5003", "ok", "1"), "the command after it"
 
 
+# What a line `expect` asks for and expects, what is answered, and the outcome of its row.
+EXPECTED = {
+    "the value": (b"2026 = 0", b"0,0", "answered"),
+    "another value": (b"2026 = 1", b"0,0", "unexpected"),
+    "an equal number": (b"2011 = 1.650", b"0,1.65", "answered"),
+    "any value": (b"2011 = *", b"0,1.65", "answered"),
+    "a number of a range": (b"2107 0 = *,1.5..1.6", b"0,2.25,1.6", "answered"),
+    "a number beyond a range": (b"2107 0 = *,-1.6..1.5", b"0,2.25,1.6", "unexpected"),
+    "a text": (b'5004 = "GEOCOM SIM"', b'0,"GEOCOM SIM"', "answered"),
+    "another text": (b'5004 = "GEOCOM SIM"', b'0,"GEOCOM SIN"', "unexpected"),
+    "a value too few": (b"raw 2029 = *,*", b"0,1013.25", "unexpected"),
+    "a value too many": (b"raw 2029 = *", b"0,1013.25,12", "unexpected"),
+    "no value": (b"raw 18005 1 = 1", b"0", "unexpected"),
+    "a refusal": (b"2026 = 0", b"1285", "answered"),
+    "what doesn't read": (b"2026 = x", b"0,x", "unreadable"),
+}
+
+
+@pytest.mark.title("an answer that has to have a value: {what}")
+@pytest.mark.parametrize("what", EXPECTED)
+def test_expected(program, what):
+    """An answer that isn't as expected is no good one: its chain ends, and the setup comes before anything else is sent."""
+    asks, answer, wanted = EXPECTED[what]
+    rpc = int(re.search(rb"\d+", asks).group())
+    text = b"at start\n9 107 8\neach cycle\n7 expect " + asks + b"\n7 2009\n8 2010 1,2,3,4\n"
+    with standing(lambda request: request.reply(answer if request.rpc == rpc else b"0,1,2,3,4" if request.rpc == 2009 else b"0")) as far:
+        with measuring(program, far.port, SHORT, text) as run:
+            rows, _ = finished(run)
+    is_good = wanted == "answered" and rows[1]["quality"] == "ok"
+    ends = [(9, 107, "answered"), (7, rpc, wanted), (7, 2009, "answered" if is_good else "skipped")]
+    # The setup is sent anew.
+    ends += [(9, 107, "answered")] * (wanted == "unexpected") + [(8, 2010, "answered")]
+    assert sorted(outcomes_of(rows)) == sorted(ends), "the rows"
+    asked = [request.rpc for request in far.requests if request.rpc]
+    assert asked == [107, rpc] + [2009] * is_good + [107] * (wanted == "unexpected") + [2010], "the requests"
+    assert not rows[1]["quality"] if wanted == "unexpected" else rows[1]["outcome"] == wanted
+
+
+@pytest.mark.title("a number that has to be greater than before")
+def test_greater(program):
+    """It is compared with the answer before, expected or not, and the first one may be any."""
+    numbers = iter([b"5", b"6", b"6", b"7", b"3", b"4"])
+    with standing(lambda request: request.reply(b"0," + next(numbers)) if request.rpc == 5003 else good(request)) as far:
+        with measuring(program, far.port, f"{SHORT} --cycles 6", b"7 expect 5003 = >\n7 2026\n") as run:
+            rows, _ = finished(run)
+    assert [row["outcome"] for row in rows[::2]] == ["answered", "answered", "unexpected", "answered", "unexpected", "answered"]
+    assert [row["outcome"] for row in rows[1::2]] == ["answered", "answered", "skipped", "answered", "skipped", "answered"]
+
+
+@pytest.mark.title("a setup whose answer isn't as expected")
+def test_expected_setup(program):
+    """The connection is closed, and the setup starts over on a new one; no command of a cycle is sent before it is as expected."""
+    kinds = iter([b"0", b"3", b"7"])
+    with standing(lambda request: request.reply(b"0," + next(kinds)) if request.rpc == 17009 else good(request)) as far:
+        with measuring(program, far.port, f"{SHORT} --retries 5", b"at start\n9 expect 17009 = 7\neach cycle\n7 2026\n") as run:
+            rows, _ = finished(run)
+    found = [(row["cycle"], row["outcome"], row["values"]) for row in rows]
+    assert found == [("0", "unexpected", "0"), ("0", "unexpected", "3"), ("0", "answered", "7"), ("1", "answered", "0")], "the rows"
+    assert [request.connection for request in far.requests if request.rpc == 17009] == [1, 2, 3], "the connections"
+
+
 @pytest.mark.title("the counts, one of each outcome")
 def test_counts(program):
     """The last line counts the rows: one of each outcome but missed."""
     ends = {7: good, 8: answers_late, 9: loses, 10: refuses, 11: lambda request: request.reply(b"0,2.25")}
-    text = b"".join(b"%d 2107 0\n" % target for target in ends) + b"11 2011\n"
+    text = b"".join(b"%d 2107 0\n" % target for target in ends) + b"11 2011\n12 expect 2026 = 1\n"
     asked = iter(ends.values())
     with standing(lambda request: next(asked, good)(request) if request.rpc else good(request)) as far:
         with measuring(program, far.port, SHORT, text) as run:
             rows, _ = finished(run)
-            ends = ["answered", "late", "lost", "answered", "unreadable", "skipped"]
+            ends = ["answered", "late", "lost", "answered", "unreadable", "skipped", "unexpected"]
             assert [row["outcome"] for row in rows] == ends, "the outcomes"
             messages = run.messages().splitlines()[-1]
-            assert messages == counts_line(answered=2, refused=1, late=1, lost=1, skipped=1, unreadable=1), "the last line"
+            assert messages == counts_line(answered=2, refused=1, late=1, lost=1, skipped=1, unreadable=1, unexpected=1), "the last line"

@@ -153,6 +153,7 @@ fn ending_of<'a>(
         "spelling" => Ending::Unreadable(line, ValueFault::Spelling),
         "elsewhere" => Ending::Elsewhere(line),
         "disagree" => Ending::Disagree(line),
+        "unexpected" => Ending::Unexpected(line),
         "unconfirmed" => Ending::Answered(Quality::Unconfirmed, answer_in(reading), line),
         "unread" => Ending::Answered(quality_of(reading), None, line),
         "accepted" => Ending::Answered(Quality::Warning, answer_in(zeroed), line),

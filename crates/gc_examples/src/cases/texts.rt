@@ -9,8 +9,8 @@ use gc_lines::ToWriter;
 use gc_links::place_of;
 use gc_texts::{
     Codes, Command, LogBytes, LogLine, LogMark, RunFault, Task, Tasks, Trouble, Twice,
-    command_trouble_of, line_at, read_commands, read_log_line, read_tasks, trouble_of,
-    write_log_line,
+    command_trouble_of, count_in, line_at, meets, read_commands, read_double, read_log_line,
+    read_tasks, trouble_of, write_log_line,
 };
 use gc_world::Event;
 use std::alloc::Global;
@@ -61,7 +61,7 @@ impl TextCase<'_, '_> {
     // Appends what comes of the text, as the case's `as` says: its line with the number under `line`, counted from 1; what is
     // printed of it as a faulty line; the line that a log has of it; the fault that it names; what it reads as; or, of a
     // station's text under `call`, what its first task asks for if it is sent at the case's `utc`, in milliseconds since 1970, 0
-    // if it has none. For any other word `no such text`. `Err`: the fault for which the text doesn't read as commands, a schedule
+    // if it has none, and under `expected`, whether the case's reply is what its first task expects. For any other word `no such text`. `Err`: the fault for which the text doesn't read as commands, a schedule
     // or a station's text.
     fn read_as_said(&self, came: &mut Told) -> Result<(), RunFault> {
         match self.case.value("as") {
@@ -78,6 +78,7 @@ impl TextCase<'_, '_> {
                 self.case.number("utc", 0),
                 came,
             ),
+            "expected" => append_met(&self.case, self.tasks(came.alloc)?.tasks.as_slice(), came),
             "place" => read_as_place(self.text, came),
             "log line" => read_as_log_line(self.text, came),
             _ => came.text("no such text"),
@@ -136,6 +137,7 @@ fn append_tasks(case: &Case<'_>, all: &Tasks, came: &mut Told) {
         append_task(task, came);
         append_near(task, came);
         append_codes(" accepting ", &task.accepted, came);
+        append_expectation(task, came);
         if turns {
             append_turn(task, came);
         }
@@ -181,6 +183,7 @@ fn append_outcomes(task: &Task, came: &mut Told) {
     came.text_if(task.again.unreadable, " unreadable");
     came.text_if(task.again.elsewhere, " elsewhere");
     came.text_if(task.again.disagree, " disagree");
+    came.text_if(task.again.unexpected, " unexpected");
     came.text_if(task.again.late, " late");
     came.text_if(task.again.lost, " lost");
     came.text_if(task.again.skipped, " skipped");
@@ -191,6 +194,33 @@ fn append_call(tasks: &[Task], utc: u64, came: &mut Told) {
     match tasks.first() {
         Some(task) => came.debug(&task.call_at(utc)),
         None => came.text("no task"),
+    }
+}
+
+// Appends whether the case's `reply` is what the first of these tasks expects, where the case's `before`, if it has one, is the number in
+// the place of its item `>` in the answer before; and the number in that place of the reply, if there is one.
+fn append_met(case: &Case<'_>, tasks: &[Task], came: &mut Told) {
+    let Some(task) = tasks.first() else {
+        came.text("no task");
+        return;
+    };
+    let reply = case.value("reply").as_bytes();
+    let before = read_double(case.value("before").as_bytes());
+    let is_met = meets(&task.expects, &before, reply);
+    came.text(if is_met { "met" } else { "unmet" });
+    if let Some(count) = count_in(&task.expects, reply) {
+        came.titled(" count ", &count);
+    }
+}
+
+// Appends what is expected of a task's answer, and which of the text's items `>` is in it, if either is there.
+fn append_expectation(task: &Task, came: &mut Told) {
+    if let Some(expectation) = task.expects {
+        came.text(" expects ");
+        came.escaped(expectation.text());
+    }
+    if let Some(counter) = task.counter {
+        came.titled(" counter ", &counter);
     }
 }
 

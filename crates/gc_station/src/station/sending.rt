@@ -147,10 +147,11 @@ impl Station {
 
     // The request for the next command of the setup, if the list has one; otherwise for a null procedure.
     fn next_setup(&self, plan: &Plan, commands: &[Task]) -> Outgoing
-        ensures { result ≡ request_of_setup plan.now commands.now self.now.client.ids.next self.now.progress }
+        ensures { result ≡ request_of_setup plan.now commands.now self.now.client.ids.next self.now.recorded.counts self.now.progress }
     {
         let mut mark = self.mark_setup(commands);
         mark.id = self.client.next_id();
+        mark.expected.before = self.recorded.counts.at(mark.expected.counter);
         match commands.get(self.progress.prepared) {
             Some(task) => request_for(task, mark),
             None => null_request(plan),

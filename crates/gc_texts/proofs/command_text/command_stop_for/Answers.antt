@@ -1,4 +1,4 @@
-use Rattle.std.proofs.Common.{◌≡◌, ℕ, List, refl, subst, sym}
+use Rattle.std.proofs.Common.{ℕ, List, refl, subst, sym}
 use Rattle.gc_texts.specs.CommandStops.{IsCommandStopFor}
 use Rattle.gc_texts.specs.Troubles.{IsFaultOfCommand}
 use Rattle.gc_texts.specs.declared.command_text.CommandStop.TheVariants.{Line}

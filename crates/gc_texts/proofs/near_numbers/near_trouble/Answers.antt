@@ -1,4 +1,4 @@
-use Rattle.std.proofs.Common.{rules, ◌≡◌, IsTrue, IsFalse, subst, ap, ◌∙◌}
+use Rattle.std.proofs.Common.{rules, IsTrue, IsFalse, subst, ap, ◌∙◌}
 use Rattle.gc_values.specs.Directions.{is_tolerance}
 use Rattle.gc_texts.specs.Cuts.{before, behind}
 use Rattle.gc_texts.specs.Troubles.{IsFit, IsUnfit, IsRestTrouble, fits_hz, fits_v}

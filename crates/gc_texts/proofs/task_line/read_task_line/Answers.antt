@@ -1,4 +1,4 @@
-use Rattle.std.proofs.Common.{◌≡◌, true, false, sym, ◌∙◌}
+use Rattle.std.proofs.Common.{◌≡◌, true, false, Some, None, sym, ◌∙◌}
 use Rattle.gc_texts.specs.declared.task_line.TaskLine.TheVariants as says
 use Rattle.gc_texts.proofs.task_line.read_task_line.Goals as goal
 
@@ -14,5 +14,7 @@ returns-in-None c (says.Retrying retry) is = c.in_default-read_retrying.ensures 
 returns-in-None c (says.Agreeing agree) is = c.in_default-read_agreeing.ensures agree is
 returns-in-None c says.AtStart is = let both : true ≡ false = sym (c.is_word-3.ensures.1 is) ∙ c.if-is_word-3.false in cc
 returns-in-None c says.EachCycle is = let both : true ≡ false = sym (c.is_word-4.ensures.1 is) ∙ c.if-is_word-4.false in cc
-returns-in-None c (says.Command wish true) is = c.in_default-read_clock_setting.ensures wish is
-returns-in-None c (says.Command wish false) is = c.in-None.ensures wish is
+returns-in-None c (says.Command wish true None) is = c.in_default-read_clock_setting.ensures wish is
+returns-in-None c (says.Command wish true (Some e)) is = absurd is
+returns-in-None c (says.Command wish false (Some e)) is = c.in_default-read_expecting.ensures (wish, e) is
+returns-in-None c (says.Command wish false None) is = c.in-None.ensures wish is

@@ -28,14 +28,14 @@ pub loop-left-preserved-then-is_skipped : goal.loop-left-preserved-then-is_skipp
 loop-left-preserved-then-is_skipped c =
     let at = next_line_is_unread IsTaskLine c.args.text.now (option_copied c.loop-left.left) c.in-Some.text.now c.cut_line.result.0.now (option_copied c.cut_line.result.1)
     c.loop-left.number _ c.loop-left.invariant.reads (ap option_copied c.in-Some.is) c.cut_line.ensures in
-    task_skips _ _ _ _ _ _ c.loop-left.invariant c.cut_line.result.0.now (option_copied c.cut_line.result.1) at (sym c.is_skipped.ensures ∙ c.if-is_skipped.true)
+    task_skips _ _ _ _ _ _ refl c.loop-left.invariant c.cut_line.result.0.now (option_copied c.cut_line.result.1) at (sym c.is_skipped.ensures ∙ c.if-is_skipped.true)
 
 pub returns-in_default-read_task_line-clause-fault : goal.returns-in_default-read_task_line-clause-fault
 returns-in_default-read_task_line-clause-fault c =
     let at = next_line_is_unread IsTaskLine c.args.text.now (option_copied c.loop-left.left) c.in-Some.text.now c.cut_line.result.0.now (option_copied c.cut_line.result.1)
     c.loop-left.number _ c.loop-left.invariant.reads (ap option_copied c.in-Some.is) c.cut_line.ensures in (
       c.requires,
-      task_fails _ _ _ _ _ _ c.loop-left.invariant c.cut_line.result.0.now
+      task_fails _ _ _ _ _ _ refl c.loop-left.invariant c.cut_line.result.0.now
           (option_copied c.cut_line.result.1) at (sym c.is_skipped.ensures ∙ c.if-is_skipped.false) c.in_default-read_task_line.ensures,
     )
 
@@ -44,7 +44,7 @@ returns-then-not-allows-clause-fault c =
     let at = next_line_is_unread IsTaskLine c.args.text.now (option_copied c.loop-left.left) c.in-Some.text.now c.cut_line.result.0.now (option_copied c.cut_line.result.1)
     c.loop-left.number _ c.loop-left.invariant.reads (ap option_copied c.in-Some.is) c.cut_line.ensures in (
       c.requires,
-      task_refused _ _ _ _ _ _ c.loop-left.invariant c.cut_line.result.0.now (option_copied c.cut_line.result.1) at c.in-Some-read_task_line.said c.allows.result
+      task_refused _ _ _ _ _ _ refl c.loop-left.invariant c.cut_line.result.0.now (option_copied c.cut_line.result.1) at c.in-Some-read_task_line.said c.allows.result
           (sym c.is_skipped.ensures ∙ c.if-is_skipped.false) c.in-Some-read_task_line.ensures c.allows.ensures c.if-not-allows.true,
     )
 
@@ -53,7 +53,7 @@ returns-then-is_err-clause-fault c =
     let at = next_line_is_unread IsTaskLine c.args.text.now (option_copied c.loop-left.left) c.in-Some.text.now c.cut_line.result.0.now (option_copied c.cut_line.result.1)
     c.loop-left.number _ c.loop-left.invariant.reads (ap option_copied c.in-Some.is) c.cut_line.ensures in (
       c.requires,
-      task_wants _ _ _ _ _ _ c.loop-left.invariant c.cut_line.result.0.now (option_copied c.cut_line.result.1) at c.in-Some-read_task_line.said c.allows.result
+      task_wants _ _ _ _ _ _ refl c.loop-left.invariant c.cut_line.result.0.now (option_copied c.cut_line.result.1) at c.in-Some-read_task_line.said c.allows.result
           (sym c.is_skipped.ensures ∙ c.if-is_skipped.false) c.in-Some-read_task_line.ensures c.allows.ensures c.if-not-allows.false,
     )
 
@@ -62,13 +62,13 @@ loop-left-preserved c =
     let at = next_line_is_unread IsTaskLine c.args.text.now (option_copied c.loop-left.left) c.in-Some.text.now c.cut_line.result.0.now (option_copied c.cut_line.result.1)
     c.loop-left.number _ c.loop-left.invariant.reads (ap option_copied c.in-Some.is) c.cut_line.ensures in
     let grows : Grows c.loop-left.mode c.in-Some-read_task_line.said c.loop-left.given c.append.new.self = search rules in
-    task_reads _ _ _ _ _ _ c.loop-left.invariant c.cut_line.result.0.now (option_copied c.cut_line.result.1) at c.in-Some-read_task_line.said c.append.new.self c.mode_after-next.result c.allows.result
+    task_reads _ _ _ _ _ _ refl c.loop-left.invariant c.cut_line.result.0.now (option_copied c.cut_line.result.1) at c.in-Some-read_task_line.said c.append.new.self c.mode_after-next.result c.allows.result
     (sym c.is_skipped.ensures ∙ c.if-is_skipped.false) c.in-Some-read_task_line.ensures c.allows.ensures c.if-not-allows.false grows c.mode_after-next.ensures
 
 pub mode_after-next-requires : goal.mode_after-next-requires
 mode_after-next-requires c =
     let few = counted c.args.text.now c.args.deadline c.args.chained (option_copied c.loop-left.left) c.loop-left.number _ _ c.requires c.loop-left.invariant in
-    record { begun = omega (arith, few.begun); place = omega (arith, few.place); link = omega (arith, few.link) }
+    record { begun = omega (arith, few.begun); place = omega (arith, few.place); link = omega (arith, few.link); counters = omega (arith, few.counters) }
 
 pub lay_out-requires : goal.lay_out-requires
 lay_out-requires c =

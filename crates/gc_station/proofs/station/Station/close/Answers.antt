@@ -30,6 +30,7 @@ returns g c commands text known =
           fresh = stands.fresh;
           reads = stands.reads;
           firsts = stands.firsts;
+          counts = stands.counts;
         },
         so,
       );

@@ -37,6 +37,7 @@ returns-in-Some g c text known =
             fresh = stands.fresh;
             reads = stands.reads;
             firsts = stands.firsts;
+            counts = stands.counts;
           } in
           let here = refines_timed_out old mid m (with_more_passes (next_left_out plan commands s.progress) s) there c.in-Some.ensures.1 in
           let noted = ap (λ k. early_noted plan k (goes_on mid.progress)) (ap commands_in here.marks) in (

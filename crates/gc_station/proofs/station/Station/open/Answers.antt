@@ -28,6 +28,7 @@ returns-in-Err g c commands text known =
           fresh = stands.fresh;
           reads = stands.reads;
           firsts = stands.firsts;
+          counts = stands.counts;
         },
         so,
       );

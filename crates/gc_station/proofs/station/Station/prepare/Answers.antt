@@ -24,11 +24,12 @@ returns g c text known =
           let list = drop s.progress.prepared commands in
           let mark = mark_setup_sent commands s in
           let id = s.client.next in
-          let is : asking ≡ request_of_setup plan commands id s.progress =
-          c.next_setup-asking.ensures ∙ ap (λ (ids : ById Asked). request_of_setup plan commands ids.next old.progress) stands.ids
-          ∙ ap (request_of_setup plan commands id) stands.progress in
+          let is : asking ≡ request_of_setup plan commands id s.counts s.progress =
+          c.next_setup-asking.ensures ∙ ap (λ (ids : ById Asked). request_of_setup plan commands ids.next old.recorded.counts old.progress) stands.ids
+          ∙ ap (λ cs. request_of_setup plan commands id cs old.progress) (stands.counts stands.reads)
+          ∙ ap (request_of_setup plan commands id s.counts) stands.progress in
           let f : Model → Model = λ (x : Model). with_progress (setup_sent plan) (asks_setup plan commands x) in
-          let asked = asks_refines old c.ask-put.new.self s asking (request_of_setup plan commands id s.progress) stands c.requires.1 is c.ask-put.ensures.asks in (
+          let asked = asks_refines old c.ask-put.new.self s asking (request_of_setup plan commands id s.counts s.progress) stands c.requires.1 is c.ask-put.ensures.asks in (
             put_puts put line (text_or_null s.progress.moment.utc s.client list) (ap (λ (ids : ById Asked). next_request_text ids asking.command.call) stands.ids
                 ∙ ap (λ (a : Outgoing). next_request_text s.client a.command.call) is ∙ setup_text plan s.client mark list) c.ask-put.ensures.part,
             put_refines put line c.commands_before-requests.result (commands_before plan commands s.progress) f s (record c.ask-put.new.self { progress = c.note_setup.new.self }) c.note_cut.new.self

@@ -8,6 +8,7 @@ use Rattle.gc_links.specs.Acts.{put_act}
 use Rattle.gc_station.specs.declared.mark.Mark.{Mark}
 use Rattle.gc_station.specs.declared.progress.Progress.{Progress}
 use Rattle.gc_station.specs.declared.progress.Upcoming.{Upcoming}
+use Rattle.gc_station.specs.Counters.{with_before}
 use Rattle.gc_station.specs.Firsts.{with_first}
 use Rattle.gc_station.specs.Marks.{with_id}
 use Rattle.gc_station.specs.Progressing.{sent}
@@ -42,9 +43,11 @@ returns g c text known =
           let asked = asks_refines old c.ask-put.new.self s asking (request_for mark task) stands c.requires.ready.1 c.request_for-asking.ensures c.ask-put.ensures.asks in
           let utc = s.progress.moment.utc in
           let next : mark ≡ mark_sent plan commands s =
-          c.mark_sent-mark.ensures ∙ ap (λ (ids : ById Asked). with_id ids.next (with_first old.recorded.firsts (mark_next plan commands old.progress))) stands.ids
-          ∙ ap (λ fs. with_id s.client.next (with_first fs (mark_next plan commands old.progress))) stands.firsts
-          ∙ ap (λ (p : Progress). with_id s.client.next (with_first (firsts_of s) (mark_next plan commands p))) stands.progress in
+          c.mark_sent-mark.ensures
+          ∙ ap (λ (ids : ById Asked). with_id ids.next (with_before old.recorded.counts (with_first old.recorded.firsts (mark_next plan commands old.progress)))) stands.ids
+          ∙ ap (λ fs. with_id s.client.next (with_before old.recorded.counts (with_first fs (mark_next plan commands old.progress)))) stands.firsts
+          ∙ ap (λ cs. with_id s.client.next (with_before cs (with_first (firsts_of s) (mark_next plan commands old.progress)))) (stands.counts stands.reads)
+          ∙ ap (λ (p : Progress). with_id s.client.next (with_before s.counts (with_first (firsts_of s) (mark_next plan commands p)))) stands.progress in
           let first = first_refines c.ask-put.new.self s mark (mark_sent plan commands s) list task others is next asked in (
             put_puts put line (first_text utc s.client list) (ap (λ (ids : ById Asked). next_request_text ids asking.command.call) stands.ids
                 ∙ ap (λ (a : Outgoing). next_request_text s.client a.command.call) (c.request_for-asking.ensures ∙ ap (λ (m : Mark). request_for m task) next) ∙ sym

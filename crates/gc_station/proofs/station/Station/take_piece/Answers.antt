@@ -41,6 +41,7 @@ returns-clause-takes g c s start stands so =
         fresh = t.0.fresh;
         reads = t.0.reads;
         firsts = t.0.firsts;
+        counts = t.0.counts;
       },
       t.1,
     )

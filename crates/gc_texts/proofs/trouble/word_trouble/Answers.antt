@@ -4,7 +4,7 @@ use Rattle.gc_texts.specs.Troubles.{HasTarget, IsNearTrouble, IsAgreeTrouble}
 use Rattle.gc_texts.specs.Words.{first_word, second_word}
 use Rattle.gc_texts.proofs.AgreeTroubles.{agree_is_setting}
 use Rattle.gc_texts.proofs.NearTroubles.{near_is_setting}
-use Rattle.gc_texts.proofs.trouble.setting_trouble.Goals as goal
+use Rattle.gc_texts.proofs.trouble.word_trouble.Goals as goal
 
 pub returns-then-has_target-2 : goal.returns-then-has_target-2
 returns-then-has_target-2 c =
