@@ -20,6 +20,10 @@ _geocom() {
         mapfile -t COMPREPLY < <(compgen -W '1 2 3 4 5 6 7' -- "$cur")
         return
         ;;
+    --unit)
+        mapfile -t COMPREPLY < <(compgen -W 'gon degree' -- "$cur")
+        return
+        ;;
     --connections | --idle | --nights | --seed | --deadline | --every | --cycles | --quiet | --retries | --stale | --log-bytes) return ;;
     esac
     case $command in
@@ -28,7 +32,7 @@ _geocom() {
     drill) given='--scene --totals --width --help' ;;
     serve) given='--any-address --connections --keep --idle --scene --help' ;;
     ask) given='--help' ;;
-    station) given='--width --deadline --every --cycles --quiet --retries --stale --until --csv --columns --json --append --sync --unchained --silent --check --log --log-bytes --help' ;;
+    station) given='--width --deadline --every --cycles --quiet --retries --stale --until --csv --columns --json --append --sync --unchained --silent --check --unit --log --log-bytes --help' ;;
     rehearse) given='--nights --every --cycles --scene --line --seed --width --deadline --quiet --retries --stale --csv --columns --json --unchained --help' ;;
     *) return ;;
     esac

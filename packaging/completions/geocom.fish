@@ -41,5 +41,6 @@ complete -c geocom -n '__fish_seen_subcommand_from station' -l sync -d 'has each
 complete -c geocom -n '__fish_seen_subcommand_from station rehearse' -l unchained -d 'sends each command by itself'
 complete -c geocom -n '__fish_seen_subcommand_from station' -l silent -d 'leaves out the signs of life'
 complete -c geocom -n '__fish_seen_subcommand_from station' -l check -d 'says what would be done, and connects to nothing'
+complete -c geocom -n '__fish_seen_subcommand_from station' -l unit -x -a 'gon degree' -d 'with --check: in which unit angles are written'
 complete -c geocom -n '__fish_seen_subcommand_from station' -l log -r -F -d 'appends what went and came to a file'
 complete -c geocom -n '__fish_seen_subcommand_from station' -l log-bytes -x -d 'how many bytes the log may have'

@@ -145,7 +145,7 @@ pub record DoesAlone (Does : Type 0) (acted : Acted) : Type 0 where
 abbrev pub DoesJob : {S T F K E M : Type 0} → Seeing S T F K M → (shown : E → Option (List ℕ)) → Standard → ClientJob → (old new : Streams (Heard S) K E) → Acted → (status : ℕ) → Type 0
 DoesJob seeing shown standard (client.Station site station recording) old new acted status =
     RecordsLossy seeing site recording (with_status_line standard.terminal station) old new acted status
-DoesJob seeing shown standard (client.Outline choice) old new acted status =
+DoesJob seeing shown standard (client.Outline choice unit) old new acted status =
     DoesAlone (status ≡ 0 → IsCheckable choice (hearing_of seeing.source old.input) (hearing_of seeing.source new.input)) acted
 DoesJob seeing shown standard (client.Loop scene) old new acted status =
     DoesAlone (DoesLoop standard.output_terminal scene (ports_seen seeing.source seeing.onto.sink shown old new status)) acted

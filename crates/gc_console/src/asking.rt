@@ -86,8 +86,8 @@ impl<'a, R: Net<Listener = TcpListener, Stream = TcpStream> + Clock + Files<File
                 let (streams, ended) = self.run_ask(place, streams);
                 (streams, ended, Acted::nothing())
             }
-            ClientJob::Outline { choice } => {
-                let (streams, ended) = check_task_text(self.alloc, choice, streams);
+            ClientJob::Outline { choice, unit } => {
+                let (streams, ended) = check_task_text(self.alloc, choice, unit, streams);
                 (streams, ended, Acted::nothing())
             }
             ClientJob::Station {

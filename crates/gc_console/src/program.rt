@@ -22,7 +22,7 @@ use clap::error::ErrorKind;
 use gc_lines::{Durable, FromReader, ReadAhead, Sink, Source, ToWriter};
 use gc_messages::{
     Followed, Heard, Lossy, Noting, Standard, Streams, Told, refuse_numbers, refuse_place,
-    refuse_stale, report_end,
+    refuse_stale, refuse_unit, report_end,
 };
 use gc_nights::rehearse;
 use gc_subcommands::check::check;
@@ -77,7 +77,7 @@ pub fn run_program<
     //   couldn't be had, and nothing was sent. With `--check`: status 0 only if a station measures the text. Of its messages nothing is said.
     // - `rehearse`: the status is at most 1, and nothing more is said here.
     // - `loop`, `ask` and `station` over a closed stream: that is reported, with status 1, and nothing was read or written else.
-    // - A place, a number or a `--stale` that is refused: status 2, and the messages took exactly the line that says why.
+    // - A place, a number, a unit or a `--stale` that is refused: status 2, and the messages took exactly the line that says why.
     // - No job: if a word asks for help or version, status 0 and no message, or status 1 and the line of the fault `Output`; status 2, only
     //   for words that the command line doesn't take; or status 1, and the messages took exactly the line that memory ran out.
     // - Words that couldn't be read: status 2 and the line that one is no text; or status 1 and the line that memory ran out.
@@ -191,6 +191,10 @@ impl<'a, R: Net<Listener = TcpListener, Stream = TcpStream> + Clock + Files<File
             }
             Job::NumberMissing => {
                 let ended = refuse_numbers(&mut streams.messages);
+                (ended, said_of(streams))
+            }
+            Job::NoUnit => {
+                let ended = refuse_unit(&mut streams.messages);
                 (ended, said_of(streams))
             }
             Job::StaleTooSoon => {

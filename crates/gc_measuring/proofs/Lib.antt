@@ -9,3 +9,4 @@ mod Unbegun
 mod Wants
 mod Reached
 mod Records
+mod Scaled

@@ -1,3 +1,4 @@
+pub mod Angles
 pub mod Appending
 pub mod Bounds
 pub mod Choices

@@ -7,6 +7,7 @@ ghost use Rattle.gc_measuring.specs.TaskTexts.{IsCheckable};
 ghost use Rattle.gc_messages.specs.Statuses.{IsStatusUpTo};
 ghost use Rattle.gc_messages.specs.Transcripts.{hearing_of};
 
+use crate::angles::{write_agree, write_place, write_turned};
 use crate::bound::{outline_bound, report_tight_deadlines};
 use crate::counts::report_end_of_run;
 use crate::expecting::outline_expectation;
@@ -21,14 +22,15 @@ use gc_messages::{
 };
 use gc_station::Plan;
 use gc_texts::{Again, Agree, RunFault, Task, Tasks, Twice};
-use gc_words::Choice;
+use gc_words::{Choice, Unit};
 use std::alloc::Global;
 use std::io::{self, Write};
 use std::process::ExitCode;
 
 /// Reads the text of a station, and writes on the output what a station would do with it: the setup, and the chains of a cycle
 /// with the names of their targets, the deadlines of their commands in milliseconds, what is expected of their answers, and how often and
-/// after what they may be sent again; and, where cycles have due moments, by when a row is written. What looks wrong, and is no fault, is reported on the
+/// after what they may be sent again; and, where cycles have due moments, by when a row is written. With a `unit` angles are in that unit,
+/// and where positionings turn to and where targets are is written, too. What looks wrong, and is no fault, is reported on the
 /// messages, as far as they can be written: angles outside one turn, targets of which the text says where they are, though no command
 /// measures their direction, chains that are too long for being sent twice, names of targets without a command, unwatched targets without a command of the cycle, spaces or tabs at
 /// ends of lines, and deadlines that add up to more than the time that a cycle has.
@@ -39,6 +41,7 @@ use std::process::ExitCode;
 pub fn check_task_text<S: Source, K: Sink, E: Write>(
     alloc: Global,
     choice: Choice,
+    unit: Option<Unit>,
     mut streams: Streams<Heard<S>, K, E>,
 ) -> (Streams<Heard<S>, K, E>, io::Result<ExitCode>)
     ensures bound { IsStatusUpTo 1 result.1 }
@@ -51,7 +54,7 @@ pub fn check_task_text<S: Source, K: Sink, E: Write>(
         Ok((tasks, text)) => {
             let plan = plan_of(choice, tasks.setup, tasks.tasks.as_slice());
             let _ = report_doubts(text.as_slice(), &tasks, &plan, &mut streams.messages);
-            write_outline(alloc, &tasks, &plan, &mut streams.output)
+            write_outline(alloc, &tasks, &plan, unit, &mut streams.output)
         }
         Err(stop) => Err(stop),
     };
@@ -85,10 +88,11 @@ fn write_outline<K: Sink>(
     alloc: Global,
     tasks: &Tasks,
     plan: &Plan,
+    unit: Option<Unit>,
     output: &mut K,
 ) -> Result<(), Stop> {
     let mut outline = Vec::new(alloc);
-    if outline_tasks(tasks, plan, &mut outline).is_err() {
+    if outline_tasks(tasks, plan, unit, &mut outline).is_err() {
         return Err(Stop::Run(RunFault::Memory));
     }
     match write_whole(output, outline.as_slice()) {
@@ -98,22 +102,45 @@ fn write_outline<K: Sink>(
 }
 
 // Writes the outline of these tasks: if there is a setup, a line with the number of its commands and a line for each of them; and
-// then a line with the number of a cycle's commands and a line for each of its chains; and, where cycles have due moments, by when a
-// row is written.
-fn outline_tasks<W: Write>(tasks: &Tasks, plan: &Plan, outline: &mut W) -> io::Result<()> {
+// then a line with the number of a cycle's commands and a line for each of its chains; with a unit, where targets are; and, where cycles
+// have due moments, by when a row is written.
+fn outline_tasks<W: Write>(
+    tasks: &Tasks,
+    plan: &Plan,
+    unit: Option<Unit>,
+    outline: &mut W,
+) -> io::Result<()> {
     let setup = tasks.setup;
     if setup > 0 {
         writeln!(outline, "at start, commands: {setup}")?;
     }
     for task in tasks.tasks.iter().take(setup) {
         begin_chain(tasks, task.command.target, outline)?;
-        outline_command(task, outline)?;
+        outline_command(task, unit, outline)?;
         writeln!(outline)?;
     }
     let commands = commands_per_cycle(tasks);
     writeln!(outline, "each cycle, commands: {commands}")?;
-    outline_chains(tasks, outline)?;
+    outline_chains(tasks, unit, outline)?;
+    if unit.is_some() {
+        outline_places(tasks, unit, outline)?;
+    }
     outline_bound(tasks, plan, outline)
+}
+
+// Writes where targets are, if the text says it of any: a line for each, in this unit.
+fn outline_places<W: Write>(tasks: &Tasks, unit: Option<Unit>, outline: &mut W) -> io::Result<()> {
+    if !tasks.nears.is_empty() {
+        writeln!(outline, "where targets are, in face I:")?;
+    }
+    for near in tasks.nears.as_slice() {
+        write!(outline, "  ")?;
+        write_target(near.target, tasks.name_of(near.target), outline)?;
+        write!(outline, ": ")?;
+        write_place(unit, near, outline)?;
+        writeln!(outline)?;
+    }
+    Ok(())
 }
 
 /// What the end of a chain's line says.
@@ -128,7 +155,7 @@ struct ChainEnd {
 
 // Writes a line for each chain of a cycle: its target, its commands, whether they are sent twice, and how often and after what it may
 // be sent again.
-fn outline_chains<W: Write>(tasks: &Tasks, outline: &mut W) -> io::Result<()> {
+fn outline_chains<W: Write>(tasks: &Tasks, unit: Option<Unit>, outline: &mut W) -> io::Result<()> {
     // Of the chain that is being written. `None`: no chain is being written.
     let mut chain: Option<ChainEnd> = None;
     for task in tasks.tasks.iter().skip(tasks.setup) {
@@ -138,7 +165,7 @@ fn outline_chains<W: Write>(tasks: &Tasks, outline: &mut W) -> io::Result<()> {
             continue;
         }
         if task.turn.link == 0 {
-            end_chain(chain, outline)?;
+            end_chain(chain, unit, outline)?;
             begin_chain(tasks, task.command.target, outline)?;
             chain = Some(ChainEnd {
                 agree: None,
@@ -146,9 +173,9 @@ fn outline_chains<W: Write>(tasks: &Tasks, outline: &mut W) -> io::Result<()> {
                 rule: task.again,
             });
         }
-        outline_command(task, outline)?;
+        outline_command(task, unit, outline)?;
     }
-    end_chain(chain, outline)
+    end_chain(chain, unit, outline)
 }
 
 // What the end of a chain's line says with a task of a later attempt or sending.
@@ -185,12 +212,13 @@ pub fn write_target<W: Write>(target: u32, name: &[u8], out: &mut W) -> io::Resu
     Ok(())
 }
 
-// Writes a command after its target: the number of its procedure, `now` if it sets the clock to the moment at which it is sent,
-// its deadline in milliseconds, and what is expected of its answer's values, if anything is.
-fn outline_command<W: Write>(task: &Task, outline: &mut W) -> io::Result<()> {
+// Writes a command after its target: the number of its procedure, with a unit where a positioning turns to, `now` if it sets the clock
+// to the moment at which it is sent, its deadline in milliseconds, and what is expected of its answer's values, if anything is.
+fn outline_command<W: Write>(task: &Task, unit: Option<Unit>, outline: &mut W) -> io::Result<()> {
     let procedure = task.command.call.number();
     let deadline = task.deadline;
     write!(outline, " {procedure}")?;
+    write_turned(unit, task.command.call, outline)?;
     if task.now {
         write!(outline, " now")?;
     }
@@ -201,15 +229,18 @@ fn outline_command<W: Write>(task: &Task, outline: &mut W) -> io::Result<()> {
     write!(outline, ";")
 }
 
-// Ends the line of a chain, if one is being written: whether it is sent twice, and how far apart the values may be, angles in radians
-// and lengths in metres; and how often it may be sent again, and after what, if it may be at all.
-fn end_chain<W: Write>(chain: Option<ChainEnd>, outline: &mut W) -> io::Result<()> {
+// Ends the line of a chain, if one is being written: whether it is sent twice, and how far apart the values may be, angles in this unit,
+// or else in radians, and lengths in metres; and how often it may be sent again, and after what, if it may be at all.
+fn end_chain<W: Write>(
+    chain: Option<ChainEnd>,
+    unit: Option<Unit>,
+    outline: &mut W,
+) -> io::Result<()> {
     let Some(ChainEnd { agree, again, rule }) = chain else {
         return Ok(());
     };
-    if let Some(Agree { hz, v, distance }) = agree {
-        write!(outline, " twice, to agree within {hz} and {v} rad and ")?;
-        write!(outline, "{distance} m;")?;
+    if let Some(agree) = agree {
+        write_agree(unit, agree, outline)?;
     }
     if again > 0 {
         write!(outline, " again at most {again} times, after")?;

@@ -1,9 +1,21 @@
 //! What is proved of the definitions themselves. The functions have no effect: their contracts are the laws.
 
+ghost use Rattle.std.specs.Prelude.{◌≡◌, ℕ, ◌*◌, unsigned_abs};
+ghost use Rattle.gc_measuring.specs.Angles.{half, last_places, scale_of};
 ghost use Rattle.gc_measuring.specs.Wanted.{WantCountsOverConnections};
+ghost use Rattle.gc_values.specs.Directions.{half_turn};
+ghost use Rattle.gc_values.specs.Nearest.{RoundsHalfUp};
+ghost use Rattle.gc_words.specs.declared.unit.Unit.{Unit};
 
 /// If the cycle has had no answer yet, and as long as none comes, the moment since which one is wanted stays the same, whatever
 /// becomes of connections and cycles meanwhile.
 pub fn a_want_counts_over_connections()
     ensures { WantCountsOverConnections }
+{}
+
+/// An angle is shown in a unit as the whole number of units of the last place that is nearest to it, and of two that are equally near
+/// as the one further from 0. Half a turn is the same as for directions.
+pub fn shown_angles_are_nearest()
+    ensures nearest { (unit : Unit) (angle : ℕ) → RoundsHalfUp (angle * scale_of unit) half (last_places unit angle) }
+    ensures half_turn { unsigned_abs half_turn ≡ half }
 {}

@@ -1,6 +1,7 @@
 //! A station over its ports: its text, its records and their file, its log, and the messages that it writes while it measures.
 #![tactic(auto)]
 
+mod angles;
 mod bound;
 mod checking;
 mod counts;
@@ -9,6 +10,7 @@ mod expecting;
 pub mod laws;
 mod logging;
 mod measure;
+mod odd;
 mod plan;
 mod recording;
 mod reporter;

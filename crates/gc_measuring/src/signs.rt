@@ -4,6 +4,7 @@ ghost use Rattle.std.specs.Prelude.{◌≡◌};
 ghost use Rattle.gc_station.specs.Tallies.{counted};
 ghost use Rattle.gc_texts.specs.Endings.{ending_seen};
 
+use crate::odd::tell_odd;
 use crate::unwell::{Missed, SECOND, Unwell};
 use crate::wanted::{Wanted, has_lasted};
 use gc_links::Moment;
@@ -264,25 +265,7 @@ impl Signs {
         let told = self.odd;
         self.odd = odd;
         self.clear(messages)?;
-        if odd.echoes && !told.echoes {
-            writeln!(
-                messages,
-                "geocom: the line echoes what is sent: a modem or the other end has its echo on"
-            )?;
-        }
-        if odd.bare && !told.bare {
-            writeln!(
-                messages,
-                "geocom: the line changes CR to LF: set it to raw mode (stty raw)"
-            )?;
-        }
-        if odd.lone && !told.lone {
-            writeln!(
-                messages,
-                "geocom: replies end in CR alone: set the instrument's line end to CR LF"
-            )?;
-        }
-        Ok(())
+        tell_odd(told, odd, messages)
     }
 
     // Reports at most once a minute that there is no connection, and why the system refused the last one, if it gave a reason: if

@@ -14,6 +14,10 @@ range_line = refusal_line (codes "a number on the command line is out of range")
 abbrev pub stale_line : List ℕ
 stale_line = refusal_line (codes "--stale is below --every: the run would end before its second cycle")
 
+-- the line that says that a word names no unit of angles
+abbrev pub unit_line : List ℕ
+unit_line = refusal_line (codes "--unit is gon or degree")
+
 -- the line that says that a word is no place: none to serve a simulator on (`serves`), or none of an instrument
 abbrev pub place_line : (serves : Bool) → List ℕ
 place_line true = refusal_line (codes "a simulator is served on a port of 127.0.0.1, from 1 to 65535, on the path of a device, which has a /, or with --any-address at HOST:PORT")

@@ -5,7 +5,7 @@ ghost use Rattle.std.specs.Process.{exit_status};
 ghost use Rattle.gc_lines.specs.Answering.{serve_fault_text};
 ghost use Rattle.gc_texts.specs.Faults.{run_fault_text, Tells};
 ghost use Rattle.gc_messages.specs.Ends.{is_port, TellsAt};
-ghost use Rattle.gc_messages.specs.Refusals.{Refuses, refusal_line, range_line, stale_line, place_line};
+ghost use Rattle.gc_messages.specs.Refusals.{Refuses, refusal_line, range_line, stale_line, unit_line, place_line};
 ghost use Rattle.gc_messages.specs.Statuses.{IsStatusUpTo};
 
 use crate::noting::Noting;
@@ -39,6 +39,13 @@ pub fn refuse_stale<E: Write>(messages: &mut E) -> io::Result<ExitCode>
         "--stale is below --every: the run would end before its second cycle",
         messages,
     )
+}
+
+/// Reports, with status 2, that a word names no unit of angles. `Err`: the messages couldn't be written.
+pub fn refuse_unit<E: Write>(messages: &mut E) -> io::Result<ExitCode>
+    ensures told { IfOk result (λ status. Refuses unit_line (exit_status status) (E.contents messages.old) (E.contents messages.new)) }
+{
+    refuse("--unit is gon or degree", messages)
 }
 
 /// Reports, with status 2, that a word is no place of an instrument or, if `serves`, no place to serve a simulator on (a port, a

@@ -20,6 +20,8 @@ pub struct Oddities {
     pub bare: bool,
     /// It ends replies with CR alone.
     pub lone: bool,
+    /// It ends replies with CR CR LF.
+    pub doubled: bool,
 }
 
 impl Oddities {
@@ -29,6 +31,7 @@ impl Oddities {
             echoes: false,
             bare: false,
             lone: false,
+            doubled: false,
         }
     }
 }
@@ -80,24 +83,29 @@ pub fn note_files(noticed: &Cell<Noticed>, files: FilesSeen) {
 // The longest read of a link, in milliseconds: what watches a station between two reads gets its turn at least that often.
 const LONGEST_READ: u64 = 1_000;
 
+// How long nothing has to come behind a reply's CR, in milliseconds, before the reply counts as ended by it: a LF that belongs to a CR
+// comes at once, unless the line delays it.
+const LONE: u64 = 2_000;
+
 // What a line has somewhere that shows a start (`is_sign_on` of gc_texts).
 const SIGN_ON: &[u8; 4] = b"%N1,";
 
 // The line that comes, as far as it came.
 #[derive(Clone, Copy)]
 struct ComingLine {
-    // Its first bytes, how many there are, and its last byte so far.
+    // Its first bytes, how many there are, and its last byte so far and the byte before that.
     front: [u8; 4],
     count: usize,
     last: u8,
+    before: u8,
     // How many commas it has before its first colon, at most 255, and whether it has a colon.
     commas: u8,
     has_colon: bool,
     // How many bytes of `SIGN_ON` its last bytes are, and whether it has all of them somewhere.
     matched: usize,
     has_sign_on: bool,
-    // Whether it began as a reply, and went on after a CR.
-    goes_on: bool,
+    // When its last bytes came, in milliseconds of the clock for deadlines.
+    came: u64,
 }
 
 impl ComingLine {
@@ -107,20 +115,28 @@ impl ComingLine {
             front: [0; 4],
             count: 0,
             last: 0,
+            before: 0,
             commas: 0,
             has_colon: false,
             matched: 0,
             has_sign_on: false,
-            goes_on: false,
+            came: 0,
         }
+    }
+
+    // Whether a line begins with this byte behind one that a CR alone ended: this began as a reply or as a request.
+    fn ends_before(&self, byte: u8) -> bool {
+        self.last == b'\r' && byte == b'%' && (self.front == *b"%R1P" || self.front == *b"%R1Q")
+    }
+
+    // Whether it began as a reply, its last byte so far is a CR, and nothing came behind that for `LONE` until `elapsed`.
+    fn ends_lone(&self, elapsed: u64) -> bool {
+        self.last == b'\r' && self.front == *b"%R1P" && elapsed.saturating_sub(self.came) >= LONE
     }
 
     // Takes the next byte of the line, which is no line feed.
     fn take(&mut self, byte: u8) {
         self.match_sign_on(byte);
-        if self.last == b'\r' && byte == b'%' && self.front == *b"%R1P" {
-            self.goes_on = true;
-        }
         if self.count < self.front.len() {
             self.front[self.count] = byte;
             self.count += 1;
@@ -130,6 +146,7 @@ impl ComingLine {
         } else if byte == b',' && !self.has_colon {
             self.commas = self.commas.saturating_add(1);
         }
+        self.before = self.last;
         self.last = byte;
     }
 
@@ -148,21 +165,23 @@ impl ComingLine {
     }
 
     // What is noticed once a line feed has ended the line, of which `seen` was noticed before: it has a sign-on in it (`starts`); it begins
-    // as a request (`echoes`); or it begins as a reply, and has no CR at its end (`bare`), or else an id (`replied`). What was noticed of
-    // earlier lines stays, and a line of less than four bytes is none of these.
+    // as a request (`echoes`); or it begins as a reply, and has no CR at its end (`bare`), or two (`doubled`), or else an id (`replied`).
+    // What was noticed of earlier lines stays, and a line of less than four bytes is none of these.
     fn judged(&self, seen: Noticed) -> Noticed {
         if self.count < self.front.len() {
             return seen;
         }
         let is_reply = self.front == *b"%R1P";
         let has_cr = self.last == b'\r';
+        let has_two = has_cr && self.before == b'\r';
         let has_id = self.has_colon && self.commas == 2;
         let odd = Oddities {
             echoes: seen.odd.echoes || self.front == *b"%R1Q",
             bare: seen.odd.bare || is_reply && !has_cr,
-            lone: seen.odd.lone,
+            doubled: seen.odd.doubled || is_reply && has_two,
+            ..seen.odd
         };
-        let replied = if is_reply && has_cr && has_id {
+        let replied = if is_reply && has_cr && !has_two && has_id {
             seen.arrived
         } else {
             seen.replied
@@ -175,10 +194,12 @@ impl ComingLine {
         }
     }
 
-    // What is noticed before a line feed has ended the line, of which `seen` was noticed before: that replies end with CR alone (`lone`).
-    fn judged_early(&self, seen: Noticed) -> Noticed {
+    // What is noticed once a CR alone has ended the line, of which `seen` was noticed before: it began as a request (`echoes`), or as a reply
+    // (`lone`).
+    fn judged_lone(&self, seen: Noticed) -> Noticed {
         let odd = Oddities {
-            lone: seen.odd.lone || self.goes_on,
+            echoes: seen.odd.echoes || self.front == *b"%R1Q",
+            lone: seen.odd.lone || self.front == *b"%R1P",
             ..seen.odd
         };
         Noticed { odd, ..seen }
@@ -230,8 +251,9 @@ impl<'a, L> Noticing<'a, L> {
         link
     }
 
-    // Takes bytes that came: counts them, and judges each line that they end, also one that began in earlier bytes.
-    fn look(&mut self, bytes: &[u8])
+    // Takes bytes that had come by the moment `elapsed`: counts them, and judges each line that they end, also one that began in earlier
+    // bytes.
+    fn look(&mut self, bytes: &[u8], elapsed: u64)
         ensures { self.new.link ≡ self.old.link }
     {
         let seen = self.noticed.get();
@@ -244,10 +266,22 @@ impl<'a, L> Noticing<'a, L> {
                 seen = self.line.judged(seen);
                 self.line = ComingLine::new();
             } else {
+                if self.line.ends_before(*b) {
+                    seen = self.line.judged_lone(seen);
+                    self.line = ComingLine::new();
+                }
                 self.line.take(*b);
             }
         }
-        self.noticed.set(self.line.judged_early(seen));
+        self.line.came = elapsed;
+        self.noticed.set(seen);
+    }
+
+    // Notes at a moment by which nothing more had come whether a CR alone ended the reply that came last.
+    fn look_behind(&self, elapsed: u64) {
+        if self.line.ends_lone(elapsed) {
+            self.noticed.set(self.line.judged_lone(self.noticed.get()));
+        }
     }
 
     // Notes whether the connection is lost (`is_lost`): it ended or failed, or couldn't be made, and then why (`why`), if the system
@@ -275,9 +309,10 @@ impl<'a, L: Link> Link for Noticing<'a, L> {
     fn read(&mut self, buf: &mut [u8], millis: u64) -> Came {
         let came = self.link.read(buf, millis.min(LONGEST_READ));
         match came {
-            Came::Bytes(n, _) => self.look(&buf[..n]),
+            Came::Bytes(n, moment) => self.look(&buf[..n], moment.elapsed),
+            Came::Silence(moment) => self.look_behind(moment.elapsed),
             Came::End | Came::Failure => self.note_loss(true, None),
-            Came::Silence(_) | Came::NoMoment => {}
+            Came::NoMoment => {}
         }
         came
     }

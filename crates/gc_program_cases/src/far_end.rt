@@ -104,7 +104,7 @@ impl<'a, 'b> FarEnd<'a, 'b> {
     // reply; `false` also if the echo, the stray, the sign-on or one of the replies can't be sent.
     fn answer_piece(&self, piece: &[u8]) -> bool {
         let mut far = &self.ends.1;
-        if self.odd.echoes && far.write_all(piece).is_err() {
+        if self.odd.echoes && self.changing().write_all(piece).is_err() {
             return false;
         }
         let strays = self.strays && piece.starts_with(b"%R1Q,5004,");
@@ -121,15 +121,19 @@ impl<'a, 'b> FarEnd<'a, 'b> {
         self.serve_piece(piece)
     }
 
+    // The far end's stream, over which line ends are changed as the line of the case says.
+    fn changing(&self) -> Changing<'a> {
+        Changing {
+            stream: &self.ends.1,
+            odd: self.odd,
+        }
+    }
+
     // Has a new simulator answer the requests of a piece: none knows of an earlier piece. Returns whether it sent a reply;
     // `false` also if one of the replies can't be sent.
     fn serve_piece(&self, piece: &[u8]) -> bool {
         let mut source = FromReader::new(piece);
-        let mut sink = ToWriter::new(Changing {
-            stream: &self.ends.1,
-            bare: self.odd.bare,
-            lone: self.odd.lone,
-        });
+        let mut sink = ToWriter::new(self.changing());
         match run_exec(&mut source, &mut sink, u32::MAX) {
             Ok(served) => served.replies > 0,
             Err(_) => false,
@@ -175,21 +179,29 @@ impl<'a, 'b> FarEnd<'a, 'b> {
     }
 }
 
-// The far end's stream, over which a CR is sent as LF if the line is `bare`, and no LF if it is `lone`.
+// The far end's stream, over which a CR is sent as LF if the line is `bare`, no LF if it is `lone`, and a CR before each LF if it is
+// `doubled`.
 #[derive(Drop)]
 struct Changing<'a> {
     stream: &'a TcpStream,
-    bare: bool,
-    lone: bool,
+    odd: Oddities,
 }
 
 impl<'a> Write for Changing<'a> {
-    // Writes all bytes, a CR as LF if the line is bare, and no LF if it is lone. `Err`: one can't be written; those before it were.
+    // Writes all bytes, a CR as LF if the line is bare, no LF if it is lone, and one more CR before each LF if it is doubled. `Err`: one
+    // can't be written; those before it were.
     fn write(&mut self, buf: &[u8]) -> io::Result<usize> {
         let mut stream = self.stream;
         for b in buf {
-            let changed = if self.bare && *b == b'\r' { b'\n' } else { *b };
-            if !(self.lone && *b == b'\n') {
+            let changed = if self.odd.bare && *b == b'\r' {
+                b'\n'
+            } else {
+                *b
+            };
+            if self.odd.doubled && *b == b'\n' {
+                stream.write_all(b"\r")?;
+            }
+            if !(self.odd.lone && *b == b'\n') {
                 stream.write_all(&[changed])?;
             }
         }

@@ -10,9 +10,10 @@
 //!     closed input output    these of `input`, `output` and `messages` are closed
 //!     terminal yes           the messages go to a terminal; `output`: the output does
 //!     far 20                 there is a far end, whose answers take this many milliseconds; with another word it gives none
-//!     line echoes            of a far end: what is sent comes back; with `bare` a CR comes as LF; with `lone` no LF comes; with `strays` a
-//!                            reply with id 6 comes before each reply to a request for 5004, with `starts` a sign-on; with `alters` the
-//!                            reply to 2011 with id 3 has the height 1.7
+//!     line echoes            of a far end: what is sent comes back; with `bare` a CR comes as LF; with `lone` no LF comes; with
+//!                            `echoes_lone` what is sent comes back, and no LF comes; with `doubled` a CR comes before each LF; with
+//!                            `strays` a reply with id 6 comes before each reply to a request for 5004, with `starts` a sign-on; with
+//!                            `alters` the reply to 2011 with id 3 has the height 1.7
 //!     refused 2              of a far end: this many connections are refused before one is made
 //!     silent 500             of a far end: after this many milliseconds nothing is answered any more
 //!     until 9000             of a far end: after this many milliseconds its monotonic clock can't be read any more
@@ -162,12 +163,14 @@ impl<'a, 'b> Run<'a, 'b> {
     }
 }
 
-// What the line of a case does to what is sent over it: `echoes`, `bare`, `lone`, or nothing.
+// What the line of a case does to what is sent over it: `echoes`, `bare`, `lone`, `echoes_lone`, `doubled`, or nothing.
 fn oddities_of(case: &Case<'_>) -> Oddities {
+    let both = case.is("line", "echoes_lone");
     Oddities {
-        echoes: case.is("line", "echoes"),
+        echoes: both || case.is("line", "echoes"),
         bare: case.is("line", "bare"),
-        lone: case.is("line", "lone"),
+        lone: both || case.is("line", "lone"),
+        doubled: case.is("line", "doubled"),
     }
 }
 

@@ -44,7 +44,7 @@ module _ {S T F K E M A X : Type 0} (seeing : Seeing S T F K M) (shown : E → O
     over = o;
     does = does;
   })
-  by_client args read (client.Outline choice) is streams o does = inl does.none
+  by_client args read (client.Outline choice unit) is streams o does = inl does.none
   by_client args read (client.Loop scene) is streams o does = inl does.none
   by_client args read (client.Ask place) is streams o does = inl does.none
 
@@ -64,6 +64,7 @@ module _ {S T F K E M A X : Type 0} (seeing : Seeing S T F K M) (shown : E → O
   by_job args read (job.Rehearse rehearsal) is does = inl does.1
   by_job args read (job.Nowhere serves) is does = inl does.1
   by_job args read job.NumberMissing is does = inl does.1
+  by_job args read job.NoUnit is does = inl does.1
   by_job args read job.StaleTooSoon is does = inl does.1
 
   -- of what the program did by its words

@@ -17,10 +17,12 @@ use Rattle.gc_subcommands.specs.declared.words.Subcommand.{Subcommand}
 use Rattle.gc_subcommands.specs.declared.words.Subcommand.TheVariants as subcommand
 use Rattle.gc_words.specs.Chosen.{IsChosen, IsRecording, IsSite}
 use Rattle.gc_words.specs.Stations.{is_stale_too_soon}
+use Rattle.gc_words.specs.Units.{unit_in}
 use Rattle.gc_words.specs.Words.{Words, has_flag}
 use Rattle.gc_words.specs.declared.settings.Settings.{Settings}
 use Rattle.gc_words.specs.declared.site.Recording.{Recording}
 use Rattle.gc_words.specs.declared.site.Site.{Site}
+use Rattle.gc_words.specs.declared.unit.Unit.{Unit}
 
 -- each subcommand is found by its name
 pub named_again : (s : Subcommand) → subcommand_named (name_of s) ≡ Some s
@@ -52,13 +54,13 @@ pub named_so : (name : Text) (s : Subcommand) → subcommand_named name ≡ Some
 named_so name s is = (bytes_eq-Decides (name_of s) name).0 (found_passes (λ known. bytes_eq (name_of known) name) subcommands s is)
 
 -- what a station of these words is to do is what they ask for
-pub station_asked : (words : Words) (site : Site) (station : Settings) (recording : Option Recording) (checks : Bool) → IsSite words site
-    → IsChosen words station → IsRecording words recording → has_flag words (codes "check") ≡ checks
-    → IsJobOf (Some (codes "station", words)) (station_job site station recording checks)
-station_asked words site station recording checks at_site chosen recorded flag = go (is_stale_too_soon station.choice) refl checks flag
+pub station_asked : (words : Words) (site : Site) (station : Settings) (recording : Option Recording) (checks : Bool) (unit : Option Unit) → IsSite words site
+    → IsChosen words station → IsRecording words recording → has_flag words (codes "check") ≡ checks → unit_in words ≡ Some unit
+    → IsJobOf (Some (codes "station", words)) (station_job site station recording checks unit)
+station_asked words site station recording checks unit at_site chosen recorded flag shown = go (is_stale_too_soon station.choice) refl checks flag
   where
     go : (stale : Bool) → is_stale_too_soon station.choice ≡ stale → (checks : Bool) → has_flag words (codes "check") ≡ checks
-        → IsJobOf (Some (codes "station", words)) (station_job site station recording checks)
+        → IsJobOf (Some (codes "station", words)) (station_job site station recording checks unit)
     go true stale checks flag =
         rw stale (inl (record {
           words = words;
@@ -77,6 +79,7 @@ station_asked words site station recording checks at_site chosen recorded flag =
             station = station;
             planned = record { place = site.place; given = at_site.place; chosen = chosen };
             is = refl;
+            shown = shown;
             checks = flag;
             fresh = fresh;
           };

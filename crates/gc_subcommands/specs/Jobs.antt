@@ -15,12 +15,14 @@ use Rattle.gc_subcommands.specs.declared.words.Subcommand.{Subcommand}
 use Rattle.gc_subcommands.specs.declared.words.Subcommand.TheVariants as subcommand
 use Rattle.gc_words.specs.Chosen.{GivesPlace, HasNumbers, HasRehearsalNumbers, IsChosen, IsRecording, IsRehearsal, IsSite}
 use Rattle.gc_words.specs.Stations.{is_stale_too_soon}
+use Rattle.gc_words.specs.Units.{unit_in}
 use Rattle.gc_words.specs.Words.{IsNumberOr, ReadsNumber, Words, has_flag, text_in}
 use Rattle.gc_words.specs.declared.choice.Choice.{Choice}
 use Rattle.gc_words.specs.declared.rehearsal.Rehearsal.{Rehearsal}
 use Rattle.gc_words.specs.declared.settings.Settings.{Settings}
 use Rattle.gc_words.specs.declared.site.Recording.{Recording}
 use Rattle.gc_words.specs.declared.site.Site.{Site}
+use Rattle.gc_words.specs.declared.unit.Unit.{Unit}
 
 -- what clap found: the name of the subcommand and the words behind it, if there is one
 abbrev pub Asked : Type 0
@@ -74,11 +76,12 @@ pub record IsStation (words : Words) (site : Site) (station : Settings) (recordi
   pub measures : has_flag words (codes "check") ≡ false
   pub fresh : is_stale_too_soon station.choice ≡ false
 
--- the words of `station` ask what a station of this choice would do
-pub record IsOutline (words : Words) (choice : Choice) : Type 0 where
+-- the words of `station` ask what a station of this choice would do, with angles in this unit if they name one
+pub record IsOutline (words : Words) (choice : Choice) (unit : Option Unit) : Type 0 where
   pub station : Settings
   pub planned : IsPlanned words station
   pub is : choice ≡ station.choice
+  pub shown : unit_in words ≡ Some unit
   pub checks : has_flag words (codes "check") ≡ true
   pub fresh : is_stale_too_soon choice ≡ false
 
@@ -103,13 +106,13 @@ pub record IsStaleRehearsal (words : Words) : Type 0 where
 abbrev pub IsClientJobOf : Asked → ClientJob → Type 0
 IsClientJobOf asked (kind.Loop scene) = AsksFor (codes "loop") (λ words. IsScene words scene) asked
 IsClientJobOf asked (kind.Ask place) = AsksFor (codes "ask") (λ words. GivesPlace words place) asked
-IsClientJobOf asked (kind.Outline choice) = AsksFor (codes "station") (λ words. IsOutline words choice) asked
+IsClientJobOf asked (kind.Outline choice unit) = AsksFor (codes "station") (λ words. IsOutline words choice unit) asked
 IsClientJobOf asked (kind.Station site station recording) =
     AsksFor (codes "station") (λ words. IsStation words site station recording) asked
 
 -- the subcommand that was asked for and the words behind it ask for this job: each job has the name of its subcommand and the
--- values of its arguments. `NumberMissing` comes only if a number is missing or doesn't fit its type, and `StaleTooSoon` only if
--- the run would end too soon; which words name no place isn't said
+-- values of its arguments. `NumberMissing` comes only if a number is missing or doesn't fit its type, `NoUnit` only if the word for a
+-- unit names none, and `StaleTooSoon` only if the run would end too soon; which words name no place isn't said
 abbrev pub IsJobOf : Asked → Job → Type 0
 IsJobOf asked (job.Exec scene) = AsksFor (codes "exec") (λ words. IsScene words scene) asked
 IsJobOf asked (job.Check log) = AsksFor (codes "check") (λ words. log ≡ has_flag words (codes "log")) asked
@@ -122,6 +125,7 @@ IsJobOf asked (job.Nowhere false) = AsksFor (codes "ask") (λ words. ⊤) asked 
 IsJobOf asked job.NumberMissing =
     AsksFor (codes "station") (λ words. HasNumbers words → ⊥) asked
     ⊎ AsksFor (codes "rehearse") (λ words. HasRehearsalNumbers words → ⊥) asked
+IsJobOf asked job.NoUnit = AsksFor (codes "station") (λ words. unit_in words ≡ None) asked
 IsJobOf asked job.StaleTooSoon = AsksFor (codes "station") IsStaleStation asked ⊎ AsksFor (codes "rehearse") IsStaleRehearsal asked
 
 -- the name of a subcommand, by which it is asked for
@@ -159,10 +163,10 @@ pub record AsksSubcommand (asked : Asked) : Type 0 where
   pub named : asked ≡ Some (name_of subcommand, words)
 
 -- what is done of a station at this site, with these settings and records: it is refused if its run would end before the second
--- cycle, also with `--check` (`checks`); with `--check` it is outlined; and otherwise it measures there, with its log, its end and
--- its records where the words name them
-abbrev pub station_job : Site → Settings → Option Recording → (checks : Bool) → Job
-station_job site station recording checks =
+-- cycle, also with `--check` (`checks`); with `--check` it is outlined, in this unit; and otherwise it measures there, with its log, its
+-- end and its records where the words name them
+abbrev pub station_job : Site → Settings → Option Recording → (checks : Bool) → Option Unit → Job
+station_job site station recording checks unit =
     if is_stale_too_soon station.choice then job.StaleTooSoon
-    else if checks then job.Client (kind.Outline station.choice)
+    else if checks then job.Client (kind.Outline station.choice unit)
     else job.Client (kind.Station site station recording)

@@ -20,12 +20,12 @@ use clap::{ArgMatches, Command, Error};
 use gc_links::Place;
 use gc_words::help::SCENES_AND_FAULTS;
 use gc_words::{
-    Choice, Recording, Rehearsal, Settings, Site, VERSION, has_flag, log_of, named_place,
-    recording_of, rehearsal_of, rehearse_command, station_command, station_of, text_in,
+    Choice, Recording, Rehearsal, Settings, Site, Unit, VERSION, has_flag, log_of, named_place,
+    recording_of, rehearsal_of, rehearse_command, station_command, station_of, text_in, unit_of,
 };
 use std::alloc::{AllocError, Global};
 
-/// What a command line asks for, or why that can't be done (`Nowhere`, `NumberMissing`, `StaleTooSoon`). A scene is the name of
+/// What a command line asks for, or why that can't be done (`Nowhere`, `NumberMissing`, `NoUnit`, `StaleTooSoon`). A scene is the name of
 /// its file, where one is named.
 pub enum Job<'a> {
     /// Answers requests with the instrument of the scene, or with the simulator.
@@ -45,6 +45,8 @@ pub enum Job<'a> {
     /// A number is missing that has a default, or is none of its type. clap fills the first in and refuses the second, so this
     /// doesn't come. It would be reported as a number out of its range.
     NumberMissing,
+    /// The word for a unit of angles names none.
+    NoUnit,
     /// A station's run would end for want of an answer before its second cycle is due.
     StaleTooSoon,
 }
@@ -61,9 +63,10 @@ pub enum ClientJob<'a> {
     Ask {
         place: Place<'a>,
     },
-    /// Reads the text of a station, and writes what would be done.
+    /// Reads the text of a station, and writes what would be done, with angles in a unit that people read where one is named.
     Outline {
         choice: Choice,
+        unit: Option<Unit>,
     },
     /// Measures as a station, with its records in a file where one is named.
     Station {
@@ -263,7 +266,7 @@ fn ask_job<'a>(words: &ArgMatches<'a>) -> Job<'a>
 
 // A station at a place, with its records and its log in files where the words name them; with `--check` only the outline of what
 // it would do. `Nowhere`: the words name no place. `NumberMissing`: a number is missing or none of its type, which clap doesn't
-// let happen. `StaleTooSoon`: the run would end for want of an answer before its second cycle
+// let happen. `NoUnit`: the word for a unit names none. `StaleTooSoon`: the run would end for want of an answer before its second cycle
 // is due.
 fn station_job<'a>(words: &ArgMatches<'a>) -> Job<'a>
     ensures { IsJobOf (Some (codes "station", words_of words.now)) result }
@@ -274,23 +277,28 @@ fn station_job<'a>(words: &ArgMatches<'a>) -> Job<'a>
     let Some(station) = station_of(words) else {
         return Job::NumberMissing;
     };
+    let Some(unit) = unit_of(words) else {
+        return Job::NoUnit;
+    };
     let site = Site {
         place,
         log: log_of(words),
         until: text_in(words, "until"),
     };
-    station_job_at(site, station, recording_of(words), has_flag(words, "check"))
+    let checks = has_flag(words, "check");
+    station_job_at(site, station, recording_of(words), checks, unit)
 }
 
-// A station at a site, with these settings and records, or with `checks` only the outline of what it would do. `StaleTooSoon`: the
-// run would end for want of an answer before its second cycle is due, also where it would only be checked.
+// A station at a site, with these settings and records, or with `checks` only the outline of what it would do, in this unit.
+// `StaleTooSoon`: the run would end for want of an answer before its second cycle is due, also where it would only be checked.
 fn station_job_at<'a>(
     site: Site<'a>,
     station: Settings,
     recording: Option<Recording<'a>>,
     checks: bool,
+    unit: Option<Unit>,
 ) -> Job<'a>
-    ensures { result ≡ station_job site.entry station recording.entry checks }
+    ensures { result ≡ station_job site.entry station recording.entry checks unit }
 {
     if station.choice.is_stale_too_soon() {
         return Job::StaleTooSoon;
@@ -298,6 +306,7 @@ fn station_job_at<'a>(
     if checks {
         return Job::Client(ClientJob::Outline {
             choice: station.choice,
+            unit,
         });
     }
     Job::Client(ClientJob::Station {

@@ -2,4 +2,5 @@ pub mod Chosen
 pub mod Options
 pub mod Stations
 pub mod Tables
+pub mod Units
 pub mod Words

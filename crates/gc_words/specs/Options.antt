@@ -28,7 +28,7 @@ number name least most default = option name (takes.Unsigned least most) default
 abbrev pub signed_number : (name : Text) → (least most : ℕ) → (default : List Text) → Rule
 signed_number name least most default = option name (takes.Signed (pos least) (pos most)) default
 
--- an option with a path
+-- an option with a text, such as a path
 abbrev pub path : (name : Text) → Rule
 path name = option name takes.String []
 
@@ -54,6 +54,7 @@ station_rules =
     ∷ flag (codes "unchained")
     ∷ flag (codes "silent")
     ∷ flag (codes "check")
+    ∷ tied (path (codes "unit"))
     ∷ path (codes "append")
     ∷ tied (flag (codes "sync"))
     ∷ path (codes "log")

@@ -14,6 +14,7 @@ use crate::layout::Layout;
 use crate::settings::Settings;
 use crate::shared::{COLUMNS, CSV, DEADLINE, JSON, QUIET, RETRIES, STALE, UNCHAINED, WIDTH};
 use crate::site::LOG_BYTES;
+use crate::unit::UNIT;
 use clap::{ArgMatches, Command};
 use gc_rows::Form;
 use std::alloc::{AllocError, Global};
@@ -66,6 +67,7 @@ const ARGUMENTS: &[Argument<'static>] = &[
         help: "Reads the commands, writes what would be done, and connects to nothing",
         ..FLAG
     },
+    UNIT,
     Argument {
         name: "append",
         takes: Takes::Text,

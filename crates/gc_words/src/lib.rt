@@ -10,6 +10,7 @@ mod rehearsal;
 mod settings;
 mod shared;
 mod site;
+mod unit;
 mod version;
 
 pub use arguments::{Argument, FLAG, PLACE, SCENE, Takes, command_of, named_place};
@@ -19,4 +20,5 @@ pub use layout::Layout;
 pub use rehearsal::{DAY, Rehearsal, rehearsal_of, rehearse_command};
 pub use settings::Settings;
 pub use site::{LogPlace, Recording, Site, log_of, recording_of};
+pub use unit::{Unit, unit_of};
 pub use version::VERSION;

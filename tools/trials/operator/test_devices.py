@@ -222,6 +222,47 @@ def test_echo(program):
             assert messages == wanted, f"what was told{words}"
 
 
+@pytest.mark.title("places, an echo is told before a command is sent")
+def test_echo_told_first(program):
+    """When a command comes, the echo was told."""
+    told = []
+
+    def answers(request):
+        if request.rpc:
+            told.append(ECHOES in run.messages())
+        return echoing(request)
+
+    with terminal(answers) as line, measuring(program, line.path, SHORT, COMMANDS) as run:
+        finished(run, patience=20)
+        assert told == [True, True], "when it was told"
+
+
+@pytest.mark.title("places, a line as after a power cut")
+def test_cooked(program):
+    """A terminal as a system sets it, with its echo on: that its line ends are changed is told once, and no command is sent. Only what is
+    sent goes out as it is: with `onlcr` requests end in CR CR LF, and the far end here, as a strict instrument, answers none."""
+    with terminal() as line:
+        setting = termios.tcgetattr(line.near)
+        setting[0] |= termios.ICRNL | termios.IXON
+        setting[3] |= termios.ECHO | termios.ECHOCTL | termios.ICANON | termios.ISIG | termios.IEXTEN
+        termios.tcsetattr(line.near, termios.TCSANOW, setting)
+        with measuring(program, line.path, f"{SHORTER} --retries 1", COMMANDS) as run:
+            run.status(20)
+            assert run.messages().splitlines().count(NOT_RAW) == 1, "how often it was told"
+            assert asked(line) == [], "a command was sent"
+
+
+@pytest.mark.title("places, replies that end in CR alone, and in CR CR LF")
+@pytest.mark.parametrize("end", [b"\r", b"\r\r\n"])
+def test_changed_ends(program, end):
+    """Line ends that no reply has are told after the first reply, long before its request times out."""
+    wanted = {b"\r": "geocom: replies end in CR alone: ", b"\r\r\n": "geocom: replies end in CR CR LF: "}[end]
+    with terminal(lambda request: good(request).replace(b"\r\n", end)) as line:
+        with measuring(program, line.path, "--deadline 30000", COMMANDS) as run:
+            until(lambda: wanted in run.messages(), "it isn't told", patience=6)
+            assert [request.rpc for request in line.requests] == [0], "what was sent by then"
+
+
 @pytest.mark.title("places, a line that isn't raw")
 def test_not_raw(program):
     """A line that changes CR to LF is reported once; no reply reads there."""

@@ -1,4 +1,4 @@
-use Rattle.std.proofs.Common.{Some, sym, subst, codes}
+use Rattle.std.proofs.Common.{◌∙◌, Some, sym, subst, codes}
 use Rattle.gc_subcommands.proofs.JobLemmas.{station_asked}
 use Rattle.gc_subcommands.specs.Jobs.{IsJobOf}
 use Rattle.gc_words.specs.Words.{words_of}
@@ -7,5 +7,5 @@ use Rattle.gc_subcommands.proofs.words.station_job.Goals as goal
 pub returns : goal.returns
 returns c =
     subst (λ job. IsJobOf (Some (codes "station", words_of c.args.words.now)) job) (sym c.station_job_at.ensures)
-    (station_asked (words_of c.args.words.now) _ _ _ _ (record { place = c.in-Some.ensures; log = c.log_of.ensures; until = c.text_in.ensures })
-    c.in-Some-station_of.ensures.chosen c.recording_of.ensures (sym c.has_flag.ensures))
+    (station_asked (words_of c.args.words.now) _ _ _ _ _ (record { place = c.in-Some.ensures; log = c.log_of.ensures; until = c.text_in.ensures })
+    c.in-Some-station_of.ensures.chosen c.recording_of.ensures (sym c.has_flag-checks.ensures) (sym c.unit_of.ensures ∙ c.in-Some-unit_of.is))

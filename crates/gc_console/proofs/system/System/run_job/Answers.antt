@@ -36,6 +36,11 @@ returns-in-NumberMissing-clause-done g c =
     rw (c.in-NumberMissing.is, c.said_of-in-NumberMissing.ensures.said) (IfOk-weaker c.refuse_numbers-ended.result _ _
     (λ status refuses. (refuses, c.said_of-in-NumberMissing.ensures.none)) c.refuse_numbers-ended.ensures.told)
 
+pub returns-in-NoUnit-clause-done : goal.returns-in-NoUnit-clause-done
+returns-in-NoUnit-clause-done g c =
+    rw (c.in-NoUnit.is, c.said_of-in-NoUnit.ensures.said) (IfOk-weaker c.refuse_unit-ended.result _ _
+    (λ status refuses. (refuses, c.said_of-in-NoUnit.ensures.none)) c.refuse_unit-ended.ensures.told)
+
 pub returns-in-StaleTooSoon-clause-done : goal.returns-in-StaleTooSoon-clause-done
 returns-in-StaleTooSoon-clause-done g c =
     rw (c.in-StaleTooSoon.is, c.said_of-in-StaleTooSoon.ensures.said) (IfOk-weaker c.refuse_stale-ended.result _ _
