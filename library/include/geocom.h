@@ -40,7 +40,8 @@
  * a feed).
  *
  * Faults (a call of a client that returns one has changed nothing, and written nothing; all else that it returns is 0):
- *   6         the line of a raw request would have more than 512 bytes
+ *   1 to 5    geocom_description_reply: the line is no reply; its first faulty field
+ *   6         the line of a raw request would have more than 512 bytes; geocom_description_reply: the line has more
  *   11 to 15  the parameters can't be read: form, range, an open quote, more than 16, another count than the procedure has. Of raw
  *             parameters: 11 a CR or LF is among them, 13, 14
  *   21        no procedure has the number
@@ -49,7 +50,8 @@
  *   62        less room than the call needs
  *   63        the state is no client's: geocom_client_init never made it, or its bytes were overwritten
  *   67        the client hasn't synchronized: geocom_client_begin comes first, and again after each restart
- *   68        geocom_client_send_raw: the procedure is one of the table, which geocom_client_send requests
+ *   68        geocom_client_send_raw, and a description: the procedure is one of the table, which geocom_client_send requests
+ *   71        the text is no description of a procedure
  * and of an instrument (after 41 and 51 to 53 none is there, and its other calls return 69):
  *   41        the scene has more targets, faults, replies or delays than an instrument can have
  *   51        a line of the scene can't be read
@@ -78,6 +80,8 @@ extern "C" {
 #define GEOCOM_TEXT_ROOM 1024
 /* How many items an answer has at most. */
 #define GEOCOM_MOST_ITEMS 16
+/* The room for the name of a column. */
+#define GEOCOM_NAME_ROOM 32
 
 /* An outstanding request. Its line has no id and no CR LF; the first `length` bytes of it are used. */
 typedef struct geocom_waiting {
@@ -241,6 +245,59 @@ geocom_count geocom_client_waiting(const geocom_client *state);
 /* Whether a line has a sign-on in it, `%N1,` at its beginning or later, which an instrument sends when it is switched on or off: 1 or 0. The
  * line is the bytes between two line feeds, without the CR at their end; a reply that was cut off may stand before the sign-on. */
 uint32_t geocom_is_sign_on(const uint8_t *line, size_t length);
+
+/* Procedures that aren't in the table, described by a text: `RPC NAME KIND .. -> COLUMN KIND ..`, as
+ *
+ *   2167 wait Long mode Long -> hz_rad Double v_rad Double ..
+ *
+ * with one space between two words; of at most 16 parameters, and of at most 16 values of an answer, a name and a kind: Double, Long, Short,
+ * Byte, Boolean or String (docs/PROTOCOL.md, "Parameters"). A name is a small letter and then small letters, digits and `_`, at most 32 bytes;
+ * the columns of the table's quantities have their kinds, and some names are taken (docs/LIBRARY.md, "Described procedures"). After a last
+ * word `..` an answer may have further values. Requests go through geocom_client_send_raw, whose rules stay. */
+
+/* The kind of a column's values. */
+enum geocom_item_kind { GEOCOM_DOUBLE = 1, GEOCOM_LONG = 2, GEOCOM_SHORT = 3, GEOCOM_BYTE = 4, GEOCOM_BOOLEAN = 5, GEOCOM_STRING = 6 };
+
+/* A column: the first `length` bytes of `name` are its name. */
+typedef struct geocom_column {
+    uint8_t name[GEOCOM_NAME_ROOM];
+    uint8_t length;
+    uint8_t kind; /* enum geocom_item_kind */
+} geocom_column;
+
+/* What geocom_description_read returns; after a fault all else is 0. */
+typedef struct geocom_description {
+    uint32_t fault;      /* 0, 62, 68 or 71 */
+    uint32_t procedure;  /* its number */
+    uint32_t parameters; /* how many it has */
+    uint32_t columns;    /* how many columns were written */
+    uint32_t more;       /* 1 if an answer may have further values; else 0 */
+} geocom_description;
+
+/* What geocom_description_reply returns; after a fault all else is 0. */
+typedef struct geocom_answer {
+    uint32_t fault;   /* 0, 1 to 6, 62, 68 or 71 */
+    uint16_t code;    /* the return code, the communication code, or the fault 11 to 15; 0 for a value */
+    uint16_t items;   /* how many items a value has; 0 for every other reading */
+    uint16_t columns; /* how many of these, the first ones, are the values of the description's columns; 0 for every other reading */
+    geocom_item places[GEOCOM_MOST_ITEMS]; /* where these items are in the text, as they came, without spaces around them */
+    uint8_t reading;  /* enum geocom_reading, from GEOCOM_VALUE on */
+} geocom_answer;
+
+/* Reads a description, and writes its columns, in order, and nothing after them. Faults: 62 (columns_room below GEOCOM_MOST_ITEMS), 68 (the
+ * text begins with the number of a procedure of the table), 71. */
+geocom_description geocom_description_read(const uint8_t *description, size_t length, geocom_column *columns, size_t columns_room);
+
+/* Checks a request's parameters by a description, as geocom_client_send does those of a procedure of the table. Returns 0, 68, 71, or 11 to
+ * 15. */
+uint32_t geocom_description_params(const uint8_t *description, size_t length, const uint8_t *params, size_t params_length);
+
+/* Reads a reply's line, without its CR LF, by a description, as the settlement of a procedure of the table is read: the first
+ * `line_length` bytes of a feed's text, of a settlement with an answer. Writes the line and its items into `text`, which is not that of the
+ * feed. The fault 15 of a code is that of an answer with another number of items than columns, or with fewer, if further values may follow.
+ * Faults: 62 (text_room below GEOCOM_TEXT_ROOM), 68, 71, 6, 1 to 5. */
+geocom_answer geocom_description_reply(const uint8_t *description, size_t length, const uint8_t *line, size_t line_length,
+                                       uint8_t *text, size_t text_room);
 
 /* How many outstanding requests haven't timed out; 0 if the state is no client's. */
 static inline uint32_t geocom_client_current(const geocom_client *state) {

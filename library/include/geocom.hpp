@@ -11,6 +11,7 @@
 #include <deque>
 #include <functional>
 #include <limits>
+#include <map>
 #include <memory>
 #include <optional>
 #include <stdexcept>
@@ -48,6 +49,69 @@ struct settlement {
     std::uint16_t code;
     std::string line;               // the answer's line, as it came
     std::vector<std::string> items; // the texts of its values, as they came
+    std::vector<std::string> columns{}; // of a described procedure's value: the names of the first items, in order
+
+    // The item of the column with this name, if there is one.
+    std::optional<std::string> find(std::string_view name) const {
+        const auto at = std::find(columns.begin(), columns.end(), name);
+        return at == columns.end() ? std::nullopt : std::optional<std::string>(items[static_cast<std::size_t>(at - columns.begin())]);
+    }
+};
+
+// A procedure that isn't in the table, described by a text (geocom.h). Throws the fault of a text that describes none: 68 or 71.
+class description {
+public:
+    struct column {
+        std::string name;
+        geocom_item_kind kind;
+    };
+
+    explicit description(std::string_view said) : text_(said) {
+        std::array<geocom_column, GEOCOM_MOST_ITEMS> columns;
+        told_ = geocom_description_read(bytes(text_), text_.size(), columns.data(), columns.size());
+        if (told_.fault != 0) throw fault(told_.fault);
+        for (std::uint32_t k = 0; k < told_.columns; ++k)
+            columns_.push_back({std::string(columns[k].name, columns[k].name + columns[k].length), geocom_item_kind(columns[k].kind)});
+    }
+
+    std::uint16_t procedure() const { return static_cast<std::uint16_t>(told_.procedure); }
+    const std::vector<column> &columns() const { return columns_; }
+
+    // Whether an answer may have further values.
+    bool more() const { return told_.more != 0; }
+
+    // Throws the fault of a request's parameters: 11 to 15.
+    void check(std::string_view params) const {
+        const std::uint32_t number = geocom_description_params(bytes(text_), text_.size(), bytes(params), params.size());
+        if (number != 0) throw fault(number);
+    }
+
+    // Reads the answer of a raw request's settlement by the description; without an answer there is nothing to read.
+    void read(settlement &s) const {
+        if (s.outcome == outcome::answered) read(s, s.line);
+    }
+
+    // The same from another line of a reply.
+    void read(settlement &s, std::string_view line) const {
+        std::array<std::uint8_t, GEOCOM_TEXT_ROOM> text;
+        const geocom_answer told =
+            geocom_description_reply(bytes(text_), text_.size(), bytes(line), line.size(), text.data(), text.size());
+        if (told.fault != 0) throw fault(told.fault);
+        s.reading = geocom::reading(told.reading);
+        s.code = told.code;
+        s.items.clear();
+        s.columns.clear();
+        for (std::uint16_t k = 0; k < told.items; ++k)
+            s.items.emplace_back(text.data() + told.places[k].offset, text.data() + told.places[k].offset + told.places[k].length);
+        for (std::uint16_t k = 0; k < told.columns; ++k) s.columns.push_back(columns_[k].name);
+    }
+
+private:
+    static const std::uint8_t *bytes(std::string_view text) { return reinterpret_cast<const std::uint8_t *>(text.empty() ? "" : text.data()); }
+
+    std::string text_;
+    geocom_description told_;
+    std::vector<column> columns_;
 };
 
 // Whether a line, without its CR LF, has a sign-on in it, which an instrument sends when it is switched on or off.
@@ -280,10 +344,22 @@ public:
     // a request that isn't settled by then is returned as lost, as no answer will be taken for it. Throws `silent` if it couldn't be sent
     // by then, `restarted` if a sign-on came before it was sent, and the fault of one that can't be sent.
     settlement ask(std::uint32_t target, std::uint16_t procedure, std::string_view params = "", std::uint64_t timeout = 0) {
-        return ask(false, target, procedure, params, timeout, sign_ons_);
+        const description *by = find(procedure);
+        if (by != nullptr) by->check(params);
+        settlement s = ask(by != nullptr, target, procedure, params, timeout, sign_ons_);
+        if (by != nullptr) by->read(s);
+        return s;
     }
 
-    // The same for a procedure that isn't in the table.
+    // Takes what a text says of a procedure that isn't in the table (geocom.h): from now on `ask` and `measure` check its parameters and read
+    // its answers, whose settlements have the columns' names; it is requested as by `ask_raw`. Throws the fault of a text that describes none.
+    const description &describe(std::string_view text) {
+        description made(text);
+        const std::uint16_t procedure = made.procedure();
+        return described_.insert_or_assign(procedure, std::move(made)).first->second;
+    }
+
+    // The same as `ask` for a procedure that isn't in the table, described or not: its answer is text.
     settlement ask_raw(std::uint32_t target, std::uint16_t procedure, std::string_view params = "", std::uint64_t timeout = 0) {
         return ask(true, target, procedure, params, timeout, sign_ons_);
     }
@@ -295,11 +371,14 @@ public:
     std::vector<settlement> measure(std::uint32_t target, const std::vector<command> &chain, std::uint64_t timeout = 0,
                                     const std::vector<std::uint16_t> &accept = {}) {
         for (const command &each : chain) tried(each);
+        for (const command &each : chain)
+            if (const description *by = find(each.first)) by->check(each.second);
         std::vector<settlement> all;
         const std::uint64_t known = sign_ons_;
         for (const command &each : chain) {
             try {
                 all.push_back(ask(tried(each).is_raw, target, each.first, each.second, timeout, known));
+                if (const description *by = find(each.first)) by->read(all.back());
             } catch (const restarted &) {
                 if (all.empty()) throw;
                 break;
@@ -348,14 +427,23 @@ private:
     }
 
     // Reads a refusal's line as that of a value: the same line with return code 0.
-    static void read_values(settlement &s, const command &asked) {
+    void read_values(settlement &s, const command &asked) const {
         if (s.reading != reading::refused) return;
         const std::size_t end = s.line.find_first_not_of("0123456789", s.line.find(':') + 1);
-        const std::string items = end == std::string::npos ? "" : s.line.substr(end);
-        const std::vector<settlement> done = tried(asked).client.feed("%R1P,0,0:0" + items + "\r\n");
-        if (done.size() != 1 || done[0].reading != reading::value) return;
+        const std::string line = "%R1P,0,0:0" + (end == std::string::npos ? "" : s.line.substr(end));
+        std::vector<settlement> done = tried(asked).client.feed(line + "\r\n");
+        if (done.size() != 1) return;
+        if (const description *by = find(asked.first)) by->read(done[0], line);
+        if (done[0].reading != reading::value) return;
         s.reading = reading::value;
         s.items = done[0].items;
+        s.columns = done[0].columns;
+    }
+
+    // What describes a procedure, if a text of `describe` does.
+    const description *find(std::uint16_t procedure) const {
+        const auto at = described_.find(procedure);
+        return at == described_.end() ? nullptr : &at->second;
     }
 
     // What the reader returns, and whether it ended a line with a sign-on in it: then nothing is sent before the client has synchronized again.
@@ -507,6 +595,7 @@ private:
     }
 
     client client_;
+    std::map<std::uint16_t, description> described_;
     reader read_;
     writer write_;
     clock now_;

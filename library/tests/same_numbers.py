@@ -1,5 +1,5 @@
 """The numbers of header, wrapper and module are those of the source: the constants of the library, each of which stands in
-the law `numbers_are_the_headers`, and the faults of a call and of a raw request that the law names. From the top of the repository; nothing has to be built."""
+the law `numbers_are_the_headers`, and the faults of a line, of a call and of a raw request that the law names. From the top of the repository; nothing has to be built."""
 
 import ast
 import re
@@ -7,7 +7,9 @@ import sys
 from pathlib import Path
 
 CONSTANT = re.compile(r"^pub const (\w+): \w+ = (\d+);", re.M)
-GROUPS = ["outcome", "reading", "kind"]
+GROUPS = ["outcome", "reading", "kind", "item_kind"]
+# What each group is called in the package.
+CLASSES = {"outcome": "Outcome", "reading": "Reading", "kind": "Kind"}
 
 
 def read(path):
@@ -29,10 +31,10 @@ def same(what, want, have):
         told.append(f"{what}: the source has {want}, and here stands {have}")
 
 
-# Each constant stands in the law. A fault is a constant of the clause `faults`, or a refusal of a call or of a raw request.
+# Each constant stands in the law. A fault is a constant of the clause `faults`, or one of a line, or a refusal of a call or of a raw request.
 same("the law", constants, {name: int(value) for clause in clauses.values() for name, value in clause.items()})
 faults = {constants[name] for clause in ("faults", "instrument_faults") for name in clauses[clause]}
-faults |= {int(number) for text in law.values() for number in re.findall(r"(?:refusal|raw|run_fault)_number [^≡]*≡ (\d+)", text)}
+faults |= {int(number) for text in law.values() for number in re.findall(r"(?:line_fault|refusal|raw|run_fault)_number [^≡]*≡ (\d+)", text)}
 groups = {group: {name: constants[name] for name in clauses[group + "s"]} for group in GROUPS}
 plain = {name: constants[name] for clause in ("version", "rooms", "instrument_rooms") for name in clauses[clause]}
 for path, name in [("crates/gc_client/src/window.rt", "WINDOW"), ("crates/gc_values/src/items.rt", "MOST_ITEMS")]:
@@ -69,9 +71,9 @@ def assigned(name):
 numbers = {name: node.value for name, node in assigned("_library") if isinstance(node, ast.Constant)}
 same("_library.py", plain, numbers)
 classes = {node.name: node for name in ["client", "settlement"] for node in modules[name].body if isinstance(node, ast.ClassDef)}
-for group in GROUPS:
-    members = [node for node in classes[group.capitalize()].body if isinstance(node, ast.Assign)]
-    same(f"{group.capitalize()} in the package", groups[group], {node.targets[0].id: node.value.value for node in members})
+for group, name in CLASSES.items():
+    members = [node for node in classes[name].body if isinstance(node, ast.Assign)]
+    same(f"{name} in the package", groups[group], {node.targets[0].id: node.value.value for node in members})
 raised = set()
 for node in ast.walk(dict(assigned("errors"))["_FAULTS"]):
     if isinstance(node, ast.Dict):

@@ -14,6 +14,7 @@ from decimal import Decimal
 
 import geocom
 import geocom.aio
+import station_described
 import station_starts
 import station_troubles
 from geocom import RC, Face, Outcome, PrismType
@@ -253,7 +254,7 @@ def the_library_is_loaded_at_the_first_use():
 def what_is_public():
     for name in geocom.__all__:
         assert getattr(geocom, name) is not None
-    for name in ["BadWidth", "InTable", "LineTooLong", "NoClient", "NoRoom", "NotBegun", "UnknownProcedure", "WindowFull"]:
+    for name in ["BadWidth", "InTable", "LineTooLong", "NoClient", "NoDescription", "NoReply", "NoRoom", "NotBegun", "UnknownProcedure", "WindowFull"]:
         assert issubclass(getattr(geocom, name), geocom.Fault)
     assert "bit_length" not in pydoc.plain(pydoc.render_doc(geocom))  # of int, which each IntEnum has
     for code in RC:
@@ -261,7 +262,7 @@ def what_is_public():
 
 
 CASES = [it for name, it in list(globals().items()) if isinstance(it, types.FunctionType) and name not in ("scripted", "raised")]
-CASES += station_starts.CASES + station_troubles.CASES
+CASES += station_described.CASES + station_starts.CASES + station_troubles.CASES
 if __name__ == "__main__":  # a process that a case starts reads this file, too
     for case in CASES:
         case()

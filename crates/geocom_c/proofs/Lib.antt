@@ -4,6 +4,7 @@ mod Clients
 mod Places
 mod Items
 mod Records
+mod DescribedReplies
 mod Frames
 mod Hearings
 mod Answering

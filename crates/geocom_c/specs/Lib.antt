@@ -5,6 +5,9 @@ pub mod Rooms
 pub mod Sending
 pub mod Deadlines
 pub mod Settled
+pub mod Columns
+pub mod Describing
+pub mod Described
 pub mod Feeding
 pub mod Beginning
 pub mod Following

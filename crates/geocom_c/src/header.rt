@@ -2,12 +2,14 @@
 //! the faults, which are listed in the comment at its top.
 
 ghost use Rattle.std.specs.Prelude.{◌≡◌};
+ghost use Rattle.gc_lines.specs.Faults.{line_fault_number};
+ghost use Rattle.gc_lines.specs.declared.fault.LineFault.{LineFault};
 ghost use Rattle.gc_values.specs.declared.fault.ValueFault.{ValueFault};
 ghost use Rattle.gc_catalogue.specs.CallFault.{refusal_number};
 ghost use Rattle.gc_catalogue.specs.declared.fault.CallFault.{CallFault};
 ghost use Rattle.gc_catalogue.specs.declared.raw.RawFault.{RawFault};
 ghost use Rattle.geocom_c.specs.Sending.{raw_number};
-ghost use Rattle.geocom_c.specs.declared.header.TheConstants.{VERSION, LINE_ROOM, TEXT_ROOM, WINDOW_FULL, NO_WIDTH, NO_ROOM, NO_CLIENT, NOT_BEGUN, IN_TABLE, ANSWERED, LATE, LOST, NONE, VALUE, REFUSED, COM_FAULT, UNREADABLE, MORE, SETTLED, STRAY, UNREAD, CLEARED, OVERLONG};
+ghost use Rattle.geocom_c.specs.declared.header.TheConstants.{VERSION, LINE_ROOM, TEXT_ROOM, NAME_ROOM, WINDOW_FULL, NO_WIDTH, NO_ROOM, NO_CLIENT, NOT_BEGUN, IN_TABLE, NO_DESCRIPTION, DOUBLE, LONG, SHORT, BYTE, BOOLEAN, STRING, ANSWERED, LATE, LOST, NONE, VALUE, REFUSED, COM_FAULT, UNREADABLE, MORE, SETTLED, STRAY, UNREAD, CLEARED, OVERLONG};
 
 /// The version of the calls and of the structs that they take.
 pub const VERSION: u32 = 2;
@@ -19,6 +21,9 @@ pub const LINE_ROOM: usize = 514;
 
 /// The most bytes of an answer's text: a line of at most 512, and after it the items of its parameters, which are parts of it.
 pub const TEXT_ROOM: usize = 1024;
+
+/// The most bytes of a column's name.
+pub const NAME_ROOM: usize = 32;
 
 // The library's own faults, and that of a full window, which is gc_client's.
 
@@ -37,8 +42,31 @@ pub const NO_CLIENT: u32 = 63;
 /// The client hasn't synchronized: `geocom_client_begin` hasn't heard the eighth answer, at first or after a restart.
 pub const NOT_BEGUN: u32 = 67;
 
-/// A raw request's number is that of a procedure of the table.
+/// A raw request's number is that of a procedure of the table, and so is that of a description.
 pub const IN_TABLE: u32 = 68;
+
+/// A text is no description of a procedure.
+pub const NO_DESCRIPTION: u32 = 71;
+
+// Item kinds: of which kind a value is that a description has a column for.
+
+/// A decimal.
+pub const DOUBLE: u8 = 1;
+
+/// A whole number of 32 bits.
+pub const LONG: u8 = 2;
+
+/// A whole number of 16 bits.
+pub const SHORT: u8 = 3;
+
+/// A byte, as two hexadecimal digits between single quotes.
+pub const BYTE: u8 = 4;
+
+/// 0 or 1.
+pub const BOOLEAN: u8 = 5;
+
+/// Bytes between double quotes.
+pub const STRING: u8 = 6;
 
 // Outcomes: how a request ended.
 
@@ -88,11 +116,16 @@ pub const CLEARED: u32 = 4;
 /// A line of more than 512 bytes, which is discarded.
 pub const OVERLONG: u32 = 5;
 
-/// The constants have the values of the C header, and so have the faults of a call and of a raw request, which are
-/// gc_catalogue's. `library/tests/same_numbers.py` compares these clauses with the constants above and with the header.
+/// The constants have the values of the C header, and so have the faults of a line, which are gc_lines', and those of a call and of a raw
+/// request, which are gc_catalogue's. `library/tests/same_numbers.py` compares these clauses with the constants above and with the header.
 pub fn numbers_are_the_headers()
     ensures version { VERSION ≡ 2 }
-    ensures rooms { (LINE_ROOM ≡ 514) × (TEXT_ROOM ≡ 1024) }
+    ensures rooms { (LINE_ROOM ≡ 514) × (TEXT_ROOM ≡ 1024) × (NAME_ROOM ≡ 32) }
+    ensures signature { line_fault_number LineFault.Signature ≡ 1 }
+    ensures number { line_fault_number LineFault.Number ≡ 2 }
+    ensures id { line_fault_number LineFault.Id ≡ 3 }
+    ensures colon { line_fault_number LineFault.Colon ≡ 4 }
+    ensures code { line_fault_number LineFault.Code ≡ 5 }
     ensures procedure { refusal_number CallFault.Unknown ≡ 21 }
     ensures spelling { refusal_number (CallFault.Parameters ValueFault.Spelling) ≡ 11 }
     ensures range { refusal_number (CallFault.Parameters ValueFault.Range) ≡ 12 }
@@ -104,7 +137,8 @@ pub fn numbers_are_the_headers()
     ensures raw_too_long { raw_number RawFault.TooLong ≡ 6 }
     ensures raw_open_quote { raw_number RawFault.OpenQuote ≡ 13 }
     ensures raw_too_many { raw_number RawFault.TooMany ≡ 14 }
-    ensures faults { (WINDOW_FULL ≡ 31) × (NO_WIDTH ≡ 61) × (NO_ROOM ≡ 62) × (NO_CLIENT ≡ 63) × (NOT_BEGUN ≡ 67) × (IN_TABLE ≡ 68) }
+    ensures faults { (WINDOW_FULL ≡ 31) × (NO_WIDTH ≡ 61) × (NO_ROOM ≡ 62) × (NO_CLIENT ≡ 63) × (NOT_BEGUN ≡ 67) × (IN_TABLE ≡ 68) × (NO_DESCRIPTION ≡ 71) }
+    ensures item_kinds { (DOUBLE ≡ 1) × (LONG ≡ 2) × (SHORT ≡ 3) × (BYTE ≡ 4) × (BOOLEAN ≡ 5) × (STRING ≡ 6) }
     ensures outcomes { (ANSWERED ≡ 1) × (LATE ≡ 2) × (LOST ≡ 3) }
     ensures readings { (NONE ≡ 0) × (VALUE ≡ 1) × (REFUSED ≡ 2) × (COM_FAULT ≡ 3) × (UNREADABLE ≡ 4) }
     ensures kinds { (MORE ≡ 0) × (SETTLED ≡ 1) × (STRAY ≡ 2) × (UNREAD ≡ 3) × (CLEARED ≡ 4) × (OVERLONG ≡ 5) }

@@ -6,6 +6,9 @@
 mod answers;
 mod beginning;
 mod calls;
+mod columns;
+mod described;
+mod describing;
 mod feeding;
 mod following;
 mod header;
@@ -24,6 +27,9 @@ pub use calls::{
     geocom_client_expire, geocom_client_init, geocom_client_next_deadline, geocom_client_waiting,
     geocom_version,
 };
+pub use columns::GeocomColumn;
+pub use described::{GeocomAnswer, geocom_description_reply};
+pub use describing::{GeocomDescription, geocom_description_params, geocom_description_read};
 pub use feeding::{geocom_client_feed, geocom_client_restart};
 pub use following::{StateCall, follow};
 pub use header::numbers_are_the_headers;

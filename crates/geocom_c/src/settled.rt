@@ -55,7 +55,7 @@ fn unanswered(settlement: &Settlement<Asked>, outcome: u8) -> GeocomSettlement
 }
 
 // The number of a reading's kind, and its code: 0 for a value, else that of the refusal or of the fault.
-fn kind_of(reading: &Reading) -> (u8, u16)
+pub(crate) fn kind_of(reading: &Reading) -> (u8, u16)
     ensures { IsKind reading.now result.0 result.1 }
 {
     match reading {

@@ -14,7 +14,8 @@ and the easy way to it.
   (`hz_rad`, `distance_m`), and raises `Refused`, `Late`, `Lost` or `Unreadable`, each a `NoValue`;
 - by number: `station.ask(2108, 5000, 1, target=7, timeout=30)` gives a `Settlement`, be it
   answered, refused, late or lost; `settlement.value()` is the named tuple, or raises.
-  `station.raw(number, ..)` asks what isn't in the table.
+  `station.raw(number, ..)` asks what isn't in the table; once `station.describe(text)` has said
+  what such a procedure takes and answers, `station.ask` does, too.
 
 `Instrument(scene)` is the instrument of a scene, within the process, for tests of your own:
 `geocom.testing` has a fixture of it for pytest.
@@ -49,13 +50,17 @@ from .angles import degrees_to_rad, gon_to_rad, rad_to_degrees, rad_to_gon
 from .chains import Chain, Cycle, Row
 from .client import Client, Kind
 from .codes import RC
+from .described import Description
+from .described import Field as Field
 from .errors import BadParameters, BadScene, Fault, Late, Lost
 from .errors import NotReady, NoValue, Refused, Restarted, Unreadable
 from .errors import BadWidth as BadWidth
 from .errors import InTable as InTable
 from .errors import LineTooLong as LineTooLong
 from .errors import NoClient as NoClient
+from .errors import NoDescription as NoDescription
 from .errors import NoInstrument as NoInstrument
+from .errors import NoReply as NoReply
 from .errors import NoRoom as NoRoom
 from .errors import NotBegun as NotBegun
 from .errors import UnknownProcedure as UnknownProcedure
@@ -75,6 +80,7 @@ __all__ = [
     "Chain",
     "Client",
     "Cycle",
+    "Description",
     "DistanceMode",
     "Face",
     "Fault",

@@ -16,6 +16,7 @@ LINE_ROOM = 514
 TEXT_ROOM = 1024
 REPLY_ROOM = 514
 MOST_ITEMS = 16
+NAME_ROOM = 32
 
 
 class _Waiting(ctypes.Structure):
@@ -91,6 +92,35 @@ class _Heard(ctypes.Structure):
     ]
 
 
+class _Column(ctypes.Structure):
+    _fields_ = [
+        ("name", ctypes.c_uint8 * NAME_ROOM),
+        ("length", ctypes.c_uint8),
+        ("kind", ctypes.c_uint8),
+    ]
+
+
+class _Description(ctypes.Structure):
+    _fields_ = [
+        ("fault", ctypes.c_uint32),
+        ("procedure", ctypes.c_uint32),
+        ("parameters", ctypes.c_uint32),
+        ("columns", ctypes.c_uint32),
+        ("more", ctypes.c_uint32),
+    ]
+
+
+class _Answer(ctypes.Structure):
+    _fields_ = [
+        ("fault", ctypes.c_uint32),
+        ("code", ctypes.c_uint16),
+        ("items", ctypes.c_uint16),
+        ("columns", ctypes.c_uint16),
+        ("places", _Item * MOST_ITEMS),
+        ("reading", ctypes.c_uint8),
+    ]
+
+
 class _Made(ctypes.Structure):
     _fields_ = [("fault", ctypes.c_uint32), ("line", ctypes.c_uint32)]
 
@@ -116,6 +146,9 @@ STRUCTURES: dict[str, type[ctypes.Structure]] = {
     "geocom_deadline": _Deadline,
     "geocom_beginning": _Beginning,
     "geocom_heard": _Heard,
+    "geocom_column": _Column,
+    "geocom_description": _Description,
+    "geocom_answer": _Answer,
     "geocom_made": _Made,
     "geocom_replied": _Replied,
 }
@@ -140,6 +173,9 @@ _CALLS: dict[str, tuple[Any, list[Any]]] = {
     "geocom_client_next_deadline": (_Deadline, [_STATE]),
     "geocom_client_restart": (_Count, [_STATE, _RECORDS, _SIZE]),
     "geocom_client_waiting": (_Count, [_STATE]),
+    "geocom_description_read": (_Description, [*_TEXT, ctypes.POINTER(_Column), _SIZE]),
+    "geocom_description_params": (ctypes.c_uint32, [*_TEXT, *_TEXT]),
+    "geocom_description_reply": (_Answer, [*_TEXT, *_TEXT, *_TEXT]),
     "geocom_instrument_size": (_SIZE, []),
     "geocom_instrument_init": (_Made, [ctypes.c_void_p, *_TEXT]),
     "geocom_instrument_feed": (_Replied, [ctypes.c_void_p, *_TEXT, ctypes.c_uint64]),

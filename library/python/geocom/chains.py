@@ -4,11 +4,12 @@ from __future__ import annotations
 
 import datetime
 import math
-from collections.abc import Iterable
+from collections.abc import Iterable, Mapping
 from dataclasses import dataclass
 from typing import Optional
 
 from .client import refuse
+from .described import Description
 from .errors import NoValue
 from .results import TABLE
 from .settlement import Outcome, Request, Settlement
@@ -124,24 +125,41 @@ def is_good(settlement: Settlement, accept: tuple[int, ...]) -> bool:
     return True
 
 
+#: The described procedures of a station, by their numbers.
+Described = Mapping[int, Description]
+
+
 def make_request(
-    procedure: int, parameters: tuple[Parameter, ...], target: int, timeout: float, is_raw: bool
+    procedure: int,
+    parameters: tuple[Parameter, ...],
+    target: int,
+    timeout: float,
+    described: Optional[Described],
 ) -> Request:
-    """A request of a station. Raises what the library refuses of it, before anything is asked."""
+    """A request of a station, which has these described procedures; None: a raw one. Raises what
+    the library refuses of it, before anything is asked.
+    """
     procedure = whole(procedure)
-    kinds = () if is_raw or procedure not in TABLE else TABLE[procedure].kinds
+    by = None if described is None else described.get(procedure)
+    kinds: tuple[str, ...] = () if not by else tuple(each.kind for each in by.parameters)
+    if described is not None and procedure in TABLE:
+        kinds = TABLE[procedure].kinds
     text = line(kinds, parameters)
+    if by:
+        by.refuse(text)
+    is_raw = described is None or by is not None
     refuse(procedure, text, is_raw)
-    return Request(procedure, text, target, milliseconds(timeout), is_raw)
+    return Request(procedure, text, target, milliseconds(timeout), is_raw, by)
 
 
-def requests(chain: Chain, timeout: float, known: int) -> list[Request]:
+def requests(chain: Chain, timeout: float, known: int, described: Described) -> list[Request]:
     """The requests of a chain, of whose caller so many sign-ons are known. Raises what the library
     refuses of any, before one goes out.
     """
+    has = {*TABLE, *described}
     made = [
-        make_request(procedure, parameters, chain.target, timeout, procedure not in TABLE)
-        for procedure, parameters in chain.commands
+        make_request(number, given, chain.target, timeout, described if number in has else None)
+        for number, given in chain.commands
     ]
     for request in made:
         request.known = known

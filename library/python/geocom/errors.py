@@ -31,6 +31,12 @@ class Fault(_Kept):
         self.number = number
 
 
+class NoReply(Fault):
+    """1 to 5: the line that a description is to read is no reply; its first faulty field."""
+
+    text = "the line is no reply"
+
+
 class LineTooLong(Fault):
     """6: the line of a raw request would have more than 512 bytes."""
 
@@ -83,9 +89,17 @@ class NotBegun(Fault):
 
 
 class InTable(Fault):
-    """68: the procedure is one of the table, which `send` asks."""
+    """68: the procedure is one of the table, which `send` asks, and no text describes."""
 
     text = "the procedure is one of the table: send asks it"
+
+
+class NoDescription(Fault, ValueError):
+    """71: the text describes no procedure."""
+
+    def __init__(self, number: int, text: str = ""):
+        self.text = f"{text!r} isn't of the form 'RPC NAME KIND .. -> COLUMN KIND ..'"
+        super().__init__(number)
 
 
 class NoInstrument(Fault):
@@ -148,13 +162,21 @@ _FAULTS: dict[int, type[Fault]] = {
     67: NotBegun,
     68: InTable,
     69: NoInstrument,
-} | {number: BadParameters for number in range(11, 16)}
+    71: NoDescription,
+} | {each: BadParameters for each in range(11, 16)} | {each: NoReply for each in range(1, 6)}
 
 
 def check(number: int) -> None:
     """Raises the fault of a number, if it is one."""
     if number:
         raise _FAULTS.get(number, Fault)(number)
+
+
+def check_description(number: int, text: str) -> None:
+    """As `check`, of a text that is to describe a procedure."""
+    if number == 71:
+        raise NoDescription(number, text)
+    check(number)
 
 
 class NotReady(TimeoutError):

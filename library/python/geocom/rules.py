@@ -203,7 +203,7 @@ class Rules:
         if not (request := self.waiting.pop(settlement.target, None)):
             return  # it was given up already
         vars(settlement)["target"] = request.target  # nobody else has it yet
-        request.settlement = settlement
+        request.settle(settlement)
         if settlement.outcome != Outcome.LOST and not request.is_raw:
             self._behind = len(self.waiting)
         log.debug("target %d, %d: %s", request.target, request.procedure, settlement.outcome)

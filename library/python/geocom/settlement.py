@@ -7,9 +7,10 @@ import enum
 import re
 from collections.abc import Container
 from dataclasses import dataclass
-from typing import Any
+from typing import Any, Optional
 
 from .codes import RC
+from .described import Description
 from .errors import Late, Lost, Refused, Unreadable
 from .results import TABLE
 from .values import Listed
@@ -55,6 +56,8 @@ class Settlement:
     line: str | None
     #: the texts of the answer's values, as they came: `decimal.Decimal(item)` of a double is exact
     items: tuple[str, ...]
+    #: what describes the procedure, if a text of `Station.describe` does
+    description: Optional[Description] = None
 
     @property
     def rc(self) -> RC | None:
@@ -66,7 +69,7 @@ class Settlement:
 
     def value(self, accept: Container[int] = ()) -> Any:
         """What was answered: the procedure's named tuple, None where it answers nothing, and of a
-        raw one its items.
+        raw one its items. A described one's tuple has its columns.
 
         `accept` has return codes whose answer is taken as one with 0, as
         `RC.GRC_TMC_ACCURACY_GUARANTEE`. Raises Late, Lost, Unreadable, and Refused for each other
@@ -81,6 +84,8 @@ class Settlement:
             raise Refused(self)
         elif self.reading == Reading.UNREADABLE:
             raise Unreadable(self)
+        if self.description:
+            return self.description.value(items)
         procedure = TABLE.get(self.procedure)
         try:
             return procedure.read(items) if procedure else items
@@ -93,13 +98,18 @@ class Settlement:
         """
         from .client import begun
 
+        line = _CODES.sub("%R1P,0,0:0", self.line or "")
+        if self.description:
+            reading, _, items = self.description.answer(line)
+            if reading != Reading.VALUE:
+                raise Unreadable(self)
+            return items
         client = begun()
         if procedure := TABLE.get(self.procedure):
             zeros = ",".join("'00'" if kind == "Byte" else "0" for kind in procedure.kinds)
             client.send(0, 0, self.procedure, zeros)
         else:
             client.send_raw(self.procedure, target=0, deadline=0)
-        line = _CODES.sub("%R1P,0,0:0", self.line or "")
         (done,) = client.feed(line.encode("latin-1") + b"\r\n")
         if done.reading != Reading.VALUE:
             raise Unreadable(self)
@@ -110,10 +120,16 @@ class Request:
     """A request, and how it ended."""
 
     def __init__(
-        self, procedure: int, parameters: str, target: int, timeout: int, is_raw: bool = False
+        self,
+        procedure: int,
+        parameters: str,
+        target: int,
+        timeout: int,
+        is_raw: bool = False,
+        description: Optional[Description] = None,
     ):
         self.procedure, self.parameters, self.target = procedure, parameters, target
-        self.timeout, self.is_raw = timeout, is_raw
+        self.timeout, self.is_raw, self.description = timeout, is_raw, description
         #: The stretch that it has to go out in, where a chain asks for it: one ends with its
         #: connection, and where the station begins anew.
         self.within: int | None = None
@@ -131,6 +147,15 @@ class Request:
     def is_outdated(self, sign_ons: int) -> bool:
         """Whether a sign-on came that its caller doesn't know of."""
         return self.known not in (None, sign_ons)
+
+    def settle(self, settlement: Settlement) -> None:
+        """It ended. An answer to a described procedure is read by its description."""
+        if self.description and settlement.line is not None:
+            reading, code, items = self.description.answer(settlement.line)
+            vars(settlement).update(
+                reading=Reading(reading), code=code, items=items, description=self.description
+            )
+        self.settlement = settlement
 
     def is_over(self, now: int) -> bool:
         """Whether it is settled, refused, or given up by its deadline."""

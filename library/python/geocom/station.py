@@ -10,6 +10,7 @@ from collections.abc import Callable, Iterable, Iterator
 from typing import Any, Optional
 
 from .chains import Chain, Cycle, Pace, Row, ended, is_good, make_request, requests, skipped
+from .described import Description
 from .errors import NotReady
 from .named import Aut, Bap, Com, Csv, Tmc
 from .ports import Where, opener
@@ -46,6 +47,7 @@ class Station(Turns):
         sleep: Callable[[float], None] = time.sleep,
     ):
         self.timeout, self.accept = timeout, tuple(accept)
+        self._described: dict[int, Description] = {}
         rules = Rules(1, milliseconds(timeout), milliseconds(quiet, 0))
         super().__init__(opener(port, baud), rules, clock, sleep)
         self._lock, self._process = threading.RLock(), os.getpid()
@@ -116,7 +118,7 @@ class Station(Turns):
         Nothing was asked then.
         """
         timeout = self._patience(timeout)
-        return self._ask(make_request(procedure, parameters, target, timeout, is_raw=False))
+        return self._ask(make_request(procedure, parameters, target, timeout, self._described))
 
     def raw(
         self,
@@ -132,7 +134,20 @@ class Station(Turns):
         LineTooLong, too.
         """
         timeout = self._patience(timeout)
-        return self._ask(make_request(procedure, parameters, target, timeout, is_raw=True))
+        return self._ask(make_request(procedure, parameters, target, timeout, None))
+
+    def describe(self, text: str) -> Description:
+        """Takes what a text says of a procedure that isn't in the table: its parameters, and the
+        columns of its answer's values, as in "2167 wait Long mode Long -> hz_rad Double v_rad
+        Double ..", of which `..` says that further values may follow.
+
+        From then on `ask`, `measure` and `cycles` check its parameters, and read its answers: the
+        value is a named tuple of the columns, and `items` has all texts. It goes out as a raw
+        request does. Raises NoDescription and InTable.
+        """
+        description = Description.of(text)
+        self._described[description.procedure] = description
+        return description
 
     def value_of(
         self,
@@ -165,7 +180,7 @@ class Station(Turns):
     def _measure(self, chain: Chain, known: int) -> list[Row]:
         rows: list[Row] = []
         accept = (*self.accept, *chain.accept)
-        asked = requests(chain, self._patience(chain.timeout), known)
+        asked = requests(chain, self._patience(chain.timeout), known, self._described)
         within = None
         self._refuse_fork()
         with self._lock:

@@ -7,6 +7,7 @@ from collections.abc import AsyncIterator, Iterable
 from typing import Any, Optional
 
 from ..chains import Chain, Cycle, Pace, Row, ended, is_good, make_request, requests, skipped
+from ..described import Description
 from ..errors import NotReady
 from ..rules import Rules
 from ..settlement import Request, Settlement
@@ -37,6 +38,7 @@ class Station:
         width: int = 1,
     ):
         self.timeout, self.accept = timeout, tuple(accept)
+        self._described: dict[int, Description] = {}
         self._rules = Rules(width, milliseconds(timeout), milliseconds(quiet, 0))
         self._turns = Turns(opener(port, baud), self._rules)
         #: The procedures by their names.
@@ -76,7 +78,8 @@ class Station:
         timeout: Optional[float] = None,
     ) -> Settlement:
         """As `geocom.Station.ask`."""
-        asked = make_request(procedure, parameters, target, self._patience(timeout), is_raw=False)
+        timeout = self._patience(timeout)
+        asked = make_request(procedure, parameters, target, timeout, self._described)
         return await self._alone(asked)
 
     async def raw(
@@ -87,8 +90,14 @@ class Station:
         timeout: Optional[float] = None,
     ) -> Settlement:
         """As `geocom.Station.raw`."""
-        asked = make_request(procedure, parameters, target, self._patience(timeout), is_raw=True)
+        asked = make_request(procedure, parameters, target, self._patience(timeout), None)
         return await self._alone(asked)
+
+    def describe(self, text: str) -> Description:
+        """As `geocom.Station.describe`."""
+        description = Description.of(text)
+        self._described[description.procedure] = description
+        return description
 
     async def value_of(
         self,
@@ -113,7 +122,7 @@ class Station:
     async def _measure(self, chain: Chain, known: int) -> list[Row]:
         rows: list[Row] = []
         accept = (*self.accept, *chain.accept)
-        asked = requests(chain, self._patience(chain.timeout), known)
+        asked = requests(chain, self._patience(chain.timeout), known, self._described)
         within = None
         async with self._turns.join():
             for place, request in enumerate(asked):
