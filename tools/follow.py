@@ -176,7 +176,7 @@ def words(does, *others):
     for name, help_text in others:
         said.add_argument(name, help=help_text)
     said.add_argument("--as", dest="source", metavar="NAME", help="what the sink calls this file; its full path where nothing is said")
-    said.add_argument("--once", action="store_true", help="end behind the last whole row, in place of waiting for more")
+    said.add_argument("--once", action="store_true", help="end after the last whole row, in place of waiting for more")
     said.add_argument("--rest", type=float, default=1.0, metavar="SECONDS", help="how long to wait at the end of the file (1)")
     return said
 

@@ -53,7 +53,7 @@
  *   68        geocom_client_send_raw, and a description: the procedure is one of the table, which geocom_client_send requests
  *   71        the text is no description of a procedure
  * and of an instrument (after 41 and 51 to 53 none is there, and its other calls return 69):
- *   41        the scene has more targets, faults, replies or delays than an instrument can have
+ *   41        the scene has more targets, faults, replies, delays or restarts at a request than an instrument can have
  *   51        a line of the scene can't be read
  *   52        memory was refused
  *   53        the scene has more than 65,536 bytes
@@ -334,7 +334,7 @@ typedef struct geocom_replied {
     uint64_t due;                     /* the moment at which the reply goes out, in milliseconds of the caller's clock; 0 if none */
     uint32_t fault;                   /* 0 or 69 */
     uint32_t count;                   /* how many bytes the reply has, with CR LF; 0: there is none */
-    uint8_t reply[GEOCOM_REPLY_ROOM]; /* the first `count` bytes are the reply */
+    uint8_t reply[GEOCOM_REPLY_ROOM]; /* the first `count` bytes are the reply, or a sign-on in its place */
 } geocom_replied;
 
 /* How many bytes an instrument takes. */

@@ -364,10 +364,10 @@ public:
         return ask(true, target, procedure, params, timeout, sign_ons_);
     }
 
-    // Runs a chain: each command is sent once the one before it was answered with a value. It ends after the first that wasn't, and before
-    // the first that a sign-on came before: `restarted` is thrown only if that is the chain's first. A
-    // procedure that isn't in the table is requested as by `ask_raw`. An answer whose return code is in `accept` is a value, with this
-    // code, if its items can be read. Throws the fault of any command that can't be sent before the first one is.
+    // Runs a chain: each command is sent once the one before it was answered with a value. It ends after the first that wasn't, or where a
+    // sign-on came; `restarted` is thrown only if that was before the chain's first command was sent. A procedure that isn't in the table
+    // is requested as by `ask_raw`. An answer whose return code is in `accept` is a value, with this code, if its items can be read.
+    // Throws the fault of any command that can't be sent before the first one is.
     std::vector<settlement> measure(std::uint32_t target, const std::vector<command> &chain, std::uint64_t timeout = 0,
                                     const std::vector<std::uint16_t> &accept = {}) {
         for (const command &each : chain) tried(each);

@@ -21,7 +21,7 @@ complete -c geocom -n '__fish_seen_subcommand_from drill station rehearse' -l wi
 complete -c geocom -n '__fish_seen_subcommand_from serve ask station' -a '(__fish_complete_path /dev/tty)' -d 'a device'
 complete -c geocom -n '__fish_seen_subcommand_from serve' -l any-address -d 'listens at an address'
 complete -c geocom -n '__fish_seen_subcommand_from serve' -l connections -x -d 'how many connections'
-complete -c geocom -n '__fish_seen_subcommand_from serve' -l keep -d 'serves on behind a fault'
+complete -c geocom -n '__fish_seen_subcommand_from serve' -l keep -d 'serves on after a fault'
 complete -c geocom -n '__fish_seen_subcommand_from serve' -l idle -x -d 'seconds, and then a connection is closed'
 complete -c geocom -n '__fish_seen_subcommand_from station rehearse' -l deadline -x -d 'milliseconds, and then a request is given up'
 complete -c geocom -n '__fish_seen_subcommand_from station rehearse' -l every -x -d 'seconds between cycles'

@@ -184,7 +184,7 @@ def utc() -> datetime.datetime:
 
 
 class Pace:
-    """When cycles are due: each `every` seconds behind the beginning of the one before it."""
+    """When cycles are due: each `every` seconds after the beginning of the one before it."""
 
     def __init__(self, every: float):
         if not 0 <= every < math.inf:

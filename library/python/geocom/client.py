@@ -112,9 +112,9 @@ class Client:
         at most 512 bytes of line. What an answer with both codes 0 says is text: its reading is
         VALUE, and `items` has the items of its parameters.
 
-        Ids come round behind eight requests, and an instrument may keep its reply over a procedure
-        that it doesn't know. So behind six raw requests in a row send a null procedure (`send` with
-        procedure 0), send on once it, or another one behind it, is answered, and drop what it says.
+        Ids come round after eight requests, and an instrument may keep its reply over a procedure
+        that it doesn't know. So after six raw requests in a row send a null procedure (`send` with
+        procedure 0), send on once it, or another one after it, is answered, and drop what it says.
         An instrument that knows each procedure which is asked needs none of it. A `geocom.Station`
         does so by itself.
 

@@ -85,7 +85,7 @@ class Description:
         return told.reading, told.code, tuple(item.decode("latin-1") for item in items)
 
     def value(self, items: tuple[str, ...]) -> Any:
-        """The named tuple of an answer's items, without those behind the columns."""
+        """The named tuple of an answer's items, without those after the columns."""
         values = (_READERS[each.kind](item) for each, item in zip(self.columns, items))
         return _tuple(self.procedure, tuple(each.name for each in self.columns))(*values)
 
@@ -96,7 +96,7 @@ def _fields(words: list[str]) -> tuple[Field, ...]:
 
 @functools.lru_cache(maxsize=None)
 def _tuple(procedure: int, names: tuple[str, ...]) -> Any:
-    """The class of a procedure's named tuples. A word of Python's own has `_` behind it."""
+    """The class of a procedure's named tuples. A word of Python's own has `_` after it."""
     make: Any = collections.namedtuple
     plain = [f"{name}_" if keyword.iskeyword(name) else name for name in names]
     return make(f"Answer{procedure}", plain, rename=True)

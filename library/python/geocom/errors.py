@@ -132,7 +132,7 @@ FORMS = {
     "serial": "serial N",
     "name": "name TEXT",
     "target": "target HZ V DISTANCE",
-    "fault": "fault RPC RC [after COUNT] [for COUNT], or fault RPC restart [after COUNT] [for COUNT]",
+    "fault": "fault RPC RC [after COUNT] [for COUNT] or fault RPC restart [after COUNT] [for COUNT]",
     "answer": "answer RPC RC[,PARAMS]",
     "blocked": "blocked TARGET FROM TO",
     "drift": "drift TARGET HZ V D",
@@ -140,7 +140,7 @@ FORMS = {
     "repeats": "repeats no",
     "behave": "behave WORD",
     "delay": "delay RPC MS",
-    "busy": "busy queue, or busy drop",
+    "busy": "busy queue or busy drop",
 }
 
 
@@ -184,7 +184,7 @@ class NotReady(TimeoutError):
 
 
 class Restarted(NotReady):
-    """A sign-on came behind the call: the instrument was switched on or off, and the request was
+    """A sign-on came after the call: the instrument was switched on or off, and the request was
     not sent. Send your setup again, and then the request.
     """
 

@@ -13,7 +13,7 @@ requests get. And the station holds back: a request goes out only while those th
 that the last line ended that ended any, are together fewer than seven. A damaged line that ended
 several so has it send none whose id a reply that is still under way might have.
 
-Behind a sign-on nothing goes out before all that wait are settled or given up, and the client has
+After a sign-on nothing goes out before all that wait are settled or given up, and the client has
 begun anew; and nothing that was wanted before, as the caller's setup comes first.
 """
 
@@ -51,15 +51,15 @@ class Rules:
         # When the null procedure that is asked goes out again, or 0: now.
         self._again = 0
         # From when a pause or a quiet time counts; when the last reply line came, or the first
-        # request behind it went.
+        # request after it went.
         self._since = self._alive = 0
         self._is_asked = False
         self._pause = 0
-        # How many requests are behind the last one of the table that a reply ended, at most seven;
+        # How many requests came after the last one of the table that a reply ended, at most seven;
         # seven where the client has begun, and no reply has ended one yet.
         self._behind = WINDOW
         self._replies = 0
-        # When the last turn ended behind which nothing was wanted.
+        # When the last turn ended after which nothing was wanted.
         self._idle: int | None = None
         self.sign_ons = Listener()
         # Whether one came since the client has begun.
@@ -87,7 +87,7 @@ class Rules:
             self._idle = now
 
     def is_skipped(self, request: Request) -> bool:
-        """Whether it may go out no more: its chain's stretch is over, or a sign-on came behind its
+        """Whether it may go out no more: its chain's stretch is over, or a sign-on came after its
         call.
         """
         is_broken = request.within not in (None, self.stretch)
@@ -98,13 +98,13 @@ class Rules:
         return not_ready(failure, bool(request and request.is_outdated(self.sign_ons.count)))
 
     def delay(self, now: int) -> int:
-        """What remains of a pause, and the quiet time behind it."""
+        """What remains of a pause, and the quiet time after it."""
         paused = self._since + self._pause - now if self.phase is Phase.PAUSING else 0
         return max(0, paused) + (self.quiet if self.client.has_begun else 0)
 
     def broken_off(self, is_connected: bool, now: int) -> None:
         """An exception left something half done. All that waits is lost, and the client begins anew
-        behind a line feed. Nothing is logged: that may be what raised.
+        after a line feed. Nothing is logged: that may be what raised.
         """
         self.client.restart()
         for request in self.waiting.values():
@@ -229,7 +229,7 @@ class Rules:
         return self._write(self.client.begin())
 
     def _command(self, now: int) -> Step:
-        """The next command, if it may go out: behind a call of the table that a reply ended, of the
+        """The next command, if it may go out: after a call of the table that a reply ended, of the
         seven before it. Else a null procedure, once none that goes before it may be answered in
         time.
         """
@@ -255,7 +255,7 @@ class Rules:
         """
         if self.client.current > 0 or self._is_dead(now):
             return self._read(now)
-        log.info("nothing may still be answered: begins anew")
+        log.info("nothing may still be answered: resynchronizes")
         for settlement in self.client.restart():
             self._settle(settlement)
         self._again, self._behind, self._is_doubtful = 0, WINDOW, False

@@ -133,7 +133,7 @@ class Request:
         #: The stretch that it has to go out in, where a chain asks for it: one ends with its
         #: connection, and where the station begins anew.
         self.within: int | None = None
-        #: How many sign-ons the caller knew of; behind a further one it goes out no more.
+        #: How many sign-ons the caller knew of; after a further one it goes out no more.
         self.known: int | None = None
         #: The stretch that it went out in, and its deadline there.
         self.stretch: int | None = None

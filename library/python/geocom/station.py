@@ -108,7 +108,7 @@ class Station(Turns):
         """Asks a procedure of the table, and gives how it ended, at its deadline at the latest.
 
         The parameters are numbers, or texts as they stand on the line. The deadline is `timeout`
-        seconds behind the moment at which the request goes out. The settlement is answered, with a
+        seconds after the moment at which the request goes out. The settlement is answered, with a
         value or a refusal; late, where the reply came with the deadline past; or lost: no answer
         will be taken, and whether the instrument acted isn't known. An answer is the reply to this
         very request, on the premises of `docs/GUARANTEE.md`.
@@ -199,7 +199,7 @@ class Station(Turns):
     def cycles(
         self, chains: Iterable[Chain], every: float = 0.0, count: int = 0
     ) -> Iterator[Cycle]:
-        """Measures all chains again and again, each cycle `every` seconds behind the beginning of
+        """Measures all chains again and again, each cycle `every` seconds after the beginning of
         the one before it; `count` cycles, or without end. A cycle that can't begin before the next
         one is due is missed. A sign-on ends a cycle: its other commands are skipped.
         """
@@ -223,7 +223,7 @@ class Station(Turns):
             raise RuntimeError("a station belongs to the process that made it: make one in each")
 
     def _enter(self) -> int:
-        """A call begins, behind one that an exception may have broken off. The moment."""
+        """A call begins, after one that an exception may have broken off. The moment."""
         now = self._now()
         if self._is_under_way:
             self._rules.wanted.clear()

@@ -9,7 +9,7 @@ A test then asks for `instrument`, and gives it a scene's text:
         with geocom.Station(truck) as station:
             ..
 
-Each call makes an instrument of its own, within the process. All are closed behind the test. The
+Each call makes an instrument of its own, within the process. All are closed after the test. The
 words of a scene are those of `docs/SIMULATOR.md`, "Rules of a scene".
 """
 
@@ -28,7 +28,7 @@ Makes = Callable[..., Instrument]
 
 @pytest.fixture
 def instrument() -> Iterator[Makes]:
-    """Makes instruments of scenes, and closes them behind the test."""
+    """Makes instruments of scenes, and closes them after the test."""
     made: list[Instrument] = []
 
     def make(scene: Union[str, bytes] = SIMULATOR, *, timeout: float = 1.0) -> Instrument:

@@ -120,7 +120,7 @@ def milliseconds(seconds: float, least: int = 1) -> int:
 
 
 def line(kinds: Sequence[str], values: Sequence[Parameter]) -> str:
-    """Parameters as they stand on the line; those behind the kinds as plain numbers and texts.
+    """Parameters as they stand on the line; those after the kinds as plain numbers and texts.
 
     >>> line(["Double", "Long"], ["2.25", 1])
     '2.25,1'
