@@ -132,7 +132,8 @@ FORMS = {
     "serial": "serial N",
     "name": "name TEXT",
     "target": "target HZ V DISTANCE",
-    "fault": "fault RPC RC [after COUNT] [for COUNT] or fault RPC restart [after COUNT] [for COUNT]",
+    "fault": "fault RPC RC [after COUNT] [for COUNT]"
+    " or fault RPC restart [after COUNT] [for COUNT]",
     "answer": "answer RPC RC[,PARAMS]",
     "blocked": "blocked TARGET FROM TO",
     "drift": "drift TARGET HZ V D",
