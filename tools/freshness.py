@@ -2,7 +2,8 @@
 measurement.
 
 A measurement is a row of a procedure that measures directions, of quality `ok` or `warning`, with a value for each of its quantities. The
-targets are those that such a procedure was due for in the last two cycles. Rows of the setup are no sign of a cycle.
+targets are those that such a procedure was due for in the last two cycles. Whether one outside the table measures directions its last good row
+says, if that is among the last 20,000. Rows of the setup are no sign of a cycle.
 """
 
 import datetime
@@ -17,6 +18,8 @@ import records
 PIECE = 1 << 16
 LONGEST_LINE = 1 << 16
 MOST_BYTES = 1 << 24
+# Among how many rows a good one is looked for that says whether a procedure measures.
+MOST_ROWS = 20_000
 # By how many seconds a row may be ahead of the clock.
 AHEAD = 5
 OK, WARNING, CRITICAL, UNKNOWN = range(4)
@@ -141,21 +144,42 @@ class File:
                 yield fields, records.moment(fields["time"])
 
 
+class Due:
+    """The targets of each procedure that was due in the last two cycles, read from the end back, until it is known whether it measures
+    directions."""
+
+    def __init__(self):
+        self.measuring, self.open, self.others = quantities.Measuring(), {}, set()
+
+    def take(self, fields, is_last):
+        """Takes a row, which may be of the last two cycles; gives the targets that become known as measured ones, with their names."""
+        procedure, target = int(fields["procedure"]), (str(int(fields["target"])), fields["name"])
+        if self.measuring.take(fields):
+            return [*self.open.pop(procedure, []), *([target] if is_last else [])]
+        # What has values and no direction measures none; a warning may have none that read.
+        if quantities.has_values(fields) and fields.get("quality") != "warning":
+            self.others.add(procedure)
+            self.open.pop(procedure, None)
+        if is_last and procedure not in self.others:
+            self.open.setdefault(procedure, []).append(target)
+        return []
+
+
 def end_of(file, now, limit):
     """Reads back until each target's last measurement was found, or rows are older than the limit in seconds."""
-    end, cycles = None, []
-    for fields, moment in file.rows():
+    end, cycles, due = None, [], Due()
+    for number, (fields, moment) in enumerate(file.rows()):
         end = end or End(fields, moment)
         cycle = (fields.get("run"), fields["cycle"])
         if cycle not in cycles[-1:]:
             cycles.append(cycle)
         end.read_to = moment
-        if len(cycles) > 2 and ((now - moment).total_seconds() > limit or all(target.measured for target in end.targets.values())):
+        is_old = (now - moment).total_seconds() > limit or all(target.measured for target in end.targets.values())
+        if len(cycles) > 2 and is_old and (not due.open or number > MOST_ROWS):
             return end
-        number = str(int(fields["target"]))
-        if len(cycles) <= 2 and quantities.measures(fields):
-            end.targets.setdefault(number, Target(number, fields["name"]))
-        target = end.targets.get(number)
+        for each, name in due.take(fields, len(cycles) <= 2):
+            end.targets.setdefault(each, Target(each, name))
+        target = end.targets.get(str(int(fields["target"])))
         # What is ahead of the clock was measured before the clock was set back, and nobody knows how long ago.
         if target and not target.measured and (moment - now).total_seconds() <= AHEAD and quantities.measures(fields) and quantities.is_whole(fields):
             target.measured = moment

@@ -49,10 +49,12 @@ def with_columns(columns):
 
 
 COLUMNS_HEAD = ",".join(with_columns(ANSWER_COLUMNS)).encode() + b"\n"
-# In the order of the counts; those of a reply that came in time, and those of a command that wasn't sent.
-OUTCOMES = ["answered", "late", "lost", "skipped", "unreadable", "missed", "elsewhere", "unexpected", "disagree"]
+# In the order of the counts, and the one that counts as skipped; those of a reply that came in time, and those of a command that wasn't sent.
+COUNTED = ["answered", "late", "lost", "skipped", "unreadable", "missed", "elsewhere", "unexpected", "disagree"]
+NO_VALUE = "no_value"
+OUTCOMES = [*COUNTED, NO_VALUE]
 REPLIED = ["answered", "unreadable", "elsewhere", "unexpected", "disagree"]
-UNSENT = ["skipped", "missed"]
+UNSENT = ["skipped", "missed", NO_VALUE]
 # The qualities of an answer whose values read and count; and that of one whose command is sent once more, which counts only then.
 GOOD = ["ok", "warning"]
 UNCONFIRMED = "unconfirmed"
@@ -76,7 +78,8 @@ class NoRow(Exception):
 def counts_line(**count):
     """The last line of a run with so many commands of each outcome, of which so many answers are `refused`, and chains that went out
     `again`; none of what isn't named."""
-    counts = {word: f"{word} {count.get(word, 0)}" for word in (*OUTCOMES, "again")}
+    count["skipped"] = count.get("skipped", 0) + count.get(NO_VALUE, 0)
+    counts = {word: f"{word} {count.get(word, 0)}" for word in (*COUNTED, "again")}
     counts["answered"] += f" (refused {count.get('refused', 0)})"
     return " ".join(counts.values())
 

@@ -28,7 +28,7 @@ MOST_BYTES = 1 << 27
 SORTS = {
     "ok": ["ok"], "warning": ["warning"], "unconfirmed": ["unconfirmed"], "disagree": ["disagree"],
     "unexpected": ["unexpected"], "refused": ["refused"],
-    "unanswered": ["late", "lost", "unreadable", "elsewhere"], "unsent": ["skipped", "missed"],
+    "unanswered": ["late", "lost", "unreadable", "elsewhere"], "unsent": ["skipped", "missed", "no_value"],
 }
 SORT_OF = {outcome: sort for sort, outcomes in SORTS.items() for outcome in outcomes}
 # The columns of a table of reductions that are shown where no limit names one.
@@ -165,6 +165,40 @@ def apart(column, value, reference):
     return math.remainder(value - reference, math.tau) if column.endswith("_rad") else value - reference
 
 
+class Enough:
+    """How far back the rows of a station are read: over a day, and until each target of the last two cycles was good once, and it is known
+    which of these are measured; but not over so many days."""
+
+    def __init__(self, now, days):
+        self.now, self.days = now, days
+        self.rows, self.cycles, self.due = 0, [], freshness.Due()
+        # Of each target of the last two cycles whether it is measured; the targets that were good.
+        self.seen, self.good = {}, set()
+
+    def take(self, fields):
+        """Takes the row before those that it took; says whether these are enough."""
+        self.rows += 1
+        cycle = (fields.get("run"), fields["cycle"])
+        if cycle not in self.cycles[-1:]:
+            self.cycles.append(cycle)
+        number, is_last = str(int(fields["target"])), len(self.cycles) <= 2
+        if is_last:
+            self.seen.setdefault(number, False)
+        for each, _ in self.due.take(fields, is_last):
+            if not self.seen[each]:
+                # What else it was asked doesn't make it good.
+                self.good.discard(each)
+            self.seen[each] = True
+        if is_good(fields, self.seen.get(number, False)):
+            self.good.add(number)
+        return len(self.cycles) > 2 and self.is_far(self.now - seconds(fields))
+
+    def is_far(self, age):
+        """Whether nothing more is wanted of rows that are older than so many seconds."""
+        is_known = not self.due.open or self.rows > freshness.MOST_ROWS
+        return age > DAY and (is_known and self.good >= self.seen.keys() or age > self.days * DAY)
+
+
 class Station:
     """A station: its file of rows, its table of reductions, its limits and its site, of which all but the first may be missing."""
 
@@ -230,28 +264,17 @@ class Station:
             self.faults.append(fault_of(self.site_path, why))
 
     def look_at_rows(self, now):
-        """Takes the rows of the last day, and further back until each target of the last cycles was good once."""
-        seen, cycles, good = {}, [], set()
-
-        def is_enough(fields):
-            cycle = (fields.get("run"), fields["cycle"])
-            if cycle not in cycles[-1:]:
-                cycles.append(cycle)
-            number = str(int(fields["target"]))
-            if len(cycles) <= 2:
-                seen[number] = seen.get(number, False) or quantities.measures(fields)
-            if is_good(fields, seen.get(number, False)):
-                good.add(number)
-            age = now - seconds(fields)
-            return len(cycles) > 2 and age > DAY and (good >= seen.keys() or age > self.days * DAY)
-
-        rows, is_all = self.rows.look(is_enough)
+        """Takes the rows that came; at first those of the last day, and further back (`Enough`)."""
+        enough = Enough(now, self.days)
+        rows, is_all = self.rows.look(enough.take)
         if is_all:
             self.begin_again()
             # What is known of reductions is read again, too.
             self.reduced.key = None
         for fields in rows:
-            self.take_row(fields)
+            target = self.target(fields)
+            target.is_measured |= enough.seen.get(target.number, False)
+            self.take_row(target, fields)
 
     def target(self, fields):
         number = str(int(fields["target"]))
@@ -259,8 +282,8 @@ class Station:
         found.name = fields["name"] or found.name
         return found
 
-    def take_row(self, fields):
-        target, moment = self.target(fields), seconds(fields)
+    def take_row(self, target, fields):
+        moment = seconds(fields)
         target.is_measured |= quantities.measures(fields)
         if is_good(fields, target.is_measured):
             target.good = moment

@@ -82,14 +82,20 @@ def row_of_columns(chance, number):
 def row_of_json(chance, number):
     """The same row as `row` makes, as `--json` writes it."""
     fields, items = parted(row(chance, number))
-    last = [(name, fields.pop(name)) for name in LAST]
-    written = [(name, field) for name, field in fields.items() if field or name == "values" and fields["rc_com"]]
+    members = []
     for name, item in items.items():
-        written += [(name, plain(name, item))] + [(f"{name}_text", item)] * (name != "instrument")
-    written += [(name, field) for name, field in last if field]
-    return (b"{" + b",".join(
-        b'"%s":%s' % (name.encode(), (field if name in NUMBERS or name in ANSWER_COLUMNS[:3] else json.dumps(field)).encode())
-        for name, field in written) + b"}\n")
+        is_text = name == "instrument"
+        members += [(name, json.dumps(plain(name, item)) if is_text else plain(name, item))] + [(f"{name}_text", json.dumps(item))] * (not is_text)
+    return object_of(fields, members)
+
+
+def object_of(fields, members):
+    """The object of JSON that a row with these fields is, without the empty ones. Before the last ones it has these members, each a name and
+    its JSON."""
+    texts = {name: field for name, field in fields.items() if field or name == "values" and fields["rc_com"]}
+    written = [(name, field if name in NUMBERS else json.dumps(field)) for name, field in texts.items()]
+    front = [each for each in written if each[0] not in LAST]
+    return ("{" + ",".join(f'"{name}":{field}' for name, field in [*front, *members, *written[len(front):]]) + "}\n").encode()
 
 
 class Growing:

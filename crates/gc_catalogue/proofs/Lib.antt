@@ -8,6 +8,7 @@ pub mod LineLaws
 pub mod Plain
 pub mod RawLines
 pub mod RawRules
+pub mod RawTests
 pub mod ReadingLaws
 pub mod RequestBytes
 pub mod SameText

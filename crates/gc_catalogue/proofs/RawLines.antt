@@ -1,27 +1,15 @@
 -- Lines of procedures that aren't in the table: how long they are, and that they fit.
-use Rattle.std.proofs.Common.{◌≡◌, ◌+◌, ◌-◌, ◌<◌, ◌≤◌, ◌++◌, ℕ, List, ◌∷◌, length, take, replicate, ap, ◌∙◌, arith, length-append}
+use Rattle.std.proofs.Common.{◌≡◌, ◌-◌, ◌≤◌, ◌++◌, ℕ, List, length, take, replicate, ap, ◌∙◌, arith, length-append}
 use Rattle.std.specs.Prelude.{Option, Some, None}
-use Rattle.std.specs.Fmt.{decimal}
-use Rattle.std.proofs.lemmas.Fmt.{decimal_nonempty}
 use Rattle.std.proofs.lemmas.List.{length-replicate}
 use Rattle.std.proofs.Math.Seq.{take-append_seam}
 use Rattle.gc_lines.proofs.Plain.{request_plain}
 use Rattle.gc_lines.specs.Headers.{id_text}
-use Rattle.gc_lines.specs.Requests.{request_signature, request_text}
+use Rattle.gc_lines.specs.Requests.{request_text}
 use Rattle.gc_catalogue.specs.AskedLaws.{RawLinesFit}
 use Rattle.gc_catalogue.specs.Asked.{raw_params, raw_request}
+use Rattle.gc_catalogue.specs.RawFacts.{length-request}
 use Rattle.gc_catalogue.specs.Raws.{line_length}
-
--- how long a request's line is: a signature of five bytes and a colon, beside number, id and parameters
-length-request : (rpc : ℕ) (id : Option ℕ) (params : List ℕ)
-    → length (request_text (record { rpc = rpc; id = id; params = params })) ≡ 6 + length (decimal rpc) + length (id_text id) + length params
-length-request rpc id params =
-    omega (
-      arith,
-      length-append request_signature (decimal rpc ++ (id_text id ++ 58 ∷ params)),
-      length-append (decimal rpc) (id_text id ++ 58 ∷ params),
-      length-append (id_text id) (58 ∷ params),
-    )
 
 -- the text of an optional id has at most two bytes
 id_text_short : (id : Option ℕ) → length (id_text id) ≤ 2
@@ -32,10 +20,6 @@ id_text_short (Some i) = omega arith
 pub short_with_any_id : (rpc : ℕ) (id : Option ℕ) (params : List ℕ) → line_length rpc params ≤ 512
     → length (request_text (record { rpc = rpc; id = id; params = params })) ≤ 512
 short_with_any_id rpc id params short = omega (arith, short, length-request rpc (Some 0) params, length-request rpc id params, id_text_short id)
-
--- if a request's line with an id has at most 512 bytes, and its number has 16 bits, its parameters have at most 503 bytes
-pub params_short : (rpc : ℕ) (params : List ℕ) → rpc < 65536 → line_length rpc params ≤ 512 → length params ≤ 503
-params_short rpc params bound short = omega (arith, short, length-request rpc (Some 0) params, decimal_nonempty rpc (omega arith))
 
 -- if `all` is `bytes`, filled up to 503 with zeros, it begins with `bytes`
 pub filled_front : (bytes all : List ℕ) → all ≡ bytes ++ replicate (503 - length bytes) 0 → take (length bytes) all ≡ bytes

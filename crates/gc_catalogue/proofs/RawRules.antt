@@ -60,6 +60,14 @@ few_or_faulty_by_fault params e (faulty_items items is faulty) = few_or_faulty_b
 few_or_faulty : (params : List ℕ) → AreFewOrFaulty params
 few_or_faulty params = elim (each_list [] params) [ inl read ↦ few_or_faulty_by_split params read.2.items read.2.split | inr faulty ↦ few_or_faulty_by_fault params faulty.0 faulty.1 ]
 
+-- parameters with an even number of double quotes that are never split into more than 16 items are at most 16
+pub few_items : (params : List ℕ) → quotes params % 2 ≡ 0 → ((items : List (List ℕ)) → IsParams params items → length items ≤ 16) → AreFewItems params
+few_items params closed few = elim (few_or_faulty params) [
+  | inl items ↦ items
+  | inr (e, (inl odd)) ↦ absurd (even_not_odd _ closed odd.1)
+  | inr (e, (inr many)) ↦ absurd (not_many params few many.1)
+]
+
 -- a number and parameters that may be asked for as they are have no refusal
 pub no_raw_refusal : (rpc : ℕ) (params : List ℕ) (e : RawFault) → IsRawCall rpc params → IsRawRefusal rpc params e → ⊥
 no_raw_refusal rpc params InTable is why = is.no_procedure why.0 why.1

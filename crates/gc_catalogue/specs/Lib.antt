@@ -9,6 +9,8 @@ pub mod Laws
 pub mod Lists
 pub mod Moments
 pub mod Names
+pub mod RawFacts
+pub mod RawAgain
 pub mod RawProps
 pub mod RawTexts
 pub mod Raws

@@ -1,6 +1,6 @@
 //! Procedures that aren't in the table: which may be asked for, and with which parameters. The rules are this project's own.
 
-ghost use Rattle.std.specs.Prelude.{◌≡◌, IsOk, IfOk, IfErr, IfSome, IfNone, Ok};
+ghost use Rattle.std.specs.Prelude.{◌≡◌, ◌≤◌, length, IsOk, IfOk, IfErr, IfSome, IfNone, Ok};
 ghost use Rattle.gc_values.specs.declared.fault.ValueFault.{ValueFault};
 ghost use Rattle.gc_catalogue.specs.RawProps.{IsRawCall-prop};
 ghost use Rattle.gc_catalogue.specs.RawTexts.{raw_bytes};
@@ -93,6 +93,8 @@ pub fn raw_call(rpc: u16, params: &[u8]) -> Result<RawCall, RawFault>
 }
 
 impl RawCall {
+    ghost use Rattle.gc_catalogue.specs.RawAgain.{with_params};
+
     /// The procedure's number, which no procedure of the table has.
     pub fn number(&self) -> u16
         ensures { result ≡ self.now.rpc }
@@ -102,8 +104,16 @@ impl RawCall {
 
     /// The parameters, exactly as they are after the colon of the request's line.
     pub fn params(&self) -> &[u8]
-        ensures { result.now ≡ raw_bytes self.now.params }
+        ensures bytes { result.now ≡ raw_bytes self.now.params }
+        ensures few { length (raw_bytes self.now.params) ≤ 503 }
     {
         self.params.as_bytes()
+    }
+
+    /// The request for the same procedure with these parameters. `None`: it may not be asked for so (`raw_call`).
+    pub fn with_params(&self, params: &[u8]) -> Option<RawCall>
+        ensures { result ≡ with_params self.now params.now }
+    {
+        raw_call(self.rpc, params).ok()
     }
 }

@@ -36,10 +36,11 @@ use Rattle.gc_console.specs.declared.traces.Traces.{Traces}
 
 -- how the ports of a station are seen: its input by the ghost members of `source`; by `onto` a run over its text that writes on the
 -- output, and by `into` one that appends to a file. `begun` says what holds of a file that was just opened, for these records of a
--- station with these settings, `at` gives the path at which a file is, and `syncs` whether each of its rows is synced
+-- station with these settings and a text that has these columns beside those of the table's quantities, `at` gives the path at which a file
+-- is, and `syncs` whether each of its rows is synced
 pub record Seeing (S T F K E : Type 0) : Type 1 where
   pub source : Source S
-  pub begun : Recording → Settings → F → Type 0
+  pub begun : Recording → Settings → (columns : List (List ℕ)) → F → Type 0
   pub at : F → List ℕ
   pub syncs : F → Bool
   pub onto : Views T K E

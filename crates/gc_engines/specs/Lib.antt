@@ -11,4 +11,5 @@ pub mod LogChecking
 pub mod Laws
 pub mod RuleScenes
 pub mod TimedScenes
+pub mod LateScenes
 pub mod SceneTroubles

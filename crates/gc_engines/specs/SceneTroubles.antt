@@ -11,6 +11,7 @@ use Rattle.gc_texts.specs.Cuts.{behind}
 use Rattle.gc_values.specs.Decimals.{SpellsDecimal}
 use Rattle.gc_texts.specs.Procedures.{IsNumber, IsRpc}
 use Rattle.gc_texts.specs.Words.{second_word, third_word, fourth_word, after_two_words, after_three_words, after_four_words}
+use Rattle.gc_engines.specs.LateScenes.{SaysLateReply}
 use Rattle.gc_engines.specs.RuleScenes.{Begins, GivesClock, code_max, rc_in_answer, params_in_answer, scene_target_max}
 use Rattle.gc_engines.specs.TimedScenes.{SaysRestart, delay_max}
 use Rattle.gc_engines.specs.declared.scene_trouble.SceneTrouble.{SceneTrouble}
@@ -44,7 +45,7 @@ form_text word.Blocked = codes "blocked TARGET FROM TO"
 form_text word.Drift = codes "drift TARGET HZ V D"
 form_text word.Noise = codes "noise HZ V D SEED"
 form_text word.Repeats = codes "repeats no"
-form_text word.Behave = codes "behave faces, aims, takes, values, clock or real"
+form_text word.Behave = codes "behave faces, aims, takes, values, clock or real, or behave busy-then-late RPC MS"
 form_text word.Delay = codes "delay RPC MS"
 form_text word.Busy = codes "busy queue or busy drop"
 
@@ -85,6 +86,7 @@ abbrev pub IsSceneTrouble : List ℕ → SceneTrouble → Type 0
 IsSceneTrouble line trouble.NoWord = (w : SceneWord) → BeginsWith w line → ⊥
 IsSceneTrouble line trouble.Clock = NeedsClock line
 IsSceneTrouble line trouble.Restart = BeginsWith word.Fault line × SaysRestart line
+IsSceneTrouble line trouble.Late = SaysLateReply line
 IsSceneTrouble line (trouble.Form w) = BeginsWith w line
 IsSceneTrouble line trouble.Serial = BeginsWith word.Serial line × ((n : ℤ) → NamesWhole (behind 32 line) n → FitsLong n → ⊥)
 IsSceneTrouble line trouble.Name = BeginsWith word.Name line × (text.IsText (behind 32 line) → ⊥)
@@ -110,6 +112,7 @@ abbrev pub scene_trouble_text : SceneTrouble → List ℕ
 scene_trouble_text trouble.NoWord = codes "no line of a scene begins so"
 scene_trouble_text trouble.Clock = codes "serve alone has a clock"
 scene_trouble_text trouble.Restart = codes "serve alone restarts an instrument at a request"
+scene_trouble_text trouble.Late = codes "rehearse alone has late replies"
 scene_trouble_text (trouble.Form w) = codes "the form is " ++ form_text w
 scene_trouble_text trouble.Serial = codes "N is no whole number of 32 bits"
 scene_trouble_text trouble.Name = codes "TEXT has more than 64 bytes, a double quote or a carriage return"

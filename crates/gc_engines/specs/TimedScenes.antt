@@ -21,9 +21,9 @@ use Rattle.gc_engines.specs.declared.timed_scene.TheConstants.{MOST_DELAYS, MOST
 abbrev pub delay_max : ℕ
 delay_max = 3600000
 
--- the line is `delay RPC MS`: a procedure, and a delay in milliseconds of at most an hour
-pub record IsDelayLine (line : List ℕ) (d : Delay) : Type 0 where
-  pub word : Begins (codes "delay") line
+-- the line is `delay RPC MS`, with this word in place of `delay`: a procedure, and a delay in milliseconds of at most an hour
+pub record IsDelayLine (first line : List ℕ) (d : Delay) : Type 0 where
+  pub word : Begins first line
   pub rpc : IsRpc (second_word line) d.rpc
   pub ms : IsNumber (after_two_words line) d.ms delay_max
 
@@ -44,7 +44,7 @@ pub record IsStartLine (line : List ℕ) (f : Fault) : Type 0 where
 -- the line is written in the form of this item of a scene for `serve`
 abbrev pub IsTimedLine : List ℕ → TimedLine → Type 0
 IsTimedLine line (says.Rule rule) = IsRuleLine line rule
-IsTimedLine line (says.Delay d) = IsDelayLine line d
+IsTimedLine line (says.Delay d) = IsDelayLine (codes "delay") line d
 IsTimedLine line (says.Start f) = IsStartLine line f
 IsTimedLine line says.Queues = line ≡ codes "busy queue"
 IsTimedLine line says.Drops = line ≡ codes "busy drop"

@@ -9,6 +9,7 @@ ghost use Rattle.gc_engines.specs.SceneTroubles.{BeginsWith, IsReplyTrouble, IsS
 ghost use Rattle.gc_engines.specs.TimedScenes.{SaysRestart};
 ghost use Rattle.gc_engines.specs.declared.scene_trouble.SceneWord.{SceneWord};
 
+use crate::late_line::says_late_reply;
 use crate::rule_line::{SCENE_TARGET_MAX, gives_clock};
 use crate::timed_line::DELAY_MAX;
 use gc_catalogue::{RawFault, raw_call};
@@ -45,6 +46,8 @@ pub enum SceneTrouble {
     Clock,
     /// The line is a fault with the word `restart`, which `serve` alone takes.
     Restart,
+    /// The line says that replies to a procedure come late, which `rehearse` alone takes.
+    Late,
     /// The line begins with this word, but hasn't its form, and no single field is named: it has too few fields or too many, or what
     /// follows the fields doesn't read (of `repeats`, `behave` and `busy`, all that follows the word), or the parameters of `answer` are
     /// too long for a reply.
@@ -96,7 +99,8 @@ impl SceneWord {
             SceneWord::Drift => "drift TARGET HZ V D",
             SceneWord::Noise => "noise HZ V D SEED",
             SceneWord::Repeats => "repeats no",
-            SceneWord::Behave => "behave faces, aims, takes, values, clock or real",
+            SceneWord::Behave =>
+                "behave faces, aims, takes, values, clock or real, or behave busy-then-late RPC MS",
             SceneWord::Delay => "delay RPC MS",
             SceneWord::Busy => "busy queue or busy drop",
         }
@@ -133,6 +137,7 @@ impl SceneTrouble {
             SceneTrouble::Restart => {
                 writeln!(messages, "serve alone restarts an instrument at a request")
             }
+            SceneTrouble::Late => writeln!(messages, "rehearse alone has late replies"),
             SceneTrouble::Form(word) => tell_form(word.form(), messages),
             SceneTrouble::Serial => writeln!(messages, "N is no whole number of 32 bits"),
             SceneTrouble::Name => writeln!(
@@ -179,6 +184,7 @@ fn tell_form<E: Write>(form: &str, messages: &mut E) -> io::Result<()>
 /// It is the first of these that holds:
 /// - `Clock`: the line needs a clock, and `has_clock` isn't set;
 /// - `Restart`: the line begins with `fault`, its third word is `restart`, and `has_clock` isn't set;
+/// - `Late`: the line says that replies to a procedure come late, in its whole form;
 /// - `NoWord`: no line of a scene begins with the line's first word;
 /// - `Form`: the line has too few fields, or too many. This isn't asked of `name` and `answer`, nor of `fault` whether it has too many;
 /// - a field doesn't read: the result names the first such field;
@@ -194,6 +200,9 @@ pub fn scene_trouble_of(line: &[u8], has_clock: bool) -> SceneTrouble
     }
     if !has_clock && is_start(line) {
         return SceneTrouble::Restart;
+    }
+    if says_late_reply(line) {
+        return SceneTrouble::Late;
     }
     match word_of(before(b' ', line)) {
         Some(word) => trouble_behind(word, line),

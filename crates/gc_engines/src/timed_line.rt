@@ -51,7 +51,7 @@ fn read_timed_line(line: &[u8]) -> Option<TimedLine>
     if let Some(rule) = read_rule_line(line) {
         return Some(TimedLine::Rule(rule));
     }
-    if let Some(delay) = read_delay(line) {
+    if let Some(delay) = read_delay(b"delay", line) {
         return Some(TimedLine::Delay(delay));
     }
     if let Some(start) = read_start(line) {
@@ -66,11 +66,12 @@ fn read_timed_line(line: &[u8]) -> Option<TimedLine>
     None
 }
 
-// Reads `delay RPC MS`: a procedure, and a delay in milliseconds, of at most an hour. `None`: the line has no such form.
-fn read_delay(line: &[u8]) -> Option<Delay>
-    ensures { IsReadAs (IsDelayLine line.now) result }
+/// Reads `delay RPC MS`, with this word in place of `delay`: a procedure, and a delay in milliseconds, of at most an hour. `None`: the
+/// line has no such form.
+pub(crate) fn read_delay(word: &[u8], line: &[u8]) -> Option<Delay>
+    ensures { IsReadAs (IsDelayLine word.now line.now) result }
 {
-    let from_rpc = behind_word(b"delay", line)?;
+    let from_rpc = behind_word(word, line)?;
     let rpc = u16_of(before(b' ', from_rpc))?;
     let ms = u32_of(behind(b' ', from_rpc), DELAY_MAX)?;
     Some(Delay { rpc, ms })

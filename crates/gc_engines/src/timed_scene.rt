@@ -14,7 +14,7 @@ use gc_texts::{RunFault, read_items};
 use std::alloc::{AllocError, Global};
 
 // The most delays of an instrument.
-const MOST_DELAYS: usize = 32;
+pub(crate) const MOST_DELAYS: usize = 32;
 
 // The most faults at which an instrument starts anew.
 const MOST_STARTS: usize = 32;

@@ -6,7 +6,7 @@ use gc_catalogue::{
 };
 use gc_lines::{Reply, Request, ToWriter};
 use gc_rows::{COLUMNS, Column, EndedCommand, Form, Kind, When, write_record};
-use gc_texts::{Ending, Quality, Stamp, Turn, Wish};
+use gc_texts::{Ending, Quality, Stamp, Turn, Wish, described_as};
 use std::alloc::Global;
 use std::{fs, io};
 
@@ -136,6 +136,8 @@ fn write_answered(call: Call, answer: &Answer, object: &mut Told) {
         name: b"",
         command: &command,
         ending: Ending::Answered(Quality::Fine, Some(answer), &line),
+        described: described_as(0, &[]),
+        columns: &[],
     };
     let _ = write_record(&mut ToWriter::new(object), Form::Json, ended);
 }

@@ -277,7 +277,7 @@ module _ {State : Type 0} (ends : Ends State) (Good : State → Type 0) (kept : 
   made_its ps ss b line o fit =
       let x : Settlement Asked = record { target = b.command.target; call = b.command.call; outcome = Answered line } in
       let w = (world ends o.of.stretch).wire in
-      let right : b.command.call ≡ call_at o.of.task (part.sent_at b) = (fit.faithful.one_for_one.same (8 + o.of.m) x o.request (get_drop 8 o.of.m w.settled x o.settled)
+      let right : b.command.call ≡ call_at o.of.task (part.occasion_in o.of.expected b) = (fit.faithful.one_for_one.same (8 + o.of.m) x o.request (get_drop 8 o.of.m w.settled x o.settled)
       (get_drop 8 o.of.m w.sent o.request o.sent)).1 ∙ ap (λ (z : Wanted Asked). z.call) o.asks in
       subst (λ call. WasMadeOn 7 ends o.of.stretch.from o.of.stretch.moves (8 + o.of.m) call line) (sym right) o.made_on
 

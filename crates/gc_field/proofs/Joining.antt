@@ -18,7 +18,7 @@ use Rattle.gc_texts.specs.Endings as end
 use Rattle.gc_station.specs.Behind.{IsNearTheTable}
 use Rattle.gc_station.specs.Beginnings.{unanswered_after}
 use Rattle.gc_station.specs.Begun.{AreBegun, heard_in}
-use Rattle.gc_station.specs.Marks.{record_of, records_of}
+use Rattle.gc_station.specs.Marks.{occasion_of, record_of, records_of}
 use Rattle.gc_station.specs.Parts.{Part, parts_joined, MarksAsk, parts_of, went_out, sent_of, timeless, client_after}
 use Rattle.gc_station.specs.Records.{Record}
 use Rattle.gc_station.specs.Runs.{state_after}
@@ -284,7 +284,7 @@ module _ {State : Type 0} (ends : Ends State) (Good : State → Type 0) (kept : 
       let a = marks_ask_at commands p.marks (map asked (own_sent ends s)) n (Some mark) sent at in
       let r = get_seen asked (own_sent ends s) n a.0 a.1 in
       let b = f.faithful.booked (8 + n) x (beyond, safe n mark at) there line answered in
-      let right : x.call ≡ call_at a.2.0 mark.sent = (f.faithful.one_for_one.same (8 + n) x r.0 there (get_drop 8 n (world ends s).wire.sent r.0 r.1)).1 ∙ ap
+      let right : x.call ≡ call_at a.2.0 (occasion_of mark) = (f.faithful.one_for_one.same (8 + n) x r.0 there (get_drop 8 n (world ends s).wire.sent r.0 r.1)).1 ∙ ap
       (λ (o : Wanted Asked). o.call) (r.2 ∙ a.2.2) in
       let made_on = subst (λ call. WasMadeOn 7 ends s.from s.moves (8 + n) call line) right (f.faithful.made_on (8 + n) x (beyond, safe n mark at) there line answered) in
       record {
@@ -297,7 +297,7 @@ module _ {State : Type 0} (ends : Ends State) (Good : State → Type 0) (kept : 
         reply = subst (λ call. IsReplyTo ends Good call line) right b.1;
         executed = f.faithful.executed (8 + n) x (beyond, safe n mark at) there line answered;
         made_on = made_on;
-        as_recorded = its_line p s f n mark counted at x.call (call_at a.2.0 mark.sent) right line made_on;
+        as_recorded = its_line p s f n mark counted at x.call (call_at a.2.0 (occasion_of mark)) right line made_on;
       })
 
   -- A command that wasn't sent has no answer.
@@ -315,6 +315,7 @@ module _ {State : Type 0} (ends : Ends State) (Good : State → Type 0) (kept : 
     none end.Late out answered = cc
     none end.Lost out answered = cc
     none end.Skipped out answered = cc
+    none end.NoValue out answered = cc
     none end.Missed out answered = cc
 
   -- Executed, though late.
@@ -331,7 +332,7 @@ module _ {State : Type 0} (ends : Ends State) (Good : State → Type 0) (kept : 
       let there = get_drop 8 n (world ends s).wire.settled x here in
       let a = marks_ask_at commands p.marks (map asked (own_sent ends s)) n (Some mark) sent at in
       let r = get_seen asked (own_sent ends s) n a.0 a.1 in
-      let right : x.call ≡ call_at a.2.0 mark.sent = (f.faithful.one_for_one.same (8 + n) x r.0 there (get_drop 8 n (world ends s).wire.sent r.0 r.1)).1 ∙ ap
+      let right : x.call ≡ call_at a.2.0 (occasion_of mark) = (f.faithful.one_for_one.same (8 + n) x r.0 there (get_drop 8 n (world ends s).wire.sent r.0 r.1)).1 ∙ ap
       (λ (o : Wanted Asked). o.call) (r.2 ∙ a.2.2) in
       let made = f.faithful.late (8 + n) x (beyond, safe n mark at) there late in
       let made_on = subst (λ call. WasMadeOn 7 ends s.from s.moves (8 + n) call made.0) right made.1 in
@@ -339,7 +340,7 @@ module _ {State : Type 0} (ends : Ends State) (Good : State → Type 0) (kept : 
         of = record { k = 0; part = p; stretch = s; of_parts = refl; of_stretches = refl; m = n; expected = mark.expected; mark = at; task = a.2.0; listed = a.2.1 };
         line = made.0;
         made_on = made_on;
-        as_recorded = its_line p s f n mark counted at x.call (call_at a.2.0 mark.sent) right made.0 made_on;
+        as_recorded = its_line p s f n mark counted at x.call (call_at a.2.0 (occasion_of mark)) right made.0 made_on;
       })
 
   -- `LateHasExecution` holds of a record of a command that wasn't sent, because that isn't late

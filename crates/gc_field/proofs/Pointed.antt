@@ -18,9 +18,11 @@ use Rattle.gc_instrument.specs.State.{State, IsFittingState}
 use Rattle.gc_instrument.proofs.Answering.{handed_again, handed_new}
 use Rattle.gc_instrument.proofs.Keeping.{commanded_by_tests, executes_apart}
 use Rattle.gc_texts.specs.Tasks.{call_at}
+use Rattle.gc_texts.specs.declared.occasion.Occasion.{Occasion}
 use Rattle.gc_texts.specs.declared.tasks.Task.{Task}
 use Rattle.gc_texts.proofs.TaskMoments.{at_any_moment}
 use Rattle.gc_station.specs.Links.{ChainsStay, MarksGoOn, RecordsStay}
+use Rattle.gc_station.specs.Marks.{occasion_of}
 use Rattle.gc_station.specs.Parts.{MarkAsks}
 use Rattle.gc_station.specs.Records.{Record}
 use Rattle.gc_station.proofs.Booking.{marks_ask_at}
@@ -167,9 +169,9 @@ all_still sent m n (k ∷ ns) (x ∷ calls) h g f =
 null_still : (a : Wanted Asked) (r : Sent) → asked r ≡ a → a ≡ record { target = 0; call = Table call.NullProc } → turns_telescope r.call ≡ false
 null_still a r e f = ap (λ (o : Wanted Asked). turns_telescope o.call) (e ∙ f)
 
--- a task that turns no telescope turns none at any moment
-still_at_any_moment : (task : Task) (utc : ℕ) → turns_telescope task.command.call ≡ false → turns_telescope (call_at task utc) ≡ false
-still_at_any_moment task utc still = at_any_moment (λ call. turns_telescope call ≡ false) task utc refl still
+-- a task that turns no telescope turns none on any occasion
+still_at_any_moment : (task : Task) (occasion : Occasion) → turns_telescope task.command.call ≡ false → turns_telescope (call_at task occasion) ≡ false
+still_at_any_moment task occasion still = at_any_moment (λ call. turns_telescope call ≡ false) task occasion refl (λ raw other asked same. refl) still
 
 module _ (u : UnderWay State) (run : Program State) (field : IsInField simulator_ends IsFittingState kept_of u run) where
   -- the stretches of the run
@@ -185,7 +187,7 @@ module _ (u : UnderWay State) (run : Program State) (field : IsInField simulator
     still_by x r None above under at y e is = null_still y r e is
     still_by x r (Some mark) above under at y e is =
         let there = h.between x mark above under at in
-        let quiet = still_at_any_moment is.0 mark.sent (still mark.place is.0 there.1 there.2 is.1) in
+        let quiet = still_at_any_moment is.0 (occasion_of mark) (still mark.place is.0 there.1 there.2 is.1) in
         ap (λ (o : Wanted Asked). turns_telescope o.call) (e ∙ is.2) ∙ quiet
 
     -- a request of the client between those of the chain's two commands turns no telescope

@@ -56,9 +56,9 @@ opens_simulator width tasks reads =
     (tt, (refl, (tt, (refl, (tt, (tt, (refl, (tt, (tt, (refl, (tt, (tt, (refl, (tt, (tt, (refl, (tt, (tt, (refl, (tt, (tt, (refl, (tt, (tt, (refl, (tt, (tt, tt)))))))))))))))))))))))))))
 
 -- the part with these steps, of a synchronization and of the client, whose requests are the client's null procedure, and then
--- commands of the first cycle: each by its place, the moment before it was sent, and its id
+-- commands of the first cycle, with a deadline of 100 milliseconds: each by its place, the moment before it was sent, and its id
 abbrev pub part_of : List part.SyncStep → List (Step Asked) → List (ℕ × ℕ × ℕ) → Part
-part_of sync_steps steps sent = record { sync_steps = sync_steps; steps = steps; marks = None ∷ map (λ x. Some (record { cycle = 1; place = x.0; sent = x.1; id = x.2; expected = expected_first [] })) sent }
+part_of sync_steps steps sent = record { sync_steps = sync_steps; steps = steps; marks = None ∷ map (λ x. Some (record { cycle = 1; place = x.0; sent = x.1; id = x.2; expected = record (expected_first []) { wait = 100 } })) sent }
 
 -- the parts of a run that never resynchronizes: the part with these steps and commands, and the empty one after the end
 abbrev pub one_part : List part.SyncStep → List (Step Asked) → List (ℕ × ℕ × ℕ) → List Part

@@ -5,6 +5,7 @@ use Rattle.gc_catalogue.specs.declared.asked.Asked.{Asked}
 use Rattle.gc_texts.specs.Again.{no_again}
 use Rattle.gc_texts.specs.Codes.{no_codes}
 use Rattle.gc_texts.specs.Endings.{End}
+use Rattle.gc_texts.specs.ValueItems.{no_needs}
 use Rattle.gc_texts.specs.declared.agree.Twice.TheVariants.{Once}
 use Rattle.gc_texts.specs.declared.tasks.Task.{Task}
 use Rattle.gc_station.specs.NextCommand.{no_turn}
@@ -19,14 +20,17 @@ plain_task target call deadline chained =
       deadline = deadline;
       chained = chained;
       near = None;
+      form = None;
       watched = false;
       accepted = no_codes;
+      busy = no_codes;
       expects = None;
       counter = None;
       again = no_again;
       turn = no_turn;
       others = 0;
       now = false;
+      needs = no_needs;
       twice = Once;
     }
 

@@ -24,7 +24,7 @@ use Rattle.gc_station.specs.EachOnce.{EachOnce}
 use Rattle.gc_station.specs.Lines.{raises_doubt}
 use Rattle.gc_station.specs.Links.{parts}
 use Rattle.gc_station.specs.Marks.{records_of}
-use Rattle.gc_station.specs.Parts.{Part, MarksAsk, part_of_act, mark_of, sent_at, sent_of, timeless}
+use Rattle.gc_station.specs.Parts.{Part, MarksAsk, part_of_act, mark_of, occasion_in, sent_of, timeless}
 use Rattle.gc_station.specs.Progressing.{is_over}
 use Rattle.gc_station.specs.Records.{Record}
 use Rattle.gc_station.specs.Requests.{asked_at}
@@ -164,9 +164,9 @@ module _ {State : Type 0} (ends : Ends State) (Good : State → Type 0) (kept : 
   -- Of a run with the parts `ps` and the stretches `ss`.
   module _ (commands : List Task) (ps : List Part) (ss : List (Stretch State)) where
     -- the line was made on executing the very request of record `r` (`h`): at one of the stretch's moves it, with what the
-    -- command asks at the moment at which it was sent, reached the instrument, which executed it, and this line was its reply
+    -- command asks on the occasion on which it was sent, reached the instrument, which executed it, and this line was its reply
     abbrev pub WasMadeFor : (r : Record) → HasRequest commands ps ss r → (line : List ℕ) → Type 0
-    WasMadeFor r h line = WasMadeOn WINDOW ends h.stretch.from h.stretch.moves (8 + h.m) (call_at h.task (sent_at r)) line
+    WasMadeFor r h line = WasMadeOn WINDOW ends h.stretch.from h.stretch.moves (8 + h.m) (call_at h.task (occasion_in h.expected r)) line
 
     -- where the answer `line` of record `r` comes from: the instrument made this line on executing the very request of the
     -- record's cycle and place (`of`), which reached it as the request line of the record's id and call (`as_recorded`); and the
@@ -175,13 +175,13 @@ module _ {State : Type 0} (ends : Ends State) (Good : State → Type 0) (kept : 
       pub of : HasRequest commands ps ss r
       pub request : Sent
       pub sent : slice_get (own_sent ends of.stretch) of.m ≡ Some request
-      pub asks : asked request ≡ asked_at (sent_at r) of.task
+      pub asks : asked request ≡ asked_at (occasion_in of.expected r) of.task
       pub settled : slice_get (own_settled ends of.stretch) of.m ≡ Some (record { target = r.command.target; call = r.command.call; outcome = Answered line })
       pub made : (j : ℕ) × (slice_get (world ends of.stretch).wire.made j ≡ Some (record { number = 8 + of.m; line = line }))
-      pub reply : IsReplyTo ends Good (call_at of.task (sent_at r)) line
+      pub reply : IsReplyTo ends Good (call_at of.task (occasion_in of.expected r)) line
       pub executed : WasExecuted (world ends of.stretch).wire.executed (8 + of.m)
       pub made_on : WasMadeFor r of line
-      pub as_recorded : asked_line (Some made_on.id) (call_at of.task (sent_at r)) ≡ asked_line (Some r.id) r.command.call
+      pub as_recorded : asked_line (Some made_on.id) (call_at of.task (occasion_in of.expected r)) ≡ asked_line (Some r.id) r.command.call
 
     -- if a record is of a reply in time, its line was made on executing its own request: by `IsItsOwn`
     abbrev pub IsOwnAnswer : Record → Type 0
@@ -193,7 +193,7 @@ module _ {State : Type 0} (ends : Ends State) (Good : State → Type 0) (kept : 
       pub of : HasRequest commands ps ss r
       pub line : List ℕ
       pub made_on : WasMadeFor r of line
-      pub as_recorded : asked_line (Some made_on.id) (call_at of.task (sent_at r)) ≡ asked_line (Some r.id) r.command.call
+      pub as_recorded : asked_line (Some made_on.id) (call_at of.task (occasion_in of.expected r)) ≡ asked_line (Some r.id) r.command.call
 
     -- if a record is late, the instrument executed its command all the same: by `HasExecution`
     abbrev pub LateHasExecution : Record → Type 0

@@ -3,6 +3,7 @@
 -- said of all such runs is said of some.
 use Rattle.std.specs.Prelude.{◌≡◌, ℕ, ◌+◌, false, List, [], ◌∷◌, codes, drop, pos, Some}
 use Rattle.gc_lines.specs.Lines.{with_end}
+use Rattle.gc_values.specs.FileValues.{no_values}
 use Rattle.gc_catalogue.specs.declared.answer.Answer.{Answer}
 use Rattle.gc_catalogue.specs.declared.answer.Answer.TheVariants.{Long}
 use Rattle.gc_catalogue.specs.declared.answer.Reading.TheVariants.{Value}
@@ -42,7 +43,7 @@ commands = plain_task 7 (Table InstrumentNo) 100 false ∷ []
 
 -- a scope of at most a hundred acts, in which nothing is watched, and every reply is taken to say this
 abbrev pub scope_saying : Answer → Scope
-scope_saying said = scoped 100 [] (λ call line. Value said)
+scope_saying said = scoped 100 [] (λ form call line. Value said)
 
 -- the scope of this run: every reply is taken to say what the reply to the command says
 abbrev pub scope : Scope
@@ -50,7 +51,7 @@ scope = scope_saying (Long (pos 123456))
 
 -- the moment at which both clocks show this number
 abbrev pub at : ℕ → Moment
-at now = record { elapsed = now; utc = now; stops = false }
+at now = record { elapsed = now; utc = now; stops = false; values = no_values }
 
 -- the lines of a synchronization's null procedures, in order
 abbrev pub null_lines : List (List ℕ)

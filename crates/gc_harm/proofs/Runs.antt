@@ -1,15 +1,14 @@
 -- A station's run over a line that damages: each record goes with a request of one of the stretches, and where damage is apart in that
 -- stretch, the record is of the request's own reply, or of a damaged line.
-use Rattle.std.proofs.Common.{◌≡◌, ◌⊎◌, inl, inr, ℕ, suc, ◌+◌, ◌<◌, ◌≤◌, Bool, true, false, List, [], ◌∷◌, ◌++◌, length, map, Option, Some, None, zero, drop, refl, sym, ◌∙◌, ap, subst, arith, if◌then◌else◌}
+use Rattle.std.proofs.Common.{◌≡◌, ◌⊎◌, inl, inr, ℕ, suc, ◌+◌, ◌<◌, ◌≤◌, Bool, true, false, List, [], ◌∷◌, ◌++◌, length, map, Option, Some, None, zero, drop, refl, sym, ◌∙◌, ap, subst, arith}
 use Rattle.std.specs.Prelude.{slice_get, unwrap_or}
 use Rattle.std.specs.List.{AllByRecursion, AllZip}
 use Rattle.std.proofs.lemmas.List.{drop-map, length-map, length-append}
+use Rattle.std.proofs.lemmas.Bool.{true≢false}
 use Rattle.std.proofs.lemmas.Option.{none-some, same_Some, slice_get_within}
 use Rattle.gc_lines.proofs.Lists.{all_at}
 use Rattle.gc_values.proofs.Every.{every_weaker as all_on}
 use Rattle.gc_catalogue.specs.declared.asked.Asked.{Asked}
-use Rattle.gc_catalogue.specs.declared.asked.Asked.TheVariants.{Table}
-use Rattle.gc_catalogue.specs.declared.call.Call.TheVariants.{SetDate}
 use Rattle.gc_catalogue.specs.Asked.{is_of_table}
 use Rattle.gc_client.specs.Beginning.{the_word}
 use Rattle.gc_client.specs.OneForOne.{Wanted}
@@ -17,16 +16,17 @@ use Rattle.gc_client.specs.Rule.{ById, Outcome, Answered, Late, Lost, Settlement
 use Rattle.gc_instrument.specs.State.{KeptReply}
 use Rattle.gc_texts.specs.Endings.{End, line_of}
 use Rattle.gc_texts.specs.Endings as end
-use Rattle.gc_texts.specs.Stamps.{date_time}
 use Rattle.gc_texts.specs.Tasks.{call_at}
+use Rattle.gc_texts.specs.declared.occasion.Occasion.{Occasion}
 use Rattle.gc_texts.specs.declared.tasks.Task.{Task}
 use Rattle.gc_texts.specs.declared.wish.Wish.{Wish}
+use Rattle.gc_texts.proofs.TaskMoments.{at_any_moment}
 use Rattle.gc_station.specs.Beginnings.{unanswered_after}
 use Rattle.gc_station.specs.Begun.{AreBegun, heard_in}
 use Rattle.gc_station.specs.HoldingBack.{IsHeldBack}
 use Rattle.gc_station.specs.Model.{opening}
-use Rattle.gc_station.specs.Marks.{records_of}
-use Rattle.gc_station.specs.Parts.{Part, MarkAsks, MarksAsk, client_after, mark_of, sent_at, went_out}
+use Rattle.gc_station.specs.Marks.{occasion_of, records_of}
+use Rattle.gc_station.specs.Parts.{Part, MarkAsks, MarksAsk, client_after, mark_of, occasion_in, sent_at, went_out}
 use Rattle.gc_station.specs.Records.{Record}
 use Rattle.gc_station.specs.Runs.{state_after}
 use Rattle.gc_station.proofs.HoldingBack.{held_back}
@@ -90,17 +90,17 @@ zip_long R (x ∷ xs) (y ∷ ys) h = ap suc (zip_long R xs ys h.1)
 
 -- Calls of the table.
 
--- what a task of the table asks for is of the table, whether it sets the clock (`now`) or not
-table_at : (now : Bool) (utc : ℕ) (call : Asked) → is_of_table call ≡ true → is_of_table (if now then Table (SetDate (date_time utc)) else call) ≡ true
-table_at true utc call e = refl
-table_at false utc call e = e
+-- what a task of the table asks for is of the table, whenever it is sent
+table_at : (task : Task) (occasion : Occasion) → is_of_table task.command.call ≡ true → is_of_table (call_at task occasion) ≡ true
+table_at task occasion e =
+    at_any_moment (λ call. is_of_table call ≡ true) task occasion refl (λ raw other is same. absurd (true≢false (sym e ∙ ap is_of_table is))) e
 
 -- what a mark asks for is of the table, if all commands are
 table_marked : (commands : List Task) → AreOfTable commands → (mark : Option Mark) (a : Wanted Asked) → MarkAsks commands mark a → is_of_table a.call ≡ true
 table_marked commands table None a h = ap (λ (a : Wanted Asked). is_of_table a.call) h
 table_marked commands table (Some mark) a h =
     ap (λ (a : Wanted Asked). is_of_table a.call) h.2
-    ∙ table_at h.0.now mark.sent h.0.command.call (all_at (λ (task : Task). is_of_table task.command.call ≡ true) commands mark.place h.0 table h.1)
+    ∙ table_at h.0 (occasion_of mark) (all_at (λ (task : Task). is_of_table task.command.call ≡ true) commands mark.place h.0 table h.1)
 
 -- what marks ask for is of the table, if all commands are
 table_all : (commands : List Task) → AreOfTable commands → (marks : List (Option Mark)) (asked : List (Wanted Asked)) → MarksAsk commands marks asked
@@ -253,7 +253,7 @@ module _ {State : Type 0} (ends : Ends State) (Good : State → Type 0) (kept : 
     of : HasItsRequest commands ps ss number r
     fits : FitsPart of.part of.stretch
     settled : slice_get (at_its_end ends of.stretch).world.wire.settled (8 + of.m) ≡ Some x
-    asks : (request : Sent) → slice_get (at_its_end ends of.stretch).world.wire.sent (8 + of.m) ≡ Some request → request.call ≡ call_at of.task (sent_at r)
+    asks : (request : Sent) → slice_get (at_its_end ends of.stretch).world.wire.sent (8 + of.m) ≡ Some request → request.call ≡ call_at of.task (occasion_in of.expected r)
 
   -- a record of a part whose settlement isn't lost is found
   found : (commands : List Task) (ps : List Part) (ss : List (HarmedStretch State)) (number : ℕ) (r : Record) → AllZip FitsPart ps ss
@@ -289,7 +289,7 @@ module _ {State : Type 0} (ends : Ends State) (Good : State → Type 0) (kept : 
         settled = ap (λ l. slice_get l (8 + h.m)) z.2.seen.settled ∙ get_behind nulls_settled (settled_by fresh h.part.steps) (8 + h.m) h.m (omega (arith, many)) ∙ here;
         asks = λ request e.
             ap (λ (x : Sent). x.call) (same_Some request q.0 (sym e ∙ q.1)) ∙ ap (λ (a : Wanted Asked). a.call) (q.2 ∙ a.2.2)
-            ∙ ap (λ n. call_at a.2.0 n) (sym (sent_at_mark r h.mark h.x h.is_of));
+            ∙ ap (λ n. call_at a.2.0 (record { utc = n; values = h.mark.expected.values })) (sym (sent_at_mark r h.mark h.x h.is_of));
       }
 
   module _ (commands : List Task) (ps : List Part) (ss : List (HarmedStretch State)) (number : ℕ) where
@@ -346,6 +346,7 @@ module _ {State : Type 0} (ends : Ends State) (Good : State → Type 0) (kept : 
       none end.Late line out answered = cc
       none end.Lost line out answered = cc
       none end.Skipped line out answered = cc
+      none end.NoValue line out answered = cc
       none end.Missed line out answered = cc
 
     -- the same of one that may be late

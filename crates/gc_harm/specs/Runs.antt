@@ -22,7 +22,7 @@ use Rattle.gc_station.specs.EachOnce.{EachOnce}
 use Rattle.gc_station.specs.Links.{parts}
 use Rattle.gc_station.specs.Model.{Runs, opening}
 use Rattle.gc_station.specs.Marks.{commands_in, records_of}
-use Rattle.gc_station.specs.Parts.{Part, MarksAsk, mark_of, sent_at, sent_of, timeless, went_out}
+use Rattle.gc_station.specs.Parts.{Part, MarksAsk, mark_of, occasion_in, sent_of, timeless, went_out}
 use Rattle.gc_station.specs.Records.{Record}
 use Rattle.gc_station.specs.Runs.{state_after}
 use Rattle.gc_station.specs.Scopes.{Reads, Scope}
@@ -124,7 +124,7 @@ module _ {State : Type 0} (ends : Ends State) where
   module _ (commands : List Task) (ps : List Part) (ss : List (HarmedStretch State)) (number : ℕ) where
     -- the line was made on executing the very request of record `r` (`h`), with what the command asks at the moment at which it was sent
     abbrev pub IsOwnLine : (r : Record) → HasItsRequest commands ps ss number r → (line : List ℕ) → Type 0
-    IsOwnLine r h line = WasMadeAmid WINDOW ends (once_synchronized ends h.stretch) h.stretch.steps (8 + h.m) (call_at h.task (sent_at r)) line
+    IsOwnLine r h line = WasMadeAmid WINDOW ends (once_synchronized ends h.stretch) h.stretch.steps (8 + h.m) (call_at h.task (occasion_in h.expected r)) line
 
     -- the line is the record's own (`IsOwnLine`); or it settled the record's request (`h`), and is damaged
     abbrev pub IsOwnOrByDamage : (r : Record) → HasItsRequest commands ps ss number r → (line : List ℕ) → Type 0

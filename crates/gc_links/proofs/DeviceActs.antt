@@ -1,12 +1,12 @@
 -- The acts of a link over a device, by the calls over its connection.
-use Rattle.std.proofs.Common.{◌≡◌, ℕ, List, [], ◌∷◌, ◌++◌, Bool, true, false, refl, sym, ap, ◌∙◌, subst, Option, Some, None, Result, Ok, Err, append_assoc}
+use Rattle.std.proofs.Common.{◌≡◌, ℕ, List, [], ◌∷◌, ◌++◌, Bool, false, refl, ap, ◌∙◌, subst, Option, Some, None, Result, Ok, Err}
 use Rattle.gc_lines.specs.declared.ports.PortFailed.{PortFailed}
 use Rattle.gc_links.specs.declared.link.Came.{Came}
 use Rattle.gc_links.specs.declared.link.Came.TheVariants as came
 use Rattle.gc_links.specs.declared.link.Moment.{Moment}
 use Rattle.gc_links.specs.declared.system.devices.OpenDevice.{OpenDevice}
 use Rattle.gc_links.specs.Acts.{Closed, read_act, put_act, clock_act, open_act}
-use Rattle.gc_links.specs.Calls.{End, Call, Device, Makes, Asked, Dropped, Reached, NotReached}
+use Rattle.gc_links.specs.Calls.{Call, Device, Makes, Asked, Dropped}
 use Rattle.gc_links.specs.Clocks.{ClocksGive}
 use Rattle.gc_links.specs.Devices.{device_end, reach_call}
 use Rattle.gc_links.specs.Does.{DoesOver}

@@ -10,5 +10,6 @@ pub mod Opening
 pub mod Reading
 pub mod Seeing
 pub mod Sending
+pub mod Taking
 pub mod TcpMeaning
 pub mod Waiting

@@ -7,6 +7,7 @@ use Rattle.std.specs.declared.net.socket_addr.SocketAddr.{SocketAddr}
 use Rattle.std.specs.Net.ToAddrs.{HostAddrs, host_addrs}
 use Rattle.gc_links.specs.Calls as call
 use Rattle.gc_links.specs.Calls.{End, Call, Address}
+use Rattle.gc_links.specs.declared.system.files.SmallFile.{SmallFile}
 use Rattle.gc_links.specs.declared.system.sockets.Wired.{Wired}
 use Rattle.gc_links.specs.declared.system.sockets.Written.{Written}
 use Rattle.gc_links.specs.declared.system.sockets.Written.TheVariants as wrote
@@ -44,6 +45,15 @@ abbrev pub read_call : End → Heard → (buf : List ℕ) → Call
 read_call end (heard.Came n) buf = call.Came end (take n buf)
 read_call end heard.CameNone buf = call.CameNone end
 read_call end heard.Failed buf = call.NotCome end
+
+-- the bytes of a small file
+abbrev pub file_bytes : SmallFile → List ℕ
+file_bytes file = take file.len file.bytes
+
+-- the call that read the file at this path, by its answer
+abbrev pub file_call : (path : List ℕ) → Option SmallFile → Call
+file_call path (Some file) = call.Kept path file.changed (file_bytes file)
+file_call path None = call.NotKept path
 
 -- a write took no more bytes than it was handed
 abbrev pub TakesAtMost : Written → (bytes : List ℕ) → Type 0

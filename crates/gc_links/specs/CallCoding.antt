@@ -4,7 +4,7 @@ use Rattle.std.specs.Prelude.{◌≡◌, ℕ, true, false, List, [], cond, ◌==
 use Rattle.std.specs.Coded.{Coded, code_by, coded×, coded_ℕ, coded_list}
 use Rattle.std.specs.declared.net.socket_addr.SocketAddr.{SocketAddr}
 use Rattle.std.specs.declared.net.socket_addr.SocketAddr.TheVariants.{V4, V6}
-use Rattle.gc_links.specs.Calls.{End, Address, Device, Call, Monotonic, NoMonotonic, Wall, NoWall, Found, NotFound, Reached, NotReached, Took, TookNone, NotTaken, Came, CameNone, NotCome, Dropped, Asked, Looked}
+use Rattle.gc_links.specs.Calls.{End, Address, Device, Call, Monotonic, NoMonotonic, Wall, NoWall, Found, NotFound, Reached, NotReached, Took, TookNone, NotTaken, Came, CameNone, NotCome, Dropped, Asked, Looked, Kept, NotKept}
 
 -- the parts of an address: a number for its kind, its numbers, its port, its flow information and its scope
 abbrev AddressParts : Type 0
@@ -74,7 +74,12 @@ parts kind number bytes end = (kind, (number, (bytes, ([], end))))
 abbrev no_end : End
 no_end = Device []
 
--- a call as its parts
+-- the path of an end; empty if it is an address
+abbrev path_of_end : End → List ℕ
+path_of_end (Address address) = []
+path_of_end (Device path) = path
+
+-- a call as its parts; the bytes of a file are in the place of the path of an end
 abbrev call_parts : Call → CallParts
 call_parts (Monotonic nanos) = parts 0 nanos [] no_end
 call_parts NoMonotonic = parts 1 0 [] no_end
@@ -93,8 +98,10 @@ call_parts (NotCome end) = parts 13 0 [] end
 call_parts (Dropped end) = parts 14 0 [] end
 call_parts (Asked end still) = parts 15 (cond still 1 0) [] end
 call_parts (Looked path here) = parts 16 (cond here 1 0) path no_end
+call_parts (Kept path changed bytes) = parts 17 changed path (Device bytes)
+call_parts (NotKept path) = parts 18 0 path no_end
 
--- the call of these parts; a kind above 16, which no call has, counts as 16
+-- the call of these parts; a kind above 18, which no call has, counts as 18
 abbrev call_from : CallParts → Call
 call_from p =
     cond (p.0 == 0) (Monotonic p.1.0)
@@ -112,7 +119,9 @@ call_from p =
     (cond (p.0 == 12) (CameNone p.1.1.1.1)
     (cond (p.0 == 13) (NotCome p.1.1.1.1)
     (cond (p.0 == 14) (Dropped p.1.1.1.1)
-    (cond (p.0 == 15) (Asked p.1.1.1.1 (p.1.0 == 1)) (Looked p.1.1.0 (p.1.0 == 1)))))))))))))))))
+    (cond (p.0 == 15) (Asked p.1.1.1.1 (p.1.0 == 1))
+    (cond (p.0 == 16) (Looked p.1.1.0 (p.1.0 == 1))
+    (cond (p.0 == 17) (Kept p.1.1.0 p.1.0 (path_of_end p.1.1.1.1)) (NotKept p.1.1.0))))))))))))))))))
 
 -- a call comes back from its parts
 pub call_from-parts : (call : Call) → call_from (call_parts call) ≡ call
@@ -135,6 +144,8 @@ call_from-parts (Asked end true) = refl
 call_from-parts (Asked end false) = refl
 call_from-parts (Looked path true) = refl
 call_from-parts (Looked path false) = refl
+call_from-parts (Kept path changed bytes) = refl
+call_from-parts (NotKept path) = refl
 
 -- the coding of a list of calls, for the field `made` of `calls.rt`
 abbrev pub calls_code : Coded (List Call)

@@ -6,7 +6,7 @@ use Rattle.gc_links.specs.Calls.{End, Call}
 use Rattle.gc_links.specs.declared.calls.FarEnd.{FarEnd}
 use Rattle.gc_links.specs.declared.calls.FarEnd.TheVariants.{Address, Device}
 use Rattle.gc_links.specs.declared.calls.CallNote.{CallNote}
-use Rattle.gc_links.specs.declared.calls.CallNote.TheVariants.{Monotonic, NoMonotonic, Wall, NoWall, Found, NotFound, Reached, NotReached, Took, TookNone, NotTaken, Came, CameNone, NotCome, Dropped, Asked, Looked}
+use Rattle.gc_links.specs.declared.calls.CallNote.TheVariants.{Monotonic, NoMonotonic, Wall, NoWall, Found, NotFound, Reached, NotReached, Took, TookNone, NotTaken, Came, CameNone, NotCome, Dropped, Asked, Looked, Kept, NotKept}
 
 -- the end that this value names
 abbrev pub end_of : FarEnd → End
@@ -32,3 +32,5 @@ call_of (NotCome end) = call.NotCome (end_of end)
 call_of (Dropped end) = call.Dropped (end_of end)
 call_of (Asked end still) = call.Asked (end_of end) still
 call_of (Looked path here) = call.Looked path.now here
+call_of (Kept path changed bytes) = call.Kept path.now changed bytes.now
+call_of (NotKept path) = call.NotKept path.now

@@ -44,6 +44,10 @@ pub data Call : Type 0 where
   Asked : (end : End) (still : Bool) → Call
   -- a file was looked for at this path: it is there (`here`), or it isn't, or the system didn't say
   Looked : (path : List ℕ) (here : Bool) → Call
+  -- the file at this path was read, which was changed last at the moment `changed`, in milliseconds since 1970, and has these bytes
+  Kept : (path : List ℕ) (changed : ℕ) (bytes : List ℕ) → Call
+  -- at this path there is no regular file of at most 64 bytes, or the system didn't give it, or didn't say when it was changed
+  NotKept : (path : List ℕ) → Call
 
 -- between these two lists of calls (`old` and `new`) some were made, and this fact holds of them
 pub record Makes (old new : List Call) (Fact : List Call → Type 0) : Type 0 where

@@ -1,5 +1,6 @@
 -- What a moment of a link is by the system's clocks: this project's own.
 use Rattle.std.specs.Prelude.{◌≡◌, ℕ, ◌-◌, ◌/◌, ◌^◌, ◌<◌, min, false, List, [], ◌∷◌, Result, Ok, Err}
+use Rattle.gc_values.specs.FileValues.{no_values}
 use Rattle.gc_links.specs.declared.link.Came.{Came}
 use Rattle.gc_links.specs.declared.link.Came.TheVariants.{Bytes, End, NoMoment}
 use Rattle.gc_links.specs.declared.link.Moment.{Moment}
@@ -11,9 +12,9 @@ in_millis nanos = min (nanos / 1_000_000) (2 ^ 64 - 1)
 
 -- the moment at which the monotonic clock was read as `now`, and the time of day as `utc`, both in nanoseconds, of a link that was
 -- made when the monotonic clock was read as `start`. Where that clock went back behind the start, no time has gone by. Nothing is
--- known of the end of the run
+-- known of the end of the run, nor of values of files
 abbrev pub moment_at : (start now utc : ℕ) → Moment
-moment_at start now utc = record { elapsed = in_millis (now - start); utc = in_millis utc; stops = false }
+moment_at start now utc = record { elapsed = in_millis (now - start); utc = in_millis utc; stops = false; values = no_values }
 
 -- these calls read both clocks, the monotonic one first, and this is the moment
 pub record ReadsClocks (start : ℕ) (moment : Moment) (calls : List Call) : Type 0 where

@@ -1,5 +1,5 @@
 -- The note of each of the system's calls of a device by its answer, and what a link knows of its device: this project's own.
-use Rattle.std.specs.Prelude.{List, ℕ, Option, Some, None, Result, Ok, Err}
+use Rattle.std.specs.Prelude.{List, ℕ, Result, Ok, Err}
 use Rattle.gc_links.specs.Calls as call
 use Rattle.gc_links.specs.Calls.{End, Call, Device}
 use Rattle.gc_links.specs.declared.system.devices.OpenDevice.{OpenDevice}

@@ -3,7 +3,7 @@ use Rattle.std.specs.Prelude.{◌≡◌, ℕ, true, false, List, [], ◌∷◌, 
 use Rattle.gc_links.specs.Acts.{Act, Closed, Opened, Unopened}
 use Rattle.gc_links.specs.Calls.{End, Device, Call, Monotonic, Reached, NotReached, Asked, Dropped}
 use Rattle.gc_links.specs.Does.{DoesOver}
-use Rattle.gc_links.specs.Holds.{Hold, Nothing, Aside, Linked, Gone, linked_end, hold_after, ended, ending}
+use Rattle.gc_links.specs.Holds.{Hold, Nothing, Aside, Linked, linked_end, hold_after, ended, ending}
 use Rattle.gc_links.specs.Meant.{AreMeant}
 
 -- these calls left no device open: none was, or the one that was held aside isn't a terminal any more, and was dropped

@@ -66,6 +66,10 @@ pub(crate) enum CallNote<'a> {
     Asked(FarEnd<'a>, bool),
     /// A file was looked for at this path, and whether it is there; not if the system didn't say.
     Looked(&'a str, bool),
+    /// A file at this path was read, which was changed last at this moment, in milliseconds since 1970, and has these bytes.
+    Kept(&'a str, u64, &'a [u8]),
+    /// At this path there is no regular file of at most 64 bytes, or the system didn't give it, or didn't say when it was changed.
+    NotKept(&'a str),
 }
 
 impl Calls {

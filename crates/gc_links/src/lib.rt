@@ -35,5 +35,5 @@ pub use placed::PlacedLink;
 pub use tcp::TcpLink;
 pub use telling::Telling;
 pub use timer::millis_of;
-pub use watched::{LinkRecord, Watched};
+pub use watched::{LinkRecord, ValueFiles, Watched};
 pub use wire::{Wire, read_stream_within, wire_on, wire_to, write_stream};

@@ -4,6 +4,7 @@ ghost use Rattle.std.specs.Prelude.{[], ◌∷◌, ◌<◌, length};
 ghost use Rattle.gc_links.specs.Acts.{Closed, AddsActs, clock_act, put_act, read_act, open_act, CameWithin, IsPartIfErr};
 
 use gc_lines::PortFailed;
+use gc_values::FileValues;
 
 /// A moment, on two clocks. Either clock may go back. Where `elapsed` does, the deadline of a request isn't moved, so it is
 /// further away by as much.
@@ -15,6 +16,8 @@ pub struct Moment {
     pub utc: u64,
     /// Whether the end of the run was asked for by this moment. `false` where nobody can ask.
     pub stops: bool,
+    /// The values of files by this moment, for requests that are sent next; none where no file is read.
+    pub values: FileValues,
 }
 
 /// The result of a read of a link. With bytes comes the moment after the read, and with silence a moment by which none had come.

@@ -14,6 +14,7 @@ mod files;
 mod sockets;
 
 pub(crate) use devices::OpenDevice;
+pub(crate) use files::SmallFile;
 pub(crate) use sockets::{Heard, Wired, Written, read_timed, send_at_once};
 
 /// The system as a link calls it, and the calls so far.

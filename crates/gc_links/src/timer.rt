@@ -9,6 +9,7 @@ ghost use Rattle.gc_links.specs.Clocks.{ClocksGive, in_millis};
 use crate::link::Moment;
 use crate::system::System;
 use gc_lines::PortFailed;
+use gc_values::no_values;
 use std::io;
 use std::time::{Clock, Duration, Instant, UNIX_EPOCH};
 
@@ -31,8 +32,8 @@ impl Timer {
     }
 
     /// Reads both clocks. It fails where one can't be read. Where the system's clock has gone back behind the start,
-    /// `elapsed` is 0. A time of day before 1970 counts as the beginning of 1970. The moment's `stops` is `false`: this clock
-    /// doesn't know whether the end of the run was asked for.
+    /// `elapsed` is 0. A time of day before 1970 counts as the beginning of 1970. The moment's `stops` is `false`, and it has no
+    /// values: this clock doesn't know whether the end of the run was asked for, and reads no files.
     pub(crate) fn moment<R: Clock>(&self, system: &mut System<'_, R>) -> Result<Moment, PortFailed>
         ensures { Makes system.old.calls.made system.new.calls.made (ClocksGive (instant_nanos self.now.start) result) }
     {
@@ -47,6 +48,7 @@ impl Timer {
             elapsed: millis_of(now.duration_since(self.start)),
             utc: millis_of(since_1970),
             stops: false,
+            values: no_values(),
         })
     }
 }

@@ -1,10 +1,12 @@
-//! A link to a place that looks for a file: where the file is there, the end of the run is asked for.
+//! A link to a place that looks for a file, and reads others: where the one is there, the end of the run is asked for; the others have
+//! values for requests.
 
-ghost use Rattle.std.specs.Prelude.{◌≡◌, ℕ, List, [], true, IfOk};
+ghost use Rattle.std.specs.Prelude.{◌≡◌, ◌≤◌, ℕ, List, [], length, true, IfOk};
 ghost use Rattle.gc_links.specs.Acts.{CameWithin, clock_act, read_act};
 ghost use Rattle.gc_links.specs.Calls.{Makes};
 ghost use Rattle.gc_links.specs.Placed.{acts_in, place_in, place_seen};
-ghost use Rattle.gc_links.specs.Seeing.{AreSeen, IsLook, IsSeen, IsSeenAt, path_at};
+ghost use Rattle.gc_links.specs.Seeing.{AreSeen, AreValues, IsLook, IsSeen, IsSeenAt, IsTakenBy, path_at};
+ghost use Rattle.gc_values.specs.FileValues.{path_of};
 
 use crate::calls::Calls;
 use crate::device::Unusable;
@@ -14,35 +16,43 @@ use crate::noting::{note_of_clock, note_of_open, note_of_put, note_of_read};
 use crate::place::Place;
 use crate::placed::PlacedLink;
 use crate::system::System;
+use arrayvec::ArrayVec;
 use gc_lines::PortFailed;
+use gc_values::{FILE_VALUES, FileValues, VALUE_BYTES, ValueFile, no_values, value_in};
 use std::fs::File;
 use std::net::{Net, TcpListener, TcpStream};
 use std::rt::Files;
 use std::time::Clock;
 
-/// A link to a place, whose moments say whether a file is there by which somebody asks for the run's end.
+/// The files whose values a link's moments have, in the order of their values.
+pub type ValueFiles = ArrayVec<ValueFile, FILE_VALUES>;
+
+/// A link to a place, whose moments say whether a file is there by which somebody asks for the run's end, and have the values of others.
 ///
-/// It looks for the file each time that the link inside reports a moment. A file that can't be looked at, for any error, counts as
+/// It looks for the file, and reads the others, each time that the link inside reports a moment. A file that can't be looked at, for any error, counts as
 /// not there: a run doesn't end for a directory that can't be read. Without a file (`None`) it makes no system call of its own.
 #[derive(Drop)]
 pub struct Watched<'a, R> {
     link: PlacedLink<'a, R>,
     // The path of the file.
     until: Option<&'a str>,
+    // The files whose values its moments have.
+    files: ValueFiles,
     // The moment at which the link was made.
     began: Moment,
-    // The system, for the looks for the file.
+    // The system, for the looks for the file and the reads of the others.
     system: System<'a, R>,
     /// The acts of the link since it was made, which proofs alone can read.
     pub history: History,
-    ghost seen: { ∥ AreSeen (path_at until) began (acts_in link) system.calls.made history.acts ∥₁ },
+    ghost seen: { ∥ AreSeen (path_at until) files.items began (acts_in link) system.calls.made history.acts ∥₁ },
 }
 
 /// What is left of a link once it is closed, for proofs alone: the moment at which it was made, its acts since then, the system's
-/// calls that did them, and the looks for the file.
+/// calls that did them, the looks for the file, and the files whose values were taken.
 #[derive(Drop)]
 pub struct LinkRecord {
     pub began: Moment,
+    pub files: ValueFiles,
     pub history: History,
     pub calls: Calls,
     pub looks: Calls,
@@ -76,18 +86,20 @@ impl<'a, R> Watched<'a, R> {
 
     /// Closes the link, and returns what is left of it.
     pub fn into_record(self) -> LinkRecord
-        ensures { (result.began ≡ self.entry.began) × (result.history.acts ≡ self.entry.history.acts)
+        ensures { (result.began ≡ self.entry.began) × (result.files ≡ self.entry.files) × (result.history.acts ≡ self.entry.history.acts)
             × (result.calls.made ≡ calls_in self.entry.link) × (result.looks.made ≡ self.entry.system.calls.made) }
     {
         let Watched {
             link,
             until: _,
+            files,
             began,
             system,
             history,
         } = self;
         LinkRecord {
             began,
+            files,
             history,
             calls: link.into_calls(),
             looks: system.into_calls(),
@@ -99,14 +111,16 @@ impl<'a, R: Net<Listener = TcpListener, Stream = TcpStream> + Files<File = File>
     'a,
     R,
 > {
-    /// A link to a place, as [`PlacedLink::new`] makes it, that looks for the file at the path `until`. `None`: it looks for no
-    /// file. Its clock is read once. `None` as the reason: the clock can't be read.
+    /// A link to a place, as [`PlacedLink::new`] makes it, that looks for the file at the path `until`, and whose moments have the values
+    /// of these files. `None`: it looks for no file. Its clock is read once. `None` as the reason: the clock can't be read.
     pub fn new(
         rt: &'a R,
         place: Place<'a>,
         until: Option<&'a str>,
+        files: ValueFiles,
     ) -> Result<Watched<'a, R>, Option<Unusable>>
         ensures fresh { IfOk result (λ link. link.history.acts ≡ []) }
+        ensures files { IfOk result (λ link. link.files ≡ files) }
     {
         let mut link = PlacedLink::new(rt, place)?;
         let Ok(began) = link.now() else {
@@ -115,6 +129,7 @@ impl<'a, R: Net<Listener = TcpListener, Stream = TcpStream> + Files<File = File>
         Ok(Watched {
             link,
             until,
+            files,
             began,
             system: System::new(rt),
             history: History::new(),
@@ -143,41 +158,92 @@ fn look<R: Files>(system: &mut System<'_, R>, until: Option<&str>) -> bool
     }
 }
 
-// The moment that the link inside reported, as a look for the file at `until` makes it.
-fn see<R: Files>(system: &mut System<'_, R>, until: Option<&str>, moment: Moment) -> Moment
-    ensures { Makes system.old.calls.made system.new.calls.made (λ look. IsSeenAt (path_at until.entry) look moment result) }
+// Reads a file at the moment `now`, in milliseconds since 1970, and returns its value then; none, without reading, if its path isn't text,
+// which it always is.
+fn take_value<R: Files<File = File>>(
+    system: &mut System<'_, R>,
+    file: &ValueFile,
+    now: u64,
+) -> [u8; VALUE_BYTES]
+    ensures { Makes system.old.calls.made system.new.calls.made
+        (λ reads. IsTakenBy (path_of file.now) file.now.seconds now reads result) }
+{
+    let Ok(path) = str::from_utf8(file.path()) else {
+        return [0; VALUE_BYTES];
+    };
+    match system.read_file(path) {
+        Some(read) => value_in(read.bytes(), read.changed, now, file.seconds),
+        None => [0; VALUE_BYTES],
+    }
+}
+
+// Reads these files at the moment `now`, in milliseconds since 1970, and returns their values then.
+fn take_values<R: Files<File = File>>(
+    system: &mut System<'_, R>,
+    files: &[ValueFile],
+    now: u64,
+) -> FileValues
+    requires { length files.now ≤ 16 }
+    ensures { Makes system.old.calls.made system.new.calls.made (λ reads. AreValues files.now now reads result) }
+{
+    let mut values = no_values();
+    for (k, file) in files.iter().enumerate() {
+        values[k] = take_value(system, file, now);
+    }
+    values
+}
+
+// The moment that the link inside reported, as a look for the file at `until` and the reads of `files` make it.
+fn see<R: Files<File = File>>(
+    system: &mut System<'_, R>,
+    until: Option<&str>,
+    files: &[ValueFile],
+    moment: Moment,
+) -> Moment
+    requires { length files.now ≤ 16 }
+    ensures { Makes system.old.calls.made system.new.calls.made (λ look. IsSeenAt (path_at until.entry) files.now look moment result) }
 {
     let here = look(system, until);
+    let values = take_values(system, files, moment.utc);
     Moment {
         elapsed: moment.elapsed,
         utc: moment.utc,
         stops: moment.stops || here,
+        values,
     }
 }
 
-// The result of a reading of the clock, as a look for the file at `until` makes it.
-fn see_clock<R: Files>(
+// The result of a reading of the clock, as a look for the file at `until` and the reads of `files` make it.
+fn see_clock<R: Files<File = File>>(
     system: &mut System<'_, R>,
     until: Option<&str>,
+    files: &[ValueFile],
     told: Result<Moment, PortFailed>,
 ) -> Result<Moment, PortFailed>
-    ensures { Makes system.old.calls.made system.new.calls.made (λ look. IsSeen (path_at until.entry) (clock_act told) look (clock_act result)) }
+    requires { length files.now ≤ 16 }
+    ensures { Makes system.old.calls.made system.new.calls.made (λ look. IsSeen (path_at until.entry) files.now (clock_act told) look (clock_act result)) }
 {
     match told {
-        Ok(moment) => Ok(see(system, until, moment)),
+        Ok(moment) => Ok(see(system, until, files, moment)),
         Err(failed) => Err(failed),
     }
 }
 
-// The outcome of a read, as a look for the file at `until` makes it.
-fn see_read<R: Files>(system: &mut System<'_, R>, until: Option<&str>, came: Came) -> Came
+// The outcome of a read, as a look for the file at `until` and the reads of `files` make it.
+fn see_read<R: Files<File = File>>(
+    system: &mut System<'_, R>,
+    until: Option<&str>,
+    files: &[ValueFile],
+    came: Came,
+) -> Came
+    requires { length files.now ≤ 16 }
     ensures seen { Makes system.old.calls.made system.new.calls.made
-        (λ look. (buf : List ℕ) → IsSeen (path_at until.entry) (read_act came buf) look (read_act result buf)) }
+        (λ look. (buf : List ℕ) → IsSeen (path_at until.entry) files.now (read_act came buf) look (read_act result buf)) }
     ensures within { (buf : List ℕ) → CameWithin came buf → CameWithin result buf }
 {
     match came {
-        Came::Bytes(n, moment) => Came::Bytes(n, see(system, until, moment)),
-        Came::Silence(moment) => Came::Silence(see(system, until, moment)),
+        Came::Bytes(n, moment) => Came::Bytes(n, see(system, until, files, moment)),
+        Came::Silence(moment) => Came::Silence(see(system, until, files, moment)),
         Came::End => Came::End,
         Came::Failure => Came::Failure,
         Came::NoMoment => Came::NoMoment,
@@ -193,14 +259,14 @@ impl<'a, R: Net<Listener = TcpListener, Stream = TcpStream> + Files<File = File>
 
     fn now(&mut self) -> Result<Moment, PortFailed> {
         let told = self.link.now();
-        let told = see_clock(&mut self.system, self.until, told);
+        let told = see_clock(&mut self.system, self.until, self.files.as_slice(), told);
         self.history = self.history.then(&note_of_clock(&told));
         told
     }
 
     fn read(&mut self, buf: &mut [u8], millis: u64) -> Came {
         let came = self.link.read(buf, millis);
-        let came = see_read(&mut self.system, self.until, came);
+        let came = see_read(&mut self.system, self.until, self.files.as_slice(), came);
         self.history = self.history.then(&note_of_read(came, buf));
         came
     }

@@ -1,11 +1,13 @@
 mod AtLink
 mod Both
+mod Described
 mod Hearing
 mod HandingBack
 mod LostTimes
 mod Measured
 mod TextRead
 mod Unbegun
+mod ValueCounts
 mod Wants
 mod Reached
 mod Records

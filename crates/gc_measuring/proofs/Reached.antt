@@ -3,7 +3,7 @@ use Rattle.std.proofs.Common.{◌≡◌, ◌<◌, ℕ, if◌then◌else◌, Bool
 use Rattle.std.specs.Prelude.{filter}
 use Rattle.gc_texts.specs.LineForms.{text_lines, is_kept, AreLinesOf}
 use Rattle.gc_texts.specs.TaskLines.{IsTaskLine}
-use Rattle.gc_texts.specs.Tasks.{TasksSeen, IsTasks, MayFollow, ReachesASoundTaskLine, first_mode, placed, tasks_of}
+use Rattle.gc_texts.specs.Tasks.{TasksSeen, IsTasks, MayFollow, ReachesASoundTaskLine, first_mode, no_standing, placed, tasks_of}
 
 -- what lines of this form say
 abbrev said_by : {Said : Type 0} → (form : List ℕ → Said → Type 0) → Type 0
@@ -47,8 +47,8 @@ first_said (line ∷ lines) said later are = by_kept (is_kept line) refl are (fi
 pub reaches_a_line : (text : List ℕ) (deadline : ℕ) (chained : Bool) (all : TasksSeen) → IsTasks text deadline chained all → 0 < length all.tasks → ReachesASoundTaskLine text
 reaches_a_line text deadline chained all is some = by_said is.said is.lines.forms is.lines.follow (ap length is.tasks_are) where
   -- the lemma above, by what the lines say
-  by_said : (said : List Said) → AreLinesOf IsTaskLine (filter is_kept (text_lines text)) said → MayFollow [] [] [] 0 said
-      → length all.tasks ≡ length (map (placed all.nears all.unwatched) (tasks_of (first_mode deadline chained) said)) → ReachesASoundTaskLine text
+  by_said : (said : List Said) → AreLinesOf IsTaskLine (filter is_kept (text_lines text)) said → MayFollow [] [] [] [] no_standing said
+      → length all.tasks ≡ length (map (placed all.nears all.unwatched all.described) (tasks_of (first_mode deadline chained) said)) → ReachesASoundTaskLine text
   by_said [] forms follow long = absurd (omega (arith, some, long))
   by_said (said ∷ later) forms follow long =
       let first = first_said (text_lines text) said later forms in

@@ -8,6 +8,6 @@ use Rattle.gc_measuring.specs.Noted.{IsMeantRecord}
 
 -- if the acts of a link are what the system's calls did at this place, so are those that are left of it
 pub is_meant_record : {R : Type 0} (where_to : PlaceSeen) (until : Option (List ℕ)) (link : Watched R) (left : LinkRecord)
-    → (left.began ≡ link.began) × (left.history.acts ≡ link.history.acts) × (left.calls.made ≡ calls_in link.link) × (left.looks.made ≡ link.system.calls.made)
+    → (left.began ≡ link.began) × (left.files ≡ link.files) × (left.history.acts ≡ link.history.acts) × (left.calls.made ≡ calls_in link.link) × (left.looks.made ≡ link.system.calls.made)
     → ∥ IsMeantAt where_to until link ∥₁ → ∥ IsMeantRecord where_to until left ∥₁
-is_meant_record where_to until link left same meant = rw (same.0, same.1, same.2, same.3) meant
+is_meant_record where_to until link left same meant = rw (same.0, same.1, same.2, same.3, same.4) meant

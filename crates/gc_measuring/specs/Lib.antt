@@ -2,6 +2,7 @@ pub mod Angles
 pub mod Appending
 pub mod Bounds
 pub mod Choices
+pub mod Labels
 pub mod Logging
 pub mod Measuring
 pub mod Noted
@@ -10,4 +11,5 @@ pub mod Stops
 pub mod TaskTexts
 pub mod Telling
 pub mod Texts
+pub mod ValueCounts
 pub mod Wanted

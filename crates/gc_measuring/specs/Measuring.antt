@@ -1,10 +1,11 @@
 -- What a station does with the tasks of a text, what it writes of them, and how its end is reported: this project's own. A
 -- `Snapshot` is what was seen of link and sink before one act.
-use Rattle.std.specs.Prelude.{◌≡◌, ℕ, Bool, true, ◌⊎◌, List, [], ◌++◌, if◌then◌else◌, Option, Result, Ok, Err, codes}
+use Rattle.std.specs.Prelude.{◌≡◌, ℕ, Bool, true, ◌⊎◌, List, [], ◌++◌, if◌then◌else◌, Option, option_map, Result, Ok, Err, codes}
 use Rattle.std.specs.Fmt.{decimal}
 use Rattle.std.specs.Io.KnownBytes.{Consumes, Appends}
 use Rattle.gc_texts.specs.WholeTexts.{Input, GaveBytes}
 use Rattle.gc_measuring.specs.Choices.{plan_of}
+use Rattle.gc_measuring.specs.Labels.{LabelsSeen, labels_of}
 use Rattle.gc_measuring.specs.Stops.{stop_text, end_of_run}
 use Rattle.gc_measuring.specs.TaskTexts.{GivesTasks, RefusesTasks}
 use Rattle.gc_words.specs.declared.layout.Layout.{Layout}
@@ -20,13 +21,14 @@ use Rattle.gc_station.specs.Watching.{watched_of}
 use Rattle.gc_station.specs.Scopes.{ForEachAndSomeReadings}
 use Rattle.gc_station.specs.declared.plan.Plan.{Plan}
 use Rattle.gc_station.specs.declared.tally.Tally.{Tally}
+use Rattle.gc_catalogue.specs.Asked.{procedure_of}
+use Rattle.gc_texts.specs.Descriptions.{described_as, description_seen}
 use Rattle.gc_texts.specs.Names.{name_text}
 use Rattle.gc_texts.specs.Tasks.{TasksSeen}
 use Rattle.gc_rows.specs.Columns.{Entry}
 use Rattle.gc_rows.specs.Records.{record_text, head_text}
 use Rattle.gc_texts.specs.declared.fault.RunFault.{RunFault}
 use Rattle.gc_texts.specs.declared.fault.RunFault.TheVariants.{Output}
-use Rattle.gc_texts.specs.declared.name.Name.{Name}
 use Rattle.gc_texts.specs.declared.tasks.Task.{Task}
 use Rattle.gc_rows.specs.declared.when.When.{When}
 
@@ -34,17 +36,25 @@ use Rattle.gc_rows.specs.declared.when.When.{When}
 abbrev pub when_of : (run : ℕ) → Record → When
 when_of run r = record { run = run; stamp = record { sent = r.sent; id = r.id; utc = r.utc; cycle = r.cycle; place = r.place; turn = r.turn } }
 
--- what a layout has of a record, where targets have these names
-abbrev pub entry_in : Layout → List Name → Record → Entry
-entry_in layout names r = record { when = when_of layout.run r; name = name_text r.command.target names; command = r.command; end = r.end }
+-- what a layout has of a record with these labels
+abbrev pub entry_in : Layout → LabelsSeen → Record → Entry
+entry_in layout labels r = record {
+  when = when_of layout.run r;
+  name = name_text r.command.target labels.names;
+  command = r.command;
+  end = r.end;
+  described = option_map description_seen (described_as (procedure_of r.command.call) labels.described);
+  columns = labels.columns;
+}
 
--- the text of a record in a layout, where targets have these names
-abbrev pub text_in : Layout → List Name → Record → List ℕ
-text_in layout names r = record_text layout.form (entry_in layout names r)
+-- the text of a record in a layout with these labels
+abbrev pub text_in : Layout → LabelsSeen → Record → List ℕ
+text_in layout labels r = record_text layout.form (entry_in layout labels r)
 
--- what is to be written before the records: nothing if the sink has its header already
-abbrev pub front_text : Layout → List ℕ
-front_text layout = if layout.headed then [] else head_text layout.form
+-- what is to be written before the records, where tables have these columns beside those of the table's quantities: nothing if the sink
+-- has its header already
+abbrev pub front_text : Layout → (columns : List (List ℕ)) → List ℕ
+front_text layout columns = if layout.headed then [] else head_text layout.form columns
 
 -- what is seen of a station's ports at one moment: its source; the acts that its link recorded, the bytes that its sink took and
 -- those that were written on its messages, if these are known; and what was seen of link and sink at each act so far (`turns`)
@@ -57,30 +67,30 @@ pub record PortsSeen : Type 0 where
 
 -- the run ended with `Output`, because the sink failed before the records: of what comes before them it took the first `bytes`
 -- bytes, not all, and nothing else was done
-pub record FailsInFront (layout : Layout) (old new : PortsSeen) (result : Result Tally Stop) : Type 0 where
+pub record FailsInFront (layout : Layout) (columns : List (List ℕ)) (old new : PortsSeen) (result : Result Tally Stop) : Type 0 where
   pub is : result ≡ Err (Run Output)
   pub bytes : ℕ
-  pub took : TakesFront old.taken new.taken bytes (front_text layout)
+  pub took : TakesFront old.taken new.taken bytes (front_text layout columns)
   pub acts : new.acts ≡ old.acts
   pub messages : new.messages ≡ old.messages
   pub turns : new.turns ≡ old.turns
 
--- what a run measures: tasks, by a plan, in at most `max_turns` acts, with its records in a layout, and the names of targets
+-- what a run measures: tasks, by a plan, in at most `max_turns` acts, with its records in a layout, and their labels
 pub record Survey : Type 0 where
   pub plan : Plan
   pub tasks : List Task
   pub max_turns : ℕ
   pub layout : Layout
-  pub names : List Name
+  pub labels : LabelsSeen
 
 -- the text of a record of this survey
 abbrev pub text_by : Survey → Record → List ℕ
-text_by survey = text_in survey.layout survey.names
+text_by survey = text_in survey.layout survey.labels
 
--- what a station measures, in at most `max_turns` acts, of a text with these tasks and names
+-- what a station measures, in at most `max_turns` acts, of a text with these tasks and labels
 abbrev pub survey_of : Settings → (max_turns : ℕ) → TasksSeen → Survey
 survey_of station max_turns all =
-    record { plan = plan_of station.choice all.setup all.tasks; tasks = all.tasks; max_turns = max_turns; layout = station.layout; names = all.names }
+    record { plan = plan_of station.choice all.setup all.tasks; tasks = all.tasks; max_turns = max_turns; layout = station.layout; labels = labels_of all }
 
 -- what is seen of the link and the book of a run that measures this survey, by what is seen of its ports
 abbrev pub run_in : Survey → PortsSeen → RunSeen
@@ -98,7 +108,7 @@ pub record RunsSurvey (survey : Survey) (old new : PortsSeen) (end : Result Tall
 -- is what the sink had taken before the records
 pub record RunsAfterFront (survey : Survey) (old new : PortsSeen) (result : Result Tally Stop) : Type 0 where
   pub between : Option (List ℕ)
-  pub front : Appends old.taken between (front_text survey.layout)
+  pub front : Appends old.taken between (front_text survey.layout survey.labels.columns)
   pub end : Result Tally RunFault
   pub is : result ≡ end_of_run end
   pub run : RunsSurvey survey (record old { taken = between }) new end
@@ -116,7 +126,7 @@ abbrev pub Measures : (given : List ℕ) → Settings → (max_turns : ℕ) → 
 Measures given station max_turns old new result =
     ((stop : Stop) × (result ≡ Err stop) × RefusesTasks given old.input new.input stop × IsUnused old new)
     ⊎ ((all : TasksSeen) × GivesTasks given old.input new.input station.choice all
-    × (FailsInFront station.layout old new result ⊎ RunsAfterFront (survey_of station max_turns all) old new result))
+    × (FailsInFront station.layout (labels_of all).columns old new result ⊎ RunsAfterFront (survey_of station max_turns all) old new result))
 
 -- a source gave bytes, by at most one read for each and one for the end, and of these `Measures` holds, in at most `max_turns`
 -- acts

@@ -42,11 +42,11 @@ unfit_text why = fault_line (run_fault_text (fault_of_unfit why)) ++ rotation_li
 abbrev pub opened_lines : (copied torn : ℕ) → List ℕ
 opened_lines copied torn = copied_line copied ++ torn_line torn
 
--- the file is at the path of this recording, and was just opened for rows in the station's form, each of which is to be synced if the
--- recording asks for that
-abbrev pub IsBegunAt : {R : Type 0} → Recording → Settings → Followed R → Type 0
-IsBegunAt recording station followed =
-    IsOpenedAt recording.path.now (head_text (form_of_rows station.layout.form)) (form_sign (form_of_rows station.layout.form)) recording.sync followed
+-- the file is at the path of this recording, and was just opened for rows in the station's form, with these columns beside those of the
+-- table's quantities, each of which is to be synced if the recording asks for that
+abbrev pub IsBegunAt : {R : Type 0} → Recording → Settings → (columns : List (List ℕ)) → Followed R → Type 0
+IsBegunAt recording station columns followed =
+    IsOpenedAt recording.path.now (head_text (form_of_rows station.layout.form) columns) (form_sign (form_of_rows station.layout.form) columns) recording.sync followed
 
 -- the messages, which were `old` and are now `new`, got a report of the file's opening, if it could be written (`told`): a
 -- number of copied rows, of which no more is said, and how many bytes of a torn row were cut off

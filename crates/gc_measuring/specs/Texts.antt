@@ -5,6 +5,7 @@ use Rattle.std.specs.Prelude.{◌≡◌, ℕ, ◌⊎◌, Bool, List, ◌++◌, O
 use Rattle.std.specs.Io.KnownBytes.{Appends, Consumes}
 use Rattle.gc_lines.specs.declared.ports.Source.{Ghosts as Source}
 use Rattle.gc_measuring.specs.Appending.{AppendsToFile}
+use Rattle.gc_measuring.specs.Labels.{labels_of}
 use Rattle.gc_measuring.specs.Stops.{stop_text}
 use Rattle.gc_measuring.specs.TaskTexts.{GivesTasks, HearsNoTasks}
 use Rattle.gc_measuring.specs.Telling.{AppendingRun, MeasuresAllAtLink, ReportsAtSite, Stage, Views, stage}
@@ -18,13 +19,14 @@ use Rattle.gc_words.specs.declared.choice.Choice.{Choice}
 use Rattle.gc_words.specs.declared.settings.Settings.{Settings}
 
 -- the reads of an input, which took it from `old` to `new`, gave exactly this text, to its end; and a station with this choice finds
--- commands of a cycle in it (`all` are its tasks)
-pub record ReadsTaskText (old new : Hearing) (choice : Choice) (text : List ℕ) : Type 0 where
+-- commands of a cycle in it (`all` are its tasks), and these columns beside those of the table's quantities
+pub record ReadsTaskText (old new : Hearing) (choice : Choice) (text : List ℕ) (columns : List (List ℕ)) : Type 0 where
   pub heard : new.heard ≡ old.heard ++ text
   pub takes : Consumes old.input.remaining new.input.remaining text
   pub few : ReadsFew old.input new.input text
   pub all : TasksSeen
   pub gives : GivesTasks text old.input new.input choice all
+  pub columns_are : (labels_of all).columns ≡ columns
 
 -- the input gave no text that a station can measure, for the reason that `stop` says; that is reported with status 1, and nothing
 -- was written on the output
@@ -51,17 +53,18 @@ pub record IsOverText {S T K E : Type 0} (over : Source T) (text : List ℕ) (ol
   pub output : begun.output ≡ old.output
   pub messages : begun.messages ≡ old.messages
 
--- the caller's input gave a text (`ReadsTaskText`), and `Holds` is true of the run over it, at its start and at its end. `begun` and
--- `ended` are that run's own streams (`IsOverText`); the caller gets the output as the run left it
+-- the caller's input gave a text (`ReadsTaskText`), and `Holds` is true of its columns and of the run over it, at its start and at its end.
+-- `begun` and `ended` are that run's own streams (`IsOverText`); the caller gets the output as the run left it
 pub record HoldsOverText {S T K E : Type 0} (source : Source S) (over : Source T) (choice : Choice) (before after : Stage (Heard S) K E)
-    (Holds : Stage T K E → Stage T K E → Type 0) : Type 0 where
+    (Holds : (columns : List (List ℕ)) → Stage T K E → Stage T K E → Type 0) : Type 0 where
   pub text : List ℕ
-  pub read : ReadsTaskText (hearing_of source before.streams.input) (hearing_of source after.streams.input) choice text
+  pub columns : List (List ℕ)
+  pub read : ReadsTaskText (hearing_of source before.streams.input) (hearing_of source after.streams.input) choice text columns
   pub begun : Streams T K E
   pub ended : Streams T K E
   pub over_text : IsOverText over text before.streams begun
   pub output : after.streams.output ≡ ended.output
-  pub holds : Holds (stage begun before.began before.acts before.turns) (stage ended after.began after.acts after.turns)
+  pub holds : Holds columns (stage begun before.began before.acts before.turns) (stage ended after.began after.acts after.turns)
 
 -- how a run at a site ended (`ReportsAtSite`), which left its caller these messages: and with status 0 it is done, or its end was asked for
 -- (`MeasuresAllAtLink`)
@@ -76,7 +79,7 @@ pub record EndsAtSite {S K E : Type 0} (views : Views S K E) (has_log : Bool) (s
 abbrev pub ReadsAndMeasures : {S T K E : Type 0} → Source S → (over : Views T K E) → (has_log : Bool) → Settings → (before after : Stage (Heard S) K E) → (status : ℕ) → Type 0
 ReadsAndMeasures source over has_log station before after status =
     RefusesBefore source over.shown before after status
-    ⊎ HoldsOverText source over.source station.choice before after (λ old new. EndsAtSite over has_log station after.streams.messages old new status)
+    ⊎ HoldsOverText source over.source station.choice before after (λ columns old new. EndsAtSite over has_log station after.streams.messages old new status)
 
 -- the run of a station that appends to a file, between these moments of its own, with the file that it left
 abbrev pub run_between : {S F K E : Type 0} → (file : Option F) → (old new : Stage S K E) → AppendingRun S F K E
@@ -97,9 +100,9 @@ pub record RefusesBeforeFile {S F K E : Type 0} (source : Source S) (shown : E �
 
 -- a station that appends its records to a file ended with this status: its text was refused before anything was opened
 -- (`RefusesBeforeFile`), or it was read, and the run over it ended as `EndsAppending` says: the file couldn't be had, or it has the rows of
--- exactly the acts. `into` says how that run is seen. After the run's messages its caller's may have one more line, of what the system
--- refused
-abbrev pub ReadsAndAppends : {S T F K E : Type 0} → (IsBegun : F → Type 0) → Source S → Source T → (into : Views T F E) → (has_log : Bool) → Settings → AppendingRun (Heard S) F K E → (status : ℕ) → Type 0
+-- exactly the acts. `IsBegun` says, by the text's columns, what holds of the file as the run began, and `into` how that run is seen. After
+-- the run's messages its caller's may have one more line, of what the system refused
+abbrev pub ReadsAndAppends : {S T F K E : Type 0} → (IsBegun : (columns : List (List ℕ)) → F → Type 0) → Source S → Source T → (into : Views T F E) → (has_log : Bool) → Settings → AppendingRun (Heard S) F K E → (status : ℕ) → Type 0
 ReadsAndAppends IsBegun source over into has_log station whole status =
     RefusesBeforeFile source into.shown whole status
-    ⊎ HoldsOverText source over station.choice whole.before whole.after (λ old new. EndsAppending IsBegun into has_log station (run_between whole.file old new) status)
+    ⊎ HoldsOverText source over station.choice whole.before whole.after (λ columns old new. EndsAppending (IsBegun columns) into has_log station (run_between whole.file old new) status)

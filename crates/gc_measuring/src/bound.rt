@@ -98,7 +98,7 @@ pub(crate) fn outline_bound<W: Write>(
     if lost_by(&tasks.tasks, fronts(plan), 1) > 0 {
         write!(
             outline,
-            ", 7 times a deadline and a call for each raw command before the setup's last one"
+            ", 7 times a deadline and a call for each raw or described command before the setup's last one"
         )?;
     }
     writeln!(outline, ", 20 s for a call)")

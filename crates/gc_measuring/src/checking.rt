@@ -9,12 +9,15 @@ ghost use Rattle.gc_messages.specs.Transcripts.{hearing_of};
 
 use crate::angles::{write_agree, write_place, write_turned};
 use crate::bound::{outline_bound, report_tight_deadlines};
+use crate::codes::report_accepted_busy;
 use crate::counts::report_end_of_run;
-use crate::expecting::outline_expectation;
+use crate::describing::{outline_descriptions, outline_parameters, report_descriptions};
+use crate::expecting::{outline_expectation, report_expected_counts};
 use crate::plan::{commands_per_cycle, plan_of};
-use crate::sendings::{repeats_before, report_long_chains};
+use crate::sendings::{repeats_before, report_disagreeing, report_long_chains};
 use crate::stop::Stop;
 use crate::task_text::hear_task_text;
+use crate::values::report_braces;
 use gc_lines::{Sink, Source, write_whole};
 use gc_messages::{
     Heard, Streams, report_blanks, report_odd_angles, report_unasked, report_unused_names,
@@ -29,11 +32,13 @@ use std::process::ExitCode;
 
 /// Reads the text of a station, and writes on the output what a station would do with it: the setup, and the chains of a cycle
 /// with the names of their targets, the deadlines of their commands in milliseconds, what is expected of their answers, and how often and
-/// after what they may be sent again; and, where cycles have due moments, by when a row is written. With a `unit` angles are in that unit,
-/// and where positionings turn to and where targets are is written, too. What looks wrong, and is no fault, is reported on the
-/// messages, as far as they can be written: angles outside one turn, targets of which the text says where they are, though no command
-/// measures their direction, chains that are too long for being sent twice, names of targets without a command, unwatched targets without a command of the cycle, spaces or tabs at
-/// ends of lines, and deadlines that add up to more than the time that a cycle has.
+/// after what they may be sent again; the procedures that the text describes, and the columns that rows get for them; and, where cycles have
+/// due moments, by when a row is written. With a `unit` angles are in that unit, and where positionings turn to and where targets are is
+/// written, too. What looks wrong, and is no fault, is reported on the messages, as far as they can be written: angles outside one turn,
+/// targets of which the text says where they are, though no command measures their direction, answers of which another number of values is
+/// expected than they have, parameters of raw commands that aren't as described or look like values of files, return codes that are accepted and busy, chains that are too
+/// long for being sent twice, commands whose answers can't agree, names of targets without a command, unwatched targets without a command of
+/// the cycle, spaces or tabs at ends of lines, and deadlines that add up to more than the time that a cycle has.
 ///
 /// Status 0: the text can be measured. Status 1: it can't be read or is refused, memory was refused, or the output failed, each
 /// of which is reported as a run reports it. `Err`: this report couldn't be written. The streams are handed back. No clause says
@@ -75,7 +80,12 @@ fn report_doubts<E: Write>(
 ) -> io::Result<()> {
     report_odd_angles(text, tasks, messages)?;
     report_unasked(tasks, messages)?;
+    report_expected_counts(tasks, messages)?;
+    report_descriptions(tasks, messages)?;
+    report_braces(tasks, messages)?;
+    report_accepted_busy(tasks, messages)?;
     report_long_chains(tasks, messages)?;
+    report_disagreeing(tasks, messages)?;
     report_unused_names(tasks, messages)?;
     report_unwatched(tasks, messages)?;
     report_blanks(text, messages)?;
@@ -102,8 +112,8 @@ fn write_outline<K: Sink>(
 }
 
 // Writes the outline of these tasks: if there is a setup, a line with the number of its commands and a line for each of them; and
-// then a line with the number of a cycle's commands and a line for each of its chains; with a unit, where targets are; and, where cycles
-// have due moments, by when a row is written.
+// then a line with the number of a cycle's commands and a line for each of its chains; with a unit, where targets are; the procedures that
+// the text describes; and, where cycles have due moments, by when a row is written.
 fn outline_tasks<W: Write>(
     tasks: &Tasks,
     plan: &Plan,
@@ -116,7 +126,7 @@ fn outline_tasks<W: Write>(
     }
     for task in tasks.tasks.iter().take(setup) {
         begin_chain(tasks, task.command.target, outline)?;
-        outline_command(task, unit, outline)?;
+        outline_command(tasks, task, unit, outline)?;
         writeln!(outline)?;
     }
     let commands = commands_per_cycle(tasks);
@@ -125,6 +135,7 @@ fn outline_tasks<W: Write>(
     if unit.is_some() {
         outline_places(tasks, unit, outline)?;
     }
+    outline_descriptions(tasks, outline)?;
     outline_bound(tasks, plan, outline)
 }
 
@@ -173,7 +184,7 @@ fn outline_chains<W: Write>(tasks: &Tasks, unit: Option<Unit>, outline: &mut W) 
                 rule: task.again,
             });
         }
-        outline_command(task, unit, outline)?;
+        outline_command(tasks, task, unit, outline)?;
     }
     end_chain(chain, unit, outline)
 }
@@ -212,14 +223,21 @@ pub fn write_target<W: Write>(target: u32, name: &[u8], out: &mut W) -> io::Resu
     Ok(())
 }
 
-// Writes a command after its target: the number of its procedure, with a unit where a positioning turns to, `now` if it sets the clock
-// to the moment at which it is sent, its deadline in milliseconds, and what is expected of its answer's values, if anything is.
-fn outline_command<W: Write>(task: &Task, unit: Option<Unit>, outline: &mut W) -> io::Result<()> {
+// Writes a command after its target: the number of its procedure, with a unit where a positioning turns to, of a described procedure its
+// parameters, `now` if it sets the clock to the moment at which it is sent, its deadline in milliseconds, and what is expected of its
+// answer's values, if anything is.
+fn outline_command<W: Write>(
+    tasks: &Tasks,
+    task: &Task,
+    unit: Option<Unit>,
+    outline: &mut W,
+) -> io::Result<()> {
     let procedure = task.command.call.number();
     let deadline = task.deadline;
     write!(outline, " {procedure}")?;
     write_turned(unit, task.command.call, outline)?;
-    if task.now {
+    outline_parameters(tasks, &task.command.call, outline)?;
+    if task.now && task.command.call.is_of_table() {
         write!(outline, " now")?;
     }
     write!(outline, " within {deadline} ms")?;

@@ -2,6 +2,7 @@
 
 ghost use Rattle.std.specs.Prelude.{◌≡◌, ℕ, ◌*◌, unsigned_abs};
 ghost use Rattle.gc_measuring.specs.Angles.{half, last_places, scale_of};
+ghost use Rattle.gc_measuring.specs.ValueCounts.{AnswersHaveTheirCount};
 ghost use Rattle.gc_measuring.specs.Wanted.{WantCountsOverConnections};
 ghost use Rattle.gc_values.specs.Directions.{half_turn};
 ghost use Rattle.gc_values.specs.Nearest.{RoundsHalfUp};
@@ -18,4 +19,9 @@ pub fn a_want_counts_over_connections()
 pub fn shown_angles_are_nearest()
     ensures nearest { (unit : Unit) (angle : ℕ) → RoundsHalfUp (angle * scale_of unit) half (last_places unit angle) }
     ensures half_turn { unsigned_abs half_turn ≡ half }
+{}
+
+/// Each answer to a call has as many values as `--check` counts for the call's procedure, when it compares them with a line `expect`.
+pub fn answers_have_their_count()
+    ensures { AnswersHaveTheirCount }
 {}

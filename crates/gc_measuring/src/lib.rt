@@ -4,9 +4,12 @@
 mod angles;
 mod bound;
 mod checking;
+mod codes;
 mod counts;
+mod describing;
 mod doubts;
 mod expecting;
+mod labels;
 pub mod laws;
 mod logging;
 mod measure;
@@ -24,10 +27,13 @@ mod stop;
 mod task_text;
 mod unanswered;
 mod unwell;
+mod value_count;
+mod values;
 mod wanted;
 
 pub use checking::{check_task_text, write_target};
 pub use counts::{write_judged_counts, write_main_counts, write_other_counts};
+pub use labels::Labels;
 pub use measure::run_station_text;
 pub use plan::{commands_per_cycle, plan_of};
 pub use recording::{Appended, append_at, append_text_at};

@@ -1,6 +1,7 @@
 //! A station's text, read from a source, measured over a link, and its records written into a sink, all in one form.
 
-ghost use Rattle.std.specs.Prelude.{◌≡◌, ◌+◌, ◌≤◌};
+ghost use Rattle.std.specs.Prelude.{◌≡◌, ◌+◌, ◌≤◌, length, map};
+ghost use Rattle.gc_measuring.specs.Labels.{labels_of, labels_seen};
 ghost use Rattle.gc_measuring.specs.Measuring.{text_in, front_text, survey_of, RunsSurvey, MeasuresText, IsUnusedIfRefused, AllLast};
 ghost use Rattle.gc_measuring.specs.Stops.{with_fault};
 ghost use Rattle.gc_measuring.specs.Telling.{ports_seen};
@@ -10,20 +11,22 @@ ghost use Rattle.gc_station.specs.Watching.{places_of, watched_of};
 ghost use Rattle.gc_texts.specs.Tasks.{tasks_seen};
 ghost use Rattle.gc_texts.specs.declared.text.TheConstants.{TEXT_LIMIT};
 
+use crate::labels::Labels;
 use crate::plan::{commands_per_cycle, plan_of};
 use crate::reporter::Reporter;
 use crate::row::write_station_row;
-use crate::sendings::report_long_chains;
+use crate::sendings::{report_disagreeing, report_long_chains};
 use crate::spot::Spot;
 use crate::stop::Stop;
 use crate::task_text::{read_task_text, watches_of};
 use crate::unanswered::Unanswered;
+use crate::values::report_braces;
 use gc_lines::{Durable, PortFailed, Source, write_whole};
 use gc_links::{Link, Moment};
 use gc_messages::{Noticed, Streams, report_odd_angles, report_unasked};
 use gc_rows::write_head;
 use gc_station::{Book, Kept, LinkHealth, Tally, Watch, Watches, run_station};
-use gc_texts::{Ending, Name, RunFault, Stamp, Task, Tasks, Wish};
+use gc_texts::{Ending, FieldName, RunFault, Stamp, Task, Tasks, Wish};
 use gc_words::Layout;
 use std::alloc::Global;
 use std::cell::Cell;
@@ -39,7 +42,8 @@ use std::io::Write;
 /// the records, and then the link wasn't used, or when records were written or synced.
 ///
 /// The messages get at the start what is odd about the text: each angle of a positioning that lies outside one turn, and each
-/// target of which the text says where it is, though no command measures its direction. If somebody watches (`choice.watch`), the
+/// target of which the text says where it is, though no command measures its direction, and each command after `raw` whose parameters look like
+/// values of files. If somebody watches (`choice.watch`), the
 /// messages then get the number of a cycle's commands and the place, signs of life, each kind at most once a minute (the status
 /// line of a terminal once a second), and what `spot` has noticed as odd about the line. In any case they get what `spot` has
 /// noticed of the files, and, if the run ends because it is stale, of which command, and since when, no answer of a good quality came.
@@ -82,12 +86,18 @@ pub fn run_station_text<L: Link, S: Source, K: Durable, E: Write>(
     let Ok(watches) = watches_of(alloc, &tasks) else {
         return (streams, Err(Stop::Text(RunFault::Memory)));
     };
-    let Ok(()) = write_front(&mut streams.output, spot.station.layout) else {
+    let Ok(()) = write_front(
+        &mut streams.output,
+        spot.station.layout,
+        tasks.columns.as_slice(),
+    ) else {
         return (streams, Err(Stop::Run(RunFault::Output)));
     };
     let _ = report_odd_angles(text.as_slice(), &tasks, &mut streams.messages);
     let _ = report_unasked(&tasks, &mut streams.messages);
     let _ = report_long_chains(&tasks, &mut streams.messages);
+    let _ = report_disagreeing(&tasks, &mut streams.messages);
+    let _ = report_braces(&tasks, &mut streams.messages);
     // A run may take months: the memory of the text is given back first.
     drop(text);
     let (streams, end) = measure(link, tasks, watches, max_turns, spot, streams, kept);
@@ -97,9 +107,9 @@ pub fn run_station_text<L: Link, S: Source, K: Durable, E: Write>(
     }
 }
 
-// Measures these tasks, of which `watches` are watched, over a link by the settings of `spot`, in at most `max_turns` acts, and writes their records on the
-// output. The streams are handed back, with how the run ended. What was seen of link and output at each act is noted in
-// `kept`.
+// Measures these tasks, of which `watches` are watched, over a link by the settings of `spot`, in at most `max_turns` acts, and writes
+// their records on the output. The streams are handed back, with how the run ended. What was seen of link and output at each act is noted
+// in `kept`.
 fn measure<L: Link, S: Source, K: Durable, E: Write>(
     link: &mut L,
     tasks: Tasks,
@@ -109,7 +119,8 @@ fn measure<L: Link, S: Source, K: Durable, E: Write>(
     streams: Streams<S, K, E>,
     kept: &mut Kept,
 ) -> (Streams<S, K, E>, Result<Tally, RunFault>)
-    requires { places_of watches ≡ watched_of tasks.setup tasks.tasks.items }
+    requires watches { places_of watches ≡ watched_of tasks.setup tasks.tasks.items }
+    requires few { length tasks.columns.items ≤ 64 }
     ensures runs { RunsSurvey (survey_of spot.entry.station max_turns (tasks_seen tasks))
         (ports_seen S.Source K.Sink E.contents streams (L.acts link.old) kept.old.turns)
         (ports_seen S.Source K.Sink E.contents result.0 (L.acts link.new) kept.new.turns)
@@ -130,6 +141,8 @@ fn measure<L: Link, S: Source, K: Durable, E: Write>(
         names,
         nears: _,
         unwatched: _,
+        described,
+        columns,
     } = tasks;
     let plan = plan_of(spot.station.choice, setup, tasks.as_slice());
     let mut reporter = Reporter::new(spot.station.choice.watch, spot.station.layout.run, messages);
@@ -137,7 +150,11 @@ fn measure<L: Link, S: Source, K: Durable, E: Write>(
     let mut records = Records {
         sink: output,
         layout: spot.station.layout,
-        names,
+        labels: Labels {
+            names,
+            described,
+            columns,
+        },
         noticed: spot.noticed,
         began: spot.station.layout.run,
         unanswered: None,
@@ -161,25 +178,26 @@ fn measure<L: Link, S: Source, K: Durable, E: Write>(
     (streams, end)
 }
 
-// Writes what comes before the records, unless the sink has it already (`layout.headed`). `Err(n)`: the sink took the first n
-// bytes of it, which aren't all, and failed.
-fn write_front<K: Durable>(sink: &mut K, layout: Layout) -> Result<(), usize>
+// Writes what comes before the records, with these columns beside those of the table's quantities, unless the sink has it already
+// (`layout.headed`). `Err(n)`: the sink took the first n bytes of it, which aren't all, and failed.
+fn write_front<K: Durable>(sink: &mut K, layout: Layout, columns: &[FieldName]) -> Result<(), usize>
+    requires { length columns.now ≤ 64 }
     ensures failed { FailsWith result (K.failed sink.old) (K.failed sink.new) }
-    ensures took { TakesText (K.taken sink.old) (K.taken sink.new) result (front_text layout) }
+    ensures took { TakesText (K.taken sink.old) (K.taken sink.new) result (front_text layout (map (λ n. n.items) columns.now)) }
 {
     if layout.headed {
         // For the proof: writing no bytes gives the clauses, which an `Ok(())` alone doesn't.
         return write_whole(sink, b"");
     }
-    write_head(sink, layout.form)
+    write_head(sink, layout.form, columns)
 }
 
 // A book that writes records in one layout into a sink, and reports on the messages what the station does.
 struct Records<'a, K, E> {
     sink: K,
     layout: Layout,
-    // The names of targets.
-    names: Vec<Name>,
+    // What the rows show of the text.
+    labels: Labels,
     // What was noticed of the line and of the station's files.
     noticed: &'a Cell<Noticed>,
     // When the run began, in milliseconds since 1970.
@@ -198,7 +216,7 @@ impl<'a, K, E: Write> Records<'a, K, E> {
         let Records {
             sink,
             layout: _,
-            names,
+            labels,
             noticed: _,
             began,
             unanswered,
@@ -208,12 +226,12 @@ impl<'a, K, E: Write> Records<'a, K, E> {
             Some(watch) => Unanswered::of(watch, began, setup, tasks),
             None => None,
         };
-        (sink, reporter.end(names.as_slice(), stale))
+        (sink, reporter.end(labels.names.as_slice(), stale))
     }
 }
 
 impl<'a, K: Durable, E: Write> Book for Records<'a, K, E> {
-    ghost text = { λ book. text_in book.layout book.names.items };
+    ghost text = { λ book. text_in book.layout (labels_seen book.labels) };
 
     ghost taken = { λ book. K.taken book.sink };
 
@@ -232,7 +250,7 @@ impl<'a, K: Durable, E: Write> Book for Records<'a, K, E> {
         write_station_row(
             &mut self.sink,
             self.layout,
-            self.names.as_slice(),
+            &self.labels,
             stamp,
             command,
             ending,
@@ -250,8 +268,12 @@ impl<'a, K: Durable, E: Write> Book for Records<'a, K, E> {
 
     // Writes the messages that are due, by the health of the link and by what was noticed.
     fn sees(&mut self, health: LinkHealth, moment: Moment) {
-        self.reporter
-            .report(self.noticed.get(), health, moment, self.names.as_slice());
+        self.reporter.report(
+            self.noticed.get(),
+            health,
+            moment,
+            self.labels.names.as_slice(),
+        );
     }
 
     // Notes the watched command by which the run is stale, for its end.

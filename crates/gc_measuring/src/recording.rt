@@ -1,6 +1,6 @@
 //! A station that appends its records, as rows, to a file that outlasts the program.
 
-ghost use Rattle.std.specs.Prelude.{◌≡◌, ℕ, true, List, Option, Some, Ok, IfOk, IfSome, OnErr};
+ghost use Rattle.std.specs.Prelude.{◌≡◌, ℕ, ◌≤◌, true, List, Option, Some, Ok, IfOk, IfSome, OnErr, length, map};
 ghost use Rattle.std.specs.Io.KnownBytes.{Appends};
 ghost use Rattle.std.specs.Option.{is_some};
 ghost use Rattle.std.specs.Process.{exit_status};
@@ -22,13 +22,14 @@ use crate::counts::report_end_of_run;
 use crate::spot::Spot;
 use crate::station::{measure_at, record_of, text_at};
 use crate::stop::Stop;
+use crate::task_text::ReadText;
 use gc_files::{Past, RowsOptions, Unfit};
 use gc_lines::{Durable, FromReader, Sink, Source};
-use gc_links::{LinkRecord, Watched};
+use gc_links::{LinkRecord, ValueFiles, Watched};
 use gc_messages::{Followed, Heard, Streams, report_copied, report_torn};
 use gc_rows::{head, sign};
 use gc_station::Kept;
-use gc_texts::RunFault;
+use gc_texts::{FieldName, RunFault};
 use gc_words::{Recording, Settings};
 use std::alloc::Global;
 use std::fs::File;
@@ -74,24 +75,41 @@ fn write_rotation<E: Write>(why: Unfit, messages: &mut E) -> io::Result<()>
     }
 }
 
-// Opens the file of the records of the station at `spot`, at `recording.path`, for rows in `form_of_rows` of the station, each of
-// which is synced if `recording.sync` is set. Writes how many rows were copied and how many bytes of an incomplete row were cut off,
-// if any were. Returns the file, and whether this could be written. `Err`: why the file can't be had; then there is no message.
+// A copy of these bytes that is held until the program ends: a file goes on in a new one with the same header as long as a run lasts.
+// `Failed`: memory was refused.
+fn held(alloc: Global, bytes: &[u8]) -> Result<&'static [u8], Unfit>
+    ensures { IfOk result (λ held. held.now ≡ bytes.now) }
+{
+    let mut copy = Vec::new(alloc);
+    match copy.extend_from_slice(bytes) {
+        Ok(()) => Ok(copy.leak()),
+        Err(_) => Err(Unfit::Failed),
+    }
+}
+
+// Opens the file of the records of the station at `spot`, at `recording.path`, for rows in `form_of_rows` of the station, with these
+// columns beside those of the table's quantities, each of which is synced if `recording.sync` is set. Writes how many rows were copied and
+// how many bytes of an incomplete row were cut off, if any were. Returns the file, and whether this could be written. `Err`: why the file
+// can't be had; then there is no message.
 fn open_records<'a, R: Files<File = File>, E: Write>(
     rt: &'a R,
     alloc: Global,
     spot: Spot<'a>,
     recording: Recording<'a>,
+    columns: &[FieldName],
     messages: &mut E,
 ) -> Result<(Followed<'a, R>, io::Result<()>), Unfit>
-    ensures begun { IfOk result (λ opened. IsBegunAt recording.entry spot.entry.station opened.0) }
+    requires { length columns.now ≤ 64 }
+    ensures begun { IfOk result (λ opened. IsBegunAt recording.entry spot.entry.station (map (λ n. n.items) columns.now) opened.0) }
     ensures told { IfOk result (λ opened. ReportsOpening opened.0.rows opened.1 (E.contents messages.old) (E.contents messages.new)) }
     ensures untold { OnErr result (E.contents messages.new ≡ E.contents messages.old) }
 {
     let form = spot.station.form_of_rows();
+    let head = held(alloc, &head(form, columns))?;
+    let sign = held(alloc, &sign(form, columns))?;
     let options = RowsOptions {
-        head: head(form),
-        sign: sign(form),
+        head,
+        sign,
         sync: recording.sync,
     };
     let (followed, copied) = Followed::open(rt, alloc, recording.path, options, spot.noticed)?;
@@ -130,12 +148,14 @@ impl<'a, R: Net<Listener = TcpListener, Stream = TcpStream> + Clock + Files<File
     }
 }
 
-/// Measures at a site, as [`measure_at`] does, and appends the records as rows to a file, which is opened before anything else is
-/// done. If the file can't be had, nothing is read or sent, and the fault, which is reported with status 1, is `RecordsUnopened`,
-/// `RecordsHeld`, `RecordsForeign`, or `Output` if a call of the system failed, a read gave nothing, or memory ran out. For
-/// `RecordsForeign` the messages also say how to rotate the file. What was in the file stays, but for half a row at its end,
-/// which is cut off. If a mark is beside the file, as after a run that was killed or a sync that failed, the rows are copied to a
-/// new file. Cut and copy are reported. If the path no longer leads to the file, rows go on in a new one there, if it can be had.
+/// Measures at a site, as [`measure_at`] does, and appends the records as rows to a file, which is opened before anything else is done. A
+/// table in it has these columns beside those of the table's quantities: those of the text that the streams give; and the link's
+/// moments have the values of these files, which that text names. If the file can't be
+/// had, nothing is read or sent, and the fault, which is reported with status 1, is `RecordsUnopened`, `RecordsHeld`, `RecordsForeign`,
+/// or `Output` if a call of the system failed, a read gave nothing, or memory ran out. For `RecordsForeign` the messages also say how to
+/// rotate the file. What was in the file stays, but for half a row at its end, which is cut off. If a mark is beside the file, as after a
+/// run that was killed or a sync that failed, the rows are copied to a new file. Cut and copy are reported. If the path no longer leads
+/// to the file, rows go on in a new one there, if it can be had.
 ///
 /// The streams are handed back, and, if the file could be had, the file and the link, if there was one; [`Appended::end`] is left
 /// to the caller. What was seen of link and file at each act is noted in `kept`.
@@ -150,6 +170,8 @@ pub fn append_at<
     alloc: Global,
     spot: Spot<'a>,
     recording: Recording<'a>,
+    columns: &[FieldName],
+    files: ValueFiles,
     mut streams: Streams<S, K, E>,
     kept: &mut Kept,
 ) -> (
@@ -157,6 +179,8 @@ pub fn append_at<
     io::Result<ExitCode>,
     Option<Appended<'a, R>>,
 )
+    requires { length columns.now ≤ 64 }
+
     // Either the file can't be had, which is reported with status 1, and nothing was read. Or the messages report the file's
     // opening and then, with the status, how the run ended; and the file that is handed back has the run's rows: those of the
     // acts that the link recorded. At each act the file had all rows that the acts before it settled; and before anything was
@@ -173,7 +197,7 @@ pub fn append_at<
 
     // Both, of a run that began on the file at the recording's path, which was just opened for rows in the station's form, to be
     // synced if the recording asks for that.
-    ensures begun { IfOk result.1 (λ status. AppendsToFile (IsBegunAt recording.entry spot.entry.station)
+    ensures begun { IfOk result.1 (λ status. AppendsToFile (IsBegunAt recording.entry spot.entry.station (map (λ n. n.items) columns.now))
         (views_by S.Source ⟦<Followed<'a, R> as Sink>⟧ ⟦<Followed<'a, R> as Durable>⟧.is_durable E.contents)
         (is_some spot.entry.site.log) spot.entry.station
         (appending_run streams result.0 kept.old.turns kept.new.turns result.2) (exit_status status)) }
@@ -189,13 +213,13 @@ pub fn append_at<
     ensures sync { IfSome result.2 (λ left. asks_sync left.file.rows ≡ recording.entry.sync) }
     ensures bound { IsStatusUpTo 1 result.1 }
 {
-    match open_records(rt, alloc, spot, recording, &mut streams.messages) {
+    match open_records(rt, alloc, spot, recording, columns, &mut streams.messages) {
         // If the messages on the opening can't be written, the station measures all the same.
         Ok((followed, _)) => {
             let (filed, output) = streams.with_output(followed);
             let station = spot.station.for_file();
             let spot = Spot { station, ..spot };
-            let (filed, ended, link) = measure_at(rt, alloc, spot, filed, kept);
+            let (filed, ended, link) = measure_at(rt, alloc, spot, files, filed, kept);
             let (streams, file) = filed.with_output(output);
             let (ended, left) = hand_back(recording, ended, Appended { file, link });
             (streams, ended, left)
@@ -275,8 +299,8 @@ pub fn append_text_at<
     ensures sync { IfSome result.2 (λ left. asks_sync left.file.rows ≡ recording.entry.sync) }
     ensures bound { IsStatusUpTo 1 result.1 }
 {
-    let text = match text_at(alloc, spot, &mut streams) {
-        Ok(text) => text,
+    let read = match text_at(alloc, spot, &mut streams) {
+        Ok(read) => read,
         Err(ended) => return (streams, ended, None),
     };
     let Streams {
@@ -284,13 +308,27 @@ pub fn append_text_at<
         output,
         messages,
     } = streams;
-    let read = Streams {
+    let ReadText {
+        text,
+        columns,
+        files,
+    } = read;
+    let over = Streams {
         input: FromReader::new(text.as_slice()),
         output,
         messages,
     };
     let path = recording.path;
-    let (left, ended, appended) = append_at(rt, alloc, spot, recording, read, kept);
+    let (left, ended, appended) = append_at(
+        rt,
+        alloc,
+        spot,
+        recording,
+        columns.as_slice(),
+        files,
+        over,
+        kept,
+    );
     let Streams {
         input: _,
         output,

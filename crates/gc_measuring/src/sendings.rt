@@ -1,4 +1,5 @@
-//! The sendings of chains: of which attempt a task is, in whichever sending, and chains that are too long for being sent twice.
+//! The sendings of chains: of which attempt a task is, in whichever sending, and chains that are too long for being sent twice, or have
+//! answers that can't be compared.
 
 use crate::checking::write_target;
 use gc_station::FIRSTS;
@@ -38,5 +39,31 @@ fn is_first_too_many(task: &Task) -> bool {
     match task.twice {
         Twice::Second { nth, .. } => nth == FIRSTS && repeats_before(task) == 0,
         Twice::Once | Twice::First => false,
+    }
+}
+
+/// Writes a line for each command of a cycle that is sent twice, and whose answers have columns of a description that aren't compared: each
+/// of them ends as `disagree`. `Err`: a message couldn't be written; those after that one aren't.
+pub(crate) fn report_disagreeing<E: Write>(tasks: &Tasks, messages: &mut E) -> io::Result<()> {
+    for task in tasks.tasks.iter().skip(tasks.setup) {
+        if never_agrees(task) {
+            let (target, rpc) = (task.command.target, task.command.call.number());
+            write!(messages, "geocom: agree: ")?;
+            write_target(target, tasks.name_of(target), messages)?;
+            writeln!(
+                messages,
+                ": answers to {rpc} have columns that can't be compared, so each ends as disagree"
+            )?;
+        }
+    }
+    Ok(())
+}
+
+// Whether a task is of a second sending, in the chain's first attempt, and its answers are read by a description and can't be compared.
+fn never_agrees(task: &Task) -> bool {
+    let is_second = matches!(task.twice, Twice::Second { .. });
+    match &task.form {
+        Some(form) => is_second && repeats_before(task) == 0 && !form.is_compared(),
+        None => false,
     }
 }

@@ -11,6 +11,7 @@ use gc_links::Moment;
 use gc_messages::{MINUTE, Noticed, Oddities, RateLimit, ShortText};
 use gc_station::{LinkHealth, Tally, is_well};
 use gc_texts::{Ending, Name, Stamp, Wish, stamp_text};
+use gc_values::no_values;
 use gc_words::Watch;
 use std::io::{self, Write};
 
@@ -83,6 +84,7 @@ impl Signs {
                 elapsed: 0,
                 utc: 0,
                 stops: false,
+                values: no_values(),
             },
             elapsed: 0,
             wanted: Wanted::new(),
@@ -140,7 +142,7 @@ impl Signs {
         }
         match ending {
             Ending::Skipped => self.note_skipped(stamp.utc),
-            Ending::Late | Ending::Lost | Ending::Missed => {}
+            Ending::Late | Ending::Lost | Ending::NoValue | Ending::Missed => {}
             _ => self.note_answer(),
         }
     }

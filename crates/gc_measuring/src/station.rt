@@ -1,6 +1,6 @@
 //! A station at a place: it opens its log and its link, measures, and reports how that ended.
 
-ghost use Rattle.std.specs.Prelude.{◌≡◌, ℕ, List, [], Option, None, Some, Ok, false, IfOk, IfErr, IfSome, OnOk};
+ghost use Rattle.std.specs.Prelude.{◌≡◌, ℕ, List, [], Option, None, Some, Ok, false, IfOk, IfErr, IfSome, OnOk, map};
 ghost use Rattle.std.specs.Option.{is_some};
 ghost use Rattle.std.specs.Process.{exit_status};
 ghost use Rattle.gc_links.specs.LinksMeant.{IsMeantAt};
@@ -18,11 +18,11 @@ use crate::logging::{LogSink, log_at, measure_logged};
 use crate::measure::run_station_text;
 use crate::spot::Spot;
 use crate::stop::Stop;
-use crate::task_text::hear_task_text;
+use crate::task_text::{ReadText, hear_task_text};
 use gc_ask::fault_of_unusable;
 use gc_files::{RowsFile, SystemFile};
 use gc_lines::{Durable, FromReader, Source};
-use gc_links::{Link, LinkRecord, Moment, Unusable, Watched};
+use gc_links::{Link, LinkRecord, Moment, Unusable, ValueFiles, Watched};
 use gc_logs::Logged;
 use gc_messages::{Heard, Noticing, Streams};
 use gc_station::{Kept, Tally};
@@ -36,23 +36,21 @@ use std::process::ExitCode;
 use std::rt::Files;
 use std::time::Clock;
 
-// Reads the whole text of a station from the input. `Err`: it was refused, which was reported with status 1.
+// Reads the whole text of a station from the input, with the columns that its descriptions add. `Err`: it was refused, which was reported
+// with status 1.
 pub(crate) fn text_at<S: Source, K, E: Write>(
     alloc: Global,
     spot: Spot<'_>,
     streams: &mut Streams<Heard<S>, K, E>,
-) -> Result<Vec<u8>, io::Result<ExitCode>>
-    ensures read { IfOk result (λ text. ReadsTaskText (hearing_of S.Source streams.old.input) (hearing_of S.Source streams.new.input) spot.entry.station.choice text.items) }
+) -> Result<ReadText, io::Result<ExitCode>>
+    ensures read { IfOk result (λ read. ReadsTaskText (hearing_of S.Source streams.old.input) (hearing_of S.Source streams.new.input) spot.entry.station.choice read.text.items (map (λ n. n.items) read.columns.items)) }
     ensures untold { OnOk result (streams.new.messages ≡ streams.old.messages) }
     ensures refused { IfErr result (λ ended. IfOk ended (λ status. RefusesTaskText S.Source E.contents streams.old streams.new (exit_status status))) }
     ensures output { streams.new.output ≡ streams.old.output }
     ensures bound { IfErr result (λ ended. IsStatusUpTo 1 ended) }
 {
     match hear_task_text(alloc, &mut streams.input, &spot.station.choice) {
-        Ok((tasks, text)) => {
-            drop(tasks);
-            Ok(text)
-        }
+        Ok((tasks, text)) => Ok(ReadText::new(text, tasks)),
         Err(stop) => {
             spot.note_fault(stop.fault());
             Err(report_end_of_run(Err(stop), &mut streams.messages))
@@ -90,21 +88,26 @@ pub fn measure_text_at<
     ensures place { IfSome result.2 (λ link. ∥ IsMeantAt (place_seen spot.entry.site.place) (path_at spot.entry.site.until) link ∥₁) }
     ensures bound { IsStatusUpTo 1 result.1 }
 {
-    let text = match text_at(alloc, spot, &mut streams) {
-        Ok(text) => text,
+    let read = match text_at(alloc, spot, &mut streams) {
+        Ok(read) => read,
         Err(ended) => return (streams, ended, None),
     };
+    let ReadText {
+        text,
+        columns: _,
+        files,
+    } = read;
     let Streams {
         input,
         output,
         messages,
     } = streams;
-    let read = Streams {
+    let over = Streams {
         input: FromReader::new(text.as_slice()),
         output,
         messages,
     };
-    let (left, ended, link) = measure_at(rt, alloc, spot, read, kept);
+    let (left, ended, link) = measure_at(rt, alloc, spot, files, over, kept);
     let Streams {
         input: _,
         output,
@@ -120,7 +123,8 @@ pub fn measure_text_at<
 
 /// Measures at a site, and reports how the run ended: with status 0 by the counts, or with status 1 by the fault (`Err`: the
 /// messages couldn't be written). If the site has a log, its file is opened first, and what was on the link is appended to it. If
-/// the site's file `until` is there, the run ends between two chains, or two attempts of one, as a run that is done. Beside the
+/// the site's file `until` is there, the run ends between two chains, or two attempts of one, as a run that is done. The link's moments have
+/// the values of these files. Beside the
 /// faults of a run, the fault is `Log` if no log can be had, `Clock` if the clock can't be read, and what is wrong with the
 /// device if the place is one and can't be used. That a log isn't complete, because it ended at its bound or its file failed, is
 /// reported before that, and changes no status. The streams are handed back, and the link, if there was one. What was seen of link
@@ -135,6 +139,7 @@ pub fn measure_at<
     rt: &'a R,
     alloc: Global,
     spot: Spot<'a>,
+    files: ValueFiles,
     mut streams: Streams<S, K, E>,
     kept: &mut Kept,
 ) -> (
@@ -159,7 +164,7 @@ pub fn measure_at<
     ensures place { IfSome result.2 (λ link. ∥ IsMeantAt (place_seen spot.entry.site.place) (path_at spot.entry.site.until) link ∥₁) }
     ensures bound { IsStatusUpTo 1 result.1 }
 {
-    let Opened { link, log } = match open_link_and_log(rt, spot) {
+    let Opened { link, log } = match open_link_and_log(rt, spot, files) {
         Ok(opened) => opened,
         Err(fault) => {
             let ended = report_end_of_run(Err(Stop::Run(fault)), &mut streams.messages);
@@ -226,18 +231,18 @@ struct Opened<'a, R> {
     log: Option<LogSink<'a, RowsFile<SystemFile>>>,
 }
 
-// Opens the log, if one is asked for, and then makes the link. Fails with `Log` if the log can't be had, else with the fault of
+// Opens the log, if one is asked for, and then makes the link, whose moments have the values of these files. Fails with `Log` if the log can't be had, else with the fault of
 // `link_at`, which is also noted at `spot`.
 fn open_link_and_log<
     'a,
     R: Net<Listener = TcpListener, Stream = TcpStream> + Clock + Files<File = File>,
->(rt: &'a R, spot: Spot<'a>) -> Result<Opened<'a, R>, RunFault>
+>(rt: &'a R, spot: Spot<'a>, files: ValueFiles) -> Result<Opened<'a, R>, RunFault>
     ensures logged { IfOk result (λ opened. is_some opened.log ≡ is_some spot.entry.site.log) }
     ensures fresh { IfOk result (λ opened. opened.link.history.acts ≡ []) }
     ensures fault { IfErr result (λ fault. CannotBegin (is_some spot.entry.site.log) fault) }
 {
     let log = log_at(rt, spot.noticed, spot.site.log)?;
-    match link_at(rt, spot.site) {
+    match link_at(rt, spot.site, files) {
         Ok(link) => Ok(Opened { link, log }),
         Err(fault) => {
             spot.note_fault(fault);
@@ -246,16 +251,17 @@ fn open_link_and_log<
     }
 }
 
-// The link of a site, whose clock was read; or the fault if there is no link: what is wrong with the device, or that the clock
+// The link of a site, whose moments have the values of these files, and whose clock was read; or the fault if there is no link: what is wrong with the device, or that the clock
 // can't be read.
 fn link_at<'a, R: Net<Listener = TcpListener, Stream = TcpStream> + Clock + Files<File = File>>(
     rt: &'a R,
     site: Site<'a>,
+    files: ValueFiles,
 ) -> Result<Watched<'a, R>, RunFault>
     ensures fresh { IfOk result (λ link. link.history.acts ≡ []) }
     ensures fault { IfErr result (λ fault. IsFaultWithoutLink fault) }
 {
-    match Watched::new(rt, site.place, site.until) {
+    match Watched::new(rt, site.place, site.until, files) {
         Ok(link) => Ok(link),
         Err(reason) => Err(fault_without_link(reason)),
     }

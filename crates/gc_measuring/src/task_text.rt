@@ -1,6 +1,6 @@
 //! A station's text, read whole from a source.
 
-ghost use Rattle.std.specs.Prelude.{◌≡◌, ◌+◌, ◌≤◌, IfOk, IfErr};
+ghost use Rattle.std.specs.Prelude.{◌≡◌, ◌+◌, ◌≤◌, IfOk, IfErr, length};
 ghost use Rattle.gc_measuring.specs.TaskTexts.{HasNoTasks, HasTasks, HearsNoTasks, HearsTasks, IsStopFor, ReadsNoTasks, ReadsTasks};
 ghost use Rattle.gc_messages.specs.Transcripts.{hearing_of};
 ghost use Rattle.gc_station.specs.Watching.{places_of, watched_of};
@@ -10,11 +10,49 @@ ghost use Rattle.gc_texts.specs.declared.text.TheConstants.{TEXT_LIMIT};
 
 use crate::stop::Stop;
 use gc_lines::Source;
+use gc_links::ValueFiles;
 use gc_messages::{Heard, hear_text};
 use gc_station::Watches;
-use gc_texts::{RunFault, Tasks, line_at, read_tasks, read_text, trouble_of};
+use gc_texts::{FieldName, RunFault, Tasks, line_at, read_tasks, read_text, trouble_of};
 use gc_words::Choice;
 use std::alloc::{AllocError, Global};
+
+/// A station's text that was read whole and can be measured.
+#[derive(Drop)]
+pub(crate) struct ReadText {
+    /// The text.
+    pub text: Vec<u8>,
+    /// The names of the columns that its descriptions add, at most 64.
+    pub columns: Vec<FieldName>,
+    /// The files whose values its commands take, in the order of the values.
+    pub files: ValueFiles,
+    pub ghost few: { length columns.items ≤ 64 },
+}
+
+impl ReadText {
+    /// This text, of which these are the tasks.
+    pub(crate) fn new(text: Vec<u8>, tasks: Tasks) -> ReadText
+        requires { length tasks.columns.items ≤ 64 }
+        ensures text { result.text ≡ text }
+        ensures columns { result.columns ≡ tasks.columns }
+    {
+        let files = tasks.files();
+        let Tasks {
+            setup: _,
+            tasks: _,
+            names: _,
+            nears: _,
+            unwatched: _,
+            described: _,
+            columns,
+        } = tasks;
+        ReadText {
+            text,
+            columns,
+            files,
+        }
+    }
+}
 
 /// Reads the whole text of a station from a source, and returns its tasks and names, with the text itself. Until a line says
 /// otherwise the commands have the deadline of `choice`, and are chained or not as `choice` says. It fails with the faults of
@@ -26,6 +64,7 @@ pub fn read_task_text<S: Source>(
     choice: &Choice,
 ) -> Result<(Tasks, Vec<u8>), Stop>
     ensures found { IfOk result (λ all. ReadsTasks (input_of S.Source source.old) (input_of S.Source source.new) choice.now all.0) }
+    ensures few { IfOk result (λ all. length all.0.columns.items ≤ 64) }
     ensures refused { IfErr result (λ stop. ReadsNoTasks (input_of S.Source source.old) (input_of S.Source source.new) stop) }
     ensures bounded { S.reads source.new ≤ S.reads source.old + (TEXT_LIMIT + 1) }
 {
@@ -42,6 +81,7 @@ pub fn hear_task_text<S: Source>(
     choice: &Choice,
 ) -> Result<(Tasks, Vec<u8>), Stop>
     ensures found { IfOk result (λ all. HearsTasks (hearing_of S.Source source.old) (hearing_of S.Source source.new) choice.now all.1.items all.0) }
+    ensures few { IfOk result (λ all. length all.0.columns.items ≤ 64) }
     ensures refused { IfErr result (λ stop. HearsNoTasks (hearing_of S.Source source.old) (hearing_of S.Source source.new) stop) }
     ensures bounded { S.reads source.new.source ≤ S.reads source.old.source + (TEXT_LIMIT + 1) }
 {
@@ -56,6 +96,7 @@ pub fn hear_task_text<S: Source>(
 fn tasks_of(alloc: Global, text: Vec<u8>, choice: &Choice) -> Result<(Tasks, Vec<u8>), Stop>
     ensures found { IfOk result (λ all. HasTasks text.items choice.now (tasks_seen all.0)) }
     ensures same { IfOk result (λ all. all.1.items ≡ text.items) }
+    ensures few { IfOk result (λ all. length all.0.columns.items ≤ 64) }
     ensures refused { IfErr result (λ stop. HasNoTasks text.items stop) }
 {
     match read_tasks(alloc, text.as_slice(), choice.deadline, choice.chained) {

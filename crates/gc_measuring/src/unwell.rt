@@ -9,7 +9,7 @@ use std::io::{self, Write};
 /// cycles are over once none was missed for a second.
 pub(crate) const SECOND: u64 = 1_000;
 
-/// How a command that has a reply wasn't answered well.
+/// How a command that has a reply wasn't answered well, or why one of which a value isn't there wasn't sent.
 #[derive(Clone, Copy)]
 enum Why {
     /// The communication code of its reply isn't 0.
@@ -24,10 +24,13 @@ enum Why {
     Unexpected,
     /// Its values don't agree with those of the chain's first sending.
     Disagree,
+    /// A value that it takes of a file wasn't there, so it wasn't sent.
+    NoValue,
 }
 
 impl Why {
-    // Why a command with this ending wasn't answered well. `None`: it was, or no reply came in time.
+    // Why a command with this ending wasn't answered well. `None`: it was, or no reply came in time, or it wasn't sent for another reason than
+    // a value.
     fn of(ending: Ending<'_>) -> Option<Why> {
         match ending {
             Ending::Answered(Quality::Refused, _, line) => Some(Why::of_refusal(line)),
@@ -35,6 +38,7 @@ impl Why {
             Ending::Elsewhere(_) => Some(Why::Elsewhere),
             Ending::Unexpected(_) => Some(Why::Unexpected),
             Ending::Disagree(_) => Some(Why::Disagree),
+            Ending::NoValue => Some(Why::NoValue),
             Ending::Answered(..) => None,
             Ending::Late | Ending::Lost | Ending::Skipped | Ending::Missed => None,
         }
@@ -59,11 +63,12 @@ impl Why {
             Why::Elsewhere => writeln!(messages, "elsewhere"),
             Why::Unexpected => writeln!(messages, "unexpected"),
             Why::Disagree => writeln!(messages, "disagree"),
+            Why::NoValue => writeln!(messages, "no value of a file"),
         }
     }
 }
 
-/// Commands of cycles that have a reply and weren't answered well, and that no line has reported yet.
+/// Commands of cycles that have a reply and weren't answered well, or weren't sent for want of a value, and that no line has reported yet.
 #[derive(Clone, Copy)]
 pub(crate) struct Unwell {
     // How many there are.
@@ -77,7 +82,8 @@ pub(crate) struct Unwell {
 }
 
 impl Unwell {
-    /// Takes in a command with this ending: it is added to `unwell` if it is of a cycle, has a reply, and wasn't answered well.
+    /// Takes in a command with this ending: it is added to `unwell` if it is of a cycle, and has a reply and wasn't
+    /// answered well, or wasn't sent for want of a value.
     pub(crate) fn note(
         unwell: &mut Option<Unwell>,
         stamp: Stamp,

@@ -1,6 +1,7 @@
--- What it means that the rows of a line that alters bytes are explained: this project's own. A claim is what a row says of a reply, and a
--- truth is a reply that came. A reply is damaged if its bytes were altered, or those of its request.
-use Rattle.std.specs.Prelude.{◌≡◌, ◌⊎◌, ℕ, ◌+◌, ◌<◌, ◌≤◌, true, false, List, [], ◌∷◌, drop, slice_get, Some, IfSome, Result, Ok, Err, if◌then◌else◌}
+-- What it means that the rows of a line that alters bytes, or whose instrument sends replies late, are explained: this project's own. A
+-- claim is what a row says of a reply, and a truth is a reply that came. A reply is damaged if its bytes were altered, or those of its
+-- request.
+use Rattle.std.specs.Prelude.{◌≡◌, ◌⊎◌, ℕ, ◌+◌, ◌<◌, ◌≤◌, ◌||◌, Bool, true, false, List, [], ◌∷◌, drop, slice_get, Some, IfSome, Result, Ok, Err, if◌then◌else◌}
 use Rattle.gc_nights.specs.Claims.{NamesRow, SpeaksOf}
 use Rattle.gc_nights.specs.declared.claim.Claim.{Claim}
 use Rattle.gc_nights.specs.declared.explained.FalseRows.{FalseRows}
@@ -16,6 +17,10 @@ pub record IsBookedBy (claim : Claim) (truth : Truth) : Type 0 where
   pub at : claim.at ≡ truth.given
   pub line : IfSome claim.line (λ l. l.items ≡ truth.reply.items)
 
+-- whether a reply may have been booked for a request that isn't its own: it is damaged, or came late
+abbrev pub misleads : Truth → Bool
+misleads truth = truth.is_damaged || truth.is_late
+
 -- the row is true by the reply at this place: it isn't damaged, and the row speaks of it
 pub record IsTrueByAt (claim : Claim) (truths : List Truth) (place : ℕ) : Type 0 where
   pub truth : Truth
@@ -30,12 +35,12 @@ pub record IsDamagedAt (at : ℕ) (truths : List Truth) (place : ℕ) : Type 0 w
   pub damaged : truth.is_damaged ≡ true
   pub by : truth.given ≤ at
 
--- the row is by one of these replies that is damaged: it is the reply that the row booked
+-- the row is by one of these replies that is damaged or came late: it is the reply that the row booked
 pub record IsByDamaged (claim : Claim) (truths : List Truth) : Type 0 where
   pub place : ℕ
   pub truth : Truth
   pub there : slice_get truths place ≡ Some truth
-  pub damaged : truth.is_damaged ≡ true
+  pub misleading : misleads truth ≡ true
   pub books : IsBookedBy claim truth
 
 -- two of these replies are damaged, and came by the row's moment

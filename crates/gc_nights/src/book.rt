@@ -2,6 +2,7 @@
 //! is over.
 
 ghost use Rattle.std.specs.Prelude.{◌≡◌, ◌+◌, ◌<◌, ◌^◌, true};
+ghost use Rattle.gc_measuring.specs.Labels.{labels_seen};
 ghost use Rattle.gc_measuring.specs.Measuring.{text_in};
 ghost use Rattle.gc_nights.specs.Claims.{is_in_doubt, requests_after, speaks_of_reply};
 ghost use Rattle.gc_texts.specs.Endings.{ending_seen};
@@ -11,9 +12,9 @@ use crate::deadlines::Deadlines;
 use crate::summary::Summary;
 use gc_lines::{PortFailed, Sink, line_from};
 use gc_links::Moment;
-use gc_measuring::write_station_row;
+use gc_measuring::{Labels, write_station_row};
 use gc_station::{Book, LinkHealth, Watch};
-use gc_texts::{Ending, Name, Quality, Stamp, Wish};
+use gc_texts::{Ending, Quality, Stamp, Wish};
 use gc_words::Layout;
 use std::alloc::Global;
 
@@ -97,7 +98,7 @@ fn speaks_of_reply(ending: Ending<'_>) -> bool
         Ending::Answered(..) | Ending::Unreadable(..) => true,
         Ending::Elsewhere(_) | Ending::Unexpected(_) | Ending::Disagree(_) => true,
         Ending::Late => true,
-        Ending::Lost | Ending::Skipped | Ending::Missed => false,
+        Ending::Lost | Ending::Skipped | Ending::NoValue | Ending::Missed => false,
     }
 }
 
@@ -137,8 +138,8 @@ pub(crate) enum Interruption {
 pub(crate) struct RunBook<K> {
     sink: K,
     layout: Layout,
-    // The names of targets.
-    names: Vec<Name>,
+    // What the rows show of the text.
+    labels: Labels,
     pub(crate) seen: Seen,
     // How many acts the station may yet make in the run, before it is killed.
     left: u64,
@@ -153,11 +154,11 @@ pub(crate) struct RunBook<K> {
 
 impl<K> RunBook<K> {
     /// A book to which nothing was written. `begin` has to be called before each run.
-    pub(crate) fn new(sink: K, layout: Layout, names: Vec<Name>, seen: Seen) -> RunBook<K> {
+    pub(crate) fn new(sink: K, layout: Layout, labels: Labels, seen: Seen) -> RunBook<K> {
         RunBook {
             sink,
             layout,
-            names,
+            labels,
             seen,
             left: 0,
             until: 0,
@@ -187,12 +188,12 @@ impl<K> RunBook<K> {
         self.interruption
     }
 
-    /// Ends the book, and hands back the sink, what was seen of the rows, and the names of targets.
-    pub(crate) fn end(self) -> (K, Seen, Vec<Name>) {
+    /// Ends the book, and hands back the sink, what was seen of the rows, and their labels.
+    pub(crate) fn end(self) -> (K, Seen, Labels) {
         let RunBook {
             sink,
             layout: _,
-            names,
+            labels,
             seen,
             left: _,
             until: _,
@@ -200,12 +201,12 @@ impl<K> RunBook<K> {
             interruption: _,
             has_failed: _,
         } = self;
-        (sink, seen, names)
+        (sink, seen, labels)
     }
 }
 
 impl<K: Sink> Book for RunBook<K> {
-    ghost text = { λ book. text_in book.layout book.names.items };
+    ghost text = { λ book. text_in book.layout (labels_seen book.labels) };
 
     ghost taken = { λ book. K.taken book.sink };
 
@@ -225,7 +226,7 @@ impl<K: Sink> Book for RunBook<K> {
         let written = write_station_row(
             &mut self.sink,
             self.layout,
-            self.names.as_slice(),
+            &self.labels,
             stamp,
             command,
             ending,

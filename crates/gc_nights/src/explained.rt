@@ -1,15 +1,15 @@
-//! Rows on a line that alters bytes: which are true, and why the others aren't.
+//! Rows on a line that alters bytes, or whose instrument sends replies late: which are true, and why the others aren't.
 
 ghost use Rattle.std.specs.Prelude.{◌≡◌, ◌↔◌, ◌+◌, ◌<◌, ◌≤◌, ◌^◌, IsTrue, IfSome, drop, length, true};
-ghost use Rattle.gc_nights.specs.Explained.{AreExplained, ExplainsRow, IsBookedBy, IsByDamaged, IsBehindTwo, IsDamagedAt, IsTrueByAt, IsVerdict, doubt_of};
+ghost use Rattle.gc_nights.specs.Explained.{AreExplained, ExplainsRow, IsBookedBy, IsByDamaged, IsBehindTwo, IsDamagedAt, IsTrueByAt, IsVerdict, doubt_of, misleads};
 
 use crate::claim::{Claim, has_no_other_line, speaks_of};
 use gc_rehearsal::Truth;
 
-/// How many rows of replies aren't true on a line that alters bytes, and why.
+/// How many rows of replies aren't true on such a line, and why.
 #[derive(Clone, Copy, Drop)]
 pub(crate) struct FalseRows {
-    /// How many are by a damaged reply: its bytes were altered, or those of its request.
+    /// How many are by a damaged reply: its bytes were altered, or those of its request, or it came late.
     pub(crate) by_damaged: u64,
     /// How many are behind two damaged replies that came since the last true row.
     pub(crate) behind_two: u64,
@@ -64,6 +64,13 @@ fn place_of_true(claim: &Claim, left: &[Truth]) -> Option<usize>
     None
 }
 
+// Whether a reply may have been booked for a request that isn't its own: it is damaged, or came late.
+fn misleads(truth: &Truth) -> bool
+    ensures { result ≡ misleads truth.now }
+{
+    truth.is_damaged || truth.is_late
+}
+
 // Whether a row is by a damaged reply.
 fn is_by_damaged(claim: &Claim, left: &[Truth]) -> bool
     ensures { result ≡ true → IsByDamaged claim.now left.now }
@@ -73,7 +80,7 @@ fn is_by_damaged(claim: &Claim, left: &[Truth]) -> bool
         if truth.given > claim.at {
             return false;
         }
-        if truth.is_damaged && is_booked_by(claim, truth) {
+        if misleads(truth) && is_booked_by(claim, truth) {
             return true;
         }
         place += 1;

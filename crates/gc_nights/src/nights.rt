@@ -50,8 +50,10 @@ pub(crate) struct Programme<'a> {
     pub(crate) cycles: u64,
     /// How often the station is killed a night, unless the night is done before.
     pub(crate) kills: u64,
-    /// Whether the line alters bytes.
+    /// Whether the line alters bytes, or its instrument sends replies late: nothing is claimed of such a line.
     pub(crate) alters: bool,
+    /// Whether the instrument sends replies late, after it has said busy.
+    pub(crate) is_late: bool,
     /// The seed of all draws.
     pub(crate) seed: u64,
     /// When the first night begins, in milliseconds since 1970.
@@ -82,8 +84,8 @@ impl<K: Sink> Rehearsing<K> {
     /// run, and of a line that keeps order. As long as fewer than six runs in a row ended while they synchronized, each answer that
     /// they recorded was made, on that line, on executing the very request of its cycle and place, whatever the line lost, repeated,
     /// held or closed. A run isn't one of those six if no null procedure of its last synchronization was answered. Nothing of this is
-    /// said of a line that alters bytes. Runs that end before they are done are counted in the book's summary, but not a run at
-    /// which the rehearsal fails.
+    /// said of a line that alters bytes, or whose instrument sends replies late. Runs that end before they are done are counted in the
+    /// book's summary, but not a run at which the rehearsal fails.
     ///
     /// It fails with `Untrue` after the first run with a false row, with the fault `Memory` if memory was refused for a claim, a
     /// count or a truth, and with the fault `Output` if a row couldn't be written. The nights that are left aren't rehearsed then. A

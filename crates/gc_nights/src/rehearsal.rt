@@ -1,6 +1,7 @@
 //! A rehearsal: its texts are read, its nights are rehearsed, and how that ended is reported.
 
-ghost use Rattle.std.specs.Prelude.{[], ◌≡◌, is_some};
+ghost use Rattle.std.specs.Prelude.{[], ◌≡◌, ◌≤◌, ◌||◌, is_some, length};
+ghost use Rattle.gc_engines.specs.LateScenes.{is_late};
 ghost use Rattle.gc_fates.specs.Rules.{chance_of};
 ghost use Rattle.gc_fates.specs.declared.rule.Word.TheVariants.{Alter};
 ghost use Rattle.gc_rehearsal.specs.Inside.{told};
@@ -13,14 +14,13 @@ use crate::nights::{Programme, Rehearsing};
 use crate::report::tell_summary;
 use crate::seeded::Seeded;
 use crate::summary::Summary;
-use gc_engines::{RuleForm, read_rule_scene, scene_trouble_of};
+use gc_engines::{LateScene, read_late_scene, scene_trouble_of};
 use gc_fates::{Rules, Word, read_rules};
 use gc_lines::{FromReader, Sink, Source};
-use gc_measuring::{commands_per_cycle, read_task_text};
+use gc_measuring::{Labels, commands_per_cycle, read_task_text};
 use gc_messages::Streams;
 use gc_rehearsal::Rehearsed;
 use gc_rows::write_head;
-use gc_scenes::SceneInstrument;
 use gc_texts::{RunFault, Task, Tasks, line_at, read_text};
 use gc_words::{Layout, Rehearsal};
 use std::alloc::{AllocError, Global};
@@ -83,8 +83,9 @@ fn report<E: Write>(end: Result<(), Halt>, messages: &mut E) -> io::Result<ExitC
 #[derive(Drop)]
 struct Texts {
     rules: Rules,
-    instrument: SceneInstrument,
+    scene: LateScene,
     tasks: Tasks,
+    ghost few: { length tasks.columns.items ≤ 64 },
 }
 
 // Reads the texts of a rehearsal: the line's, the scene's and the station's, in this order. Fails at the first that can't be read
@@ -96,11 +97,11 @@ fn texts_of<R: Files, S: Source>(
     input: &mut S,
 ) -> Result<Texts, Halt> {
     let rules = rules_of(rt, alloc, rehearsal.line)?;
-    let instrument = instrument_of(rt, alloc, rehearsal.scene)?;
+    let scene = scene_of(rt, alloc, rehearsal.scene)?;
     let (tasks, _) = read_task_text(alloc, input, &rehearsal.station.choice).map_err(Halt::Text)?;
     Ok(Texts {
         rules,
-        instrument,
+        scene,
         tasks,
     })
 }
@@ -129,25 +130,21 @@ fn rules_of<R: Files>(rt: &R, alloc: Global, line: Option<&str>) -> Result<Rules
     read_rules(text.as_slice()).map_err(Halt::Line)
 }
 
-// The instrument of the scene in the file at this path; without a path the simulator. Fails as `read_file` and `instrument_in`
-// do, and without a path with the fault of `read_rule_scene` (`Fault`).
-fn instrument_of<R: Files>(
-    rt: &R,
-    alloc: Global,
-    scene: Option<&str>,
-) -> Result<SceneInstrument, Halt> {
+// The scene in the file at this path; without a path that of the simulator. Fails as `read_file` and `scene_in` do, and without a path
+// with the fault of `read_late_scene` (`Fault`).
+fn scene_of<R: Files>(rt: &R, alloc: Global, scene: Option<&str>) -> Result<LateScene, Halt> {
     let Some(path) = scene else {
-        return read_rule_scene::<RuleForm>(alloc, SIMULATOR).map_err(Halt::Fault);
+        return read_late_scene(alloc, SIMULATOR).map_err(Halt::Fault);
     };
     let text = read_file(rt, alloc, path, FileOption::Scene)?;
-    instrument_in(alloc, text.as_slice())
+    scene_in(alloc, text.as_slice())
 }
 
-// The instrument of the text of a scene. It fails with `Scene` at the first faulty line, such as one with `delay` or `busy`, because
-// `serve` alone delays replies; and with `File` for a fault that isn't one line's.
-fn instrument_in(alloc: Global, text: &[u8]) -> Result<SceneInstrument, Halt> {
-    match read_rule_scene::<RuleForm>(alloc, text) {
-        Ok(instrument) => Ok(instrument),
+// The scene of this text. It fails with `Scene` at the first faulty line, such as one with `delay` or `busy`, because `serve` alone
+// delays replies so; and with `File` for a fault that isn't one line's.
+fn scene_in(alloc: Global, text: &[u8]) -> Result<LateScene, Halt> {
+    match read_late_scene(alloc, text) {
+        Ok(scene) => Ok(scene),
         Err(RunFault::Schedule { line }) => Err(Halt::Scene(
             line,
             scene_trouble_of(line_at(text, line), false),
@@ -164,18 +161,21 @@ fn kills_of(rules: &Rules) -> u64 {
     }
 }
 
-// The programme of a rehearsal on a line with these rules, of these tasks, of which the first `setup` are the setup; a cycle has
-// `commands` commands.
+// The programme of a rehearsal on a line with these rules, with the instrument of this scene, of these tasks, of which the first `setup`
+// are the setup; a cycle has `commands` commands.
 fn programme_of<'a>(
     alloc: Global,
     rehearsal: Rehearsal<'_>,
     rules: &Rules,
+    scene: &LateScene,
     tasks: &'a [Task],
     setup: usize,
     commands: usize,
 ) -> Programme<'a>
-    ensures { result.alters ≡ is_some (chance_of rules.now Alter) }
+    ensures alters { result.alters ≡ (result.is_late || is_some (chance_of rules.now Alter)) }
+    ensures late { result.is_late ≡ is_late scene.now }
 {
+    let is_late = scene.is_late();
     Programme {
         alloc,
         tasks,
@@ -185,7 +185,8 @@ fn programme_of<'a>(
         nights: rehearsal.nights,
         cycles: rehearsal.cycles,
         kills: kills_of(rules),
-        alters: rules.chance(Word::Alter).is_some(),
+        alters: is_late || rules.chance(Word::Alter).is_some(),
+        is_late,
         seed: rehearsal.seed,
         start: BEGINNING,
     }
@@ -210,7 +211,7 @@ fn rehearse_texts<K: Sink + Drop, E: Write>(
 ) -> (K, Result<(), Halt>) {
     let Texts {
         rules,
-        instrument,
+        scene,
         tasks,
     } = texts;
     let commands = commands_per_cycle(&tasks);
@@ -220,18 +221,41 @@ fn rehearse_texts<K: Sink + Drop, E: Write>(
         names,
         nears: _,
         unwatched: _,
+        described,
+        columns,
     } = tasks;
-    let programme = programme_of(alloc, rehearsal, &rules, tasks.as_slice(), setup, commands);
+    let labels = Labels {
+        names,
+        described,
+        columns,
+    };
+    let programme = programme_of(
+        alloc,
+        rehearsal,
+        &rules,
+        &scene,
+        tasks.as_slice(),
+        setup,
+        commands,
+    );
     let Ok(seen) = seen_at_first(alloc, programme) else {
         return (output, Err(Halt::Fault(RunFault::Memory)));
     };
     let layout = rehearsal.station.layout;
-    if write_head(&mut output, layout.form).is_err() {
+    if write_head(&mut output, layout.form, labels.columns.as_slice()).is_err() {
         return (output, Err(Halt::Fault(RunFault::Output)));
     }
-    let book = RunBook::new(output, layout, names, seen);
+    let book = RunBook::new(output, layout, labels, seen);
     let chance = Seeded::new(rules, rehearsal.seed);
-    let link = Rehearsed::new(alloc, chance, instrument, BEGINNING, programme.alters);
+    let LateScene { instrument, delays } = scene;
+    let link = Rehearsed::new(
+        alloc,
+        chance,
+        instrument,
+        delays,
+        BEGINNING,
+        programme.alters,
+    );
     rehearse_over(programme, Rehearsing { link, book }, messages)
 }
 
@@ -246,13 +270,13 @@ fn rehearse_over<K: Sink + Drop, E: Write>(
 {
     let end = rehearsing.run_nights(programme);
     let Rehearsing { link, book } = rehearsing;
-    let (output, mut seen, names) = book.end();
+    let (output, mut seen, labels) = book.end();
     if end.is_ok() {
         // If the summary can't be written, the rows are there all the same.
         let _ = tell_summary(
             programme,
             &mut seen.summary,
-            names.as_slice(),
+            labels.names.as_slice(),
             link.counts(),
             messages,
         );

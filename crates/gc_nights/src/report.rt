@@ -10,9 +10,9 @@ use gc_station::Tally;
 use gc_texts::{Name, name_text};
 use std::io::{self, Write};
 
-/// Writes the summary: of all nights, of all commands, of all cycles, of each target, of the line, of altered lines, if the line alters
-/// any, and what a lost line cost, if any line was lost. It sorts the spans of `summary` first; if memory for that is refused, the figures that are taken from them
-/// may be wrong. `Err`: the messages couldn't be written.
+/// Writes the summary: of all nights, of all commands, of all cycles, of each target, of the line, of altered lines and late replies, if
+/// there may be any, and what a lost line cost, if any line was lost. It sorts the spans of `summary` first; if memory for that is
+/// refused, the figures that are taken from them may be wrong. `Err`: the messages couldn't be written.
 pub(crate) fn tell_summary<E: Write>(
     programme: Programme<'_>,
     summary: &mut Summary,
@@ -35,7 +35,7 @@ pub(crate) fn tell_summary<E: Write>(
 
 // Writes how many nights there were and with which seed, how many runs were killed, gave up (with the fault of the last that did)
 // or were cut off, how many rows there were, and how many aren't true and don't say that their values don't count: only on a line that
-// alters bytes there may be rows that aren't true, as any other ends the rehearsal.
+// alters bytes, or whose instrument sends replies late, there may be rows that aren't true, as any other ends the rehearsal.
 fn tell_nights<E: Write>(
     programme: Programme<'_>,
     summary: &Summary,
@@ -68,7 +68,8 @@ fn falses_of(falses: FalseRows) -> u64 {
         .saturating_sub(falses.in_doubt)
 }
 
-// Writes how many lines were altered, why rows aren't true, and how many of these say that their values don't count. Writes nothing for a line that alters no bytes.
+// Writes how many replies came late, if the instrument sends some so, how many lines were altered, why rows aren't true, and how many of
+// these say that their values don't count. Writes nothing for a line that alters no bytes, and whose instrument sends no reply late.
 fn tell_altered<E: Write>(
     programme: Programme<'_>,
     summary: &Summary,
@@ -83,8 +84,15 @@ fn tell_altered<E: Write>(
         behind_two,
         in_doubt,
     } = summary.falses;
+    if programme.is_late {
+        write!(messages, "late replies {} ", counts.late)?;
+    }
     write!(messages, "altered lines {}: ", counts.altered)?;
-    write!(messages, "false rows by damaged replies {by_damaged} ")?;
+    let late = if programme.is_late { "or late " } else { "" };
+    write!(
+        messages,
+        "false rows by damaged {late}replies {by_damaged} "
+    )?;
     write!(messages, "behind two of them {behind_two} others 0 ")?;
     writeln!(messages, "unconfirmed {in_doubt}")
 }
@@ -155,6 +163,7 @@ fn tell_line<E: Write>(counts: Counts, messages: &mut E) -> io::Result<()> {
         closes,
         refusals,
         restarts,
+        late: _,
     } = counts;
     write!(messages, "line: requests {requests} replies {replies} ")?;
     write!(messages, "lost {lost} repeated {repeated} ")?;

@@ -20,7 +20,7 @@ pub(crate) struct Seeded {
     // The draws of requests, and those of replies.
     up: Draws,
     down: Draws,
-    // How many requests set out, and how many replies, one for each request that reached the instrument.
+    // How many requests set out, and how many replies: one for each request that reached the instrument, and late ones.
     ups: u64,
     downs: u64,
     // Whether a request reached the instrument, so that the next line to set out is its reply.
@@ -75,6 +75,12 @@ impl Chance for Seeded {
             hold: fate.hold,
             closes: fate.closes,
         }
+    }
+
+    // What happens to a late reply: it is the next line to set out, and counts among the replies.
+    fn late_fate(&mut self) -> Fate {
+        self.is_reply_next = true;
+        self.fate()
     }
 
     // What becomes of the bytes of the line that set out last, by the rules and its draws.

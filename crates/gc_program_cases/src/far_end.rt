@@ -1,6 +1,7 @@
 //! The far end of a case: a connection of one process, at which a simulator answers while the station waits, and a clock that
 //! goes only as it waits. So no case waits, and each moment is known. No file is there; which were to be opened is noted.
 
+use crate::site::Site;
 use gc_cases::{StandIn, Told, in_use, not_found};
 use gc_console::{Oddities, run_exec};
 use gc_lines::{FromReader, ToWriter};
@@ -87,6 +88,8 @@ pub struct FarEnd<'a, 'b> {
     pub alters: bool,
     /// Whether the instrument signs on before each reply to a request for 5004.
     pub starts: bool,
+    /// What answers in place of the simulator, if it has an instrument.
+    pub site: &'b RefCell<Site>,
 }
 
 impl<'a, 'b> FarEnd<'a, 'b> {
@@ -100,9 +103,9 @@ impl<'a, 'b> FarEnd<'a, 'b> {
     }
 
     // Answers the requests of a piece, after an echo of it if the line echoes, and after a stray or a sign-on if it strays or the instrument
-    // starts, and the piece asks for 5004. If the line alters, the reply to 2011 with id 3 has another height. Returns whether it sent a
-    // reply; `false` also if the echo, the stray, the sign-on or one of the replies can't be sent.
-    fn answer_piece(&self, piece: &[u8]) -> bool {
+    // starts, and the piece asks for 5004. If the line alters, the reply to 2011 with id 3 has another height. The piece came at the moment
+    // `at`. Returns whether it sent a reply; `false` also if the echo, the stray, the sign-on or one of the replies can't be sent.
+    fn answer_piece(&self, piece: &[u8], at: u64) -> bool {
         let mut far = &self.ends.1;
         if self.odd.echoes && self.changing().write_all(piece).is_err() {
             return false;
@@ -117,6 +120,11 @@ impl<'a, 'b> FarEnd<'a, 'b> {
         }
         if self.alters && piece.starts_with(b"%R1Q,2011,3:") {
             return far.write_all(b"%R1P,0,3:0,1.7\r\n").is_ok();
+        }
+        if let Ok(mut site) = self.site.try_borrow_mut() {
+            if site.is_there() {
+                return site.answer(piece, at, &mut self.changing());
+            }
         }
         self.serve_piece(piece)
     }
@@ -171,9 +179,8 @@ impl<'a, 'b> FarEnd<'a, 'b> {
         seen.heard.bytes(piece);
         seen.heard.text(">");
         match self.answer {
-            Some(answer) if seen.elapsed <= self.silent && self.answer_piece(piece) => {
-                seen.pass(answer)
-            }
+            Some(answer) if seen.elapsed <= self.silent && self.answer_piece(piece, seen.elapsed) =>
+                { seen.pass(answer) }
             _ => seen.pass(millis),
         }
     }

@@ -7,6 +7,7 @@ mod parts;
 mod program;
 mod room;
 mod said;
+mod site;
 
 use gc_cases::play_folder;
 use program::Program;

@@ -14,12 +14,14 @@
 //!                            `echoes_lone` what is sent comes back, and no LF comes; with `doubled` a CR comes before each LF; with
 //!                            `strays` a reply with id 6 comes before each reply to a request for 5004, with `starts` a sign-on; with
 //!                            `alters` the reply to 2011 with id 3 has the height 1.7
+//!     site target 0 1 2\n    of a far end: the instrument of this scene answers, as that of `serve`, in place of a new simulator each time
 //!     refused 2              of a far end: this many connections are refused before one is made
 //!     silent 500             of a far end: after this many milliseconds nothing is answered any more
 //!     until 9000             of a far end: after this many milliseconds its monotonic clock can't be read any more
 
 use crate::far_end::{FarEnd, Seen, paired_ends};
 use crate::said::{Said, compare_seen};
+use crate::site::Site;
 use gc_cases::{Case, CaseRuntime, Player, Told, input_of, port_of, text_of};
 use gc_console::{Oddities, Standard, Streams, run_program};
 use gc_links::listen;
@@ -105,8 +107,9 @@ impl<'a, 'b> Run<'a, 'b> {
         seen: &RefCell<Seen>,
         said: &mut Said,
     ) {
+        let site = RefCell::new(Site::of_case(self.alloc, &self.case));
         if let Ok(ends) = paired_ends(rt) {
-            self.run(&far_end_of(&self.case, answer, &ends, seen), said);
+            self.run(&far_end_of(&self.case, answer, &ends, seen, &site), said);
         }
     }
 
@@ -175,12 +178,13 @@ fn oddities_of(case: &Case<'_>) -> Oddities {
 }
 
 // A runtime with the far end that a case has, over the connection with these two ends. Its answers take `answer`
-// milliseconds; `None`: it gives none. What comes there is noted in `seen`.
+// milliseconds; `None`: it gives none. What comes there is noted in `seen`, and the instrument of `site` answers, if there is one.
 fn far_end_of<'a, 'b>(
     case: &Case<'_>,
     answer: Option<u64>,
     ends: &'a (TcpStream, TcpStream),
     seen: &'b RefCell<Seen>,
+    site: &'b RefCell<Site>,
 ) -> CaseRuntime<FarEnd<'a, 'b>> {
     CaseRuntime {
         stand_in: FarEnd {
@@ -194,6 +198,7 @@ fn far_end_of<'a, 'b>(
             strays: case.is("line", "strays"),
             alters: case.is("line", "alters"),
             starts: case.is("line", "starts"),
+            site,
         },
     }
 }

@@ -1,8 +1,6 @@
 -- The rows of a run over a line that damages: the line of each of its replies is own or damaged, so what holds of the rows of a run
 -- that is answered by such lines holds of them.
-use Rattle.std.proofs.Common.{ℕ, List, Option}
-use Rattle.gc_catalogue.specs.declared.answer.Reading.{Reading}
-use Rattle.gc_catalogue.specs.declared.asked.Asked.{Asked}
+use Rattle.std.proofs.Common.{Option}
 use Rattle.gc_instrument.specs.State.{KeptReply}
 use Rattle.gc_station.specs.Answers.{AnswerIsJustified}
 use Rattle.gc_station.proofs.Answers.{answers_true}
@@ -19,8 +17,10 @@ use Rattle.gc_station.proofs.Moments.{came_at, one_added}
 use Rattle.gc_promise.proofs.Owning.{row_and_fault}
 use Rattle.gc_promise.proofs.Tabled.{tabled}
 use Rattle.gc_promise.proofs.Written.{IsAnswered}
+use Rattle.gc_station.specs.Qualities.{form_at}
+use Rattle.gc_station.specs.Scopes.{Reads}
 
-module _ {State : Type 0} (ends : Ends State) (kept : State → Option KeptReply) (is : IsAnInstrument ends AnyState kept) (reads : Asked → List ℕ → Reading) (x : HarmedRun State)
+module _ {State : Type 0} (ends : Ends State) (kept : State → Option KeptReply) (is : IsAnInstrument ends AnyState kept) (reads : Reads) (x : HarmedRun State)
     (was : IsHarmedRun ends kept reads x) where
   -- the run is local
   local : IsRunLocal ends AnyState kept (harmed_program_of x.run.survey reads (acts_in x.run) x.happened)
@@ -28,7 +28,7 @@ module _ {State : Type 0} (ends : Ends State) (kept : State → Option KeptReply
 
   -- it is answered by lines that are own or damaged
   pub answered : IsAnswered (own_or_damaged_lines ends reads x) reads x.run.survey (acts_in x.run)
-  answered = record { runs = was.in_field.runs; answers = λ n r got. local.answers n r got }
+  answered = record { labels = was.is_run.labels; runs = was.in_field.runs; answers = λ n r got. local.answers n r got }
 
 -- what a sink took of a run over a line that damages is a table
 pub tables_own_or_damaged : {State : Type 0} → TablesAreOwnOrDamaged State
@@ -47,11 +47,11 @@ rows_own_or_damaged ends kept is reads are x was columns form place r got line a
     let acts = acts_in x.run in
     let scope = scope_of survey reads in
     let came = all_at (AnswerIsJustified survey.plan survey.tasks scope acts) (records_of_run reads x.run) place r (answers_true survey.plan survey.tasks scope acts was.in_field.runs) got in
-    let row = row_and_fault survey.layout columns survey.names form survey.plan survey.tasks scope acts r came line answers in
+    let row = row_and_fault survey.layout columns survey.labels form survey.plan survey.tasks scope acts r came line answers in
     record {
       is_of = row.is_of;
       came = came_at survey.plan survey.tasks scope acts was.in_field.runs r line answers (came line answers);
-      fault = row.fault reads are (one_added survey.plan survey.tasks scope acts was.in_field.runs place r got).1;
+      fault = row.fault reads are (form_at survey.tasks r.place) (one_added survey.plan survey.tasks scope acts was.in_field.runs place r got).1;
       answer = (local ends kept is reads x was).answers place r got line answers;
     }
 

@@ -3,7 +3,6 @@ use Rattle.std.proofs.Common.{◌≡◌, ℕ, true, false, List, [], ◌∷◌, 
 use Rattle.std.specs.Fmt.{decimal}
 use Rattle.gc_files.specs.Rows.{has_feed, whole}
 use Rattle.gc_files.proofs.Whole.{feed_behind, whole_behind}
-use Rattle.gc_texts.specs.declared.name.Name.{Name}
 use Rattle.gc_texts.specs.Stamps.{stamp_text}
 use Rattle.gc_rows.specs.Columns.{Entry, members_after_run, row_fields}
 use Rattle.gc_rows.specs.JsonLines.{string_text, members_text}
@@ -13,6 +12,7 @@ use Rattle.gc_rows.specs.declared.record.Form.{Form}
 use Rattle.gc_rows.specs.declared.record.Form.TheVariants.{Lines, Csv, Columns, Json}
 use Rattle.gc_station.specs.Records.{Record}
 use Rattle.gc_words.specs.declared.layout.Layout.{Layout}
+use Rattle.gc_measuring.specs.Labels.{LabelsSeen}
 use Rattle.gc_measuring.specs.Measuring.{entry_in, text_in}
 
 -- bytes that end in a line feed
@@ -47,5 +47,5 @@ record_ends Columns r = row_ends (row_fields true r)
 record_ends Json r = ends_behind (codes "{\"run\":" ++ string_text (stamp_text r.when.run) ++ members_text (members_after_run r)) (codes "}\n") brace_ends
 
 -- the text of a record ends in a line feed
-pub text_whole : (layout : Layout) (names : List Name) (r : Record) → whole (text_in layout names r) ≡ text_in layout names r
-text_whole layout names r = (record_ends layout.form (entry_in layout names r)).is
+pub text_whole : (layout : Layout) (labels : LabelsSeen) (r : Record) → whole (text_in layout labels r) ≡ text_in layout labels r
+text_whole layout labels r = (record_ends layout.form (entry_in layout labels r)).is

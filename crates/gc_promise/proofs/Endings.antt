@@ -3,7 +3,7 @@ use Rattle.std.proofs.Common.{◌≡◌, inl, inr, ℕ, List, [], get_or, Option
 use Rattle.std.specs.Prelude.{codes}
 use Rattle.gc_catalogue.specs.declared.answer.Answer.{Answer}
 use Rattle.gc_values.specs.declared.fault.ValueFault.{ValueFault}
-use Rattle.gc_texts.specs.Endings.{End, Answered, Unreadable, Elsewhere, Disagree, Unexpected, Late, Lost, Skipped, Missed, word_of, fault_of, quality_of, quality_text, line_of}
+use Rattle.gc_texts.specs.Endings.{End, Answered, Unreadable, Elsewhere, Disagree, Unexpected, Late, Lost, Skipped, NoValue, Missed, word_of, fault_of, quality_of, quality_text, line_of}
 use Rattle.gc_texts.specs.declared.quality.Quality.{Quality}
 use Rattle.gc_rows.specs.Rows.{fault_field}
 use Rattle.gc_promise.specs.Fields.{IsOutcomeOfReply}
@@ -31,6 +31,7 @@ reply_ended (Unexpected line) is = (line, refl)
 reply_ended Late is = absurd (no_outcome_of_reply (codes "late") (λ e. omega (arith, e)) (λ e. omega (arith, e)) (λ e. omega (arith, e)) (λ e. omega (arith, e)) is)
 reply_ended Lost is = absurd (no_outcome_of_reply (codes "lost") (λ e. omega (arith, e)) (λ e. omega (arith, e)) (λ e. omega (arith, e)) (λ e. omega (arith, e)) is)
 reply_ended Skipped is = absurd (no_outcome_of_reply (codes "skipped") (λ e. omega (arith, e)) (λ e. omega (arith, e)) (λ e. omega (arith, e)) (λ e. omega (arith, e)) is)
+reply_ended NoValue is = absurd (no_outcome_of_reply (codes "no_value") (λ e. omega (arith, e)) (λ e. omega (arith, e)) (λ e. omega (arith, e)) (λ e. omega (arith, e)) is)
 reply_ended Missed is = absurd (no_outcome_of_reply (codes "missed") (λ e. omega (arith, e)) (λ e. omega (arith, e)) (λ e. omega (arith, e)) (λ e. omega (arith, e)) is)
 
 -- a word with another first letter than `answered` isn't `answered`
@@ -51,6 +52,7 @@ is_answered (Unexpected l) word = absurd (not_answered (codes "unexpected") (λ 
 is_answered Late word = absurd (not_answered (codes "late") (λ e. omega (arith, e)) word)
 is_answered Lost word = absurd (not_answered (codes "lost") (λ e. omega (arith, e)) word)
 is_answered Skipped word = absurd (not_answered (codes "skipped") (λ e. omega (arith, e)) word)
+is_answered NoValue word = absurd (not_answered (codes "no_value") (λ e. omega (arith, e)) word)
 is_answered Missed word = absurd (not_answered (codes "missed") (λ e. omega (arith, e)) word)
 
 -- the third letter of a word
@@ -74,6 +76,7 @@ without_quality (Unexpected l) other = refl
 without_quality Late other = refl
 without_quality Lost other = refl
 without_quality Skipped other = refl
+without_quality NoValue other = refl
 without_quality Missed other = refl
 
 -- a command whose outcome is `unreadable` ended as `Unreadable`, for a fault
@@ -86,6 +89,7 @@ is_unreadable (Unexpected l) word = absurd (unexpected_reads word)
 is_unreadable Late word = absurd (not_unreadable (codes "late") (λ e. omega (arith, e)) word)
 is_unreadable Lost word = absurd (not_unreadable (codes "lost") (λ e. omega (arith, e)) word)
 is_unreadable Skipped word = absurd (not_unreadable (codes "skipped") (λ e. omega (arith, e)) word)
+is_unreadable NoValue word = absurd (not_unreadable (codes "no_value") (λ e. omega (arith, e)) word)
 is_unreadable Missed word = absurd (not_unreadable (codes "missed") (λ e. omega (arith, e)) word)
 
 -- a command whose outcome isn't `unreadable` has no fault
@@ -98,4 +102,5 @@ without_fault (Unexpected l) other = refl
 without_fault Late other = refl
 without_fault Lost other = refl
 without_fault Skipped other = refl
+without_fault NoValue other = refl
 without_fault Missed other = refl

@@ -7,7 +7,6 @@ use Rattle.gc_lines.specs.Readers.{header_at, reply_at}
 use Rattle.gc_world.proofs.Handing.{reply_heard}
 use Rattle.gc_values.specs.Decimals.{rounded}
 use Rattle.gc_values.specs.Directions.{is_near}
-use Rattle.gc_catalogue.specs.declared.answer.Reading.{Reading}
 use Rattle.gc_catalogue.specs.declared.asked.Asked.{Asked}
 use Rattle.gc_client.specs.OneForOne.{Step}
 use Rattle.gc_client.specs.Rule.{ById}
@@ -23,7 +22,7 @@ use Rattle.gc_station.specs.Parts as part
 use Rattle.gc_station.specs.Parts.{Part, idle_part, parts_of}
 use Rattle.gc_station.specs.Records.{Record, texts_of}
 use Rattle.gc_station.specs.Runs.{RanTo, state_after}
-use Rattle.gc_station.specs.Scopes.{AreReadings, Scope}
+use Rattle.gc_station.specs.Scopes.{AreReadings, Reads, Scope}
 use Rattle.gc_station.specs.Tallies.{tally_of}
 use Rattle.gc_station.specs.declared.cause.Cause.TheVariants.{Done}
 use Rattle.gc_world.specs.Clients.{by_ids}
@@ -163,7 +162,7 @@ pointed_reply_was_made = record { front = take 8 first_moves; later = drop 9 fir
 
 -- The station's part.
 
-module _ (reads : Asked → List ℕ → Reading) where
+module _ (reads : Reads) where
   -- the scope in which `patched` says what replies say
   abbrev patched_scope : Scope
   patched_scope = scope (patched reads)
@@ -284,12 +283,12 @@ module _ (reads : Asked → List ℕ → Reading) where
       record { acts = acts; tells = refl; runs = all_run; stops = refl; took = ap (texts_of text) (sym written); counts = ap tally_of (sym written) }
 
 -- the run is eventful with every function that gives what replies say
-pub eventful : (reads : Asked → List ℕ → Reading) → AreReadings reads → IsEventful reads
+pub eventful : (reads : Reads) → AreReadings reads → IsEventful reads
 eventful reads are = subst IsEventful (patched_same reads are) (patched_is_eventful reads)
 
 -- with every function that gives what replies say, the acts are a whole run, which ends as done with this tally, and of which the
 -- texts of these records were taken
-pub ran_whole : (text : Record → List ℕ) (reads : Asked → List ℕ → Reading) → AreReadings reads
+pub ran_whole : (text : Record → List ℕ) (reads : Reads) → AreReadings reads
     → RanTo plan commands (scope reads) text (Some []) (Some acts) (Some []) (Some (texts_of text records)) Done tally
 ran_whole text reads are =
     subst (λ r. RanTo plan commands (scope r) text (Some []) (Some acts) (Some []) (Some (texts_of text records)) Done tally) (patched_same reads are) (patched_run reads text)

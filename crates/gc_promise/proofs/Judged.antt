@@ -1,7 +1,6 @@
 -- What a row has of an answer, by the quality of its line.
 use Rattle.std.proofs.Common.{◌≡◌, ℕ, List, Option, Some, None, if◌then◌else◌, refl, sym, ap, ◌∙◌, subst}
 use Rattle.gc_lines.specs.Replies.{ReplyFields, IsReply}
-use Rattle.gc_catalogue.specs.Asked.{IsAskedReading}
 use Rattle.gc_catalogue.specs.declared.answer.Answer.{Answer}
 use Rattle.gc_catalogue.specs.declared.answer.Reading.{Reading}
 use Rattle.gc_catalogue.specs.declared.answer.Reading.TheVariants as reading
@@ -10,9 +9,11 @@ use Rattle.gc_texts.specs.Zeroed.{as_zero}
 use Rattle.gc_texts.specs.declared.codes.Codes.{Codes}
 use Rattle.gc_texts.specs.declared.quality.Quality.{Quality}
 use Rattle.gc_texts.specs.declared.quality.Quality.TheVariants as quality
-use Rattle.gc_texts.proofs.ZeroReplies.{zero_reads}
 use Rattle.gc_station.specs.Qualities.{answer_in, IsRefusedReading, IsOfQuality}
-use Rattle.gc_station.specs.Scopes.{AreReadings}
+use Rattle.gc_station.specs.Saying.{IsSaid}
+use Rattle.gc_station.proofs.Saying.{zero_said}
+use Rattle.gc_texts.specs.declared.form.Form.{Form}
+use Rattle.gc_station.specs.Scopes.{AreReadings, Reads}
 use Rattle.gc_promise.specs.Fields.{quality_in, quantity_source}
 
 -- where `answer_in` gives an answer of a reading, the reading is that answer
@@ -33,11 +34,11 @@ refused_in accepted (reading.Refused code) is = (ap (λ b. if b then quality.War
 refused_in accepted (reading.ComFault code) is = (refl, refl)
 refused_in accepted (reading.Unreadable fault) is = absurd is
 
-module _ (reads : Asked → List ℕ → Reading) (are : AreReadings reads) (accepted : Codes) (call : Asked) (line : List ℕ) (reply : ReplyFields) (is_reply : IsReply line reply)
-    (said told : Reading) (is_said : IsAskedReading call reply said) (is_told : IsAskedReading call (quantity_source (quality_in accepted said) reply) told) where
+module _ (reads : Reads) (are : AreReadings reads) (accepted : Codes) (form : Option Form) (call : Asked) (line : List ℕ) (reply : ReplyFields) (is_reply : IsReply line reply)
+    (said told : Reading) (is_said : IsSaid form call reply said) (is_told : IsSaid form call (quantity_source (quality_in accepted said) reply) told) where
   -- where x is what the fields of the line's reply say of the call, `reads` gives x of the line
-  line_says : (x : Reading) → IsAskedReading call reply x → reads call line ≡ x
-  line_says x is = are call line x (record { reply = reply; is_reply = is_reply; is_reading = is })
+  line_says : (x : Reading) → IsSaid form call reply x → reads form call line ≡ x
+  line_says x is = are form call line x (record { reply = reply; is_reply = is_reply; is_reading = is })
 
   -- q is the quality of an answer whose line says `said`, and `values` are the values of `told`, the reading from which a row
   -- has its quantities
@@ -47,11 +48,11 @@ module _ (reads : Asked → List ℕ → Reading) (are : AreReadings reads) (acc
 
   -- where q is the quality of `said`, and doesn't change the fields of the reply (`quantity_source`), `told`, the reading from
   -- which a row has its quantities, is what `reads` gives of the line
-  quantity_reading_is : (q : Quality) → quality_in accepted said ≡ q → (quantity_source q reply ≡ reply) → reads call line ≡ told
-  quantity_reading_is q is same = line_says told (subst (λ (r : ReplyFields). IsAskedReading call r told) (ap (λ (k : Quality). quantity_source k reply) is ∙ same) is_told)
+  quantity_reading_is : (q : Quality) → quality_in accepted said ≡ q → (quantity_source q reply ≡ reply) → reads form call line ≡ told
+  quantity_reading_is q is same = line_says told (subst (λ (r : ReplyFields). IsSaid form call r told) (ap (λ (k : Quality). quantity_source k reply) is ∙ same) is_told)
 
   -- if an answer in this line is of the quality q, with these values (`IsOfQuality`), `IsJudged` holds of q and the values
-  pub judged : (q : Quality) (values : Option Answer) → IsOfQuality reads accepted call q values line → IsJudged q values
+  pub judged : (q : Quality) (values : Option Answer) → IsOfQuality (reads form) accepted call q values line → IsJudged q values
   judged quality.Fine values (answer, has, value) =
       let is : said ≡ reading.Value answer = sym (line_says said is_said) ∙ value in
       let fine : quality_in accepted said ≡ quality.Fine = ap (quality_in accepted) is in
@@ -60,12 +61,12 @@ module _ (reads : Asked → List ℕ → Reading) (are : AreReadings reads) (acc
   judged quality.Warning values (code, refusal, listed, has) =
       let is : said ≡ reading.Refused code = sym (line_says said is_said) ∙ refusal in
       let warned : quality_in accepted said ≡ quality.Warning = ap (quality_in accepted) is ∙ ap (λ b. if b then quality.Warning else quality.Refused) listed in
-      let zeroed : IsAskedReading call (record reply { rc = 0 }) told = subst (λ (k : Quality). IsAskedReading call (quantity_source k reply) told) warned is_told in
-      let same : reads call (as_zero line) ≡ told = are call (as_zero line) told (zero_reads call line reply told is_reply zeroed) in
+      let zeroed : IsSaid form call (record reply { rc = 0 }) told = subst (λ (k : Quality). IsSaid form call (quantity_source k reply) told) warned is_told in
+      let same : reads form call (as_zero line) ≡ told = are form call (as_zero line) told (zero_said form call line reply told is_reply zeroed) in
       record { quality_is = sym warned; values_are = has ∙ ap answer_in same }
   judged quality.Unconfirmed values is = absurd is
   judged quality.Refused values (none, refusal) =
-      let is : reads call line ≡ said = line_says said is_said in
+      let is : reads form call line ≡ said = line_says said is_said in
       let both = refused_in accepted said (subst (IsRefusedReading accepted) is refusal) in
       let same : told ≡ said = sym (quantity_reading_is quality.Refused both.0 refl) ∙ is in
       record { quality_is = sym both.0; values_are = none ∙ sym (ap answer_in same ∙ both.1) }

@@ -3,8 +3,6 @@
 use Rattle.std.proofs.Common.{◌≡◌, ◌⊎◌, ℕ, true, List, [], ◌∷◌, ◌++◌, Option, Some, Result, inl, inr, refl, sym, ◌∙◌, ap, subst, append_assoc}
 use Rattle.std.proofs.lemmas.List.{append_cancel_left}
 use Rattle.std.specs.Io.KnownBytes.{Appends}
-use Rattle.gc_catalogue.specs.declared.answer.Reading.{Reading}
-use Rattle.gc_catalogue.specs.declared.asked.Asked.{Asked}
 use Rattle.gc_files.specs.Files.{Step}
 use Rattle.gc_files.specs.Rows.{cuts_none, appended, IsFront}
 use Rattle.gc_files.specs.Sinks.{steps_in, taken_in}
@@ -15,7 +13,7 @@ use Rattle.gc_station.specs.ActKinds.{ReadsClock}
 use Rattle.gc_station.specs.Keeping.{KeepsUp, close_at_output}
 use Rattle.gc_station.specs.Model.{Runs, opening}
 use Rattle.gc_station.specs.Records.{Record, texts_of}
-use Rattle.gc_station.specs.Scopes.{Scope, AreReadings}
+use Rattle.gc_station.specs.Scopes.{AreReadings, Reads, Scope}
 use Rattle.gc_messages.specs.declared.following.Followed.{Followed}
 use Rattle.gc_station.specs.declared.tally.Tally.{Tally}
 use Rattle.gc_words.specs.Stations.{begun_at}
@@ -35,14 +33,15 @@ use Rattle.gc_promise.specs.Tables.{acts_in, acts_measured, records_of_run, scop
 use Rattle.gc_promise.proofs.Seen.{IsKeptAt, kept_at, done_at, next_at, seen_at}
 use Rattle.gc_promise.proofs.Taken.{appended_to_known, run_took, written_front}
 use Rattle.gc_promise.proofs.Staying.{cuts_first}
+use Rattle.gc_promise.proofs.SoundLabels.{labels_sound}
 
 -- What the clauses say.
 
 -- nothing comes before the rows of a file whose header is there already
-nothing_between : (survey : Survey) (between : Option (List ℕ)) → survey.layout.headed ≡ true → Appends (Some []) between (front_text survey.layout) → between ≡ Some []
+nothing_between : (survey : Survey) (between : Option (List ℕ)) → survey.layout.headed ≡ true → Appends (Some []) between (front_text survey.layout survey.labels.columns) → between ≡ Some []
 nothing_between survey between headed front =
-    let none : front_text survey.layout ≡ [] = rw (headed) refl in
-    appended_to_known [] (front_text survey.layout) between front ∙ ap (λ (l : List ℕ). Some l) none
+    let none : front_text survey.layout survey.labels.columns ≡ [] = rw (headed) refl in
+    appended_to_known [] (front_text survey.layout survey.labels.columns) between front ∙ ap (λ (l : List ℕ). Some l) none
 
 -- What `append_at` reports is a run of a file.
 
@@ -55,7 +54,7 @@ run_or_no_act station given old new end told file headed none acts fresh took (i
 run_or_no_act station given old new end told file headed none acts fresh took (inr (all, gives, inl front)) = inl front.turns
 run_or_no_act station given old new end told file headed none acts fresh took (inr (all, gives, inr behind)) = inr (record {
   run = record { survey = survey_of station most_turns all; old = old; new = new; result = end; recorded = told };
-  is = record { is_run = record { none = none; acts = acts; ran = behind }; headed = headed; fresh = fresh; took = took };
+  is = record { is_run = record { labels = labels_sound given station.choice.deadline station.choice.chained all gives.are; none = none; acts = acts; ran = behind }; headed = headed; fresh = fresh; took = took };
   by_acts = acts;
   before = refl;
   after = refl;
@@ -72,7 +71,7 @@ appends_are_runs source sink K E taken lasts shown has_log station whole file st
   | inr unbegun ↦ inl unbegun.turns
 ]
 
-module _ {R : Type 0} (m : RunMoment R) (is : IsRunMoment m) (reads : Asked → List ℕ → Reading) (are : AreReadings reads) where
+module _ {R : Type 0} (m : RunMoment R) (is : IsRunMoment m) (reads : Reads) (are : AreReadings reads) where
   -- the scope of the moment's run
   abbrev scope : Scope
   scope = scope_of m.run.survey reads
@@ -87,7 +86,7 @@ module _ {R : Type 0} (m : RunMoment R) (is : IsRunMoment m) (reads : Asked → 
 
   -- no bytes came before the run's rows
   none_between : ran.between ≡ Some []
-  none_between = nothing_between m.run.survey ran.between is.run.headed (subst (λ (t : Option (List ℕ)). Appends t ran.between (front_text m.run.survey.layout)) is.run.fresh ran.front)
+  none_between = nothing_between m.run.survey ran.between is.run.headed (subst (λ (t : Option (List ℕ)). Appends t ran.between (front_text m.run.survey.layout m.run.survey.labels.columns)) is.run.fresh ran.front)
 
   -- the run kept up: at each of its turns, what the acts before it settled was kept
   keeps : KeepsUp m.run.survey.plan m.run.survey.tasks scope text (Some []) (Some m.run.recorded) (Some []) m.run.old.turns m.run.new.turns (close_at_output ran.end)
@@ -115,7 +114,7 @@ module _ {R : Type 0} (m : RunMoment R) (is : IsRunMoment m) (reads : Asked → 
   end =
       let took = run_took reads are m.run [] is.run.is_run is.run.fresh in
       let written = texts_of text took.are.written ++ took.torn in
-      let none : front_text m.run.survey.layout ≡ [] = rw (is.run.headed) refl in
+      let none : front_text m.run.survey.layout m.run.survey.labels.columns ≡ [] = rw (is.run.headed) refl in
       let same : bytes_in m.file ≡ written = same_Some (bytes_in m.file) written (sym is.run.took ∙ took.is ∙ ap (λ (l : List ℕ). Some (l ++ written)) none) in
       subst (λ (l : List ℕ). IsFront l (rows_by m.run.survey reads (acts_in m.run))) (sym same) (written_front text (records_of_run reads m.run) m.run.result took.torn took.are)
 
@@ -144,6 +143,7 @@ module _ {R : Type 0} (m : RunMoment R) (is : IsRunMoment m) (reads : Asked → 
   moment_of_file =
       let none : cuts_none ((steps_in m.was.rows ++ is.reached.since) ++ is.reached.rest) ≡ true = subst (λ (l : List Step). cuts_none l ≡ true) calls_are m.file.rows.only_appends in
       record {
+        labels = is.run.is_run.labels;
         runs = subst (λ (xs : List Act). Runs m.run.survey.plan m.run.survey.tasks (opening m.run.survey.plan scope) xs)
             (sym (ap (λ r. acts_measured r m.run.recorded) ran.is ∙ measured_are ran.end m.run.recorded keeps.acts keeps.tells)) keeps.runs;
         others = seen.act ∷ seen.behind;

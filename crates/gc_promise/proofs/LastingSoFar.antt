@@ -3,8 +3,6 @@
 use Rattle.std.proofs.Common.{◌≡◌, ℕ, ◌≤◌, Bool, true, false, List, [], ◌∷◌, ◌++◌, take, sym, ◌∙◌, ap, subst, append_assoc, append-nil}
 use Rattle.std.proofs.lemmas.Bool.{not-true}
 use Rattle.std.specs.Prelude.{not, if◌then◌else◌}
-use Rattle.gc_catalogue.specs.declared.answer.Reading.{Reading}
-use Rattle.gc_catalogue.specs.declared.asked.Asked.{Asked}
 use Rattle.gc_files.specs.Failing.{Sides, RunEnd, MayEnd, sides_ended, doubt_ended, Event, Ran, feeds, settled, same_sides, doubt_after, ArePossibleEvents, runs_of, IsFound, IsTrusted}
 use Rattle.gc_files.specs.Files.{Step, Life, content, MayBeLeft}
 use Rattle.gc_files.specs.Rows.{whole, opened_table, OpensFile, cuts_none, appended}
@@ -16,7 +14,7 @@ use Rattle.gc_files.proofs.Lasting.{tables_last}
 use Rattle.gc_files.proofs.Whole.{whole_more}
 use Rattle.gc_links.specs.Acts.{Act}
 use Rattle.gc_messages.specs.Following.{bytes_in}
-use Rattle.gc_station.specs.Scopes.{AreReadings}
+use Rattle.gc_station.specs.Scopes.{AreReadings, Reads}
 use Rattle.gc_measuring.specs.Measuring.{text_by}
 use Rattle.gc_promise.specs.Lasting.{life_begun, sides_begun}
 use Rattle.gc_promise.specs.LastingSoFar.{AreLeftSoFar, FileRunSoFar, IsFileRunSoFar, RowsSoFarOutlastCrashes, RowsSoFarOutlastFailures}
@@ -27,10 +25,10 @@ use Rattle.gc_promise.proofs.Pieces.{all_pieces, rows_left, whole_rest}
 use Rattle.gc_promise.proofs.Seen.{texts_whole}
 use Rattle.gc_promise.proofs.Staying.{run_by, is_run, happen_append, life_append, splits_at_run, possible_events_append, sides_append, runs_of_append}
 
-module _ {R : Type 0} (reads : Asked → List ℕ → Reading) (are : AreReadings reads) (m : FileRunSoFar R) (is : IsFileRunSoFar reads m) where
+module _ {R : Type 0} (reads : Reads) (are : AreReadings reads) (m : FileRunSoFar R) (is : IsFileRunSoFar reads m) where
   -- the rows of what any acts settle end in a line feed, unless there is none
   rows_whole : (acts : List Act) → whole (texts_by m.survey reads acts) ≡ texts_by m.survey reads acts
-  rows_whole acts = texts_whole (text_by m.survey) (text_whole m.survey.layout m.survey.names) (records_in m.survey reads acts)
+  rows_whole acts = texts_whole (text_by m.survey) (text_whole m.survey.layout m.survey.labels) (records_in m.survey reads acts)
 
   -- what the run wrote into files before this one
   abbrev earlier_bytes : List ℕ

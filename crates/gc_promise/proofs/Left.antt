@@ -1,9 +1,7 @@
 -- What is left of the rows of a run that was killed, or whose sync failed, as it is read: whole rows, each its own.
 use Rattle.std.proofs.Common.{◌≡◌, ℕ, Bool, List, sym, ap, ◌∙◌, subst}
-use Rattle.gc_catalogue.specs.declared.answer.Reading.{Reading}
-use Rattle.gc_catalogue.specs.declared.asked.Asked.{Asked}
 use Rattle.gc_rows.specs.declared.record.Form.TheVariants.{Json}
-use Rattle.gc_station.specs.Scopes.{AreReadings}
+use Rattle.gc_station.specs.Scopes.{AreReadings, Reads}
 use Rattle.gc_field.specs.Instrument.{AnyState}
 use Rattle.gc_promise.specs.Damaged.{own_or_damaged_lines}
 use Rattle.gc_promise.specs.Lasting.{AreLeft, RunMoment}
@@ -17,10 +15,10 @@ use Rattle.gc_promise.proofs.LeftSoFar.{left_objects, left_table}
 use Rattle.gc_promise.proofs.Written.{IsAnswered, answered_in_field}
 
 -- what is left of a run is left of it as a run so far
-left_so_far : {R : Type 0} (m : RunMoment R) (reads : Asked → List ℕ → Reading) (left : List ℕ) → AreLeft m reads left → AreLeftSoFar (file_so_far_at m) reads left
+left_so_far : {R : Type 0} (m : RunMoment R) (reads : Reads) (left : List ℕ) → AreLeft m reads left → AreLeftSoFar (file_so_far_at m) reads left
 left_so_far m reads left l = record { more = l.more; has = l.has; own = l.own; lines = l.lines }
 
-module _ {R : Type 0} (CanAnswer : Answers) (reads : Asked → List ℕ → Reading) (are : AreReadings reads) (m : RunMoment R) (is : IsAnswered CanAnswer reads m.run.survey (acts_in m.run))
+module _ {R : Type 0} (CanAnswer : Answers) (reads : Reads) (are : AreReadings reads) (m : RunMoment R) (is : IsAnswered CanAnswer reads m.run.survey (acts_in m.run))
     (left : List ℕ) (left_are : AreLeft m reads left) where
   -- what is left is a table's
   table_left : (columns : Bool) → m.run.survey.layout.form ≡ table_form columns → IsLeftTable CanAnswer columns reads m left
@@ -48,7 +46,7 @@ module _ {R : Type 0} (CanAnswer : Answers) (reads : Asked → List ℕ → Read
       }
 
 -- a run that is answered is answered under another name
-renamed : (CanAnswer : Answers) (reads : Asked → List ℕ → Reading) (run other : StationRun) → other ≡ run → IsAnswered CanAnswer reads run.survey (acts_in run)
+renamed : (CanAnswer : Answers) (reads : Reads) (run other : StationRun) → other ≡ run → IsAnswered CanAnswer reads run.survey (acts_in run)
     → IsAnswered CanAnswer reads other.survey (acts_in other)
 renamed CanAnswer reads run other same is = subst (λ (r : StationRun). IsAnswered CanAnswer reads r.survey (acts_in r)) (sym same) is
 

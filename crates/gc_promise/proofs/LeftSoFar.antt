@@ -5,8 +5,6 @@ use Rattle.std.specs.List.{AllByRecursion, flat_map, list_any}
 use Rattle.std.proofs.lemmas.Bool.{cases_Bool, cond_both, ne_eqb}
 use Rattle.gc_lines.proofs.Lists.{cons_tail}
 use Rattle.gc_values.proofs.Every.{every_front as all_front}
-use Rattle.gc_catalogue.specs.declared.answer.Reading.{Reading}
-use Rattle.gc_catalogue.specs.declared.asked.Asked.{Asked}
 use Rattle.gc_files.specs.Rows.{has_feed, whole}
 use Rattle.gc_messages.specs.Following.{bytes_in}
 use Rattle.gc_texts.specs.Cuts.{Lacks}
@@ -18,7 +16,7 @@ use Rattle.gc_rows.specs.declared.record.Form.{Form}
 use Rattle.gc_rows.specs.declared.record.Form.TheVariants.{Json}
 use Rattle.gc_rows.proofs.Columns.{lacks_both}
 use Rattle.gc_station.specs.Records.{Record, texts_of}
-use Rattle.gc_station.specs.Scopes.{AreReadings}
+use Rattle.gc_station.specs.Scopes.{AreReadings, Reads}
 use Rattle.gc_measuring.specs.Measuring.{Survey, text_by}
 use Rattle.gc_links.specs.Acts.{Act}
 use Rattle.gc_promise.specs.LastingSoFar.{AreLeftObjectsSoFar, AreLeftSoFar, FileRunSoFar, IsLeftOfSoFar, IsLeftTableSoFar, LeftObjectsSoFarAreOwnOrDamaged, LeftObjectsSoFarAreTheirOwn, LeftTablesSoFarAreOwnOrDamaged, LeftTablesSoFarAreTheirOwn}
@@ -137,7 +135,7 @@ all_lines : (text line : Record → List ℕ) → ((r : Record) → text r ≡ l
 all_lines text line one [] lacks = tt
 all_lines text line one (r ∷ records) lacks = (record { is = one r; none = lacks_feed (line r) lacks.0 }, all_lines text line one records lacks.1)
 
-module _ {R : Type 0} (CanAnswer : Answers) (reads : Asked → List ℕ → Reading) (are : AreReadings reads) (m : FileRunSoFar R) (is : IsAnswered CanAnswer reads m.survey m.acts)
+module _ {R : Type 0} (CanAnswer : Answers) (reads : Reads) (are : AreReadings reads) (m : FileRunSoFar R) (is : IsAnswered CanAnswer reads m.survey m.acts)
     (left : List ℕ) (left_are : AreLeftSoFar m reads left) where
   -- what the run measures
   abbrev survey : Survey
@@ -202,7 +200,7 @@ module _ {R : Type 0} (CanAnswer : Answers) (reads : Asked → List ℕ → Read
         }
 
 -- a run that is answered is answered under other names
-renamed : (CanAnswer : Answers) (reads : Asked → List ℕ → Reading) (survey other : Survey) (acts same : List Act) → other ≡ survey → same ≡ acts → IsAnswered CanAnswer reads survey acts
+renamed : (CanAnswer : Answers) (reads : Reads) (survey other : Survey) (acts same : List Act) → other ≡ survey → same ≡ acts → IsAnswered CanAnswer reads survey acts
     → IsAnswered CanAnswer reads other same
 renamed CanAnswer reads survey other acts same s a is =
     subst (λ (x : Survey). IsAnswered CanAnswer reads x same) (sym s) (subst (λ (xs : List Act). IsAnswered CanAnswer reads survey xs) (sym a) is)

@@ -16,6 +16,7 @@ mod Eventful
 mod Turned
 mod Typed
 mod Ended
+mod SoundLabels
 mod Lasting
 mod Pieces
 mod Seen

@@ -8,6 +8,7 @@ use Rattle.gc_files.specs.declared.past.Past.{Past}
 use Rattle.gc_lines.specs.declared.ports.Sink.{Ghosts as Sink}
 use Rattle.gc_lines.specs.declared.ports.Source.{Ghosts as Source}
 use Rattle.gc_links.specs.Acts.{Act}
+use Rattle.gc_measuring.specs.Labels.{AreSound, labels_of}
 use Rattle.gc_measuring.specs.Measuring.{Measures, RunsAfterFront, front_text, most_turns, survey_of, text_by}
 use Rattle.gc_measuring.specs.Telling.{ReportsAtSite, Stage, Views, acts_noted, seen_at, with_messages}
 use Rattle.gc_measuring.specs.declared.stop.Stop.{Stop}
@@ -18,18 +19,22 @@ use Rattle.gc_messages.specs.declared.standard.Standard.{Standard}
 use Rattle.gc_messages.specs.declared.streams.Streams.{Streams}
 use Rattle.gc_station.specs.Records.{Record, texts_of}
 use Rattle.gc_station.specs.declared.tally.Tally.{Tally}
+use Rattle.gc_texts.specs.Tasks.{IsTasks, TasksSeen}
 use Rattle.gc_texts.specs.declared.fault.RunFault.TheVariants.{Output}
+use Rattle.gc_words.specs.declared.choice.Choice.{Choice}
+use Rattle.gc_words.specs.declared.layout.Layout.{Layout}
 use Rattle.gc_words.specs.Stations.{begun_at, with_status_line}
 use Rattle.gc_words.specs.declared.settings.Settings.{Settings}
 use Rattle.gc_words.specs.declared.site.Recording.{Recording}
 use Rattle.gc_words.specs.declared.site.Site.{Site}
 use Rattle.gc_console.specs.Stations.{AppendsInto, MeasuresOnto, RecordsLossy, Seeing, rows_noted, seeing_by}
 use Rattle.gc_console.specs.declared.traces.Traces.{Traces}
-use Rattle.gc_promise.specs.Programs.{WritesThereAlone, appended_noted, settings_for, written_by}
+use Rattle.gc_promise.specs.Programs.{IsFrontOfHead, WritesThereAlone, appended_noted, settings_for, written_by}
 use Rattle.gc_promise.specs.Tables.{StationRun, acts_measured, records_in, records_of_run}
 use Rattle.gc_promise.proofs.ProgramRuns.{AreNoted, noted_within, told_none}
 use Rattle.gc_promise.proofs.SiteRuns.{noted_is}
 use Rattle.gc_promise.proofs.Taken.{appended_to_known, run_took, written_front}
+use Rattle.gc_promise.proofs.SoundLabels.{labels_sound}
 
 -- What a sink took.
 
@@ -39,9 +44,22 @@ record TookFront (text : List ℕ) (taken : Option (List ℕ)) : Type 0 where
   pub is : taken ≡ Some bytes
   pub front : IsFront bytes text
 
--- a sink that had taken nothing, and is what it was, took a front of any text
-took_nothing : (text : List ℕ) (old new : Option (List ℕ)) → old ≡ Some [] → new ≡ old → TookFront text new
-took_nothing text old new fresh same = record { bytes = []; is = same ∙ fresh; front = record { rest = text; split = refl } }
+-- a sink took a front of what comes before the rows in this layout, of a station with this choice, and nothing else
+pub record TookHead (layout : Layout) (choice : Choice) (taken : Option (List ℕ)) : Type 0 where
+  pub bytes : List ℕ
+  pub is : taken ≡ Some bytes
+  pub front : IsFrontOfHead layout choice bytes
+
+-- a sink that had taken nothing, and is what it was, took a front of any head
+took_nothing : (layout : Layout) (choice : Choice) (old new : Option (List ℕ)) → old ≡ Some [] → new ≡ old → TookHead layout choice new
+took_nothing layout choice old new fresh same =
+    record { bytes = []; is = same ∙ fresh; front = record { columns = []; of_text = inl refl; front = record { rest = front_text layout []; split = refl } } }
+
+-- one that took a front of the head of a text's table took such a front
+took_of_text : (layout : Layout) (choice : Choice) (text : List ℕ) (all : TasksSeen) → IsTasks text choice.deadline choice.chained all → (taken : Option (List ℕ))
+    → TookFront (front_text layout (labels_of all).columns) taken → TookHead layout choice taken
+took_of_text layout choice text all are taken took =
+    record { bytes = took.bytes; is = took.is; front = record { columns = (labels_of all).columns; of_text = inr (text, all, are, refl); front = took.front } }
 
 -- of no acts, none but the last is measured, either
 none_measured : (end : Result Tally Stop) → acts_measured end [] ≡ []
@@ -54,13 +72,13 @@ front_none [] is = refl
 front_none (byte ∷ bytes) is = let bad : [] ≡ byte ∷ (bytes ++ is.rest) = is.split in cc
 
 -- a run without an act has written what comes before its rows, and no row
-took_front : (run : StationRun) → run.recorded ≡ [] → run.old.acts ≡ Some [] → run.new.acts ≡ Some run.recorded → run.old.taken ≡ Some []
-    → RunsAfterFront run.survey run.old run.new run.result → TookFront (front_text run.survey.layout) run.new.taken
-took_front run none old new fresh ran =
+took_front : (run : StationRun) → AreSound run.survey.labels → run.recorded ≡ [] → run.old.acts ≡ Some [] → run.new.acts ≡ Some run.recorded → run.old.taken ≡ Some []
+    → RunsAfterFront run.survey run.old run.new run.result → TookFront (front_text run.survey.layout run.survey.labels.columns) run.new.taken
+took_front run sound none old new fresh ran =
     let reads = ran.run.ran.1.0 in
     let text = text_by run.survey in
-    let front = front_text run.survey.layout in
-    let took = run_took reads ran.run.ran.1.1 run [] (record { none = old; acts = new; ran = ran }) fresh in
+    let front = front_text run.survey.layout run.survey.labels.columns in
+    let took = run_took reads ran.run.ran.1.1 run [] (record { labels = sound; none = old; acts = new; ran = ran }) fresh in
     let written = texts_of text took.are.written ++ took.torn in
     let no_record : records_of_run reads run ≡ [] = ap (records_in run.survey reads) (ap (acts_measured run.result) none ∙ none_measured run.result) in
     let nothing : written ≡ [] =
@@ -75,16 +93,16 @@ module _ {S K E : Type 0} (views : Views S K E) (has_log : Bool) (station : Sett
   -- what was measured without an act
   front_measured : (told given : List _) (began : ℕ) → new.acts ≡ Some told
       → Measures given (begun_at began station) most_turns (seen_at views old) (seen_at views (with_messages new r.between)) r.end
-      → TookFront (front_text station.layout) (views.sink.taken new.streams.output)
-  front_measured told given began is (inl (stop, ends, refuses, unused)) = took_nothing _ _ _ fresh unused.taken
+      → TookHead station.layout station.choice (views.sink.taken new.streams.output)
+  front_measured told given began is (inl (stop, ends, refuses, unused)) = took_nothing _ _ _ _ fresh unused.taken
   front_measured told given began is (inr (all, gives, inl front)) =
-      let text = front_text station.layout in
+      let text = front_text station.layout (labels_of all).columns in
       let took = subst (λ (t : Option (List ℕ)). Appends t (views.sink.taken new.streams.output) (take front.bytes text)) fresh front.took.1 in
-      record {
+      took_of_text station.layout station.choice given all gives.are _ (record {
         bytes = take front.bytes text;
         is = appended_to_known [] (take front.bytes text) _ took;
         front = record { rest = drop front.bytes text; split = sym (take-append-drop front.bytes text) };
-      }
+      })
   front_measured (act ∷ acts) given began is (inr (all, gives, inr behind)) = absurd (idle act acts is)
   front_measured [] given began is (inr (all, gives, inr behind)) =
       let run : StationRun = record {
@@ -94,26 +112,27 @@ module _ {S K E : Type 0} (views : Views S K E) (has_log : Bool) (station : Sett
         result = r.end;
         recorded = [];
       } in
-      took_front run refl none is fresh behind
+      took_of_text station.layout station.choice given all gives.are _ (took_front run (labels_sound given _ _ all gives.are) refl none is fresh behind)
 
   -- of a run at a site without an act
-  front_at_site : TookFront (front_text station.layout) (views.sink.taken new.streams.output)
+  front_at_site : TookHead station.layout station.choice (views.sink.taken new.streams.output)
   front_at_site = elim r.ran [
     | inl m ↦ front_measured m.told m.measured.0 m.run m.is m.measured.2
-    | inr unbegun ↦ took_nothing _ _ _ fresh (ap views.sink.taken unbegun.output)
+    | inr unbegun ↦ took_nothing _ _ _ _ fresh (ap views.sink.taken unbegun.output)
   ]
 
 -- A station that the program ran.
 
--- what was written, if anything was noted, is a front of this text; and nothing was written elsewhere
-pub record WroteFront (text : List ℕ) (recording : Option Recording) (traces : Traces) : Type 0 where
-  pub front : (bytes : List ℕ) → written_by recording traces ≡ Some bytes → IsFront bytes text
+-- what was written, if anything was noted, is a front of what comes before the rows by these settings; and nothing was written elsewhere
+pub record WroteFront (settings : Settings) (recording : Option Recording) (traces : Traces) : Type 0 where
+  pub front : (bytes : List ℕ) → written_by recording traces ≡ Some bytes → IsFrontOfHead settings.layout settings.choice bytes
   pub alone : WritesThereAlone recording traces
 
 -- what was noted is what was taken
-front_noted : (text : List ℕ) (taken noted : Option (List ℕ)) → TookFront text taken → taken ≡ noted → (bytes : List ℕ) → noted ≡ Some bytes → IsFront bytes text
-front_noted text taken noted took same bytes is =
-    subst (λ (l : List ℕ). IsFront l text) (same_Some took.bytes bytes (sym took.is ∙ same ∙ is)) took.front
+front_noted : (settings : Settings) (taken noted : Option (List ℕ)) → TookHead settings.layout settings.choice taken → taken ≡ noted → (bytes : List ℕ) → noted ≡ Some bytes
+    → IsFrontOfHead settings.layout settings.choice bytes
+front_noted settings taken noted took same bytes is =
+    subst (λ (l : List ℕ). IsFrontOfHead settings.layout settings.choice l) (same_Some took.bytes bytes (sym took.is ∙ same ∙ is)) took.front
 
 -- without a file nothing is noted of one
 unfiled_none : {F : Type 0} (taken : F → Option (List ℕ)) (file : Option F) (noted : Option Past) → file ≡ None → option_map taken file ≡ option_map rows_noted noted
@@ -129,35 +148,35 @@ module _ {S T R K M : Type 0} (source : Source S) (over : Source T) (sink : Sink
 
   module _ (standard : Standard) (site : Site) (station : Settings) (traces : Traces) (status : ℕ)
       (idle : (act : Act) (acts : List Act) → acts_noted traces.acted.link ≡ Some (act ∷ acts) → ⊥) where
-    -- what comes before the rows
-    abbrev text_of : Option Recording → List ℕ
-    text_of recording = front_text (settings_for standard station recording).layout
+    -- the settings by which the station runs
+    abbrev settings_of : Option Recording → Settings
+    settings_of recording = settings_for standard station recording
 
     module _ (begun ended : Streams (Heard S) K M) (noted : AreNoted sink traces begun ended) where
       -- of a station that wrote on the output
-      wrote_onto : MeasuresOnto seeing site (with_status_line standard.terminal station) begun ended traces.acted status → WroteFront (text_of None) None traces
-      wrote_onto m = record { front = front_noted (text_of None) (sink.taken ended.output) (Some traces.told.bytes) took noted.told; alone = m.file } where
+      wrote_onto : MeasuresOnto seeing site (with_status_line standard.terminal station) begun ended traces.acted status → WroteFront (settings_of None) None traces
+      wrote_onto m = record { front = front_noted (settings_of None) (sink.taken ended.output) (Some traces.told.bytes) took noted.told; alone = m.file } where
         -- what the output took
-        took : TookFront (text_of None) (sink.taken ended.output)
+        took : TookHead (settings_of None).layout (settings_of None).choice (sink.taken ended.output)
         took = elim m.ran [
-          | inl refuses ↦ took_nothing _ _ _ noted.fresh (ap sink.taken refuses.refuses.output)
+          | inl refuses ↦ took_nothing _ _ _ _ noted.fresh (ap sink.taken refuses.refuses.output)
           | inr h ↦
-              subst (λ k. TookFront (text_of None) (sink.taken k)) (sym h.output)
+              subst (λ k. TookHead (settings_of None).layout (settings_of None).choice (sink.taken k)) (sym h.output)
               (front_at_site _ _ (settings_for standard station None) _ _ status idle refl (ap sink.taken h.over_text.output ∙ noted.fresh) h.holds.told)
         ]
 
       -- of a station that appended to a file
       wrote_into : (recording : Recording) → AppendsInto seeing recording site (with_status_line standard.terminal station) begun ended traces.acted status
-          → WroteFront (text_of (Some recording)) (Some recording) traces
+          → WroteFront (settings_of (Some recording)) (Some recording) traces
       wrote_into recording a = record { front = front; alone = told_none sink traces begun ended noted a.output } where
         -- what was appended
-        front : (bytes : List ℕ) → written_by (Some recording) traces ≡ Some bytes → IsFront bytes (text_of (Some recording))
+        front : (bytes : List ℕ) → written_by (Some recording) traces ≡ Some bytes → IsFrontOfHead (settings_of (Some recording)).layout (settings_of (Some recording)).choice bytes
         front bytes is = elim a.ran [
           | inl refuses ↦ absurd (unfiled_none file_sink.taken a.file traces.acted.file refuses.file a.rows bytes is)
           | inr h ↦ elim h.holds.ended [
             | inl unfiled ↦ absurd (unfiled_none file_sink.taken a.file traces.acted.file unfiled.file a.rows bytes is)
             | inr f ↦
-                front_noted (text_of (Some recording)) (file_sink.taken f.ended.output) (appended_noted traces.acted.file)
+                front_noted (settings_of (Some recording)) (file_sink.taken f.ended.output) (appended_noted traces.acted.file)
                 (front_at_site _ _ (settings_for standard station (Some recording)) _ _ status idle refl f.filed.fresh f.holds.told)
                 (noted_is file_sink.taken a.file f.ended.output traces.acted.file f.filed.left a.rows) bytes is
           ]
@@ -165,6 +184,6 @@ module _ {S T R K M : Type 0} (source : Source S) (over : Source T) (sink : Sink
 
     -- of a station whose messages may be lost
     pub wrote_lossy : {E : Type 0} (recording : Option Recording) → (old new : Streams (Heard S) K E) → AreNoted sink traces old new
-        → RecordsLossy seeing site recording (with_status_line standard.terminal station) old new traces.acted status → WroteFront (text_of recording) recording traces
+        → RecordsLossy seeing site recording (with_status_line standard.terminal station) old new traces.acted status → WroteFront (settings_of recording) recording traces
     wrote_lossy None old new noted r = wrote_onto r.begun r.ended (noted_within seeing sink site None _ traces status old new r noted) r.is
     wrote_lossy (Some recording) old new noted r = wrote_into r.begun r.ended (noted_within seeing sink site (Some recording) _ traces status old new r noted) recording r.is

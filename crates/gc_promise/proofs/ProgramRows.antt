@@ -1,8 +1,6 @@
 -- From the run of a station that the program ran to its rows: of that run each law holds.
 use Rattle.std.proofs.Common.{◌≡◌, inl, inr, ℕ, Bool, true, List, [], ◌∷◌, Option, Some, None, IfSome, sym, ap, ◌∙◌, subst}
 use Rattle.std.proofs.lemmas.Option.{none-some}
-use Rattle.gc_catalogue.specs.declared.answer.Reading.{Reading}
-use Rattle.gc_catalogue.specs.declared.asked.Asked.{Asked}
 use Rattle.gc_field.proofs.Joining.{run_faithful}
 use Rattle.gc_field.specs.Instrument.{AnyState}
 use Rattle.gc_field.specs.World.{Ends}
@@ -38,6 +36,7 @@ use Rattle.gc_promise.proofs.ProgramIdle.{wrote_lossy}
 use Rattle.gc_promise.proofs.ProgramRuns.{AreNoted, HasFile, ran_lossy}
 use Rattle.gc_promise.proofs.ProgramWords.{by_words}
 use Rattle.gc_promise.proofs.Tabled.{tables_own}
+use Rattle.gc_station.specs.Scopes.{Reads}
 
 module _ {R : Type 0} (run : StationRun) (is : IsStationRun run) (fresh : run.old.taken ≡ Some []) (headed : run.survey.layout.headed ≡ true) (recording : Recording)
     (filed : HasFile R run recording) where
@@ -56,13 +55,13 @@ module _ {R : Type 0} (run : StationRun) (is : IsStationRun run) (fresh : run.ol
 
 module _ (State : Type 0) (run : StationRun) (is : IsStationRun run) (fresh : run.old.taken ≡ Some []) where
   -- what is true of each run in the field is true of this one
-  in_field : (Holds : Ends State → (State → Option KeptReply) → (Asked → List ℕ → Reading) → FieldRun State → Type 0)
+  in_field : (Holds : Ends State → (State → Option KeptReply) → Reads → FieldRun State → Type 0)
       → OfEachFieldRun {State = State} (λ ends kept reads x. Holds ends kept reads x) → HoldsInField {State = State} run Holds
   in_field Holds law ends kept instrument reads are in_flight happened field =
       law ends kept instrument reads are (field_run run in_flight happened) (record { is_run = is; took = fresh; in_field = field })
 
   -- what is true of each run over a line that damages is true of this one
-  over_damage : (Holds : Ends State → (State → Option KeptReply) → (Asked → List ℕ → Reading) → HarmedRun State → Type 0)
+  over_damage : (Holds : Ends State → (State → Option KeptReply) → Reads → HarmedRun State → Type 0)
       → OfEachHarmedRun {State = State} (λ ends kept reads x. Holds ends kept reads x) → HoldsOverDamage {State = State} run Holds
   over_damage Holds law ends kept instrument reads are in_flight happened field =
       law ends kept instrument reads are (harmed_run run in_flight happened) (record { is_run = is; took = fresh; in_field = field })
@@ -74,7 +73,7 @@ module _ (State : Type 0) (run : StationRun) (is : IsStationRun run) (fresh : ru
     table = in_field (λ ends kept reads x. HasOwnTable ends kept reads x) tables_own;
     objects = in_field (λ ends kept reads x. HasOwnObjects ends kept reads x) objects_own;
     records = λ ends kept instrument reads are in_flight happened field columns form.
-        rows_own ends kept instrument run.survey.layout columns run.survey.names form in_flight (program_of run.survey reads (acts_in run) happened) field;
+        rows_own ends kept instrument run.survey.layout columns run.survey.labels form in_flight (program_of run.survey reads (acts_in run) happened) field;
     local = λ ends kept instrument reads are in_flight happened field. run_local ends AnyState kept instrument in_flight _ field;
     damaged_table = over_damage (λ ends kept reads x. HasTableOwnOrDamaged ends reads x) tables_own_or_damaged;
     damaged_objects = over_damage (λ ends kept reads x. HasObjectsOwnOrDamaged ends reads x) objects_own_or_damaged;

@@ -6,8 +6,6 @@ use Rattle.std.proofs.lemmas.List.{append_cancel_left, take-append-drop}
 use Rattle.std.proofs.lemmas.Option.{same_Some}
 use Rattle.std.specs.Io.KnownBytes.{Appends}
 use Rattle.gc_catalogue.proofs.Joining.{without_last}
-use Rattle.gc_catalogue.specs.declared.answer.Reading.{Reading}
-use Rattle.gc_catalogue.specs.declared.asked.Asked.{Asked}
 use Rattle.gc_files.specs.Rows.{IsFront}
 use Rattle.gc_links.specs.Acts.{Act, AddsActs, Closed}
 use Rattle.gc_texts.specs.declared.fault.RunFault.{RunFault}
@@ -18,7 +16,7 @@ use Rattle.gc_station.specs.Keeping.{AreKept, IsKept, KeepsUp, Snapshot, close_a
 use Rattle.gc_station.specs.Model.{Runs, opening}
 use Rattle.gc_station.specs.Records.{Record, WritesPart, texts_of}
 use Rattle.gc_station.specs.Runs.{Ran, state_after}
-use Rattle.gc_station.specs.Scopes.{AreReadings, Scope}
+use Rattle.gc_station.specs.Scopes.{AreReadings, Reads, Scope}
 use Rattle.gc_station.specs.Tallies.{tally_of}
 use Rattle.gc_station.specs.declared.plan.Plan.{Plan}
 use Rattle.gc_station.specs.declared.tally.Tally.{Tally}
@@ -83,7 +81,7 @@ front_from start front since more all e =
     append_cancel_left start all ((front ++ since) ++ more)
     (e ∙ ap (λ (l : List ℕ). l ++ more) (append_assoc start front since) ∙ append_assoc start (front ++ since) more)
 
-module _ (reads : Asked → List ℕ → Reading) (are : AreReadings reads) (run : StationRun) (m : RunMomentSeen) (is : IsMomentOf run m) where
+module _ (reads : Reads) (are : AreReadings reads) (run : StationRun) (m : RunMomentSeen) (is : IsMomentOf run m) where
   -- what the run measures
   abbrev survey : Survey
   survey = run.survey
@@ -94,13 +92,13 @@ module _ (reads : Asked → List ℕ → Reading) (are : AreReadings reads) (run
 
   -- what its sink had taken before the records
   abbrev start : List ℕ
-  start = m.had ++ front_text survey.layout
+  start = m.had ++ front_text survey.layout survey.labels.columns
 
   -- that is what the run's contract says
   between_is : is.is_run.ran.between ≡ Some start
   between_is =
-      appended_to_known m.had (front_text survey.layout) is.is_run.ran.between
-      (subst (λ (t : Option (List ℕ)). Appends t is.is_run.ran.between (front_text survey.layout)) is.had is.is_run.ran.front)
+      appended_to_known m.had (front_text survey.layout survey.labels.columns) is.is_run.ran.between
+      (subst (λ (t : Option (List ℕ)). Appends t is.is_run.ran.between (front_text survey.layout survey.labels.columns)) is.had is.is_run.ran.front)
 
   -- the run kept up
   keeps : KeepsUp survey.plan survey.tasks scope (text_by survey) (Some []) (Some run.recorded) (Some start) run.old.turns run.new.turns (close_at_output is.is_run.ran.end)
@@ -175,6 +173,7 @@ module _ (reads : Asked → List ℕ → Reading) (are : AreReadings reads) (run
       let last : before_last acts ≡ kept.front = without_last m.done m.act ∙ done_is in
       let settled : texts_by survey reads (before_last acts) ≡ texts_by survey reads kept.front = ap (texts_by survey reads) last in
       record {
+        labels = is.is_run.labels;
         runs = subst (λ (xs : List Act). Runs survey.plan survey.tasks (opening survey.plan scope) xs) (sym so_far_are)
             (runs_front survey.plan survey.tasks (opening survey.plan scope) (kept.front ++ kept.act ∷ []) kept.behind
             (subst (λ (xs : List Act). Runs survey.plan survey.tasks (opening survey.plan scope) xs) (kept.all ∙ sym (append_assoc kept.front (kept.act ∷ []) kept.behind)) keeps.runs));
@@ -193,7 +192,7 @@ moments_so_far reads are run m is = moment_so_far reads are run m is
 
 -- The end of a run.
 
-module _ (survey : Survey) (reads : Asked → List ℕ → Reading) (start taken : List ℕ) where
+module _ (survey : Survey) (reads : Reads) (start taken : List ℕ) where
   -- what a sink that had the bytes `start` has taken of a run that made these acts (`IsRunSoFar`)
   abbrev HasSoFar : List Act → Type 0
   HasSoFar acts =
@@ -261,9 +260,9 @@ pub ends_so_far : ReturnedRunsAreRunsSoFar
 ends_so_far reads are run had taken is old new =
     let survey = run.survey in
     let b = is.ran in
-    let start = had ++ front_text survey.layout in
+    let start = had ++ front_text survey.layout survey.labels.columns in
     let between : b.between ≡ Some start =
-    appended_to_known had (front_text survey.layout) b.between (subst (λ (t : Option (List ℕ)). Appends t b.between (front_text survey.layout)) old b.front) in
+    appended_to_known had (front_text survey.layout survey.labels.columns) b.between (subst (λ (t : Option (List ℕ)). Appends t b.between (front_text survey.layout survey.labels.columns)) old b.front) in
     let ran : Ran survey.plan survey.tasks (scope_of survey reads) (text_by survey) (Some []) (Some run.recorded) (Some start) run.new.taken b.end =
     rw (← is.none, ← is.acts, ← between) (b.run.ran.0 reads are) in
     let measured : acts_in run ≡ acts_measured (end_of_run b.end) run.recorded = ap (λ r. acts_measured r run.recorded) b.is in
@@ -271,6 +270,7 @@ ends_so_far reads are run had taken is old new =
     let keeps : KeepsUp survey.plan survey.tasks (scope_of survey reads) (text_by survey) (Some []) (Some run.recorded) (Some start) run.old.turns run.new.turns (close_at_output b.end) =
     rw (← is.none, ← is.acts, ← between) (b.run.keeps.0 reads are) in
     record {
+      labels = is.labels;
       runs = subst (λ (xs : List Act). Runs survey.plan survey.tasks (opening survey.plan (scope_of survey reads)) xs)
           (sym (measured ∙ measured_are b.end run.recorded keeps.acts keeps.tells)) keeps.runs;
       since = h.0;
@@ -285,7 +285,7 @@ runs_return reads are x is few =
     let scope = scope_of survey reads in
     let text = text_by survey in
     let turns = with_turns (length x.acts) scope in
-    let start = x.had ++ front_text survey.layout in
+    let start = x.had ++ front_text survey.layout survey.labels.columns in
     let whole = first_acts_are_a_run survey.plan survey.tasks scope x.acts []
     (subst (λ (xs : List Act). Runs survey.plan survey.tasks (opening survey.plan scope) xs) (sym (append-nil x.acts)) is.runs) few in
     let ends = whole.ends in

@@ -1,6 +1,7 @@
 -- A run of a station at a site, whose link made an act, as a run of the program.
-use Rattle.std.proofs.Common.{◌≡◌, inl, inr, ℕ, Bool, List, [], ◌∷◌, ◌++◌, Option, Some, None, Result, Ok, Err, option_map, refl, sym, ap, ◌∙◌, subst, append-nil}
+use Rattle.std.proofs.Common.{◌≡◌, inl, inr, ℕ, Bool, List, [], ◌∷◌, ◌++◌, map, Option, Some, None, Result, Ok, Err, option_map, refl, sym, ap, ◌∙◌, subst, append-nil}
 use Rattle.std.proofs.lemmas.Option.{none-some, same_Some}
+use Rattle.std.specs.List.{AllByRecursion}
 use Rattle.std.specs.Io.KnownBytes.{Consumes, IsAtEnd}
 use Rattle.gc_files.specs.declared.past.Past.{Past}
 use Rattle.gc_links.specs.Acts.{Act}
@@ -11,7 +12,12 @@ use Rattle.gc_measuring.specs.declared.stop.Stop.{Stop}
 use Rattle.gc_messages.specs.declared.standard.Standard.{Standard}
 use Rattle.gc_messages.specs.declared.streams.Streams.{Streams}
 use Rattle.gc_station.specs.declared.tally.Tally.{Tally}
-use Rattle.gc_texts.specs.Tasks.{TasksSeen}
+use Rattle.gc_catalogue.specs.declared.asked.Asked.{Asked}
+use Rattle.gc_catalogue.specs.declared.asked.Asked.TheVariants.{Table, Raw}
+use Rattle.gc_texts.specs.Tasks.{TasksSeen, form_of_asked, placed}
+use Rattle.gc_texts.specs.declared.description.Description.{Description}
+use Rattle.gc_texts.specs.declared.near.Near.{Near}
+use Rattle.gc_texts.specs.declared.tasks.Task.{Task}
 use Rattle.gc_texts.specs.WholeTexts.{input_of}
 use Rattle.gc_words.specs.Stations.{begun_at}
 use Rattle.gc_words.specs.declared.settings.Settings.{Settings}
@@ -19,8 +25,10 @@ use Rattle.gc_words.specs.declared.site.Recording.{Recording}
 use Rattle.gc_words.specs.declared.site.Site.{Site}
 use Rattle.gc_console.specs.Stations.{ActsAt, rows_noted, stage_after, stage_before}
 use Rattle.gc_console.specs.declared.traces.Traces.{Traces}
+use Rattle.gc_promise.specs.Fields.{IsPlain}
 use Rattle.gc_promise.specs.Programs.{IsRunOfProgram, WritesThereAlone, appended_noted, settings_for, status_of, written_by}
 use Rattle.gc_promise.specs.Tables.{StationRun}
+use Rattle.gc_promise.proofs.SoundLabels.{labels_sound}
 
 -- What comes out of single facts.
 
@@ -52,6 +60,17 @@ same_tasks : (standard : Standard) (station : Settings) (recording : Option Reco
     → HasTasks text (settings_for standard station recording).choice all → HasTasks text station.choice all
 same_tasks standard station None text all has = record { are = has.are; some = has.some }
 same_tasks standard station (Some recording) text all has = record { are = has.are; some = has.some }
+
+-- the answers to a call of the table have no form in a text, since it describes other procedures
+plain_call : (described : List Description) (call : Asked) → IsPlain (form_of_asked described call) call
+plain_call described (Table call) = refl
+plain_call described (Raw raw) = tt
+
+-- so it is of each task
+plain_tasks : (nears : List Near) (unwatched : List ℕ) (described : List Description) (tasks : List Task)
+    → AllByRecursion (λ task. IsPlain task.form task.command.call) (map (placed nears unwatched described) tasks)
+plain_tasks nears unwatched described [] = tt
+plain_tasks nears unwatched described (task ∷ tasks) = (plain_call described task.command.call, plain_tasks nears unwatched described tasks)
 
 -- A run at a site.
 
@@ -128,7 +147,8 @@ module _ {S K E : Type 0} (views : Views S K E) (standard : Standard) (site : Si
         began = ran.began;
         is_began = ran.is_began;
         survey = refl;
-        is_run = record { none = refl; acts = acts; ran = ran.ran };
+        plain = subst (AllByRecursion (λ task. IsPlain task.form task.command.call)) (sym ran.gives.are.tasks_are) (plain_tasks _ _ _ _);
+        is_run = record { labels = labels_sound ran.given _ _ ran.all ran.gives.are; none = refl; acts = acts; ran = ran.ran };
         acts = acts;
         place = place;
         fresh = fresh;

@@ -2,8 +2,6 @@
 use Rattle.std.proofs.Common.{◌≡◌, inl, inr, ℕ, List, [], ◌∷◌, ◌++◌, take, drop, Option, Some, None, Result, Ok, Err, refl, sym, ap, ◌∙◌, subst, arith, append_assoc, append-nil}
 use Rattle.std.specs.Io.KnownBytes.{Appends}
 use Rattle.std.proofs.lemmas.List.{length-drop, take-append-drop}
-use Rattle.gc_catalogue.specs.declared.answer.Reading.{Reading}
-use Rattle.gc_catalogue.specs.declared.asked.Asked.{Asked}
 use Rattle.gc_texts.specs.declared.fault.RunFault.{RunFault}
 use Rattle.gc_texts.specs.declared.fault.RunFault.TheVariants.{Output}
 use Rattle.gc_texts.specs.declared.tasks.Task.{Task}
@@ -11,7 +9,7 @@ use Rattle.gc_files.specs.Rows.{IsFront}
 use Rattle.gc_links.specs.Acts.{Act, Closed}
 use Rattle.gc_station.specs.Records.{Record, texts_of, WritesPart}
 use Rattle.gc_station.specs.Runs.{Ran, state_after}
-use Rattle.gc_station.specs.Scopes.{Scope, AreReadings}
+use Rattle.gc_station.specs.Scopes.{AreReadings, Reads, Scope}
 use Rattle.gc_station.specs.declared.plan.Plan.{Plan}
 use Rattle.gc_station.specs.declared.tally.Tally.{Tally}
 use Rattle.gc_measuring.specs.Measuring.{front_text, text_by}
@@ -95,16 +93,16 @@ written_front text records result torn are =
     }
 
 -- what a sink took of a run is what was written of its records, after what the sink had and what comes before the records
-pub run_took : (reads : Asked → List ℕ → Reading) → AreReadings reads → (run : StationRun) (had : List ℕ) → IsStationRun run → run.old.taken ≡ Some had
-    → Took (text_by run.survey) (records_of_run reads run) run.result (had ++ front_text run.survey.layout) run.new.taken
+pub run_took : (reads : Reads) → AreReadings reads → (run : StationRun) (had : List ℕ) → IsStationRun run → run.old.taken ≡ Some had
+    → Took (text_by run.survey) (records_of_run reads run) run.result (had ++ front_text run.survey.layout run.survey.labels.columns) run.new.taken
 run_took reads are run had is took =
     let survey = run.survey in
     let b = is.ran in
     let text = text_by survey in
     let scope = scope_of survey reads in
-    let start = had ++ front_text survey.layout in
+    let start = had ++ front_text survey.layout survey.labels.columns in
     let between : b.between ≡ Some start =
-    appended_to_known had (front_text survey.layout) b.between (subst (λ (t : Option (List ℕ)). Appends t b.between (front_text survey.layout)) took b.front) in
+    appended_to_known had (front_text survey.layout survey.labels.columns) b.between (subst (λ (t : Option (List ℕ)). Appends t b.between (front_text survey.layout survey.labels.columns)) took b.front) in
     let ran : Ran survey.plan survey.tasks scope text (Some []) (Some run.recorded) (Some start) run.new.taken b.end =
     subst (λ (t : Option (List ℕ)). Ran survey.plan survey.tasks scope text (Some []) (Some run.recorded) t run.new.taken b.end) between
     (subst (λ (t : Option (List Act)). Ran survey.plan survey.tasks scope text (Some []) t b.between run.new.taken b.end) is.acts

@@ -1,24 +1,22 @@
 -- The rows of the eventful run, computed, are their own: what is in a row of an answer was made by the instrument on
 -- executing the very request of the row's cycle and place.
-use Rattle.std.proofs.Common.{ℕ, List, [], Some, Ok, false, refl, subst, sym}
+use Rattle.std.proofs.Common.{List, [], Some, Ok, false, refl, subst, sym}
 use Rattle.std.specs.Fmt.{digits}
 use Rattle.std.specs.List.{AllByRecursion}
-use Rattle.gc_catalogue.specs.declared.answer.Reading.{Reading}
-use Rattle.gc_catalogue.specs.declared.asked.Asked.{Asked}
 use Rattle.gc_rows.specs.declared.record.Form.{Form}
 use Rattle.gc_rows.specs.declared.record.Form.TheVariants.{Json}
 use Rattle.gc_texts.specs.Stamps.{days_after}
 use Rattle.gc_station.specs.Keeping.{Snapshot}
 use Rattle.gc_station.specs.declared.cause.Cause.TheVariants.{Done}
 use Rattle.gc_station.specs.Records.{Record}
-use Rattle.gc_station.specs.Scopes.{AreReadings}
+use Rattle.gc_station.specs.Scopes.{AreReadings, Reads}
 use Rattle.gc_station.proofs.Readings.{for_readings}
 use Rattle.gc_measuring.specs.Measuring.{RunsAfterFront, text_in}
 use Rattle.gc_field.specs.Instrument.{AnyState, never_kept}
 use Rattle.gc_promise.specs.Eventful.{acts, at_start, elsewhere_reply, empty_reply, measured_reply, numbered_reply, pointed_reply, program, tally, reporting}
 use Rattle.gc_promise.specs.Rows.{IsOwnIfAnswered}
 use Rattle.gc_promise.specs.Tables.{IsFieldRun, table_form}
-use Rattle.gc_promise.specs.Witness.{HasOwnRows, SomeRowIsItsOwn, survey, table_layout, layout_in, ports_at, run_in, taken}
+use Rattle.gc_promise.specs.Witness.{no_labels, HasOwnRows, SomeRowIsItsOwn, survey, table_layout, layout_in, ports_at, run_in, taken}
 use Rattle.gc_promise.proofs.Eventful.{eventful, ran_whole}
 use Rattle.gc_promise.proofs.Owning.{rows_own}
 use Rattle.gc_promise.proofs.Tabled.{tables_own}
@@ -28,12 +26,12 @@ use Rattle.gc_promise.proofs.Objected.{objects_own}
 use Rattle.gc_promise.specs.Objects.{AreTyped}
 
 -- the row of each of these records whose command a reply in time ended is its own
-abbrev EachHasOwnRow : (Asked → List ℕ → Reading) → List Record → Type 0
-EachHasOwnRow reads = AllByRecursion (IsOwnIfAnswered reporting AnyState never_kept table_layout [] at_start (program reads))
+abbrev EachHasOwnRow : Reads → List Record → Type 0
+EachHasOwnRow reads = AllByRecursion (IsOwnIfAnswered reporting AnyState never_kept table_layout no_labels at_start (program reads))
 
 -- what is seen at each act of the eventful run, where its records are written in this form
 abbrev turns_in : Form → List Snapshot
-turns_in form = turns (text_in (layout_in form) [])
+turns_in form = turns (text_in (layout_in form) no_labels)
 
 -- in each form, the run is one as a station's contract has it
 is_measured : (form : Form) → RunsAfterFront (survey form) (ports_at [] [] []) (ports_at acts (taken form) (turns_in form)) (Ok tally)
@@ -44,21 +42,21 @@ is_measured form =
       end = Ok tally;
       is = refl;
       run = record {
-        ran = for_readings _ (λ reads are. (Done, ran_whole (text_in (layout_in form) []) reads are, refl));
-        keeps = for_readings _ (keeps_whole (text_in (layout_in form) []));
+        ran = for_readings _ (λ reads are. (Done, ran_whole (text_in (layout_in form) no_labels) reads are, refl));
+        keeps = for_readings _ (keeps_whole (text_in (layout_in form) no_labels));
       };
     }
 
 -- in each form, the eventful run is one in the field
-is_field_run : (reads : Asked → List ℕ → Reading) → AreReadings reads → (form : Form) → IsFieldRun reporting never_kept reads (run_in form (turns_in form))
-is_field_run reads are form = record { is_run = record { none = refl; acts = refl; ran = is_measured form }; took = refl; in_field = (eventful reads are).field }
+is_field_run : (reads : Reads) → AreReadings reads → (form : Form) → IsFieldRun reporting never_kept reads (run_in form (turns_in form))
+is_field_run reads are form = record { is_run = record { labels = record { each = tt; new = refl; plain = refl }; none = refl; acts = refl; ran = is_measured form }; took = refl; in_field = (eventful reads are).field }
 
 -- `HasOwnRows` holds of the eventful run, with every function that gives what each reply says of its call
-own_rows : (reads : Asked → List ℕ → Reading) → AreReadings reads → HasOwnRows reads
+own_rows : (reads : Reads) → AreReadings reads → HasOwnRows reads
 unfolding digits days_after
 own_rows reads are =
     let run = eventful reads are in
-    let all = rows_own reporting never_kept run.is_instrument table_layout false [] refl at_start (program reads) run.field in
+    let all = rows_own reporting never_kept run.is_instrument table_layout false no_labels refl at_start (program reads) run.field in
     let each = subst (EachHasOwnRow reads) run.written all in
     let answers = each.1.1.1.1.1.1.1.1.1.1.1.1.1.1 in
     record {

@@ -6,12 +6,9 @@ use Rattle.gc_lines.specs.Numbers.{IsSmallNumber}
 use Rattle.gc_lines.specs.Replies.{ReplyFields, IsReply}
 use Rattle.gc_lines.proofs.Lists.{get_more}
 use Rattle.gc_values.proofs.Every.{every_front as all_front}
-use Rattle.gc_catalogue.specs.Asked.{IsAskedReading}
 use Rattle.gc_catalogue.specs.declared.answer.Answer.{Answer}
 use Rattle.gc_catalogue.specs.declared.answer.Reading.{Reading}
 use Rattle.gc_catalogue.specs.declared.answer.Reading.TheVariants.{Unreadable as DoesntRead}
-use Rattle.gc_catalogue.specs.declared.asked.Asked.{Asked}
-use Rattle.gc_catalogue.proofs.AskedRules.{each_asked_reply}
 use Rattle.gc_instrument.specs.State.{KeptReply}
 use Rattle.gc_texts.specs.Endings.{End, Answered, word_of, fault_of, quality_of, quality_text, line_of}
 use Rattle.gc_texts.specs.Logs.{escaped}
@@ -24,15 +21,18 @@ use Rattle.gc_links.specs.Acts.{Act}
 use Rattle.gc_station.specs.Answers.{AnswerIsJustified}
 use Rattle.gc_station.specs.Model.{Runs, opening}
 use Rattle.gc_station.specs.Requested.{IsOfItsRequest}
-use Rattle.gc_station.specs.Qualities.{IsAsListed, IsOfQuality, accepted_at, answer_in, quality_as, twice_at}
+use Rattle.gc_station.specs.Qualities.{IsAsListed, IsOfQuality, accepted_at, answer_in, form_at, quality_as, twice_at}
+use Rattle.gc_station.specs.Saying.{IsSaid}
+use Rattle.gc_station.proofs.Saying.{each_said}
 use Rattle.gc_station.specs.Records.{Record}
-use Rattle.gc_station.specs.Scopes.{AreReadings}
+use Rattle.gc_station.specs.Scopes.{AreReadings, Reads}
 use Rattle.gc_station.specs.Tasked.{IsOfItsTask}
 use Rattle.gc_station.proofs.Answers.{answers_true}
 use Rattle.gc_station.proofs.EachRun.{of_tasks}
 use Rattle.gc_station.proofs.Lists.{all_at}
 use Rattle.gc_station.proofs.Nearly.{qualities_as_listed}
 use Rattle.gc_station.proofs.Requested.{one_requested}
+use Rattle.gc_measuring.specs.Labels.{AreSound}
 use Rattle.gc_measuring.specs.Measuring.{Survey, entry_in}
 use Rattle.gc_field.specs.World.{Ends}
 use Rattle.gc_field.specs.Instrument.{IsAnInstrument, AnyState}
@@ -42,7 +42,7 @@ use Rattle.gc_field.proofs.Joining.{run_faithful}
 use Rattle.gc_world.proofs.Places.{get_seen}
 use Rattle.std.proofs.lemmas.List.{length-map}
 use Rattle.std.proofs.lemmas.Option.{same_Some}
-use Rattle.gc_promise.specs.Fields.{IsQuantity, IsRowBy, IsRowOf, IsOutcomeOfReply, HasReply, quality_in, quantity_in, quantity_source, shown_as}
+use Rattle.gc_promise.specs.Fields.{IsAdded, IsOutside, IsPlain, IsQuantity, IsRowBy, description_of, IsRowOf, IsOutcomeOfReply, HasReply, quality_in, quantity_in, quantity_source, shown_as}
 use Rattle.gc_promise.specs.Tables.{Answers, AreOneForOne, FieldRun, IsFieldRun, acts_in, own_lines, parts_of_run, program_of, records_in, records_of_run, scope_of}
 use Rattle.gc_station.specs.Moments.{HasItsMoment}
 use Rattle.gc_promise.proofs.Endings.{is_answered, is_unreadable, reply_ended, without_fault, without_quality}
@@ -54,7 +54,7 @@ use Rattle.gc_promise.proofs.Setting.{asked_by, never_sent, set_to}
 
 -- what is written of a record of this survey
 abbrev pub entry_of : Survey → Record → Entry
-entry_of survey r = entry_in survey.layout survey.names r
+entry_of survey r = entry_in survey.layout survey.labels r
 
 -- what holds of all elements of `xs` holds of the one at a place among the first of them (`written`)
 pub all_written : {X : Type 0} (P : X → Type 0) (xs written others : List X) → xs ≡ written ++ others → AllByRecursion P xs → (n : ℕ) (x : X) → slice_get written n ≡ Some x → P x
@@ -83,27 +83,36 @@ pub record HasItsTexts (survey : Survey) (has_quantities : Bool) (at : List ℕ 
   pub rc : (line : List ℕ) (n : ℕ) → line_of r.end ≡ Some line → IsSmallNumber (code_of line) n → IsSmallNumber (at (codes "rc")) n
   pub values : (line : List ℕ) → line_of r.end ≡ Some line → at (codes "values") ≡ escaped (values_of line)
   pub quantities :
-      has_quantities ≡ true → (fields : ReplyFields) (told : Reading) → IsAskedReading r.command.call fields told → (q : Quality) (answer : Option Answer) (line : List ℕ)
-      → r.end ≡ Answered q answer line → answer ≡ answer_in told → (name : List ℕ) → IsQuantity name → at name ≡ shown_as q (escaped (quantity_in r.command.call told name))
+      has_quantities ≡ true → (fields : ReplyFields) (told : Reading) → IsSaid (form_at survey.tasks r.place) r.command.call fields told → (q : Quality) (answer : Option Answer) (line : List ℕ)
+      → r.end ≡ Answered q answer line → answer ≡ answer_in told → IsPlain (form_at survey.tasks r.place) r.command.call
+      → (name : List ℕ) → IsQuantity name → at name ≡ shown_as q (escaped (quantity_in r.command.call (description_of survey r) told line name))
+  pub added :
+      has_quantities ≡ true → (told : Reading) (q : Quality) (answer : Option Answer) (line : List ℕ) → r.end ≡ Answered q answer line → answer ≡ answer_in told
+      → IsOutside r.command.call → (name : List ℕ) → IsAdded survey.labels.columns (description_of survey r) name
+      → at name ≡ shown_as q (escaped (quantity_in r.command.call (description_of survey r) told line name))
   pub none : has_quantities ≡ true → (word_of r.end ≡ codes "answered" → ⊥) → (name : List ℕ) → IsQuantity name → at name ≡ []
+  pub blank : has_quantities ≡ true → (word_of r.end ≡ codes "answered" → ⊥) → (name : List ℕ) → IsAdded survey.labels.columns (description_of survey r) name → at name ≡ []
 
-module _ (survey : Survey) (reads : Asked → List ℕ → Reading) (are : AreReadings reads) (has_quantities : Bool) (at : List ℕ → List ℕ) (r : Record) (has : HasItsTexts survey has_quantities at r) where
+module _ (survey : Survey) (reads : Reads) (are : AreReadings reads) (has_quantities : Bool) (at : List ℕ → List ℕ) (r : Record) (has : HasItsTexts survey has_quantities at r) where
   -- if a line with the fields of a reply ended the command in time, and the record's quality and values are as listed
   -- (`IsAsListed`), and it is unreadable only as the line reads, the row says what the line says (`HasReply`)
-  says : (line : List ℕ) → line_of r.end ≡ Some line → (x : ReplyFields) × IsReply line x → IsAsListed reads survey.tasks r → IsAsRead reads r
-      → HasReply has_quantities at (twice_at survey.tasks r.place) (accepted_at survey.tasks r.place) r.command.call line
+  says : (line : List ℕ) → line_of r.end ≡ Some line → (x : ReplyFields) × IsReply line x → IsAsListed reads survey.tasks r → IsAsRead (reads (form_at survey.tasks r.place)) r
+      → HasReply has_quantities at (twice_at survey.tasks r.place) (accepted_at survey.tasks r.place) (form_at survey.tasks r.place) (description_of survey r) survey.labels.columns
+      r.command.call line
   says line answered reply listed as_read =
       let said = reply_columns line reply.0 reply.1 in
       let accepted = accepted_at survey.tasks r.place in
       let twice = twice_at survey.tasks r.place in
-      let reading = each_asked_reply r.command.call reply.0 in
-      let told = each_asked_reply r.command.call (quantity_source (quality_in accepted reading.0) reply.0) in
-      let by = judged reads are accepted r.command.call line reply.0 reply.1 reading.0 told.0 reading.1 told.1 in
+      let form = form_at survey.tasks r.place in
+      let described = description_of survey r in
+      let reading = each_said form r.command.call reply.0 in
+      let told = each_said form r.command.call (quantity_source (quality_in accepted reading.0) reply.0) in
+      let by = judged reads are accepted form r.command.call line reply.0 reply.1 reading.0 told.0 reading.1 told.1 in
       let judges : (quality : Quality) (values : Option Answer) (l : List ℕ) → r.end ≡ Answered quality values l
       → (quality ≡ quality_as twice (quality_in accepted reading.0)) × (values ≡ answer_in told.0) =
       λ quality values l is.
       let judged_as = listed quality values l is in
-      let same = by judged_as.0 values (subst (IsOfQuality reads accepted r.command.call judged_as.0 values) (same_Some l line (ap line_of (sym is) ∙ answered)) judged_as.2) in
+      let same = by judged_as.0 values (subst (IsOfQuality (reads form) accepted r.command.call judged_as.0 values) (same_Some l line (ap line_of (sym is) ∙ answered)) judged_as.2) in
       (judged_as.1 ∙ ap (quality_as twice) same.quality_is, same.values_are) in
       record {
         says = record {
@@ -121,14 +130,22 @@ module _ (survey : Survey) (reads : Asked → List ℕ → Reading) (are : AreRe
         fault = λ unreadable.
             let e = is_unreadable r.end (sym has.is_of.command.outcome ∙ unreadable) in
             let same : e.0 ≡ line = same_Some e.0 line (ap line_of (sym e.2) ∙ answered) in
-            let by_line : reads r.command.call line ≡ DoesntRead e.1 = subst (λ (l : List ℕ). reads r.command.call l ≡ DoesntRead e.1) same (as_read e.0 e.1 e.2) in
-            (e.1, sym (are r.command.call line reading.0 (record { reply = reply.0; is_reply = reply.1; is_reading = reading.1 })) ∙ by_line, has.is_of.command.fault ∙ ap (λ (end : End). fault_field (fault_of end)) e.2);
+            let by_line : reads form r.command.call line ≡ DoesntRead e.1 = subst (λ (l : List ℕ). reads form r.command.call l ≡ DoesntRead e.1) same (as_read e.0 e.1 e.2) in
+            (e.1, sym (are form r.command.call line reading.0 (record { reply = reply.0; is_reply = reply.1; is_reading = reading.1 })) ∙ by_line, has.is_of.command.fault ∙ ap (λ (end : End). fault_field (fault_of end)) e.2);
         quantity_reading = told.0;
         is_quantity_reading = told.1;
-        quantities = λ shows answers name quantity.
+        quantities = λ shows answers plain name quantity.
             let e = is_answered r.end (sym has.is_of.command.outcome ∙ answers) in
-            has.quantities shows (quantity_source (quality_in accepted reading.0) reply.0) told.0 told.1 e.0 e.1 e.2 e.3 (judges e.0 e.1 e.2 e.3).1 name quantity
-            ∙ ap (λ (q : Quality). shown_as q (escaped (quantity_in r.command.call told.0 name))) (judges e.0 e.1 e.2 e.3).0;
+            let same : e.2 ≡ line = same_Some e.2 line (ap line_of (sym e.3) ∙ answered) in
+            has.quantities shows (quantity_source (quality_in accepted reading.0) reply.0) told.0 told.1 e.0 e.1 e.2 e.3 (judges e.0 e.1 e.2 e.3).1 plain name quantity
+            ∙ ap (λ (l : List ℕ). shown_as e.0 (escaped (quantity_in r.command.call described told.0 l name))) same
+            ∙ ap (λ (q : Quality). shown_as q (escaped (quantity_in r.command.call described told.0 line name))) (judges e.0 e.1 e.2 e.3).0;
+        added = λ shows answers outside name is.
+            let e = is_answered r.end (sym has.is_of.command.outcome ∙ answers) in
+            let same : e.2 ≡ line = same_Some e.2 line (ap line_of (sym e.3) ∙ answered) in
+            has.added shows told.0 e.0 e.1 e.2 e.3 (judges e.0 e.1 e.2 e.3).1 outside name is
+            ∙ ap (λ (l : List ℕ). shown_as e.0 (escaped (quantity_in r.command.call described told.0 l name))) same
+            ∙ ap (λ (q : Quality). shown_as q (escaped (quantity_in r.command.call described told.0 line name))) (judges e.0 e.1 e.2 e.3).0;
       }
 
   -- the row of a record is by a line that may have answered it (`IsRowBy`), if the line of its reply is one, the record's answer is
@@ -136,7 +153,7 @@ module _ (survey : Survey) (reads : Asked → List ℕ → Reading) (are : AreRe
   row_by_if : (CanAnswer : List ℕ → Type 0) (acts : List Act) → ((line : List ℕ) → line_of r.end ≡ Some line → CanAnswer line)
       → Runs survey.plan survey.tasks (opening survey.plan (scope_of survey reads)) acts
       → AnswerIsJustified survey.plan survey.tasks (scope_of survey reads) acts r → IsAsListed reads survey.tasks r → IsOfItsTask survey.tasks r
-      → IsOfItsRequest survey.plan survey.tasks (scope_of survey reads) acts r → HasItsMoment survey.plan survey.tasks (scope_of survey reads) acts r × IsAsRead reads r
+      → IsOfItsRequest survey.plan survey.tasks (scope_of survey reads) acts r → HasItsMoment survey.plan survey.tasks (scope_of survey reads) acts r × IsAsRead (reads (form_at survey.tasks r.place)) r
       → IsRowBy CanAnswer has_quantities at survey (scope_of survey reads) acts r
   row_by_if CanAnswer acts can runs came listed of requested added =
       record {
@@ -154,17 +171,19 @@ module _ (survey : Survey) (reads : Asked → List ℕ → Reading) (are : AreRe
               came_at survey.plan survey.tasks (scope_of survey reads) acts runs r replied.0 replied.1 justified,
             );
         without = λ shows other name quantity. has.none shows (λ answers. other (has.is_of.command.outcome ∙ answers)) name quantity;
+        blank = λ shows other name is. has.blank shows (λ answers. other (has.is_of.command.outcome ∙ answers)) name is;
         unqualified = λ other. has.quality ∙ without_quality r.end (λ answers. other (has.is_of.command.outcome ∙ answers));
         faultless = λ other. has.is_of.command.fault ∙ without_fault r.end (λ unreadable. other (has.is_of.command.outcome ∙ unreadable));
       }
 
--- a run of this survey with these acts, in which the line of each reply may have answered the command of the record that it ended, where
--- `reads` gives what replies say of their calls
-pub record IsAnswered (CanAnswer : Answers) (reads : Asked → List ℕ → Reading) (survey : Survey) (acts : List Act) : Type 0 where
+-- a run of this survey with these acts, whose labels are sound, and in which the line of each reply may have answered the command of the
+-- record that it ended, where `reads` gives what replies say of their calls
+pub record IsAnswered (CanAnswer : Answers) (reads : Reads) (survey : Survey) (acts : List Act) : Type 0 where
+  pub labels : AreSound survey.labels
   pub runs : Runs survey.plan survey.tasks (opening survey.plan (scope_of survey reads)) acts
   pub answers : (n : ℕ) (r : Record) → slice_get (records_in survey reads acts) n ≡ Some r → (line : List ℕ) → line_of r.end ≡ Some line → CanAnswer n r line
 
-module _ (CanAnswer : Answers) (reads : Asked → List ℕ → Reading) (are : AreReadings reads) (survey : Survey) (acts : List Act) (is : IsAnswered CanAnswer reads survey acts) where
+module _ (CanAnswer : Answers) (reads : Reads) (are : AreReadings reads) (survey : Survey) (acts : List Act) (is : IsAnswered CanAnswer reads survey acts) where
   -- a row or an object that has its texts (`HasItsTexts`) is by a line that may have answered its record, if that is among the first
   -- of the run's records (`written`)
   pub written_by : (has_quantities : Bool) (at : List ℕ → List ℕ) (r : Record) → HasItsTexts survey has_quantities at r → (written others : List Record)
@@ -181,11 +200,12 @@ module _ (CanAnswer : Answers) (reads : Asked → List ℕ → Reading) (are : A
       (one_added survey.plan survey.tasks (scope_of survey reads) acts is.runs n r there)
 
 -- a run in the field is answered by lines that are its records' own
-pub answered_in_field : {State : Type 0} (ends : Ends State) (kept : State → Option KeptReply) → IsAnInstrument ends AnyState kept → (reads : Asked → List ℕ → Reading) (x : FieldRun State)
+pub answered_in_field : {State : Type 0} (ends : Ends State) (kept : State → Option KeptReply) → IsAnInstrument ends AnyState kept → (reads : Reads) (x : FieldRun State)
     → IsFieldRun ends kept reads x → IsAnswered (own_lines ends AnyState kept reads x) reads x.run.survey (acts_in x.run)
 answered_in_field ends kept is reads x was =
     let faithful = run_faithful ends AnyState kept is x.in_flight (program_of x.run.survey reads (acts_in x.run) x.happened) was.in_field in
     record {
+      labels = was.is_run.labels;
       runs = was.in_field.runs;
       answers = λ n r got.
           all_at (IsOwnAnswer ends AnyState kept x.run.survey.tasks (parts_of_run reads x.run) (stretches ends x.in_flight x.happened)) (records_of_run reads x.run) n r faithful.own got;

@@ -2,14 +2,13 @@
 -- run in the field (`Tables`, `Objects`); but the line that answered a record is own or damaged (`HasItsAnswer` of gc_harm).
 use Rattle.std.specs.Prelude.{◌≡◌, ◌⊎◌, ℕ, Bool, List, Option, Some, slice_get}
 use Rattle.std.specs.List.{AllByRecursion}
-use Rattle.gc_catalogue.specs.declared.answer.Reading.{Reading}
-use Rattle.gc_catalogue.specs.declared.asked.Asked.{Asked}
 use Rattle.gc_instrument.specs.State.{KeptReply}
 use Rattle.gc_rows.specs.declared.record.Form.TheVariants.{Json}
 use Rattle.gc_links.specs.Acts.{Act}
 use Rattle.gc_texts.specs.Endings.{line_of}
 use Rattle.gc_station.specs.Records.{Record}
-use Rattle.gc_station.specs.Scopes.{ForEachReadings}
+use Rattle.gc_station.specs.Qualities.{form_at}
+use Rattle.gc_station.specs.Scopes.{ForEachReadings, Reads}
 use Rattle.gc_measuring.specs.Measuring.{Survey}
 use Rattle.gc_field.specs.World.{Ends}
 use Rattle.gc_field.specs.Begin.{UnderWay}
@@ -31,29 +30,29 @@ pub record HarmedRun (State : Type 0) : Type 0 where
   pub happened : List (HarmedStretch State)
 
 -- a run of this survey by these acts, on whose line this happened, as a program
-abbrev pub harmed_program_of : {State : Type 0} → Survey → (Asked → List ℕ → Reading) → List Act → List (HarmedStretch State) → HarmedProgram State
+abbrev pub harmed_program_of : {State : Type 0} → Survey → Reads → List Act → List (HarmedStretch State) → HarmedProgram State
 harmed_program_of survey reads acts happened = record { plan = survey.plan; commands = survey.tasks; scope = scope_of survey reads; acts = acts; stretches = happened }
 
 -- where `reads` gives what replies say of their calls, the run is one of a station (`IsStationRun`), and one over a line that damages
 -- (`IsInHarmedField`). Its sink had taken the bytes `had` before
-pub record IsHarmedRun {State : Type 0} (ends : Ends State) (kept : State → Option KeptReply) (reads : Asked → List ℕ → Reading) (x : HarmedRun State) : Type 0 where
+pub record IsHarmedRun {State : Type 0} (ends : Ends State) (kept : State → Option KeptReply) (reads : Reads) (x : HarmedRun State) : Type 0 where
   pub is_run : IsStationRun x.run
   pub took : x.run.old.taken ≡ Some x.had
   pub in_field : IsInHarmedField ends AnyState kept x.in_flight (harmed_program_of x.run.survey reads (acts_in x.run) x.happened)
 
 -- `Holds` is true of each run of a station over a line that damages (`IsHarmedRun`): for any instrument, where `reads` gives what replies
 -- say of their calls (`AreReadings`), all that a station measures and writes, and all that the line and the instrument may do meanwhile
-abbrev pub OfEachHarmedRun : {State : Type 0} → (Ends State → (State → Option KeptReply) → (Asked → List ℕ → Reading) → HarmedRun State → Type 0) → Type 0
+abbrev pub OfEachHarmedRun : {State : Type 0} → (Ends State → (State → Option KeptReply) → Reads → HarmedRun State → Type 0) → Type 0
 OfEachHarmedRun {State = State} Holds =
     OfAnyInstrument {State = State} (λ ends Good kept. ForEachReadings (λ reads. (x : HarmedRun State) → IsHarmedRun ends kept reads x → Holds ends kept reads x))
 
 -- the lines that may have answered a record: it settled the request of the record's cycle and place; and if damage is apart in the
 -- stretch of that request, it is own or damaged
-abbrev pub own_or_damaged_lines : {State : Type 0} → Ends State → (reads : Asked → List ℕ → Reading) → HarmedRun State → Answers
+abbrev pub own_or_damaged_lines : {State : Type 0} → Ends State → (reads : Reads) → HarmedRun State → Answers
 own_or_damaged_lines ends reads x place r line = HasItsAnswer ends x.run.survey.tasks (parts_of_run reads x.run) x.happened (sent_until (records_of_run reads x.run) place) r line
 
 -- if run `x` is written as a table, what its sink took is a table, whose rows are by lines that are own or damaged
-abbrev pub HasTableOwnOrDamaged : {State : Type 0} → Ends State → (reads : Asked → List ℕ → Reading) → HarmedRun State → Type 0
+abbrev pub HasTableOwnOrDamaged : {State : Type 0} → Ends State → (reads : Reads) → HarmedRun State → Type 0
 HasTableOwnOrDamaged ends reads x = (columns : Bool) → x.run.survey.layout.form ≡ table_form columns → IsTable (own_or_damaged_lines ends reads x) columns reads x.run x.had
 
 -- so it is of each run over a line that damages (`OfEachHarmedRun`)
@@ -61,7 +60,7 @@ abbrev pub TablesAreOwnOrDamaged : Type 0 → Type 0
 TablesAreOwnOrDamaged State = OfEachHarmedRun {State = State} (λ ends kept reads x. HasTableOwnOrDamaged ends reads x)
 
 -- the same of lines of JSON, if the run's records are in the types of the program (`AreTyped`)
-abbrev pub HasObjectsOwnOrDamaged : {State : Type 0} → Ends State → (reads : Asked → List ℕ → Reading) → HarmedRun State → Type 0
+abbrev pub HasObjectsOwnOrDamaged : {State : Type 0} → Ends State → (reads : Reads) → HarmedRun State → Type 0
 HasObjectsOwnOrDamaged ends reads x =
     x.run.survey.layout.form ≡ Json → AreTyped x.run.survey (records_of_run reads x.run) → AreObjects (own_or_damaged_lines ends reads x) reads x.run x.had
 
@@ -71,14 +70,14 @@ ObjectsAreOwnOrDamaged State = OfEachHarmedRun {State = State} (λ ends kept rea
 
 -- the row of the record at a place in a table is that of this line, which is own or damaged, and has the moment of the read that brought it,
 -- and the fault for which it doesn't read
-pub record IsRowOfOwnOrDamaged {State : Type 0} (ends : Ends State) (reads : Asked → List ℕ → Reading) (x : HarmedRun State) (place : ℕ) (r : Record) (line : List ℕ) : Type 0 where
-  pub is_of : IsRowOfReply x.run.survey.layout x.run.survey.names r line
+pub record IsRowOfOwnOrDamaged {State : Type 0} (ends : Ends State) (reads : Reads) (x : HarmedRun State) (place : ℕ) (r : Record) (line : List ℕ) : Type 0 where
+  pub is_of : IsRowOfReply x.run.survey.layout x.run.survey.labels r line
   pub came : CameAt x.run.survey.plan x.run.survey.tasks (scope_of x.run.survey reads) (acts_in x.run) r line
-  pub fault : SayFault is_of.fields r line
+  pub fault : SayFault (form_at x.run.survey.tasks r.place) is_of.fields r line
   pub answer : own_or_damaged_lines ends reads x place r line
 
 -- if run `x` is written as a table, the row of each of its records whose command a reply in time ended is so, however much of it was written
-abbrev pub HasRowsOwnOrDamaged : {State : Type 0} → Ends State → (reads : Asked → List ℕ → Reading) → HarmedRun State → Type 0
+abbrev pub HasRowsOwnOrDamaged : {State : Type 0} → Ends State → (reads : Reads) → HarmedRun State → Type 0
 HasRowsOwnOrDamaged ends reads x =
     (columns : Bool) → x.run.survey.layout.form ≡ table_form columns → (place : ℕ) (r : Record) → slice_get (records_of_run reads x.run) place ≡ Some r
     → (line : List ℕ) → line_of r.end ≡ Some line → IsRowOfOwnOrDamaged ends reads x place r line
@@ -88,7 +87,7 @@ abbrev pub RowsAreOwnOrDamaged : Type 0 → Type 0
 RowsAreOwnOrDamaged State = OfEachHarmedRun {State = State} (λ ends kept reads x. HasRowsOwnOrDamaged ends reads x)
 
 -- no more records of run `x`, and so of its rows, are of requests that were settled by lines that came damaged than such lines came
-abbrev pub AreFewByDamagedLines : {State : Type 0} → Ends State → (reads : Asked → List ℕ → Reading) → HarmedRun State → Type 0
+abbrev pub AreFewByDamagedLines : {State : Type 0} → Ends State → (reads : Reads) → HarmedRun State → Type 0
 AreFewByDamagedLines ends reads x = AreFewRecordsByDamagedLines ends x.run.survey.tasks (parts_of_run reads x.run) x.happened (records_of_run reads x.run)
 
 -- so it is of each run over a line that damages

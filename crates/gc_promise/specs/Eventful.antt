@@ -11,7 +11,6 @@ use Rattle.gc_values.specs.declared.decimal.Decimal.{Decimal}
 use Rattle.gc_values.specs.declared.fault.ValueFault.TheVariants.{Count}
 use Rattle.gc_catalogue.specs.declared.answer.Answer.{Answer}
 use Rattle.gc_catalogue.specs.declared.answer.Answer.TheVariants.{Nothing, Long, Measured}
-use Rattle.gc_catalogue.specs.declared.answer.Reading.{Reading}
 use Rattle.gc_catalogue.specs.declared.asked.Asked.{Asked}
 use Rattle.gc_catalogue.specs.declared.asked.Asked.TheVariants.{Table}
 use Rattle.gc_catalogue.specs.declared.call.Call.TheVariants.{InstrumentNo, NullProc}
@@ -26,7 +25,7 @@ use Rattle.gc_links.specs.Acts.{Act, Told, Put, Cut, Gave, Silent, Ended, Broke,
 use Rattle.gc_station.specs.Beginnings.{SynchronizesAnew}
 use Rattle.gc_station.specs.Links.{AreChained}
 use Rattle.gc_station.specs.Records.{Record}
-use Rattle.gc_station.specs.Scopes.{Scope}
+use Rattle.gc_station.specs.Scopes.{Reads, Scope}
 use Rattle.gc_station.specs.Tallies.{tally_of}
 use Rattle.gc_station.specs.declared.plan.Plan.{Plan}
 use Rattle.gc_station.specs.declared.tally.Tally.{Tally}
@@ -123,7 +122,7 @@ abbrev pub empty_reply : List ℕ
 empty_reply = codes "%R1P,0,5:0"
 
 -- the scope of this run: at most two hundred acts, nothing that is watched, and what each reply says of its call
-abbrev pub scope : (Asked → List ℕ → Reading) → Scope
+abbrev pub scope : Reads → Scope
 scope reads = record { turns = 200; watched = []; reads = reads }
 
 -- Acts and moves.
@@ -379,7 +378,7 @@ abbrev pub runs : List (Run (List ℕ))
 runs = first_run ∷ run_and_end anew_turns last_moves
 
 -- the run as a program
-abbrev pub program : (Asked → List ℕ → Reading) → Program (List ℕ)
+abbrev pub program : Reads → Program (List ℕ)
 program reads = record { plan = plan; commands = commands; scope = scope reads; acts = acts; runs = runs }
 
 -- what is in flight when the station resynchronizes
@@ -480,7 +479,7 @@ connections (_ ∷ acts) = connections acts
 
 -- where `reads` gives what replies say of their calls: `reporting` is an instrument, and the run is one in the field, which is
 -- over after these acts and has these records
-pub record IsEventful (reads : Asked → List ℕ → Reading) : Type 0 where
+pub record IsEventful (reads : Reads) : Type 0 where
   pub is_instrument : IsAnInstrument reporting AnyState never_kept
   pub field : IsInField reporting AnyState never_kept at_start (program reads)
   pub over : NoActFollows (program reads)

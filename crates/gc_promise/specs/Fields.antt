@@ -1,11 +1,10 @@
 -- What is in a row of a table, or in an object, under each name: this project's own. Both are given by the function from a name
 -- to the text under it, so that one definition serves both. Where the line of a row's reply comes from is left to a parameter.
-use Rattle.std.specs.Prelude.{◌≡◌, ◌⊎◌, ℕ, Bool, true, false, List, [], Some, if◌then◌else◌, slice_get, codes}
+use Rattle.std.specs.Prelude.{◌≡◌, ◌⊎◌, ℕ, Bool, true, false, List, [], Option, None, Some, option_map, if◌then◌else◌, slice_get, codes}
 use Rattle.std.specs.Fmt.{decimal}
 use Rattle.gc_lines.specs.Numbers.{IsSmallNumber}
 use Rattle.gc_lines.specs.Replies.{ReplyFields, IsReply}
 use Rattle.gc_catalogue.specs.Calls.{call_fields}
-use Rattle.gc_catalogue.specs.Asked.{IsAskedReading}
 use Rattle.gc_catalogue.specs.declared.answer.Reading.{Reading}
 use Rattle.gc_catalogue.specs.declared.answer.Reading.TheVariants as reading
 use Rattle.gc_catalogue.specs.declared.asked.Asked.{Asked}
@@ -13,6 +12,8 @@ use Rattle.gc_catalogue.specs.declared.asked.Asked.TheVariants.{Table, Raw}
 use Rattle.gc_catalogue.specs.declared.call.Call.TheVariants.{SetDate}
 use Rattle.gc_catalogue.specs.declared.answer.Answer.{Answer}
 use Rattle.gc_texts.specs.Codes.{lists_code}
+use Rattle.gc_texts.specs.ColumnNames.{is_named}
+use Rattle.gc_texts.specs.Descriptions.{DescriptionSeen, described_as, description_seen}
 use Rattle.gc_texts.specs.Endings.{fault_of, word_of}
 use Rattle.gc_texts.specs.Logs.{escaped}
 use Rattle.gc_texts.specs.Names.{name_text}
@@ -20,15 +21,21 @@ use Rattle.gc_texts.specs.Qualities.{quality_word}
 use Rattle.gc_texts.specs.Stamps.{date_time, stamp_text}
 use Rattle.gc_texts.specs.declared.agree.Twice.{Twice}
 use Rattle.gc_texts.specs.declared.codes.Codes.{Codes}
+use Rattle.gc_texts.specs.declared.form.Form.{Form}
 use Rattle.gc_texts.specs.declared.quality.Quality.{Quality}
 use Rattle.gc_texts.specs.declared.quality.Quality.TheVariants.{Fine, Warning, Unconfirmed, Refused}
 use Rattle.gc_texts.specs.declared.tasks.Task.{Task}
 pub use Rattle.gc_rows.specs.Lookup.{under}
+use Rattle.gc_rows.specs.DescribedColumns.{described_value}
+use Rattle.gc_catalogue.specs.Asked.{is_of_table}
+use Rattle.gc_rows.specs.Lookup.{is_among}
+use Rattle.gc_rows.specs.NamedFields.{value_text}
 use Rattle.gc_rows.specs.Rows.{fault_field, moment_text, procedure_of, request_sent, value_texts}
 use Rattle.gc_rows.specs.Quantities.{quantity_names}
 use Rattle.gc_rows.specs.ProcedureQuantities.{quantities_returned}
 use Rattle.gc_station.specs.Parts.{went_out}
-use Rattle.gc_station.specs.Qualities.{accepted_at, quality_as, twice_at}
+use Rattle.gc_station.specs.Qualities.{accepted_at, form_at, quality_as, twice_at}
+use Rattle.gc_station.specs.Saying.{IsSaid}
 use Rattle.gc_station.specs.Records.{Record}
 use Rattle.gc_station.specs.Requested.{HasItsRequest, request_of}
 use Rattle.gc_station.specs.Scopes.{Scope}
@@ -51,6 +58,10 @@ pub record SaysCommand (at : List ℕ → List ℕ) (r : Record) : Type 0 where
   pub outcome : at (codes "outcome") ≡ word_of r.end
   pub fault : at (codes "fault") ≡ fault_field (fault_of r.end)
 
+-- the description of the procedure of a record's command, in a run of this survey
+abbrev pub description_of : Survey → Record → Option DescriptionSeen
+description_of survey r = option_map description_seen (described_as (procedure_of r.command.call) survey.labels.described)
+
 -- the row has what its record says, however the command ended: what `SaysCommand` lists, the attempt of the turn, and the request line,
 -- `escaped` (nothing if the record has no moment of sending); and what it has of the run, which measures this survey: the moment at which the run began, and the name of the target, `escaped`
 pub record IsRowOf (survey : Survey) (at : List ℕ → List ℕ) (r : Record) : Type 0 where
@@ -58,7 +69,7 @@ pub record IsRowOf (survey : Survey) (at : List ℕ → List ℕ) (r : Record) :
   pub attempt : at (codes "attempt") ≡ decimal r.turn.attempt
   pub request : at (codes "request") ≡ escaped (request_sent r.sent r.id r.command.call)
   pub run : at (codes "run") ≡ stamp_text survey.layout.run
-  pub name : at (codes "name") ≡ escaped (name_text r.command.target survey.names)
+  pub name : at (codes "name") ≡ escaped (name_text r.command.target survey.labels.names)
 
 -- the row has the codes of this line, which is a reply. `at` gives the text under a name
 pub record SaysCodes (at : List ℕ → List ℕ) (line : List ℕ) : Type 0 where
@@ -81,16 +92,23 @@ IsOutcomeOfReply outcome = (outcome ≡ codes "answered") ⊎ (outcome ≡ codes
 abbrev pub IsQuantity : List ℕ → Type 0
 IsQuantity name = (k : ℕ) × (slice_get quantity_names k ≡ Some name)
 
--- the text of the quantity of this name in an answer to what was asked: an answer to a call of the table has the quantities of
--- its call, in the manual's order. Empty if it has no such quantity; a procedure that isn't in the table has none
-abbrev pub quantity_of : Asked → Answer → List ℕ → List ℕ
-quantity_of (Table call) answer name = under name (quantities_returned (call_fields call).number) (value_texts answer)
-quantity_of (Raw raw) answer name = []
+-- the text of the value of this name in this line, of an answer to a procedure that is described so, by the kinds of the description. Empty if
+-- there is no such value, or no description
+abbrev pub value_in : Option DescriptionSeen → (line : List ℕ) → (name : List ℕ) → List ℕ
+value_in None line name = []
+value_in (Some d) line name = value_text (described_value d line name)
 
--- the text of the quantity of this name in a reply to what was asked, by what the reply says. Empty if it is no answer
-abbrev pub quantity_in : Asked → Reading → List ℕ → List ℕ
-quantity_in asked (reading.Value answer) name = quantity_of asked answer name
-quantity_in asked _ name = []
+-- the text of the quantity of this name in an answer, which came in this line, to what was asked: an answer to a call of the table has the
+-- quantities of its call, in the manual's order, and that to a described procedure the values that its description names. Empty if it has
+-- no such quantity
+abbrev pub quantity_of : Asked → Option DescriptionSeen → Answer → (line : List ℕ) → (name : List ℕ) → List ℕ
+quantity_of (Table call) described answer line name = under name (quantities_returned (call_fields call).number) (value_texts answer)
+quantity_of (Raw raw) described answer line name = value_in described line name
+
+-- the text of the quantity of this name in a reply to what was asked, this line, by what the reply says. Empty if it is no answer
+abbrev pub quantity_in : Asked → Option DescriptionSeen → Reading → (line : List ℕ) → (name : List ℕ) → List ℕ
+quantity_in asked described (reading.Value answer) line name = quantity_of asked described answer line name
+quantity_in asked described _ line name = []
 
 -- the quality of an answer whose reply says this, if its chain is sent once and these return codes are accepted: fine if it says values, a warning if its
 -- communication code is 0 and its return code an accepted one, otherwise refused. (Where the values don't read, the command isn't
@@ -116,25 +134,46 @@ shown_as Warning text = text
 shown_as Unconfirmed text = []
 shown_as Refused text = text
 
+-- the procedure that was asked for isn't in the table
+abbrev pub IsOutside : Asked → Type 0
+IsOutside (Table call) = ⊥
+IsOutside (Raw raw) = Unit {0}
+
+-- the answers to a call of the table are read without a form, as they are in each text (`IsRunOfProgram`)
+abbrev pub IsPlain : Option Form → Asked → Type 0
+IsPlain form (Table call) = form ≡ None
+IsPlain form (Raw raw) = Unit {0}
+
+-- the name is that of a column that the description has, and that descriptions add to those of the table
+abbrev pub IsAdded : (columns : List (List ℕ)) → Option DescriptionSeen → (name : List ℕ) → Type 0
+IsAdded columns None name = ⊥
+IsAdded columns (Some d) name = (is_among name columns ≡ true) × (is_named name d.values ≡ true)
+
 -- the row of a command that this line ended, in which `at` gives the text under each name, has the line's codes, and its
 -- parameters, `escaped`. If the command is answered, the row has the quality of the answer, by the return codes that are
 -- accepted of the command, and by which sending of its chain it is in; and, if rows have quantities, it has those of the line,
--- `escaped`, unless the answer is unconfirmed
-pub record HasReply (has_quantities : Bool) (at : List ℕ → List ℕ) (twice : Twice) (accepted : Codes) (call : Asked) (line : List ℕ) : Type 0 where
+-- `escaped`, unless the answer is unconfirmed: under the names of the table's, and under those that the description of the command's
+-- procedure, `described`, adds among these columns. The reply is read by the form, if there is one
+pub record HasReply (has_quantities : Bool) (at : List ℕ → List ℕ) (twice : Twice) (accepted : Codes) (form : Option Form) (described : Option DescriptionSeen)
+    (columns : List (List ℕ)) (call : Asked) (line : List ℕ) : Type 0 where
   pub says : SaysCodes at line
   pub values : at (codes "values") ≡ escaped says.reply.params
   -- what the reply says of the call, and so which quality the answer has
   pub answer_reading : Reading
-  pub is_answer_reading : IsAskedReading call says.reply answer_reading
+  pub is_answer_reading : IsSaid form call says.reply answer_reading
   pub quality : at (codes "outcome") ≡ codes "answered" → at (codes "quality") ≡ quality_word (quality_as twice (quality_in accepted answer_reading))
   -- if the command is unreadable, the row has the number of the fault for which the reply's parameters don't read
   pub fault : at (codes "outcome") ≡ codes "unreadable" → (why : ValueFault) × (answer_reading ≡ reading.Unreadable why) × (at (codes "fault") ≡ decimal (value_fault_number why))
   -- what the reply says of the call where its quantities are read, as `quantity_source` has it
   pub quantity_reading : Reading
-  pub is_quantity_reading : IsAskedReading call (quantity_source (quality_in accepted answer_reading) says.reply) quantity_reading
+  pub is_quantity_reading : IsSaid form call (quantity_source (quality_in accepted answer_reading) says.reply) quantity_reading
   pub quantities :
-      has_quantities ≡ true → at (codes "outcome") ≡ codes "answered" →
-      (name : List ℕ) → IsQuantity name → at name ≡ shown_as (quality_as twice (quality_in accepted answer_reading)) (escaped (quantity_in call quantity_reading name))
+      has_quantities ≡ true → at (codes "outcome") ≡ codes "answered" → IsPlain form call →
+      (name : List ℕ) → IsQuantity name → at name ≡ shown_as (quality_as twice (quality_in accepted answer_reading)) (escaped (quantity_in call described quantity_reading line name))
+  -- and so it has under the names that the description adds
+  pub added :
+      has_quantities ≡ true → at (codes "outcome") ≡ codes "answered" → IsOutside call →
+      (name : List ℕ) → IsAdded columns described name → at name ≡ shown_as (quality_as twice (quality_in accepted answer_reading)) (escaped (quantity_in call described quantity_reading line name))
 
 -- the row of record `r`, in which `at` gives the text under each name, in a run of this survey with these acts. What it has of a reply is
 -- what a line says for which `IsAnswer` holds: it says which lines may have answered the record's command
@@ -143,7 +182,8 @@ pub record IsRowBy (IsAnswer : List ℕ → Type 0) (has_quantities : Bool) (at 
   -- under `time` is the moment of the act by which the command ended
   pub ended : HasItsMoment survey.plan survey.tasks scope acts r
   -- if the command sets the clock and its request was sent, that asked for the moment under `sent`, cut to seconds
-  pub clock : (task : Task) → slice_get survey.tasks r.place ≡ Some task → task.now ≡ true → went_out r.end ≡ true → IsSetTo at r
+  pub clock : (task : Task) → slice_get survey.tasks r.place ≡ Some task → task.now ≡ true → is_of_table task.command.call ≡ true → went_out r.end ≡ true
+      → IsSetTo at r
   -- if a request was sent, its line is under `request`, `escaped`, and an act of the run put that line, at the moment under `sent`
   pub asked : went_out r.end ≡ true → HasItsRequest survey.plan survey.tasks scope acts r × (at (codes "request") ≡ escaped (request_of r))
   -- if no request was sent, nothing is under `sent`, nor under `request`
@@ -152,10 +192,11 @@ pub record IsRowBy (IsAnswer : List ℕ → Type 0) (has_quantities : Bool) (at 
   -- of the read that brought that line
   pub replied :
       IsOutcomeOfReply (at (codes "outcome")) →
-      (line : List ℕ) × HasReply has_quantities at (twice_at survey.tasks r.place) (accepted_at survey.tasks r.place) r.command.call line × IsAnswer line
+      (line : List ℕ) × HasReply has_quantities at (twice_at survey.tasks r.place) (accepted_at survey.tasks r.place) (form_at survey.tasks r.place) (description_of survey r) survey.labels.columns r.command.call line × IsAnswer line
       × CameAt survey.plan survey.tasks scope acts r line
   -- if the outcome isn't `answered`, the row has no quantity, where rows have quantities, and no quality
   pub without : has_quantities ≡ true → (at (codes "outcome") ≡ codes "answered" → ⊥) → (name : List ℕ) → IsQuantity name → at name ≡ []
+  pub blank : has_quantities ≡ true → (at (codes "outcome") ≡ codes "answered" → ⊥) → (name : List ℕ) → IsAdded survey.labels.columns (description_of survey r) name → at name ≡ []
   pub unqualified : (at (codes "outcome") ≡ codes "answered" → ⊥) → at (codes "quality") ≡ []
   -- if it isn't `unreadable`, the row has no fault
   pub faultless : (at (codes "outcome") ≡ codes "unreadable" → ⊥) → at (codes "fault") ≡ []

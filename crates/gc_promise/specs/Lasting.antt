@@ -1,8 +1,6 @@
 -- What is left of the rows of a run that was killed, over crashes of the machine, or after a sync that failed: this project's
 -- own.
 use Rattle.std.specs.Prelude.{◌≡◌, ◌⊎◌, ℕ, Bool, true, false, List, [], ◌∷◌, ◌++◌, Option, Some}
-use Rattle.gc_catalogue.specs.declared.answer.Reading.{Reading}
-use Rattle.gc_catalogue.specs.declared.asked.Asked.{Asked}
 use Rattle.gc_files.specs.Failing.{Sides, RunEnd, MayEnd, sides_ended, doubt_ended, Event, settled, same_sides, sides_after, doubt_after, ArePossibleEvents, runs_of, IsFound, IsTrusted}
 use Rattle.gc_files.specs.Files.{Step, Life, content, later_by, MayBeLeft}
 use Rattle.gc_files.specs.Rows.{opened_table, OpensFile, IsFront, whole}
@@ -16,7 +14,7 @@ use Rattle.gc_messages.specs.declared.following.Followed.{Followed}
 use Rattle.gc_station.specs.ActKinds.{ReadsClock}
 use Rattle.gc_station.specs.Keeping.{Snapshot}
 use Rattle.gc_station.specs.Records.{texts_of}
-use Rattle.gc_station.specs.Scopes.{ForEachReadings}
+use Rattle.gc_station.specs.Scopes.{ForEachReadings, Reads}
 use Rattle.gc_measuring.specs.Measuring.{Survey, text_by}
 use Rattle.gc_measuring.specs.Telling.{AppendingRun, ReportsAppended, views_by}
 use Rattle.gc_words.specs.declared.settings.Settings.{Settings}
@@ -91,11 +89,11 @@ pub record IsRunMoment {R : Type 0} (m : RunMoment R) : Type 0 where
   pub reached : IsReached m
 
 -- the rows of all records that these acts settle, in order, as the run writes them
-abbrev pub rows_by : Survey → (Asked → List ℕ → Reading) → List Act → List ℕ
+abbrev pub rows_by : Survey → Reads → List Act → List ℕ
 rows_by survey reads acts = texts_of (text_by survey) (records_in survey reads acts)
 
 -- `left` has the rows that are left of a run, after a moment
-pub record AreLeft {R : Type 0} (m : RunMoment R) (reads : Asked → List ℕ → Reading) (left : List ℕ) : Type 0 where
+pub record AreLeft {R : Type 0} (m : RunMoment R) (reads : Reads) (left : List ℕ) : Type 0 where
   -- the rows that the run had written by the moment's act, into this file and into others before it, are those of all records
   -- that the acts of `done` settled
   pub settled : bytes_in m.was ≡ rows_by m.run.survey reads m.done

@@ -2,8 +2,6 @@
 -- own. The run is taken at one of its moments, whether it ever ends or not.
 use Rattle.std.specs.Prelude.{◌≡◌, ℕ, Bool, true, List, ◌++◌}
 use Rattle.std.specs.List.{AllByRecursion}
-use Rattle.gc_catalogue.specs.declared.answer.Reading.{Reading}
-use Rattle.gc_catalogue.specs.declared.asked.Asked.{Asked}
 use Rattle.gc_files.specs.Failing.{runs_of}
 use Rattle.gc_files.specs.Files.{Step}
 use Rattle.gc_files.specs.Rows.{IsFront, appended, cuts_none, opened_table, whole}
@@ -18,7 +16,8 @@ use Rattle.gc_rows.specs.Records.{header}
 use Rattle.gc_rows.specs.declared.record.Form.TheVariants.{Json}
 use Rattle.gc_station.specs.Model.{Runs, opening}
 use Rattle.gc_station.specs.Records.{Record, texts_of}
-use Rattle.gc_station.specs.Scopes.{ForEachReadings}
+use Rattle.gc_station.specs.Scopes.{ForEachReadings, Reads}
+use Rattle.gc_measuring.specs.Labels.{AreSound}
 use Rattle.gc_measuring.specs.Measuring.{Survey, text_by}
 use Rattle.gc_promise.specs.Fields.{IsRowBy, under}
 use Rattle.gc_promise.specs.Lasting.{CrashHistory, FileHistory, IsCrashHistory, IsFileHistory}
@@ -36,11 +35,13 @@ pub record FileRunSoFar (R : Type 0) : Type 0 where
   pub was : Followed R
   pub calls : List Step
 
--- where `reads` gives what replies say of their calls, this is a run of a file so far. Each act was the one that was to be made next. After
+-- where `reads` gives what replies say of their calls, this is a run of a file so far. Its labels are as those of a text are, and each act was
+-- the one that was to be made next. After
 -- the first ones of its acts, `done`, the rows of all records that these settled were in the file, or in others before it; and they lasted,
 -- as the file is one that syncs. Since then it has only been appended to; and what was appended, after those rows, are the first bytes of
 -- the rows of the records that all its acts settled
-pub record IsFileRunSoFar {R : Type 0} (reads : Asked → List ℕ → Reading) (m : FileRunSoFar R) : Type 0 where
+pub record IsFileRunSoFar {R : Type 0} (reads : Reads) (m : FileRunSoFar R) : Type 0 where
+  pub labels : AreSound m.survey.labels
   pub runs : Runs m.survey.plan m.survey.tasks (opening m.survey.plan (scope_of m.survey reads)) m.acts
   pub others : List Act
   pub order : m.acts ≡ m.done ++ others
@@ -54,7 +55,7 @@ pub record IsFileRunSoFar {R : Type 0} (reads : Asked → List ℕ → Reading) 
 
 -- `left` has the rows that are left of a run so far: all that this file had taken after the acts `done`, and perhaps more; no others than
 -- of the run's records; and none in part
-pub record AreLeftSoFar {R : Type 0} (m : FileRunSoFar R) (reads : Asked → List ℕ → Reading) (left : List ℕ) : Type 0 where
+pub record AreLeftSoFar {R : Type 0} (m : FileRunSoFar R) (reads : Reads) (left : List ℕ) : Type 0 where
   pub more : List ℕ
   pub has : left ≡ taken_in m.was.rows ++ more
   pub own : IsFront (bytes_in m.was ++ more) (texts_by m.survey reads m.acts)
@@ -80,7 +81,7 @@ RowsSoFarOutlastFailures R = ForEachReadings (λ reads. (m : FileRunSoFar R) →
 
 -- `left` is what is left of a run so far: with what went into files before this one, it is the texts of the first ones of the run's records,
 -- each whole
-pub record IsLeftOfSoFar {R : Type 0} (reads : Asked → List ℕ → Reading) (m : FileRunSoFar R) (left : List ℕ) (records : List Record) : Type 0 where
+pub record IsLeftOfSoFar {R : Type 0} (reads : Reads) (m : FileRunSoFar R) (left : List ℕ) (records : List Record) : Type 0 where
   pub more : List ℕ
   pub has : left ≡ taken_in m.was.rows ++ more
   pub others : List Record
@@ -89,16 +90,16 @@ pub record IsLeftOfSoFar {R : Type 0} (reads : Asked → List ℕ → Reading) (
 
 -- of a run that is written as a table: with what went into files before this one, what is left reads as rows, which are the first ones of
 -- the run's records, one for one and in order, each by a line that may have answered it
-pub record IsLeftTableSoFar {R : Type 0} (CanAnswer : Answers) (columns : Bool) (reads : Asked → List ℕ → Reading) (m : FileRunSoFar R) (left : List ℕ) : Type 0 where
+pub record IsLeftTableSoFar {R : Type 0} (CanAnswer : Answers) (columns : Bool) (reads : Reads) (m : FileRunSoFar R) (left : List ℕ) : Type 0 where
   pub records : List Record
   pub is_of : IsLeftOfSoFar reads m left records
   pub rows : List (List (List ℕ))
   pub reads_as : AreReadAs (bytes_in m.was ++ is_of.more) rows
-  pub one_for_one : AreOneForOne (λ n row r. IsRowBy (CanAnswer n r) columns (λ name. under name (header columns) row) m.survey (scope_of m.survey reads) m.acts r) rows records
+  pub one_for_one : AreOneForOne (λ n row r. IsRowBy (CanAnswer n r) columns (λ name. under name (header columns m.survey.labels.columns) row) m.survey (scope_of m.survey reads) m.acts r) rows records
 
 -- of a run that is written as lines of JSON: with what went into files before this one, what is left are lines, which are the objects of
 -- the first ones of the run's records, one for one and in order, each by a line that may have answered it
-pub record AreLeftObjectsSoFar {R : Type 0} (CanAnswer : Answers) (reads : Asked → List ℕ → Reading) (m : FileRunSoFar R) (left : List ℕ) : Type 0 where
+pub record AreLeftObjectsSoFar {R : Type 0} (CanAnswer : Answers) (reads : Reads) (m : FileRunSoFar R) (left : List ℕ) : Type 0 where
   pub records : List Record
   pub is_of : IsLeftOfSoFar reads m left records
   pub lines : List (List ℕ)

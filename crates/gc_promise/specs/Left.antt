@@ -2,8 +2,6 @@
 -- the run wrote into files before this one, a reader reads those first; else the bytes that are left are read as they are.
 use Rattle.std.specs.Prelude.{◌≡◌, ℕ, Bool, List, ◌++◌}
 use Rattle.std.specs.List.{AllByRecursion}
-use Rattle.gc_catalogue.specs.declared.answer.Reading.{Reading}
-use Rattle.gc_catalogue.specs.declared.asked.Asked.{Asked}
 use Rattle.gc_files.specs.Runs as rows
 use Rattle.gc_files.specs.Sinks.{taken_in}
 use Rattle.gc_messages.specs.Following.{bytes_in}
@@ -18,10 +16,11 @@ use Rattle.gc_promise.specs.Fields.{IsRowBy, under}
 use Rattle.gc_promise.specs.Lasting.{AreLeft, RunMoment}
 use Rattle.gc_promise.specs.Objects.{AreTyped, IsObject}
 use Rattle.gc_promise.specs.Tables.{Answers, AreOneForOne, AreReadAs, OfEachFieldRun, StationRun, acts_in, own_lines, records_of_run, scope_of, table_form}
+use Rattle.gc_station.specs.Scopes.{Reads}
 
 -- `left` is what is left of a run after a moment: with what went into files before this one, it is the texts of the first ones of the
 -- run's records, each whole
-pub record IsLeftOf {R : Type 0} (reads : Asked → List ℕ → Reading) (m : RunMoment R) (left : List ℕ) (records : List Record) : Type 0 where
+pub record IsLeftOf {R : Type 0} (reads : Reads) (m : RunMoment R) (left : List ℕ) (records : List Record) : Type 0 where
   pub more : List ℕ
   pub has : left ≡ taken_in m.was.rows ++ more
   pub others : List Record
@@ -30,16 +29,16 @@ pub record IsLeftOf {R : Type 0} (reads : Asked → List ℕ → Reading) (m : R
 
 -- of a run that is written as a table: with what went into files before this one, what is left reads as rows, which are the first ones of
 -- the run's records, one for one and in order, each by a line that may have answered it
-pub record IsLeftTable {R : Type 0} (CanAnswer : Answers) (columns : Bool) (reads : Asked → List ℕ → Reading) (m : RunMoment R) (left : List ℕ) : Type 0 where
+pub record IsLeftTable {R : Type 0} (CanAnswer : Answers) (columns : Bool) (reads : Reads) (m : RunMoment R) (left : List ℕ) : Type 0 where
   pub records : List Record
   pub is_of : IsLeftOf reads m left records
   pub rows : List (List (List ℕ))
   pub reads_as : AreReadAs (bytes_in m.was ++ is_of.more) rows
-  pub one_for_one : AreOneForOne (λ n row r. IsRowBy (CanAnswer n r) columns (λ name. under name (header columns) row) m.run.survey (scope_of m.run.survey reads) (acts_in m.run) r) rows records
+  pub one_for_one : AreOneForOne (λ n row r. IsRowBy (CanAnswer n r) columns (λ name. under name (header columns m.run.survey.labels.columns) row) m.run.survey (scope_of m.run.survey reads) (acts_in m.run) r) rows records
 
 -- of a run that is written as lines of JSON: with what went into files before this one, what is left are lines, which are the objects of
 -- the first ones of the run's records, one for one and in order, each by a line that may have answered it
-pub record AreLeftObjects {R : Type 0} (CanAnswer : Answers) (reads : Asked → List ℕ → Reading) (m : RunMoment R) (left : List ℕ) : Type 0 where
+pub record AreLeftObjects {R : Type 0} (CanAnswer : Answers) (reads : Reads) (m : RunMoment R) (left : List ℕ) : Type 0 where
   pub records : List Record
   pub is_of : IsLeftOf reads m left records
   pub lines : List (List ℕ)
@@ -49,12 +48,12 @@ pub record AreLeftObjects {R : Type 0} (CanAnswer : Answers) (reads : Asked → 
 
 -- if a run is written as a table, what is left of it after any moment (`AreLeft`) are rows, each by a line that may have answered its
 -- record
-abbrev pub LeavesTable : (R : Type 0) → Answers → (reads : Asked → List ℕ → Reading) → StationRun → Type 0
+abbrev pub LeavesTable : (R : Type 0) → Answers → (reads : Reads) → StationRun → Type 0
 LeavesTable R CanAnswer reads run =
     (columns : Bool) → run.survey.layout.form ≡ table_form columns → (m : RunMoment R) (left : List ℕ) → m.run ≡ run → AreLeft m reads left → IsLeftTable CanAnswer columns reads m left
 
 -- the same of lines of JSON, if the run's records are in the types of the program (`AreTyped`)
-abbrev pub LeavesObjects : (R : Type 0) → Answers → (reads : Asked → List ℕ → Reading) → StationRun → Type 0
+abbrev pub LeavesObjects : (R : Type 0) → Answers → (reads : Reads) → StationRun → Type 0
 LeavesObjects R CanAnswer reads run =
     run.survey.layout.form ≡ Json → AreTyped run.survey (records_of_run reads run) → (m : RunMoment R) (left : List ℕ) → m.run ≡ run → AreLeft m reads left → AreLeftObjects CanAnswer reads m left
 

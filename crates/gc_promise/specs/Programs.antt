@@ -3,8 +3,6 @@
 use Rattle.std.specs.Prelude.{◌≡◌, ◌⊎◌, ℕ, Bool, List, [], ◌∷◌, Option, Some, None, Result, Ok, Err, true, IfSome}
 use Rattle.std.specs.List.{AllByRecursion}
 use Rattle.std.specs.declared.io.ErrorKind.{ErrorKind}
-use Rattle.gc_catalogue.specs.declared.answer.Reading.{Reading}
-use Rattle.gc_catalogue.specs.declared.asked.Asked.{Asked}
 use Rattle.gc_console.specs.Programs.{DoesProgram}
 use Rattle.gc_console.specs.Stations.{ActsAt, HasNoRun, Seeing, rows_noted}
 use Rattle.gc_console.specs.Subcommands.{Opening}
@@ -21,6 +19,7 @@ use Rattle.gc_harm.specs.Runs.{IsInHarmedField, IsRunLocal}
 use Rattle.gc_harm.specs.Stretches.{HarmedStretch}
 use Rattle.gc_instrument.specs.State.{KeptReply}
 use Rattle.gc_links.specs.Acts.{Act}
+use Rattle.gc_measuring.specs.Labels.{labels_of}
 use Rattle.gc_measuring.specs.Measuring.{front_text, most_turns, survey_of}
 use Rattle.gc_measuring.specs.TaskTexts.{HasTasks}
 use Rattle.gc_measuring.specs.Telling.{acts_noted, began_noted}
@@ -29,16 +28,19 @@ use Rattle.gc_messages.specs.Following.{path_of}
 use Rattle.gc_messages.specs.Streams.{are_open}
 use Rattle.gc_messages.specs.declared.following.Followed.{Followed}
 use Rattle.gc_messages.specs.declared.standard.Standard.{Standard}
-use Rattle.gc_station.specs.Scopes.{ForEachReadings}
+use Rattle.gc_station.specs.Scopes.{ForEachReadings, Reads}
 use Rattle.gc_station.specs.declared.tally.Tally.{Tally}
 use Rattle.gc_subcommands.specs.Program.{IsJobOfWords}
 use Rattle.gc_subcommands.specs.declared.words.ClientJob.TheVariants as client
 use Rattle.gc_subcommands.specs.declared.words.Job.TheVariants as job
-use Rattle.gc_texts.specs.Tasks.{TasksSeen}
+use Rattle.gc_texts.specs.Tasks.{IsTasks, TasksSeen}
+use Rattle.gc_words.specs.declared.choice.Choice.{Choice}
+use Rattle.gc_words.specs.declared.layout.Layout.{Layout}
 use Rattle.gc_words.specs.Stations.{begun_at, for_file, with_status_line}
 use Rattle.gc_words.specs.declared.settings.Settings.{Settings}
 use Rattle.gc_words.specs.declared.site.Recording.{Recording}
 use Rattle.gc_words.specs.declared.site.Site.{Site}
+use Rattle.gc_promise.specs.Fields.{IsPlain}
 use Rattle.gc_promise.specs.Damaged.{AreFewByDamagedLines, HarmedRun, HasObjectsOwnOrDamaged, HasRowsOwnOrDamaged, HasTableOwnOrDamaged, harmed_program_of, own_or_damaged_lines}
 use Rattle.gc_promise.specs.Lasting.{IsReached, IsRunOfFile, IsSeen, OutlastsCrashes, OutlastsFailures, RunMoment}
 use Rattle.gc_promise.specs.Left.{LeavesObjects, LeavesTable}
@@ -88,6 +90,8 @@ pub record IsRunOfProgram (standard : Standard) (site : Site) (station : Setting
   pub is_began : began_noted traces.acted.link ≡ Some began
   pub survey : run.survey ≡ survey_of (begun_at began (settings_for standard station recording)) most_turns all
   pub is_run : IsStationRun run
+  -- the answers to a call of the table are read without a form
+  pub plain : AllByRecursion (λ task. IsPlain task.form task.command.call) run.survey.tasks
   pub acts : acts_noted traces.acted.link ≡ Some run.recorded
   pub place : ActsAt site traces.acted
   pub fresh : run.old.taken ≡ Some []
@@ -114,7 +118,7 @@ field_run run in_flight happened = record { run = run; had = []; in_flight = in_
 
 -- `Holds` is true of this run in the field: of any instrument, whatever was in flight at its start, and whatever the line and the
 -- instrument did meanwhile (`IsInField`), where `reads` gives what replies say of their calls
-abbrev pub HoldsInField : {State : Type 0} → StationRun → (Ends State → (State → Option KeptReply) → (Asked → List ℕ → Reading) → FieldRun State → Type 0) → Type 0
+abbrev pub HoldsInField : {State : Type 0} → StationRun → (Ends State → (State → Option KeptReply) → Reads → FieldRun State → Type 0) → Type 0
 HoldsInField {State = State} run Holds =
     OfAnyInstrument {State = State} (λ ends Good kept. ForEachReadings (λ reads. (in_flight : UnderWay State) (happened : List (field.Run State))
     → IsInField ends AnyState kept in_flight (program_of run.survey reads (acts_in run) happened) → Holds ends kept reads (field_run run in_flight happened)))
@@ -125,17 +129,17 @@ harmed_run run in_flight happened = record { run = run; had = []; in_flight = in
 
 -- `Holds` is true of this run over a line that damages (`IsInHarmedField`): of any instrument, whatever was in flight at its start, and
 -- whatever the line and the instrument did meanwhile, where `reads` gives what replies say of their calls
-abbrev pub HoldsOverDamage : {State : Type 0} → StationRun → (Ends State → (State → Option KeptReply) → (Asked → List ℕ → Reading) → HarmedRun State → Type 0) → Type 0
+abbrev pub HoldsOverDamage : {State : Type 0} → StationRun → (Ends State → (State → Option KeptReply) → Reads → HarmedRun State → Type 0) → Type 0
 HoldsOverDamage {State = State} run Holds =
     OfAnyInstrument {State = State} (λ ends Good kept. ForEachReadings (λ reads. (in_flight : UnderWay State) (happened : List (HarmedStretch State))
     → IsInHarmedField ends AnyState kept in_flight (harmed_program_of run.survey reads (acts_in run) happened) → Holds ends kept reads (harmed_run run in_flight happened)))
 
 -- if run `x` in the field is written as a table, the row of each of its records whose command a reply in time ended is its own
 -- (`IsOwnIfAnswered`), however much of it was written
-abbrev pub HasOwnRows : {State : Type 0} → Ends State → (kept : State → Option KeptReply) → (reads : Asked → List ℕ → Reading) → FieldRun State → Type 0
+abbrev pub HasOwnRows : {State : Type 0} → Ends State → (kept : State → Option KeptReply) → (reads : Reads) → FieldRun State → Type 0
 HasOwnRows ends kept reads x =
     (columns : Bool) → x.run.survey.layout.form ≡ table_form columns
-    → AllByRecursion (IsOwnIfAnswered ends AnyState kept x.run.survey.layout x.run.survey.names x.in_flight (program_of x.run.survey reads (acts_in x.run) x.happened))
+    → AllByRecursion (IsOwnIfAnswered ends AnyState kept x.run.survey.layout x.run.survey.labels x.in_flight (program_of x.run.survey reads (acts_in x.run) x.happened))
     (records_of_run reads x.run)
 
 -- what the laws say of a run of a station: in the field it is faithful, and what it wrote is its own table or its own objects, each row
@@ -198,6 +202,13 @@ ProgramsAreFaithful {R = R} seeing shown A X State =
     (status : ℕ) → DoesProgram seeing shown standard begun texts kind words traces status → (act : Act) (acts : List Act) → acts_noted traces.acted.link ≡ Some (act ∷ acts)
     → RunsStation R State standard begun texts words traces status
 
+-- these are a front of what comes before the rows in this layout: of a table, the header with the columns of a text, which has these tasks
+-- for a station with this choice; without a text, the header without further columns
+pub record IsFrontOfHead (layout : Layout) (choice : Choice) (bytes : List ℕ) : Type 0 where
+  pub columns : List (List ℕ)
+  pub of_text : (columns ≡ []) ⊎ ((text : List ℕ) × (all : TasksSeen) × IsTasks text choice.deadline choice.chained all × (columns ≡ (labels_of all).columns))
+  pub front : IsFront bytes (front_text layout columns)
+
 -- these words asked for a station, and it wrote no row: what it wrote, if it came so far, is at most a front of what comes before the rows,
 -- the header of a table on the output; to a file nothing was appended after its opening, which may have written the header of its table
 pub record WritesNoRow {A X : Type 0} (standard : Standard) (texts : A → List (List ℕ)) (words : Result A X) (traces : Traces) : Type 0 where
@@ -205,7 +216,7 @@ pub record WritesNoRow {A X : Type 0} (standard : Standard) (texts : A → List 
   pub station : Settings
   pub recording : Option Recording
   pub asked : AskForStation standard texts words site station recording
-  pub front : (bytes : List ℕ) → written_by recording traces ≡ Some bytes → IsFront bytes (front_text (settings_for standard station recording).layout)
+  pub front : (bytes : List ℕ) → written_by recording traces ≡ Some bytes → IsFrontOfHead (settings_for standard station recording).layout (settings_for standard station recording).choice bytes
   pub alone : WritesThereAlone recording traces
 
 -- if no link made an act, in what the program did by its words (`DoesProgram`), no station ran, and there was no file (`HasNoRun`); or the

@@ -1,14 +1,12 @@
 -- The moments of a run that returned, and what they are: runs so far; and how a run so far goes on to be one that returns: this project's
 -- own.
 use Rattle.std.specs.Prelude.{◌≡◌, ◌⊎◌, ℕ, ◌≤◌, List, [], ◌∷◌, ◌++◌, length, Option, Some}
-use Rattle.gc_catalogue.specs.declared.answer.Reading.{Reading}
-use Rattle.gc_catalogue.specs.declared.asked.Asked.{Asked}
 use Rattle.gc_files.specs.Rows.{IsFront}
 use Rattle.gc_links.specs.Acts.{Act, Closed}
 use Rattle.gc_station.specs.FirstActs.{with_turns}
 use Rattle.gc_station.specs.Keeping.{Snapshot}
 use Rattle.gc_station.specs.Runs.{RanTo}
-use Rattle.gc_station.specs.Scopes.{ForEachReadings}
+use Rattle.gc_station.specs.Scopes.{ForEachReadings, Reads}
 use Rattle.gc_station.specs.declared.cause.Cause.{Cause}
 use Rattle.gc_station.specs.declared.tally.Tally.{Tally}
 use Rattle.gc_measuring.specs.Measuring.{front_text, text_by}
@@ -66,14 +64,14 @@ ReturnedRunsAreRunsSoFar = ForEachReadings (λ reads. (run : StationRun) (had ta
 
 -- a run so far, as one that is given just as many turns as acts were made by then, returns: it makes these acts, and at most a close, and
 -- then stops (`RanTo`); and the bytes that its sink takes begin with those that the sink of the run so far has taken
-pub record Returns (reads : Asked → List ℕ → Reading) (x : RunSoFar) : Type 0 where
+pub record Returns (reads : Reads) (x : RunSoFar) : Type 0 where
   pub last : List Act
   pub at_most_a_close : (last ≡ []) ⊎ (last ≡ Closed ∷ [])
   pub cause : Cause
   pub tally : Tally
   pub taken : List ℕ
   pub ran : RanTo x.survey.plan x.survey.tasks (with_turns (length x.acts) (scope_of x.survey reads)) (text_by x.survey) (Some []) (Some (x.acts ++ last))
-      (Some (x.had ++ front_text x.survey.layout)) (Some taken) cause tally
+      (Some (x.had ++ front_text x.survey.layout x.survey.labels.columns)) (Some taken) cause tally
   pub front : IsFront x.taken taken
 
 -- each run so far, of no more acts than it has turns, is one that returns, if it has no more turns (`Returns`)

@@ -3,8 +3,6 @@
 -- of its run from one synchronization to the next, and a stretch what happens on the line meanwhile, once it has synchronized.
 use Rattle.std.specs.Prelude.{◌≡◌, ℕ, ◌-◌, ◌<◌, Bool, true, false, List, [], ◌∷◌, ◌++◌, length, take, Option, Some, Result, Err, if◌then◌else◌, slice_get}
 use Rattle.csv.specs.Reading.{default_config, records}
-use Rattle.gc_catalogue.specs.declared.answer.Reading.{Reading}
-use Rattle.gc_catalogue.specs.declared.asked.Asked.{Asked}
 use Rattle.gc_instrument.specs.State.{KeptReply}
 use Rattle.gc_texts.specs.declared.fault.RunFault.TheVariants.{Output}
 use Rattle.gc_rows.specs.Records.{header}
@@ -15,10 +13,10 @@ use Rattle.gc_station.specs.Links.{parts}
 use Rattle.gc_station.specs.Parts.{Part}
 use Rattle.gc_station.specs.Records.{Record}
 use Rattle.gc_station.specs.Runs.{state_after}
-use Rattle.gc_station.specs.Scopes.{Scope, ForEachReadings}
+use Rattle.gc_station.specs.Scopes.{ForEachReadings, Reads, Scope}
 use Rattle.gc_station.specs.Watching.{watched_of}
 use Rattle.gc_station.specs.declared.tally.Tally.{Tally}
-use Rattle.gc_words.specs.declared.layout.Layout.{Layout}
+use Rattle.gc_measuring.specs.Labels.{AreSound}
 use Rattle.gc_measuring.specs.Measuring.{Survey, PortsSeen, RunsAfterFront, text_by}
 use Rattle.gc_measuring.specs.declared.stop.Stop.{Stop}
 use Rattle.gc_measuring.specs.declared.stop.Stop.TheVariants.{Run}
@@ -33,7 +31,7 @@ use Rattle.gc_promise.specs.Fields.{under, IsRowBy}
 -- A run.
 
 -- the scope of a run of this survey: at most how many acts it makes, what is watched, and what each reply says of its call
-abbrev pub scope_of : Survey → (Asked → List ℕ → Reading) → Scope
+abbrev pub scope_of : Survey → Reads → Scope
 scope_of survey reads = record { turns = survey.max_turns; watched = watched_of survey.plan.setup survey.tasks; reads = reads }
 
 -- the acts of a run, among those that its link recorded: all but the close after an output that failed
@@ -42,15 +40,15 @@ acts_measured (Err (Run Output)) recorded = take (length recorded - 1) recorded
 acts_measured _ recorded = recorded
 
 -- the records of a run by these acts
-abbrev pub records_in : Survey → (Asked → List ℕ → Reading) → List Act → List Record
+abbrev pub records_in : Survey → Reads → List Act → List Record
 records_in survey reads acts = (state_after survey.plan survey.tasks (scope_of survey reads) acts).records
 
 -- the parts of a run by these acts
-abbrev pub parts_in : Survey → (Asked → List ℕ → Reading) → List Act → List Part
+abbrev pub parts_in : Survey → Reads → List Act → List Part
 parts_in survey reads acts = parts survey.plan survey.tasks (scope_of survey reads) acts
 
 -- a run of this survey by these acts, on whose line this happened, as a program
-abbrev pub program_of : {State : Type 0} → Survey → (Asked → List ℕ → Reading) → List Act → List (field.Run State) → Program State
+abbrev pub program_of : {State : Type 0} → Survey → Reads → List Act → List (field.Run State) → Program State
 program_of survey reads acts happened = record { plan = survey.plan; commands = survey.tasks; scope = scope_of survey reads; acts = acts; runs = happened }
 
 -- a run of a station: what it measures, what was seen of its ports at its start and at its end, how it ended, and the acts that
@@ -62,8 +60,10 @@ pub record StationRun : Type 0 where
   pub result : Result Tally Stop
   pub recorded : List Act
 
--- the run is one as the contract of a station has it (`RunsAfterFront`), and its link had recorded no act before
+-- the run is one as the contract of a station has it (`RunsAfterFront`), its labels are as those of a text are, and its link had recorded no
+-- act before
 pub record IsStationRun (run : StationRun) : Type 0 where
+  pub labels : AreSound run.survey.labels
   pub none : run.old.acts ≡ Some []
   pub acts : run.new.acts ≡ Some run.recorded
   pub ran : RunsAfterFront run.survey run.old run.new run.result
@@ -73,11 +73,11 @@ abbrev pub acts_in : StationRun → List Act
 acts_in run = acts_measured run.result run.recorded
 
 -- the records of a run, where `reads` gives what replies say of their calls
-abbrev pub records_of_run : (Asked → List ℕ → Reading) → StationRun → List Record
+abbrev pub records_of_run : Reads → StationRun → List Record
 records_of_run reads run = records_in run.survey reads (acts_in run)
 
 -- the parts of a run
-abbrev pub parts_of_run : (Asked → List ℕ → Reading) → StationRun → List Part
+abbrev pub parts_of_run : Reads → StationRun → List Part
 parts_of_run reads run = parts_in run.survey reads (acts_in run)
 
 -- a run of a station in the field, with the bytes that its sink had before, what was in flight at its start, and what happened
@@ -90,7 +90,7 @@ pub record FieldRun (State : Type 0) : Type 0 where
 
 -- where `reads` gives what replies say of their calls, the run is one of a station (`IsStationRun`), and one in the field
 -- (`IsInField`). Its sink had taken the bytes `had` before
-pub record IsFieldRun {State : Type 0} (ends : Ends State) (kept : State → Option KeptReply) (reads : Asked → List ℕ → Reading) (x : FieldRun State) : Type 0 where
+pub record IsFieldRun {State : Type 0} (ends : Ends State) (kept : State → Option KeptReply) (reads : Reads) (x : FieldRun State) : Type 0 where
   pub is_run : IsStationRun x.run
   pub took : x.run.old.taken ≡ Some x.had
   pub in_field : IsInField ends AnyState kept x.in_flight (program_of x.run.survey reads (acts_in x.run) x.happened)
@@ -98,7 +98,7 @@ pub record IsFieldRun {State : Type 0} (ends : Ends State) (kept : State → Opt
 -- `Holds` is true of each run of a station in the field (`IsFieldRun`): for any instrument, where `reads` gives what replies say
 -- of their calls (`AreReadings`), all that a station measures and writes, and all that the line and the instrument may do
 -- meanwhile
-abbrev pub OfEachFieldRun : {State : Type 0} → (Ends State → (State → Option KeptReply) → (Asked → List ℕ → Reading) → FieldRun State → Type 0) → Type 0
+abbrev pub OfEachFieldRun : {State : Type 0} → (Ends State → (State → Option KeptReply) → Reads → FieldRun State → Type 0) → Type 0
 OfEachFieldRun {State = State} Holds =
     OfAnyInstrument {State = State} (λ ends Good kept. ForEachReadings (λ reads. (x : FieldRun State) → IsFieldRun ends kept reads x → Holds ends kept reads x))
 
@@ -120,7 +120,7 @@ pub record AreWritten (text : Record → List ℕ) (records : List Record) (resu
   pub part : IsPartOfNext text unwritten torn
 
 -- `AreWritten` holds of the records of a run, where `reads` gives what replies say of their calls
-abbrev pub AreWrittenIn : (reads : Asked → List ℕ → Reading) → StationRun → (torn : List ℕ) → Type 0
+abbrev pub AreWrittenIn : (reads : Reads) → StationRun → (torn : List ℕ) → Type 0
 AreWrittenIn reads run torn = AreWritten (text_by run.survey) (records_of_run reads run) run.result torn
 
 -- these are records, one for one and in order: each of `xs` has the relation `Is` to the record at its place
@@ -133,7 +133,7 @@ abbrev pub Answers : Type 1
 Answers = (place : ℕ) → Record → (line : List ℕ) → Type 0
 
 -- in a run in the field: those that are the record's own (`IsItsOwn`)
-abbrev pub own_lines : {State : Type 0} → Ends State → (Good : State → Type 0) → (kept : State → Option KeptReply) → (reads : Asked → List ℕ → Reading) → FieldRun State → Answers
+abbrev pub own_lines : {State : Type 0} → Ends State → (Good : State → Type 0) → (kept : State → Option KeptReply) → (reads : Reads) → FieldRun State → Answers
 own_lines ends Good kept reads x place r line = IsItsOwn ends Good kept x.run.survey.tasks (parts_of_run reads x.run) (stretches ends x.in_flight x.happened) r line
 
 -- Tables.
@@ -144,8 +144,8 @@ table_form false = Csv
 table_form true = Columns
 
 -- the rows that the header is: one; or none if the output has its header already (`headed`)
-abbrev pub head_rows : Layout → Bool → List (List (List ℕ))
-head_rows layout columns = if layout.headed then [] else header columns ∷ []
+abbrev pub head_rows : Survey → Bool → List (List (List ℕ))
+head_rows survey columns = if survey.layout.headed then [] else header columns survey.labels.columns ∷ []
 
 -- the toolchain's reader of comma-separated values gives these rows of these bytes, and reads on after them as at the start of
 -- a text
@@ -154,23 +154,23 @@ AreReadAs bytes rows = (behind : List ℕ) → records default_config (bytes ++ 
 
 -- what the sink of a run took, after what it had: a table, whose rows after the header are the run's records as far as these were
 -- written (`AreWrittenIn`), one for one and in order, each by a line that may have answered it
-pub record IsTable (CanAnswer : Answers) (columns : Bool) (reads : Asked → List ℕ → Reading) (run : StationRun) (had : List ℕ) : Type 0 where
+pub record IsTable (CanAnswer : Answers) (columns : Bool) (reads : Reads) (run : StationRun) (had : List ℕ) : Type 0 where
   pub bytes : List ℕ
   pub torn : List ℕ
   pub took : run.new.taken ≡ Some (had ++ (bytes ++ torn))
   pub are : AreWrittenIn reads run torn
   pub rows : List (List (List ℕ))
-  pub reads_as : AreReadAs bytes (head_rows run.survey.layout columns ++ rows)
+  pub reads_as : AreReadAs bytes (head_rows run.survey columns ++ rows)
   -- also in a file of --append: after earlier bytes, which a reader takes for `earlier`, it goes on with the table's rows
-  pub behind : (held : List ℕ) (earlier : List (List (List ℕ))) → AreReadAs held earlier → AreReadAs (held ++ bytes) (earlier ++ (head_rows run.survey.layout columns ++ rows))
-  pub one_for_one : AreOneForOne (λ n row r. IsRowBy (CanAnswer n r) columns (λ name. under name (header columns) row) run.survey (scope_of run.survey reads) (acts_in run) r) rows are.written
+  pub behind : (held : List ℕ) (earlier : List (List (List ℕ))) → AreReadAs held earlier → AreReadAs (held ++ bytes) (earlier ++ (head_rows run.survey columns ++ rows))
+  pub one_for_one : AreOneForOne (λ n row r. IsRowBy (CanAnswer n r) columns (λ name. under name (header columns run.survey.labels.columns) row) run.survey (scope_of run.survey reads) (acts_in run) r) rows are.written
 
 -- what the sink of run `x` took is a table, each row of which is its own
-abbrev pub IsOwnTable : {State : Type 0} → Ends State → (Good : State → Type 0) → (kept : State → Option KeptReply) → (columns : Bool) → (reads : Asked → List ℕ → Reading) → FieldRun State → Type 0
+abbrev pub IsOwnTable : {State : Type 0} → Ends State → (Good : State → Type 0) → (kept : State → Option KeptReply) → (columns : Bool) → (reads : Reads) → FieldRun State → Type 0
 IsOwnTable ends Good kept columns reads x = IsTable (own_lines ends Good kept reads x) columns reads x.run x.had
 
 -- if run `x` is written as a table, what its sink took is its own table
-abbrev pub HasOwnTable : {State : Type 0} → Ends State → (kept : State → Option KeptReply) → (reads : Asked → List ℕ → Reading) → FieldRun State → Type 0
+abbrev pub HasOwnTable : {State : Type 0} → Ends State → (kept : State → Option KeptReply) → (reads : Reads) → FieldRun State → Type 0
 HasOwnTable ends kept reads x = (columns : Bool) → x.run.survey.layout.form ≡ table_form columns → IsOwnTable ends AnyState kept columns reads x
 
 -- what a sink took of a run in the field is the run's own table, of each run that is written as a table (`OfEachFieldRun`)

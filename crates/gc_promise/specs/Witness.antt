@@ -1,14 +1,13 @@
 -- A run in the field with rows of answers: all that is asked in the law on rows holds of it at once.
 use Rattle.std.specs.Prelude.{◌≡◌, ℕ, Bool, true, false, List, [], Some, None, Ok, codes}
-use Rattle.gc_catalogue.specs.declared.answer.Reading.{Reading}
-use Rattle.gc_catalogue.specs.declared.asked.Asked.{Asked}
 use Rattle.gc_rows.specs.declared.record.Form.{Form}
 use Rattle.gc_rows.specs.declared.record.Form.TheVariants.{Csv, Json}
 use Rattle.gc_links.specs.Acts.{Act}
 use Rattle.gc_station.specs.Keeping.{Snapshot}
 use Rattle.gc_station.specs.Records.{Record, texts_of}
-use Rattle.gc_station.specs.Scopes.{ForEachAndSomeReadings}
+use Rattle.gc_station.specs.Scopes.{ForEachAndSomeReadings, Reads}
 use Rattle.gc_words.specs.declared.layout.Layout.{Layout}
+use Rattle.gc_measuring.specs.Labels.{LabelsSeen}
 use Rattle.gc_measuring.specs.Measuring.{Survey, PortsSeen, RunsAfterFront, text_in}
 use Rattle.gc_field.specs.Instrument.{AnyState, never_kept}
 use Rattle.gc_promise.specs.Eventful.{IsEventful, acts, at_start, commands, plan, program, records, reporting, runs, tally}
@@ -45,13 +44,17 @@ number_row = codes "1970-01-01T00:00:00.000Z,1970-01-01T00:00:00.410Z,1970-01-01
 abbrev pub unreadable_row : List ℕ
 unreadable_row = codes "1970-01-01T00:00:00.000Z,1970-01-01T00:00:00.410Z,1970-01-01T00:00:00.435Z,3,4,2,,5003,unreadable,15,0,0,,,1,\"%R1Q,5003,5:\"\n"
 
+-- the labels of a text that gives none
+abbrev pub no_labels : LabelsSeen
+no_labels = record { names = []; described = []; columns = [] }
+
 -- the run as a station measures it: its commands by its plan, written in this form
 abbrev pub survey : Form → Survey
-survey form = record { plan = plan; tasks = commands; max_turns = 200; layout = layout_in form; names = [] }
+survey form = record { plan = plan; tasks = commands; max_turns = 200; layout = layout_in form; labels = no_labels }
 
 -- what a sink takes of that run
 abbrev pub taken : Form → List ℕ
-taken form = texts_of (text_in (layout_in form) []) records
+taken form = texts_of (text_in (layout_in form) no_labels) records
 
 -- the ports of a station whose link recorded the acts `recorded` and whose sink took the bytes `taken`; `turns` is what was seen
 -- at each act
@@ -69,12 +72,12 @@ run_in form turns =
       happened = runs;
     }
 
-module _ (reads : Asked → List ℕ → Reading) where
+module _ (reads : Reads) where
   -- the row of a record is this text, and its own, with this line as its reply
   abbrev pub IsOwnText : Record → (row line : List ℕ) → Type 0
   IsOwnText r row line =
-      (text_in table_layout [] r ≡ row)
-      × IsRowOfLine reporting AnyState never_kept table_layout [] at_start (program reads) r line
+      (text_in table_layout no_labels r ≡ row)
+      × IsRowOfLine reporting AnyState never_kept table_layout no_labels at_start (program reads) r line
 
   -- the run is eventful, and the row of each command that a reply in time settled is its own: of both commands of the chain, of
   -- the one that was measured elsewhere, of a number, and of one whose values don't read

@@ -33,8 +33,9 @@ pub fn rows_are_their_own<State>()
     // command sets the clock and its request was sent, the request asked for the moment at which it was sent, cut to seconds. If a request
     // was sent, the row has its line, which an act of the run put at the moment of sending; else it has neither. If the outcome is that of
     // a reply, the row has the codes and values of a line that the instrument made on executing the request of
-    // this cycle and place; if it is `answered`, the quality of the answer, and, in a table with columns for them, its quantities;
-    // and if it is `unreadable`, the fault for which the line's values don't read.
+    // this cycle and place; if it is `answered`, the quality of the answer, and, in a table with columns for them, its quantities: those
+    // of the table's procedures, and, of a procedure that the text describes, the values of that line under the names that the description
+    // has for them, read by its kinds; and if it is `unreadable`, the fault for which the line's values don't read.
     ensures tables { TablesAreTheirOwn State }
 
     // The same of lines of JSON, where texts are bytes and numbers have 64 bits: a reader of JSON gives each line as an object,

@@ -35,6 +35,8 @@ pub(crate) struct Sent<'a> {
     /// Whether its bytes were altered; of a reply also whether those of the request were on which it was sent, or of the one that it
     /// answers.
     pub is_damaged: bool,
+    /// Whether it is a reply that the instrument sent late, after it had said busy.
+    pub is_late: bool,
 }
 
 /// Puts each line that a receiver reads of the bytes of a line that was sent at the back of a queue, where memory isn't refused for
@@ -61,6 +63,7 @@ fn arrive(queue: &mut VecDeque<Flight>, frame: Frame, sent: &Sent<'_>, is_damage
             arrives: sent.arrives,
             origin: sent.origin.copy(),
             is_damaged,
+            is_late: sent.is_late,
         },
     );
 }

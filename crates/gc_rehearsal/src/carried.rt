@@ -273,8 +273,8 @@ impl Carried {
         }
     }
 
-    /// Takes back the reply in flight that was sent last, so that it may arrive with other bytes. `None`: none is in flight, or the link
-    /// alters no bytes.
+    /// Takes back the reply in flight that was sent last, so that it may arrive with other bytes, or late. `None`: none is in flight, or the
+    /// link alters no bytes.
     pub fn take_back(&mut self) -> Option<Flight>
         ensures { self.new ≡ self.old }
     {
@@ -348,6 +348,7 @@ fn send(
             arrives,
             origin,
             is_damaged,
+            is_late: false,
         },
     );
 }

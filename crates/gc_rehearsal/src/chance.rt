@@ -33,6 +33,9 @@ pub trait Chance {
     /// request that reaches the instrument, about its reply, even if it makes none.
     fn fate(&mut self) -> Fate;
 
+    /// What happens to a reply that the instrument sends late, after it had said busy. Called once for each.
+    fn late_fate(&mut self) -> Fate;
+
     /// The bytes of a line, with its CR LF, as they arrive: some may be altered. Called once for each line of a link that alters bytes,
     /// after the line's fate was taken, unless the line is lost or cut.
     fn alter(&mut self, bytes: &[u8]) -> Altered

@@ -25,6 +25,8 @@ pub struct Counts {
     pub refusals: u64,
     /// Restarts of the instrument.
     pub restarts: u64,
+    /// Replies that the instrument sent late, after it had said busy.
+    pub late: u64,
 }
 
 impl Counts {
@@ -40,6 +42,7 @@ impl Counts {
             closes: 0,
             refusals: 0,
             restarts: 0,
+            late: 0,
         }
     }
 }

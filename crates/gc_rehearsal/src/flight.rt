@@ -51,6 +51,8 @@ pub(crate) struct Flight {
     // Whether its bytes were altered; of a reply also whether those of the request were on which it was sent, or of the one that it
     // answers.
     pub is_damaged: bool,
+    // Whether it is a reply that the instrument sent late, after it had said busy.
+    pub is_late: bool,
 }
 
 /// The line in these bytes, without its CR LF. `None`: the bytes don't end in CR LF, or the line has more than 512 bytes.
@@ -85,6 +87,7 @@ pub(crate) fn add_request(queue: &mut VecDeque<Flight>, bytes: &[u8], written: W
             asked: line_from(line),
         },
         is_damaged: false,
+        is_late: false,
     };
     add(queue, flight);
 }
@@ -101,6 +104,7 @@ pub(crate) fn repeat_last(queue: &mut VecDeque<Flight>)
         arrives: last.arrives,
         origin: last.origin.copy(),
         is_damaged: last.is_damaged,
+        is_late: last.is_late,
     };
     add(queue, again);
 }

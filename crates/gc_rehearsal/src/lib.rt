@@ -2,7 +2,8 @@
 //!
 //! [`Rehearsed`] is a [`Link`](gc_links::Link) as a socket is, so that a station runs over it unchanged. A [`Chance`] decides what
 //! happens to each line. Whatever it decides, lines keep their order, and each is lost whole or arrives whole, once or more times
-//! directly one after the other; unless the link was made as one that alters bytes, of which nothing is claimed.
+//! directly one after the other; unless the link was made as one that alters bytes, or whose instrument sends replies late, of which
+//! nothing is claimed.
 #![tactic(auto)]
 
 mod altering;
@@ -10,6 +11,7 @@ mod carried;
 mod chance;
 mod counts;
 mod flight;
+mod late;
 mod line_state;
 mod rehearsed;
 mod truth;

@@ -5,6 +5,7 @@ use crate::counts::Counts;
 use crate::flight::Flight;
 use crate::truth::Truth;
 use gc_links::Moment;
+use gc_values::{FILE_VALUES, filled_up};
 use std::alloc::Global;
 
 // The front of each request with an id.
@@ -18,6 +19,8 @@ const NULL_PROCEDURE: &[u8] = b"%R1Q,0,";
 pub(crate) enum Next {
     /// A request reaches the instrument at this moment.
     Request(u64),
+    /// The instrument sends a late reply at this moment.
+    Late(u64),
     /// A reply arrives at this moment.
     Reply(u64),
     /// The other end closes the connection at this moment.
@@ -84,12 +87,14 @@ impl LineState {
         self.truths.clear();
     }
 
-    /// The present moment, since the beginning of the run and since 1970. Nobody asks for the end of the run.
+    /// The present moment, since the beginning of the run and since 1970. Nobody asks for the end of the run, and each file has the value 1.0:
+    /// a rehearsal reads none.
     pub fn moment(&self) -> Moment {
         Moment {
             elapsed: self.now.saturating_sub(self.began),
             utc: self.start.saturating_add(self.now),
             stops: false,
+            values: [filled_up(b"1.0"); FILE_VALUES],
         }
     }
 
@@ -112,9 +117,16 @@ impl LineState {
     }
 
     /// The next event up to the moment `limit`, that moment included, if the next request and the next reply arrive at these
-    /// moments (`None`: none is in flight). Of events at the same moment a request is first, then the end, and then a reply.
-    /// Replies and the end come only on a connection that the station hasn't closed.
-    pub fn next(&self, request: Option<u64>, reply: Option<u64>, limit: u64) -> Next {
+    /// moments, and the instrument sends the next late reply at this one (`None`: there is none). Of events at the same moment a request is
+    /// first, then a late reply, then the end, and then a reply that arrives. Replies and the end come only on a connection that the
+    /// station hasn't closed.
+    pub fn next(
+        &self,
+        request: Option<u64>,
+        late: Option<u64>,
+        reply: Option<u64>,
+        limit: u64,
+    ) -> Next {
         let (reply, end) = if self.is_open {
             (reply, self.ends)
         } else {
@@ -122,12 +134,14 @@ impl LineState {
         };
         let reply = up_to(limit, reply);
         let end = up_to(reply.unwrap_or(limit), end);
-        let request = up_to(end.or(reply).unwrap_or(limit), request);
-        match (request, end, reply) {
-            (Some(moment), _, _) => Next::Request(moment),
-            (None, Some(moment), _) => Next::End(moment),
-            (None, None, Some(moment)) => Next::Reply(moment),
-            (None, None, None) => Next::Nothing,
+        let late = up_to(end.or(reply).unwrap_or(limit), late);
+        let request = up_to(late.or(end).or(reply).unwrap_or(limit), request);
+        match (request, late, end, reply) {
+            (Some(moment), _, _, _) => Next::Request(moment),
+            (None, Some(moment), _, _) => Next::Late(moment),
+            (None, None, Some(moment), _) => Next::End(moment),
+            (None, None, None, Some(moment)) => Next::Reply(moment),
+            (None, None, None, None) => Next::Nothing,
         }
     }
 
@@ -238,6 +252,11 @@ impl LineState {
         self.counts.altered = self.counts.altered.saturating_add(1);
     }
 
+    /// Counts a reply that the instrument sends late.
+    pub fn count_late(&mut self) {
+        self.counts.late = self.counts.late.saturating_add(1);
+    }
+
     /// Counts a reply that is lost because the reader has no room for it.
     pub fn count_lost(&mut self) {
         self.counts.lost = self.counts.lost.saturating_add(1);
@@ -251,6 +270,7 @@ impl LineState {
             arrives: _,
             origin,
             is_damaged,
+            is_late,
         } = flight;
         let truth = Truth {
             request: origin.request,
@@ -259,10 +279,23 @@ impl LineState {
             asked: origin.asked,
             reply: line,
             is_damaged,
+            is_late,
         };
         if self.truths.push(truth).is_err() {
             self.missing_truths = self.missing_truths.saturating_add(1);
         }
+    }
+}
+
+/// The next event at the instrument up to the moment `limit`, that moment included, if the next request reaches it at this moment, and it
+/// sends the next late reply at this one (`None`: there is none). Of both at the same moment the request is first.
+pub(crate) fn next_at_instrument(request: Option<u64>, late: Option<u64>, limit: u64) -> Next {
+    let late = up_to(limit, late);
+    let request = up_to(late.unwrap_or(limit), request);
+    match (request, late) {
+        (Some(moment), _) => Next::Request(moment),
+        (None, Some(moment)) => Next::Late(moment),
+        (None, None) => Next::Nothing,
     }
 }
 

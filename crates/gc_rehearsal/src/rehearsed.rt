@@ -11,11 +11,13 @@ use crate::carried::Carried;
 use crate::chance::{Chance, Fate};
 use crate::counts::Counts;
 use crate::flight::{Flight, Origin, Written, len_with_end, line_of};
-use crate::line_state::{LineState, Next};
+use crate::late::LateReplies;
+use crate::line_state::{LineState, Next, next_at_instrument};
 use crate::truth::Truth;
+use arrayvec::ArrayVec;
 use gc_lines::{PortFailed, line_from, with_end};
 use gc_links::{Came, Link, Moment, Note};
-use gc_scenes::SceneInstrument;
+use gc_scenes::{Delay, SceneInstrument};
 use std::alloc::Global;
 
 /// A link in memory, in simulated time, at whose other end the instrument of a scene is. Its chance decides what happens to
@@ -27,21 +29,28 @@ use std::alloc::Global;
 /// A link that alters bytes also asks its chance for the bytes of each line as they arrive. The instrument reads of them what its
 /// receiver does, and so does the station: a line whose CR LF is altered comes with the next one, or with a line feed in it only in
 /// part. What hasn't ended is lost at a close. Contracts see no acts of such a link (`carried` is `None`).
+///
+/// Only over such a link an instrument may send replies late. A request of a procedure with a delay is then answered at once, with its id
+/// and return code 13, busy. The reply itself is sent when the delay has passed, behind the replies to requests that came meanwhile, but not
+/// before late ones of earlier requests. Requests are executed when they come. A restart drops late replies that weren't sent.
 #[derive(Drop)]
 pub struct Rehearsed<C> {
     /// Decides what happens to each line.
     pub chance: C,
     carried: Carried,
+    late: LateReplies,
     state: LineState,
 }
 
 impl<C> Rehearsed<C> {
     /// A link without a connection, with nothing in flight, and with the instrument restarted. Its start, the moment 0, is `utc`
-    /// milliseconds after 1970. It alters bytes only if `alters` is true.
+    /// milliseconds after 1970. Only if `alters` is true, it may alter bytes, and the instrument sends the replies to the procedures of
+    /// `delays` late, each by the last delay of its procedure.
     pub fn new(
         alloc: Global,
         chance: C,
         instrument: SceneInstrument,
+        delays: ArrayVec<Delay, 32>,
         utc: u64,
         alters: bool,
     ) -> Rehearsed<C>
@@ -50,6 +59,7 @@ impl<C> Rehearsed<C> {
         Rehearsed {
             chance,
             carried: Carried::new(alloc, instrument, alters),
+            late: LateReplies::new(alloc, if alters { delays } else { ArrayVec::new() }),
             state: LineState::new(alloc, utc),
         }
     }
@@ -101,8 +111,9 @@ impl<C> Rehearsed<C> {
     // The next event up to the moment `limit`.
     fn next(&self, limit: u64) -> Next {
         let request = self.carried.request_due();
+        let late = self.late.due();
         let reply = self.carried.reply_due();
-        self.state.next(request, reply, limit)
+        self.state.next(request, late, reply, limit)
     }
 
     // A read during which nothing comes until the moment `limit`: sets the clock to it, and returns silence.
@@ -143,16 +154,17 @@ impl<C> Rehearsed<C> {
 }
 
 impl<C: Chance> Rehearsed<C> {
-    /// Lets this many milliseconds go by, as while no station runs. Requests in flight reach the instrument meanwhile, and
-    /// nothing is read.
+    /// Lets this many milliseconds go by, as while no station runs. Requests in flight reach the instrument meanwhile, it sends late
+    /// replies, and nothing is read.
     pub fn wait(&mut self, millis: u64)
         ensures { self.new.carried ≡ self.old.carried }
     {
         let limit = self.state.from_now(millis);
         // The bound is there so that the loop ends whatever the queue does.
         for _ in 0..u64::MAX {
-            match self.carried.request_due() {
-                Some(moment) if moment <= limit => self.reach(moment),
+            match next_at_instrument(self.carried.request_due(), self.late.due(), limit) {
+                Next::Request(moment) => self.reach(moment),
+                Next::Late(moment) => self.send_late(moment),
                 _ => break,
             }
         }
@@ -166,6 +178,7 @@ impl<C: Chance> Rehearsed<C> {
         if self.chance.restarts() {
             self.state.count_restart();
             self.carried.restart();
+            self.late.clear();
         }
     }
 
@@ -181,9 +194,47 @@ impl<C: Chance> Rehearsed<C> {
         self.carried.pass(self.state.now);
         let fate = self.chance.fate();
         let arrives = self.state.schedule_reply(fate);
+        if self.late.has_delays() {
+            self.answer_or_put_off(arrives, fate);
+            return;
+        }
         let answered = self.carried.hand_over(arrives);
         if answered && !fate.lost {
             self.send_reply(fate);
+        }
+    }
+
+    // Hands the next request to an instrument that sends some replies late, and sends what it says at once: its reply, or that it is busy.
+    // That arrives at the moment `arrives`, or is lost (`None`), by this fate.
+    fn answer_or_put_off(&mut self, arrives: Option<u64>, fate: Fate)
+        ensures { self.new.carried ≡ self.old.carried }
+    {
+        let now = self.state.now;
+        if !self.carried.hand_over(Some(arrives.unwrap_or(now))) {
+            return;
+        }
+        let Some(reply) = self.carried.take_back() else {
+            return;
+        };
+        let says = self.late.put_off(reply, now);
+        if arrives.is_some() {
+            self.alter_reply(&says, fate);
+        }
+    }
+
+    // Sends the next late reply at this moment, or now if that is later, with a fate of the chance, and counts it.
+    fn send_late(&mut self, moment: u64)
+        ensures { self.new.carried ≡ self.old.carried }
+    {
+        self.state.come_to(moment);
+        let Some(mut reply) = self.late.take() else {
+            return;
+        };
+        self.state.count_late();
+        let fate = self.chance.late_fate();
+        if let Some(arrives) = self.state.schedule_reply(fate) {
+            reply.arrives = arrives;
+            self.alter_reply(&reply, fate);
         }
     }
 
@@ -210,6 +261,7 @@ impl<C: Chance> Rehearsed<C> {
             arrives: reply.arrives,
             origin: &reply.origin,
             is_damaged: is_altered || reply.is_damaged,
+            is_late: reply.is_late,
         };
         if is_altered {
             self.state.count_altered();
@@ -227,6 +279,10 @@ impl<C: Chance> Rehearsed<C> {
         match self.next(limit) {
             Next::Request(moment) => {
                 self.reach(moment);
+                None
+            }
+            Next::Late(moment) => {
+                self.send_late(moment);
                 None
             }
             Next::Reply(moment) => self.give(moment, buf),
@@ -285,6 +341,7 @@ impl<C: Chance> Rehearsed<C> {
             arrives: written.arrives,
             origin: &origin,
             is_damaged,
+            is_late: false,
         };
         if is_damaged {
             self.state.count_altered();

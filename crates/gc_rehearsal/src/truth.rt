@@ -19,4 +19,6 @@ pub struct Truth {
     pub reply: Line,
     /// Whether bytes of the reply were altered on the way, or of the request on which it was sent, or of the one that it answers.
     pub is_damaged: bool,
+    /// Whether the instrument sent the reply late, after it had said busy.
+    pub is_late: bool,
 }

@@ -1,13 +1,13 @@
 -- What commands ask: their numbers lie in their types, and so do those of the date that a clock is set to, whatever the moment
--- is.
+-- is; and a request with values of files may be asked for, as any may.
 use Rattle.std.proofs.Common.{ℕ, ◌≤◌, ◌/◌, min, arith}
-use Rattle.std.proofs.lemmas.Bool.{cond_both}
 use Rattle.gc_catalogue.specs.Asked.{IsAskedFitting}
 use Rattle.gc_catalogue.specs.declared.asked.Asked.TheVariants.{Table}
 use Rattle.gc_catalogue.specs.declared.call.Call.TheVariants.{SetDate}
 use Rattle.gc_texts.specs.Stamps.{date_of, date_time}
 use Rattle.gc_texts.specs.declared.tasks.Task.{Task}
 use Rattle.gc_texts.proofs.LogStamps.{date_within}
+use Rattle.gc_texts.proofs.TaskMoments.{at_any_moment}
 use Rattle.gc_rehearsed.specs.Rehearsals.{IsAskable}
 
 -- the numbers of the call that sets the date to a moment lie in their types
@@ -21,4 +21,4 @@ date_fits utc =
 
 -- a command whose own call is allowed (`IsAskedFitting`) is `IsAskable`
 pub askable_at : (task : Task) → IsAskedFitting task.command.call → IsAskable task
-askable_at task fits utc = cond_both task.now (Table (SetDate (date_time utc))) task.command.call IsAskedFitting (λ _. date_fits utc) (λ _. fits)
+askable_at task fits occasion = at_any_moment IsAskedFitting task occasion (date_fits occasion.utc) (λ raw other is same. other.is) fits

@@ -8,7 +8,7 @@ use Rattle.gc_catalogue.specs.Asked.{asked_line}
 use Rattle.gc_client.specs.declared.window.TheConstants.{WINDOW}
 use Rattle.gc_scenes.specs.SceneState.{SceneState}
 use Rattle.gc_texts.specs.Tasks.{call_at}
-use Rattle.gc_station.specs.Parts.{sent_at}
+use Rattle.gc_station.specs.Parts.{occasion_in}
 use Rattle.gc_station.specs.Records.{Record}
 use Rattle.gc_world.proofs.Booked.{Has, has_at, has_more}
 use Rattle.gc_field.specs.Begin.{UnderWay, begins, left_by_turns}
@@ -77,7 +77,7 @@ module _ (es : List Exchange) (u : UnderWay SceneState) (x : Program SceneState)
       let s = own.of.stretch in
       let start = ids_begun s.from in
       let w = after_moves made.front start in
-      let call = call_at own.of.task (sent_at r) in
+      let call = call_at own.of.task (occasion_in own.of.expected r) in
       let e : Exchange = record {
         request = asked_line (Some made.id) call;
         before = w.wire.state;

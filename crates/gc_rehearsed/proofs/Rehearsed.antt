@@ -12,6 +12,7 @@ use Rattle.gc_station.specs.declared.plan.Plan.{Plan}
 use Rattle.gc_station.specs.Beginnings.{unanswered_after}
 use Rattle.gc_station.specs.Begun.{heard_in}
 use Rattle.gc_station.specs.Deciding.{has_begun, is_none_left}
+use Rattle.gc_station.specs.Marks.{occasion_of}
 use Rattle.gc_station.specs.Model.{Model, Performs, Runs, action_at, after, after_all, losing, moved, opening, waiting_of, with_progress}
 use Rattle.gc_station.specs.Parts as part
 use Rattle.gc_station.specs.Parts.{MarksAsk, MarkAsks, Part, sync_part, client_part, in_front, idle_part, parts_of, put_part, client_after, course_at}
@@ -139,7 +140,7 @@ client_happens h never w l n steps coming holds does on =
 asked_fits : (commands : List Task) (mark : Option _) (a : Wanted Asked) → AreAskable commands → MarkAsks commands mark a → IsAskedFitting a.call
 asked_fits commands None a askable is = subst (λ (x : Wanted Asked). IsAskedFitting x.call) (sym is) tt
 asked_fits commands (Some mark) a askable is =
-    subst (λ (x : Wanted Asked). IsAskedFitting x.call) (sym is.2) (all_at IsAskable commands mark.place is.0 askable is.1 mark.sent)
+    subst (λ (x : Wanted Asked). IsAskedFitting x.call) (sym is.2) (all_at IsAskable commands mark.place is.0 askable is.1 (occasion_of mark))
 
 -- by one send a client sends just that request, if its window has room
 sent_one : (c : ById Asked) (target : ℕ) (call : Asked) (deadline : ℕ) → length c.waiting < 7

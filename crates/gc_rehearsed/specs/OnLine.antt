@@ -9,7 +9,7 @@ use Rattle.gc_scenes.specs.SceneState.{SceneState}
 use Rattle.gc_texts.specs.Endings.{line_of}
 use Rattle.gc_texts.specs.Tasks.{call_at}
 use Rattle.gc_texts.specs.declared.tasks.Task.{Task}
-use Rattle.gc_station.specs.Parts.{Part, sent_at}
+use Rattle.gc_station.specs.Parts.{Part, occasion_in}
 use Rattle.gc_station.specs.Records.{Record}
 use Rattle.gc_field.specs.Begin.{UnderWay}
 use Rattle.gc_field.specs.Beginnings.{left_by_runs}
@@ -41,7 +41,7 @@ module _ (es : List Exchange) (commands : List Task) (ps : List Part) (ss : List
   pub record IsItsOwnOnLine (r : Record) (line : List ℕ) : Type 0 where
     pub own : IsItsOwn scene_ends KeptReplyReads scene_kept commands ps ss r line
     pub happened :
-        WasMadeOnLine es (ids_begun own.of.stretch.from) own.of.stretch.moves (8 + own.of.m) (call_at own.of.task (sent_at r)) line own.made_on
+        WasMadeOnLine es (ids_begun own.of.stretch.from) own.of.stretch.moves (8 + own.of.m) (call_at own.of.task (occasion_in own.of.expected r)) line own.made_on
 
   -- if a record is of a reply in time, its line was made on the rehearsed line, on executing its own request
   abbrev pub IsOwnOnLine : Record → Type 0

@@ -7,6 +7,7 @@ use Rattle.gc_links.specs.Acts.{Act}
 use Rattle.gc_scenes.specs.SceneState.{SceneState}
 use Rattle.gc_texts.specs.Tasks.{call_at}
 use Rattle.gc_texts.specs.declared.tasks.Task.{Task}
+use Rattle.gc_texts.specs.declared.occasion.Occasion.{Occasion}
 use Rattle.gc_station.specs.declared.plan.Plan.{Plan}
 use Rattle.gc_station.specs.Model.{Runs, opening}
 use Rattle.gc_station.specs.Runs.{state_after}
@@ -23,7 +24,7 @@ use Rattle.gc_rehearsed.specs.OnLine.{AllAreOnLine, AnswersAreOnLine}
 -- what a command asks is allowed, whenever it is sent: a call's numbers lie in their types, and a procedure that isn't in the
 -- table may be asked with its parameters (`IsAskedFitting`)
 abbrev pub IsAskable : Task → Type 0
-IsAskable task = (utc : ℕ) → IsAskedFitting (call_at task utc)
+IsAskable task = (occasion : Occasion) → IsAskedFitting (call_at task occasion)
 
 -- each of these commands is `IsAskable`
 abbrev pub AreAskable : List Task → Type 0

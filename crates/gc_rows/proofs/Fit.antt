@@ -1,8 +1,7 @@
 -- What the cells of a record hold can be written and read back, where its numbers have at most 64 bits, and its texts are of bytes.
-use Rattle.std.proofs.Common.{◌≡◌, ◌<◌, ◌^◌, ◌%◌, ◌==◌, ◌++◌, ◌∷◌, [], ℕ, ◌+◌, List, Bool, true, Option, Some, None, IfSome, length, map, refl, arith}
+use Rattle.std.proofs.Common.{◌≡◌, ◌<◌, ◌^◌, ◌%◌, ◌==◌, ◌++◌, ◌∷◌, [], ℕ, ◌+◌, List, Bool, true, Option, Some, None, IfSome, drop, get_or, length, inl, inr, refl, subst, sym, arith}
 use Rattle.std.specs.Prelude.{nat_lt, not, ◌&&◌}
 use Rattle.std.specs.List.{AllByRecursion}
-use Rattle.std.specs.Str.{bytes_eq}
 use Rattle.std.proofs.lemmas.Bool.{cond_both}
 use Rattle.gc_catalogue.specs.Answers.{answer_fields}
 use Rattle.gc_catalogue.specs.declared.answer.Answer.{Answer}
@@ -12,28 +11,37 @@ use Rattle.gc_catalogue.specs.declared.asked.Asked.TheVariants.{Table, Raw}
 use Rattle.gc_catalogue.proofs.RequestBytes.{request_lines_are_of_bytes}
 use Rattle.gc_catalogue.proofs.Table.{number_fits}
 use Rattle.gc_lines.proofs.Lists.{all_append}
+use Rattle.gc_values.specs.Item.{IsItem}
 use Rattle.gc_values.specs.Params.{quotes}
 use Rattle.gc_values.specs.ValueFault.{value_fault_number}
 use Rattle.gc_values.specs.declared.fault.ValueFault.{ValueFault}
 use Rattle.gc_values.specs.declared.fault.ValueFault.TheVariants.{Spelling, Range, OpenQuote, TooMany, Count}
+use Rattle.gc_values.specs.declared.value.Kind.{Kind}
 use Rattle.gc_values.specs.declared.value.Value.{Value}
 use Rattle.gc_values.specs.declared.value.Value.TheVariants as value
 use Rattle.gc_lines.specs.Numbers.{IsSmallNumber}
+use Rattle.gc_values.proofs.ItemLaws.{item_is_value}
 use Rattle.gc_texts.specs.Cuts.{before, behind}
-use Rattle.gc_texts.specs.Endings.{End, Answered, Unreadable, Elsewhere, Disagree, Unexpected, Late, Lost, Skipped, Missed, word_of, fault_of, line_of, quality_of, quality_text}
+use Rattle.gc_texts.specs.Descriptions.{DescriptionSeen}
+use Rattle.gc_texts.specs.Endings.{End, Answered, Unreadable, Elsewhere, Disagree, Unexpected, Late, Lost, Skipped, NoValue, Missed, word_of, fault_of, line_of, quality_of, quality_text}
+use Rattle.gc_texts.specs.Fields.{FieldSeen}
+use Rattle.gc_texts.specs.KindLists.{KindsSeen}
 use Rattle.gc_texts.specs.Logs.{AreBytes}
 use Rattle.gc_texts.specs.declared.quality.Quality.{Quality}
 use Rattle.gc_texts.specs.declared.quality.Quality.TheVariants.{Fine, Warning, Unconfirmed, Refused}
 use Rattle.gc_texts.proofs.Logs.{IsOfBytes, bytes_by_recursion, bytes_by_places}
-use Rattle.gc_rows.specs.Cells.{Blank, Bytes, Cell, Code, Content, Items, Moment, Quantity, Whole, cell, lookup}
-use Rattle.gc_rows.specs.Columns.{Entry, all_quantities, answer_of, bytes_content, cells_from, cells_if, cells_in, columns_after_run, counted_answer, end_cells, fault_content, first_columns, items_column, items_if_any, last_columns, line_content, line_sent, moment_content, split_content, value_cells}
+use Rattle.gc_rows.specs.Cells.{Blank, Bytes, Cell, Code, Content, Items, Moment, Quantity, Whole}
+use Rattle.gc_rows.specs.Columns.{Entry, answer_of, bytes_content, cells_after_run, cells_from, cells_if, cells_in, counted_answer, fault_content, first_columns, items_column, items_if_any, last_columns, line_content, line_sent, moment_content, quantity_cells, split_content, value_cells}
+use Rattle.gc_rows.specs.DescribedCells.{answer_kinds, cells_of_values, field_cells, field_cells_if}
 use Rattle.gc_rows.specs.Items.{items_if, items_of}
 use Rattle.gc_rows.specs.Laws.{IsReplyOfBytes, IsAnswerOfBytes, IsEndOfBytes, FitsIn64Bits}
-use Rattle.gc_rows.specs.Quantities.{column_of, quantity_names}
+use Rattle.gc_rows.specs.Quantities.{column_of}
+use Rattle.gc_rows.specs.ValueReading.{items_as, suits_count, values_of_items, values_read, values_with}
 use Rattle.gc_rows.specs.Rows.{com_of, code_of, values_of, procedure_of, request_sent}
 use Rattle.gc_rows.proofs.Columns.{reply_columns}
 use Rattle.gc_rows.proofs.Items.{AreTextsOfBytes, items_bytes}
 use Rattle.gc_rows.proofs.PlainNames.{is_plain_name, plain_bytes}
+use Rattle.gc_rows.proofs.ValueReading.{value_or_none}
 
 -- what a value holds is below 256, if it is a byte, and so is each byte of a text; of any other value nothing is asked
 abbrev pub HoldsBytes : Value → Type 0
@@ -125,6 +133,7 @@ outcome_plain (Unexpected line) = refl
 outcome_plain Late = refl
 outcome_plain Lost = refl
 outcome_plain Skipped = refl
+outcome_plain NoValue = refl
 outcome_plain Missed = refl
 
 -- the word of a quality passes the test `is_plain_name`
@@ -151,16 +160,6 @@ line_fit : (cut : List ℕ → Content) → ((line : List ℕ) → IsReplyOfByte
 line_fit cut each None is = tt
 line_fit cut each (Some line) is = each line is
 
--- what is looked up among fit cells is fit
-lookup_fit : (key : List ℕ) (cells : List Cell) → AreFit cells → IsFit (lookup key cells)
-lookup_fit key [] are = tt
-lookup_fit key (c ∷ cells) are = cond_both (bytes_eq c.name key) c.content (lookup key cells) IsFit (λ _. are.0) (λ _. lookup_fit key cells are.1)
-
--- the quantities under these names are fit, if the cells that hold some are
-quantities_fit : (cells : List Cell) → AreFit cells → (names : List (List ℕ)) → AreFit (map (λ name. cell name (lookup name cells)) names)
-quantities_fit cells are [] = tt
-quantities_fit cells are (name ∷ names) = (lookup_fit name cells are, quantities_fit cells are names)
-
 -- the cells of values that hold bytes are fit, if their text as it came is of bytes
 values_fit : (column : ℕ) (vs : List Value) (came : List ℕ) → AllByRecursion HoldsBytes vs → IsOfBytes came → AreFit (value_cells column vs came)
 values_fit column [] came hold bytes = tt
@@ -179,14 +178,80 @@ counted_of_bytes (Answered Warning answer line) is = is
 counted_of_bytes (Answered Refused answer line) is = is
 counted_of_bytes end is = tt
 
+-- a part of a text of bytes is of bytes
+part_bytes : (xs ys : List ℕ) → IsOfBytes (xs ++ ys) → IsOfBytes xs
+part_bytes [] ys are = tt
+part_bytes (x ∷ xs) ys are = (are.0, part_bytes xs ys are.1)
+
+-- the value that an item of bytes is holds bytes
+item_holds_bytes : (v : Value) (item : List ℕ) → IsItem item v → IsOfBytes item → HoldsBytes v
+item_holds_bytes (value.Double d) item is are = tt
+item_holds_bytes (value.Long z) item is are = tt
+item_holds_bytes (value.Short z) item is are = tt
+item_holds_bytes (value.Byte n) item is are = item_is_value (value.Byte n) item is
+item_holds_bytes (value.Bool b) item is are = tt
+item_holds_bytes (value.Text bytes) item is are = bytes_by_places bytes (part_bytes bytes (34 ∷ []) (subst IsOfBytes is.string.item_is are).1)
+
+-- the values that items of bytes were read as, if they were, hold bytes
+abbrev pub IfRead : List Kind → List (List ℕ) → Type 0
+IfRead ks items = IfSome (items_as ks items) (λ vs. AllByRecursion HoldsBytes vs)
+
+items_hold_bytes : (ks : List Kind) (items : List (List ℕ)) → AreTextsOfBytes items → IfRead ks items
+items_hold_bytes [] items are = tt
+items_hold_bytes (k ∷ ks) [] are = tt
+items_hold_bytes (k ∷ ks) (item ∷ items) are = elim (value_or_none k item) [
+  | inl none ↦ subst (λ o. IfSome (values_with o (items_as ks items)) (λ vs. AllByRecursion HoldsBytes vs)) (sym none) tt
+  | inr f ↦ subst (λ o. IfSome (values_with o (items_as ks items)) (λ vs. AllByRecursion HoldsBytes vs)) (sym f.1)
+      (with_others f.0 (item_holds_bytes f.0 item f.2.is_item are.0) (items_as ks items) (items_hold_bytes ks items are.1))
+] where
+  -- a value that holds bytes, and others that do, if there are others
+  with_others : (v : Value) → HoldsBytes v → (others : Option (List Value)) → IfSome others (λ vs. AllByRecursion HoldsBytes vs)
+      → IfSome (values_with (Some v) others) (λ vs. AllByRecursion HoldsBytes vs)
+  with_others v holds (Some vs) hold = (holds, hold)
+  with_others v holds None hold = tt
+
+-- so do those of parameters of bytes
+params_hold_bytes : (kinds : KindsSeen) (params : List ℕ) → IsOfBytes params → IfSome (values_read kinds params) (λ vs. AllByRecursion HoldsBytes vs)
+params_hold_bytes kinds params are = split_hold (quotes params % 2 == 0) (items_of params) (items_bytes params are) where
+  -- so do those of these items
+  split_hold : (paired : Bool) (items : List (List ℕ)) → AreTextsOfBytes items
+      → IfSome (values_of_items kinds (items_if paired items)) (λ vs. AllByRecursion HoldsBytes vs)
+  split_hold paired items are =
+      cond_both (paired && not (nat_lt 16 (length items))) (Some items) None (λ o. IfSome (values_of_items kinds o) (λ vs. AllByRecursion HoldsBytes vs))
+      (λ _. cond_both (suits_count kinds.more (length items) (length kinds.kinds)) (items_as kinds.kinds items) None (λ o. IfSome o (λ vs. AllByRecursion HoldsBytes vs))
+      (λ _. items_hold_bytes kinds.kinds items are) (λ _. tt)) (λ _. tt)
+
+-- the first of some texts of bytes is of bytes, and so are the others
+first_bytes : (texts : List (List ℕ)) → AreTextsOfBytes texts → IsOfBytes (get_or texts 0 []) × AreTextsOfBytes (drop 1 texts)
+first_bytes [] are = (tt, tt)
+first_bytes (t ∷ ts) are = (are.0, are.1)
+
+-- the cells of values that hold bytes are fit, if they came as texts of bytes
+fields_fit : (fields : List FieldSeen) (vs : List Value) (items : List (List ℕ)) → AllByRecursion HoldsBytes vs → AreTextsOfBytes items
+    → AreFit (field_cells fields vs items)
+fields_fit [] vs items hold are = tt
+fields_fit (f ∷ fs) [] items hold are = tt
+fields_fit (f ∷ fs) (v ∷ vs) items hold are = ((hold.0, (first_bytes items are).0), fields_fit fs vs (drop 1 items) hold.1 (first_bytes items are).1)
+
+-- so are those of values that were read, if they were
+read_fit : (fields : List FieldSeen) (vs : Option (List Value)) (items : List (List ℕ)) → IfSome vs (λ vs. AllByRecursion HoldsBytes vs) → AreTextsOfBytes items
+    → AreFit (field_cells_if fields vs items)
+read_fit fields (Some vs) items hold are = fields_fit fields vs items hold are
+read_fit fields None items hold are = tt
+
+-- so are those of an answer to a procedure that isn't in the table
+raw_fit : (described : Option DescriptionSeen) (values : List ℕ) → IsOfBytes values → AreFit (cells_of_values described values)
+raw_fit None values are = tt
+raw_fit (Some d) values are = read_fit d.values (values_read (answer_kinds d) values) (items_of values) (params_hold_bytes (answer_kinds d) values are) (items_bytes values are)
+
 -- the cells of an answer are fit, if it and its line are of bytes
-answer_fit : (asked : Asked) (answer : Option Answer) (line : Option (List ℕ)) → IfSome line IsReplyOfBytes → IfSome answer IsAnswerOfBytes
-    → AreFit (cells_if asked answer line)
-answer_fit (Table call) (Some answer) (Some line) reply is =
+answer_fit : (asked : Asked) (described : Option DescriptionSeen) (answer : Option Answer) (line : Option (List ℕ)) → IfSome line IsReplyOfBytes → IfSome answer IsAnswerOfBytes
+    → AreFit (cells_if asked described answer line)
+answer_fit (Table call) described (Some answer) (Some line) reply is =
     from_fit (column_of call answer) (answer_fields answer).values (values_of line) (answer_holds_bytes answer is) (values_bytes line reply.2)
-answer_fit (Raw raw) (Some answer) (Some line) reply is = tt
-answer_fit asked (Some answer) None reply is = tt
-answer_fit asked None line reply is = tt
+answer_fit (Raw raw) described (Some answer) (Some line) reply is = raw_fit described (values_of line) (values_bytes line reply.2)
+answer_fit asked described (Some answer) None reply is = tt
+answer_fit asked described None line reply is = tt
 
 -- the items of an answer are fit, if its line is of bytes
 items_fit : (asked : Asked) (answer : Option Answer) (line : Option (List ℕ)) → IfSome line IsReplyOfBytes → IsFit (items_if_any asked answer line)
@@ -202,7 +267,7 @@ items_fit asked None line reply = tt
 
 -- the cells of an object after `run` are fit, where the record's numbers have at most 64 bits, and its texts are of bytes
 pub each_fit : (r : Entry) → FitsIn64Bits r.when → AreBytes r.name → r.command.target < 2 ^ 64 → IsEndOfBytes r.end
-    → AreFit (cells_in columns_after_run r)
+    → AreFit (cells_after_run r)
 each_fit r is bytes target ended =
     let cut : (cut : List ℕ → Content) → ((l : List ℕ) → IsReplyOfBytes l → IsFit (cut l)) → IsFit (line_content cut (line_of r.end)) =
     λ cut each. line_fit cut each (line_of r.end) ended.0 in
@@ -216,13 +281,13 @@ each_fit r is bytes target ended =
     let fault = fault_fit (fault_of r.end) in
     let first : AreFit (cells_in first_columns r) =
     (sent, (is.utc, (is.cycle, (is.place, (target, (name, (procedure, (outcome, (fault, (rc_com, (rc, (values, tt)))))))))))) in
-    let cells = end_cells r.command.call r.end in
+    let cells = quantity_cells r in
     let counted = counted_of_bytes r.end ended.1 in
-    let quantities = quantities_fit cells (answer_fit r.command.call (counted_answer r.end) (line_of r.end) ended.0 counted) quantity_names in
+    let quantities = answer_fit r.command.call r.described (counted_answer r.end) (line_of r.end) ended.0 counted in
     let word = quality_text (quality_of r.end) in
     let quality = bytes_fit word (word_fit word (quality_plain (quality_of r.end))) in
     let request = bytes_fit (line_sent r) (request_bytes r.when.stamp.sent r.when.stamp.id r.command.call) in
     let items = items_fit r.command.call (counted_answer r.end) (line_of r.end) ended.0 in
     let behind = cells_in (items_column ∷ last_columns) r in
-    all_append (λ c. IsFit c.content) (cells_in first_columns r) (all_quantities cells ++ behind) first
-    (all_append (λ c. IsFit c.content) (all_quantities cells) behind quantities (items, (quality, (is.attempt, (request, tt)))))
+    all_append (λ c. IsFit c.content) (cells_in first_columns r) (cells ++ behind) first
+    (all_append (λ c. IsFit c.content) cells behind quantities (items, (quality, (is.attempt, (request, tt)))))

@@ -10,3 +10,12 @@ pub mod Items
 pub mod Fit
 pub mod Members
 pub mod ProcedureQuantities
+pub mod ValueReading
+pub mod NamedFields
+pub mod Apart
+pub mod DescribedNames
+pub mod DescribedColumns
+pub mod Finding
+pub mod FieldMembers
+pub mod ReadCounts
+pub mod Heads

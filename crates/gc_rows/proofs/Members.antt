@@ -1,12 +1,12 @@
 -- The members of a record's line are plain (`IsPlainMember`): their names are plain, their texts hold bytes, and their numbers
 -- are JSON's.
-use Rattle.std.proofs.Common.{◌≡◌, ◌<◌, ◌==◌, ◌++◌, ◌∷◌, ◌∙◌, [], ℕ, ◌+◌, List, Bool, true, false, cond, Some, None, length, drop, get_or, option_and_then, refl, sym, ap, subst, arith, append-nil}
-use Rattle.std.specs.Prelude.{codes}
+use Rattle.std.proofs.Common.{◌≡◌, ◌<◌, ◌≤◌, ◌≢◌, ◌==◌, ◌++◌, ◌∷◌, ◌∙◌, [], ℕ, ◌+◌, List, Bool, true, false, cond, inl, inr, Option, Some, None, length, drop, get_or, option_and_then, refl, sym, ap, subst, arith, append-nil}
+use Rattle.std.specs.Prelude.{codes, nat_lt, ◌&&◌}
 use Rattle.std.specs.Char.{is_ascii_digit}
 use Rattle.std.specs.Fmt.{decimal}
-use Rattle.std.specs.List.{AllByRecursion, prefix_len}
+use Rattle.std.specs.List.{AllByRecursion, list_all, prefix_len}
 use Rattle.std.specs.Str.Parse.{AllDigits}
-use Rattle.std.proofs.lemmas.Bool.{cond_both, eqb-true, eq-eqb, ne_eqb, false≢true, le-leb, and_from, and_parts}
+use Rattle.std.proofs.lemmas.Bool.{cases_Bool, cond_both, eqb-true, eq-eqb, ltb-true, ne_eqb, false≢true, le-leb, and_from, and_parts}
 use Rattle.std.proofs.lemmas.List.{drop_at}
 use Rattle.json.specs.Print.{IsNumber}
 use Rattle.json.specs.Word.{head, after_digits, after_whole, after_fraction, after_exponent, after_number}
@@ -21,17 +21,30 @@ use Rattle.gc_values.specs.declared.value.Value.TheVariants as value
 use Rattle.gc_values.proofs.Every.{every_weaker as all_on}
 use Rattle.gc_values.proofs.OneText.{whole_text_once, decimal_text_once}
 use Rattle.gc_lines.proofs.Lists.{all_append}
+use Rattle.gc_catalogue.specs.Answers.{answer_fields}
+use Rattle.gc_catalogue.specs.declared.answer.Answer.{Answer}
+use Rattle.gc_catalogue.specs.declared.asked.Asked.{Asked}
+use Rattle.gc_catalogue.specs.declared.asked.Asked.TheVariants.{Table, Raw}
+use Rattle.gc_texts.specs.Descriptions.{DescriptionSeen}
+use Rattle.gc_texts.specs.Endings.{line_of}
+use Rattle.gc_texts.specs.Fields.{FieldSeen, HaveNames, is_field_name, is_name_byte, is_small_letter}
 use Rattle.gc_texts.specs.Logs.{AreBytes}
 use Rattle.gc_texts.proofs.Logs.{IsOfBytes, bytes_by_places}
 use Rattle.gc_rows.specs.Cells.{Blank, Bytes, Cell, Code, Content, Items, Moment, Quantity, Whole, members_in, members_of, names_of}
-use Rattle.gc_rows.specs.Columns.{cells_in, columns_after_run}
+use Rattle.gc_rows.specs.Columns.{cells_after_run, cells_from, cells_if, cells_in, counted_answer, first_columns, items_column, last_columns, quantity_cells}
+use Rattle.gc_rows.specs.DescribedCells.{answer_kinds, cells_of_values, field_cells, field_cells_if}
+use Rattle.gc_rows.specs.Items.{items_of}
 use Rattle.gc_rows.specs.JsonLines.{Text, Number, without_zeros, value_members}
-use Rattle.gc_rows.specs.Laws.{IsPlainName, IsPlainMember, ArePlainMembers, RecordsHavePlainMembers}
+use Rattle.gc_rows.specs.Laws.{HasFieldNames, IsPlainName, IsPlainMember, ArePlainMembers, RecordsHavePlainMembers}
+use Rattle.gc_rows.specs.Quantities.{column_of}
+use Rattle.gc_rows.specs.Rows.{values_of}
+use Rattle.gc_rows.specs.ValueReading.{values_read}
 use Rattle.gc_rows.proofs.Fit.{AreFit, HoldsBytes, IsFit, each_fit}
 use Rattle.gc_rows.proofs.Items.{AreTextsOfBytes}
 use Rattle.gc_rows.proofs.JsonLines.{stamp_bytes}
 use Rattle.gc_rows.proofs.Plain.{same_digits}
 use Rattle.gc_rows.proofs.PlainNames.{are_plain_names, is_plain_name, plain_name, text_name_plain}
+use Rattle.gc_rows.proofs.Spreading.{each_spread}
 
 -- if no digit follows the digits `ds`, the run of digits at the front of `ds` and `rest` is as long as `ds`
 digits_run : (ds rest : List ℕ) → AreDigits ds → prefix_len is_ascii_digit rest ≡ 0 → prefix_len is_ascii_digit (ds ++ rest) ≡ length ds
@@ -134,14 +147,84 @@ content_plain name (Code digits) named is = ((named, code_number digits is.1.dig
 content_plain name (Quantity v came) named is = value_members_plain name v came named is.0 is.1
 content_plain name (Items items) named is = ((named, each_by_places items is), tt)
 
--- the members of cells are plain, if their names pass the test `is_plain_name`, and what they hold is fit
-cells_plain : (cells : List Cell) → are_plain_names (names_of cells) ≡ true → AreFit cells → ArePlainMembers (members_of cells)
+-- each of these cells has a plain name
+abbrev ArePlainlyNamed : List Cell → Type 0
+ArePlainlyNamed cells = AllByRecursion (λ c. IsPlainName c.name) cells
+
+-- cells whose names pass the test `is_plain_name` have plain names
+plainly_named : (cells : List Cell) → are_plain_names (names_of cells) ≡ true → ArePlainlyNamed cells
+plainly_named [] names = tt
+plainly_named (c ∷ cells) names =
+    let parts = and_parts (is_plain_name c.name) (are_plain_names (names_of cells)) names in (plain_name c.name parts.0, plainly_named cells parts.1)
+
+-- the members of cells are plain, if their names are, and what they hold is fit
+cells_plain : (cells : List Cell) → ArePlainlyNamed cells → AreFit cells → ArePlainMembers (members_of cells)
 cells_plain [] names are = tt
 cells_plain (c ∷ cells) names are =
-    let parts = and_parts (is_plain_name c.name) (are_plain_names (names_of cells)) names in
-    all_append IsPlainMember (members_in c.name c.content) (members_of cells) (content_plain c.name c.content (plain_name c.name parts.0) are.0) (cells_plain cells parts.1 are.1)
+    all_append IsPlainMember (members_in c.name c.content) (members_of cells) (content_plain c.name c.content names.0 are.0) (cells_plain cells names.1 are.1)
 
--- the law: each member of a record's line after the first is plain, if the record's numbers have at most 64 bits and its texts
--- are of bytes
+-- the name of a field is plain
+field_name_plain : (name : List ℕ) → is_field_name name ≡ true → IsPlainName name
+field_name_plain [] is = absurd (false≢true is)
+field_name_plain (b ∷ bs) is =
+    let parts = and_parts (is_small_letter b && nat_lt (length bs) 32) (list_all is_name_byte bs) is in
+    let letter = (and_parts (is_small_letter b) (nat_lt (length bs) 32) parts.0).0 in
+    (byte_plain b (letter_byte b letter), bytes_plain bs parts.1) where
+      -- a small letter may be in a name
+      letter_byte : (b : ℕ) → is_small_letter b ≡ true → is_name_byte b ≡ true
+      letter_byte b is = rw is refl
+
+      -- a byte of a name is printable, and neither a double quote nor a backslash
+      byte_plain : (b : ℕ) → is_name_byte b ≡ true → (32 ≤ b) × ((b ≢ 34) × (b ≢ 92))
+      byte_plain b is = elim (cases_Bool (is_small_letter b)) [
+        | inl letter ↦ let low = ltb-true 96 b (and_parts (nat_lt 96 b) (nat_lt b 123) letter).0 in (omega (arith, low), (λ e. omega (arith, low, e), λ e. omega (arith, low, e)))
+        | inr other ↦ elim (cases_Bool (nat_lt 47 b && nat_lt b 58)) [
+          | inl digit ↦
+              let parts = and_parts (nat_lt 47 b) (nat_lt b 58) digit in
+              let low = ltb-true 47 b parts.0 in
+              let high = ltb-true b 58 parts.1 in
+              (omega (arith, low), (λ e. omega (arith, low, e), λ e. omega (arith, high, e)))
+          | inr none ↦ let dash = eqb-true b 95 (sym (rw (other, none) refl) ∙ is) in (omega (arith, dash), (λ e. omega (arith, dash, e), λ e. omega (arith, dash, e)))
+        ]
+      ]
+
+      -- so are all bytes of a name
+      bytes_plain : (bs : List ℕ) → list_all is_name_byte bs ≡ true → IsPlainName bs
+      bytes_plain [] is = tt
+      bytes_plain (b ∷ bs) is = let parts = and_parts (is_name_byte b) (list_all is_name_byte bs) is in (byte_plain b parts.0, bytes_plain bs parts.1)
+
+-- the cells of fields with names have plain names
+fields_named : (fields : List FieldSeen) (vs : List Value) (items : List (List ℕ)) → HaveNames fields → ArePlainlyNamed (field_cells fields vs items)
+fields_named [] vs items named = tt
+fields_named (f ∷ fs) [] items named = tt
+fields_named (f ∷ fs) (v ∷ vs) items named = (field_name_plain f.name named.0, fields_named fs vs (drop 1 items) named.1)
+
+-- so have those of values that were read, if they were
+read_named : (fields : List FieldSeen) (vs : Option (List Value)) (items : List (List ℕ)) → HaveNames fields → ArePlainlyNamed (field_cells_if fields vs items)
+read_named fields (Some vs) items named = fields_named fields vs items named
+read_named fields None items named = tt
+
+-- so have those of an answer to a procedure that isn't in the table
+raw_named : (described : Option DescriptionSeen) (values : List ℕ) → HasFieldNames described → ArePlainlyNamed (cells_of_values described values)
+raw_named None values named = tt
+raw_named (Some d) values named = read_named d.values (values_read (answer_kinds d) values) (items_of values) named
+
+-- so have those of any answer, or none
+answer_named : (asked : Asked) (described : Option DescriptionSeen) (answer : Option Answer) (line : Option (List ℕ)) → HasFieldNames described
+    → ArePlainlyNamed (cells_if asked described answer line)
+answer_named (Table call) described (Some answer) (Some line) named =
+    plainly_named (cells_from (column_of call answer) (answer_fields answer).values (values_of line)) (each_spread call answer (values_of line)).plain
+answer_named (Raw raw) described (Some answer) (Some line) named = raw_named described (values_of line) named
+answer_named asked described (Some answer) None named = tt
+answer_named asked described None line named = tt
+
+-- the law: each member of a record's line after the first is plain, if the record's numbers have at most 64 bits, its texts are of
+-- bytes, and its description's columns have names of fields
 pub each_member_plain : RecordsHavePlainMembers
-each_member_plain r is bytes target ended = cells_plain (cells_in columns_after_run r) refl (each_fit r is bytes target ended)
+each_member_plain r is bytes target ended described =
+    let cells = quantity_cells r in
+    let behind = cells_in (items_column ∷ last_columns) r in
+    let first = cells_in first_columns r in
+    let names = all_append (λ c. IsPlainName c.name) first (cells ++ behind) (plainly_named first refl)
+    (all_append (λ c. IsPlainName c.name) cells behind (answer_named r.command.call r.described (counted_answer r.end) (line_of r.end) described) (plainly_named behind refl)) in
+    cells_plain (cells_after_run r) names (each_fit r is bytes target ended)

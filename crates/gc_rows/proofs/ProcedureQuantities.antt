@@ -48,6 +48,6 @@ wholes_under_their_names call = tt
 -- the law: each row has a field for each name of its header
 pub each_row_fills_its_columns : RowsFillTheirColumns
 each_row_fills_its_columns has_quantities r =
-    let columns = row_columns has_quantities in
+    let columns = row_columns has_quantities r.columns in
     let cells = cells_in columns r in
     length-map cells (λ c. field_of c.content) ∙ sym (length-map cells (λ c. c.name)) ∙ ap length (names_in columns r)

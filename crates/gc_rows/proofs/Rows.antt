@@ -33,7 +33,7 @@ three_written text front xs ys zs =
     ∙ ap (λ l. front ++ l) (sym (flat_map-append text xs (ys ++ zs) ∙ ap (λ l. x ++ l) (flat_map-append text ys zs)))
 
 -- empty fields, each after a comma, are as many commas
-blanks_text : (n : ℕ) → fields_behind_commas (replicate n []) ≡ replicate n 44
+pub blanks_text : (n : ℕ) → fields_behind_commas (replicate n []) ≡ replicate n 44
 blanks_text zero = refl
 blanks_text (suc n) = ap (λ l. 44 ∷ l) (blanks_text n)
 
@@ -126,7 +126,7 @@ pub rows_read_back : RowsReadBack
 rows_read_back = record {
   row = row_back;
   table = table_back;
-  names = (refl, refl);
+  names = λ columns. (refl, refl);
   once = escaped_injective;
 }
 

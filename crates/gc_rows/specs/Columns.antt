@@ -1,6 +1,6 @@
 -- Columns: the names under which a record holds something, in their order, and what it holds under each. They are the columns of a
 -- row and the members of an object, and this project's own.
-use Rattle.std.specs.Prelude.{ℕ, ◌+◌, Bool, true, false, List, [], ◌∷◌, ◌++◌, map, Option, Some, None, codes}
+use Rattle.std.specs.Prelude.{ℕ, ◌+◌, Bool, true, false, List, [], ◌∷◌, ◌++◌, map, Option, Some, None, option_map, codes}
 use Rattle.gc_catalogue.specs.Answers.{answer_fields}
 use Rattle.gc_catalogue.specs.declared.answer.Answer.{Answer}
 use Rattle.gc_catalogue.specs.declared.asked.Asked.{Asked}
@@ -9,11 +9,13 @@ use Rattle.gc_values.specs.ValueFault.{value_fault_number}
 use Rattle.gc_values.specs.declared.fault.ValueFault.{ValueFault}
 use Rattle.gc_values.specs.declared.value.Value.{Value}
 use Rattle.gc_texts.specs.Cuts.{before, behind}
+use Rattle.gc_texts.specs.Descriptions.{DescriptionSeen, description_seen}
 use Rattle.gc_texts.specs.Endings.{End, Answered, ending_seen, word_of, fault_of, line_of, quality_of, quality_text}
 use Rattle.gc_texts.specs.declared.quality.Quality.{Quality}
 use Rattle.gc_texts.specs.declared.quality.Quality.TheVariants.{Unconfirmed}
 use Rattle.gc_texts.specs.declared.wish.Wish.{Wish}
 use Rattle.gc_rows.specs.Cells.{Content, Blank, Bytes, Moment, Whole, Code, Quantity, Items, Cell, cell, fields_of, lookup, members_of}
+use Rattle.gc_rows.specs.DescribedCells.{cells_of_values}
 use Rattle.gc_rows.specs.Items.{split_items}
 use Rattle.gc_rows.specs.JsonLines.{Member}
 use Rattle.gc_rows.specs.Quantities.{column_of, quantity_name, quantity_names}
@@ -21,16 +23,26 @@ use Rattle.gc_rows.specs.Rows.{com_of, code_of, values_of, procedure_of, request
 use Rattle.gc_rows.specs.declared.record.EndedCommand.{EndedCommand}
 use Rattle.gc_rows.specs.declared.when.When.{When}
 
--- an entry is what a record is written of: when a command was sent and ended, the name of its target, the command, and how it ended
+-- an entry is what a record is written of: when a command was sent and ended, the name of its target, the command, how it ended, the
+-- description of its procedure, if it has one, and the names of the columns that the text's descriptions add to the table's
 pub record Entry : Type 0 where
   pub when : When
   pub name : List ℕ
   pub command : Wish
   pub end : End
+  pub described : Option DescriptionSeen
+  pub columns : List (List ℕ)
 
 -- a command that ended, as an entry
 abbrev pub entry_seen : EndedCommand → Entry
-entry_seen ended = record { when = ended.when; name = ended.name.now; command = ended.command.now; end = ending_seen ended.ending }
+entry_seen ended = record {
+  when = ended.when;
+  name = ended.name.now;
+  command = ended.command.now;
+  end = ending_seen ended.ending;
+  described = option_map (λ d. description_seen d.now) ended.described;
+  columns = map (λ n. n.items) ended.columns.now;
+}
 
 -- a column: its name, and what the record of an entry holds under it
 pub record Column : Type 0 where
@@ -89,23 +101,37 @@ abbrev pub cells_from : Option ℕ → List Value → (came : List ℕ) → List
 cells_from (Some first) values came = value_cells first values came
 cells_from None values came = []
 
--- the cells of the quantities of an answer to `asked`, which came in this line; none if the procedure isn't in the table
-abbrev pub answer_cells : Asked → Answer → (line : List ℕ) → List Cell
-answer_cells (Table call) answer line = cells_from (column_of call answer) (answer_fields answer).values (values_of line)
-answer_cells (Raw raw) answer line = []
+-- the cells of an answer to a procedure that isn't in the table, whose description this is, if it has one
+abbrev pub raw_cells : Option DescriptionSeen → (line : List ℕ) → List Cell
+raw_cells described line = cells_of_values described (values_of line)
+
+-- the cells of the quantities of an answer to `asked`, which came in this line: of a procedure that isn't in the table, those that its
+-- description names
+abbrev pub answer_cells : Asked → Option DescriptionSeen → Answer → (line : List ℕ) → List Cell
+answer_cells (Table call) described answer line = cells_from (column_of call answer) (answer_fields answer).values (values_of line)
+answer_cells (Raw raw) described answer line = raw_cells described line
 
 -- the cells of this answer in this line (`answer_cells`), if there are both
-abbrev pub cells_if : Asked → Option Answer → (line : Option (List ℕ)) → List Cell
-cells_if asked (Some answer) (Some line) = answer_cells asked answer line
-cells_if asked _ _ = []
+abbrev pub cells_if : Asked → Option DescriptionSeen → Option Answer → (line : Option (List ℕ)) → List Cell
+cells_if asked described (Some answer) (Some line) = answer_cells asked described answer line
+cells_if asked described _ _ = []
 
 -- the cells of a record's quantities
-abbrev pub end_cells : Asked → End → List Cell
-end_cells asked end = cells_if asked (counted_answer end) (line_of end)
+abbrev pub end_cells : Asked → Option DescriptionSeen → End → List Cell
+end_cells asked described end = cells_if asked described (counted_answer end) (line_of end)
 
--- a cell for each quantity: the one among these that has its name, or a blank one
+-- those of them that a description names
+abbrev pub named_cells : Asked → Option DescriptionSeen → End → List Cell
+named_cells (Table call) described end = []
+named_cells (Raw raw) described end = end_cells (Raw raw) described end
+
+-- a cell for each of these names: the one among these cells that has it, or a blank one
+abbrev pub cells_named : (names : List (List ℕ)) → List Cell → List Cell
+cells_named names cells = map (λ name. cell name (lookup name cells)) names
+
+-- a cell for each quantity (`cells_named`)
 abbrev pub all_quantities : List Cell → List Cell
-all_quantities cells = map (λ name. cell name (lookup name cells)) quantity_names
+all_quantities cells = cells_named quantity_names cells
 
 -- these items, if there are any
 abbrev pub split_content : Option (List (List ℕ)) → Content
@@ -125,6 +151,18 @@ items_if_any asked _ _ = Blank
 -- the items of a record
 abbrev pub items_content : Asked → End → Content
 items_content asked end = items_if_any asked (counted_answer end) (line_of end)
+
+-- the cells of the quantities of an entry's answer
+abbrev pub quantity_cells : Entry → List Cell
+quantity_cells r = end_cells r.command.call r.described r.end
+
+-- those of them that a description names
+abbrev pub described_part : Entry → List Cell
+described_part r = named_cells r.command.call r.described r.end
+
+-- the items of an entry's answer
+abbrev pub item_content : Entry → Content
+item_content r = items_content r.command.call r.end
 
 -- the request line of an entry, as it was sent, without CR LF; empty if none was sent
 abbrev pub line_sent : Entry → List ℕ
@@ -153,14 +191,22 @@ first_columns =
     ∷ column (codes "values") (λ r. line_content (λ line. Bytes (values_of line)) (line_of r.end))
     ∷ []
 
--- the columns of the quantities, where a record has them
-abbrev pub quantity_columns : (has_quantities : Bool) → List Column
-quantity_columns true = map (λ name. column name (λ r. lookup name (end_cells r.command.call r.end))) quantity_names
-quantity_columns false = []
+-- the columns of the quantities of the table's procedures
+abbrev pub table_columns : List Column
+table_columns = map (λ name. column name (λ r. lookup name (quantity_cells r))) quantity_names
+
+-- the columns with these names, which descriptions of procedures add to the table's
+abbrev pub new_columns : (names : List (List ℕ)) → List Column
+new_columns names = map (λ name. column name (λ r. lookup name (described_part r))) names
+
+-- the columns of the quantities, where a record has them: those of the table's procedures, and then those of these names
+abbrev pub quantity_columns : (has_quantities : Bool) → (names : List (List ℕ)) → List Column
+quantity_columns true names = table_columns ++ new_columns names
+quantity_columns false names = []
 
 -- the column of the items of an answer to a procedure that isn't in the table
 abbrev pub items_column : Column
-items_column = column (codes "items") (λ r. items_content r.command.call r.end)
+items_column = column (codes "items") (λ r. item_content r)
 
 -- the columns after all others: the quality of the answer, the attempt of the command's chain or, for a command of the setup, of the
 -- setup, and the request line as it was sent
@@ -171,17 +217,13 @@ last_columns =
     ∷ column (codes "request") (λ r. bytes_content (line_sent r))
     ∷ []
 
--- the columns of a row, with those of the quantities or without
-abbrev pub row_columns : (has_quantities : Bool) → List Column
-row_columns has_quantities = run_column ∷ (first_columns ++ (quantity_columns has_quantities ++ last_columns))
+-- the columns of a row, without those of the quantities, or with them and with those of these names
+abbrev pub row_columns : (has_quantities : Bool) → (names : List (List ℕ)) → List Column
+row_columns has_quantities names = run_column ∷ (first_columns ++ (quantity_columns has_quantities names ++ last_columns))
 
--- the columns of an object after the first, which is `run`
-abbrev pub columns_after_run : List Column
-columns_after_run = first_columns ++ (quantity_columns true ++ items_column ∷ last_columns)
-
--- the columns of an object
+-- the columns whose names an object may have, whatever the text describes
 abbrev pub object_columns : List Column
-object_columns = run_column ∷ columns_after_run
+object_columns = run_column ∷ (first_columns ++ (table_columns ++ items_column ∷ last_columns))
 
 -- Rows and objects.
 
@@ -191,8 +233,16 @@ cells_in columns r = map (λ c. cell c.name (c.holds r)) columns
 
 -- the fields of a record's row
 abbrev pub row_fields : (has_quantities : Bool) → Entry → List (List ℕ)
-row_fields has_quantities r = fields_of (cells_in (row_columns has_quantities) r)
+row_fields has_quantities r = fields_of (cells_in (row_columns has_quantities r.columns) r)
+
+-- the cells of a record's object after the first, which is `run`: those of its quantities are in the order of the answer's values
+abbrev pub cells_after_run : Entry → List Cell
+cells_after_run r = cells_in first_columns r ++ (quantity_cells r ++ cells_in (items_column ∷ last_columns) r)
 
 -- the members of a record's object after the first, which is `run`
 abbrev pub members_after_run : Entry → List Member
-members_after_run r = members_of (cells_in columns_after_run r)
+members_after_run r = members_of (cells_after_run r)
+
+-- the cells of a record's object
+abbrev pub object_cells : Entry → List Cell
+object_cells r = cells_in (run_column ∷ []) r ++ cells_after_run r

@@ -1,5 +1,5 @@
 -- Laws of the rows: this project's own, as the rows are.
-use Rattle.std.specs.Prelude.{◌≡◌, ◌≢◌, ◌<◌, ◌≤◌, ◌^◌, ℕ, List, [], ◌∷◌, ◌++◌, length, map, true, false, Some, IfSome, codes}
+use Rattle.std.specs.Prelude.{◌≡◌, ◌≢◌, ◌<◌, ◌≤◌, ◌^◌, ℕ, List, [], ◌∷◌, ◌++◌, length, map, true, false, Option, Some, IfSome, codes}
 use Rattle.std.specs.List.{AllByRecursion, flat_map}
 use Rattle.csv.specs.Machine.{next_record}
 use Rattle.csv.specs.Reading.{default_config, records_from}
@@ -7,7 +7,9 @@ use Rattle.json.specs.Json as json
 use Rattle.json.specs.Json.{document}
 use Rattle.json.specs.Print.{IsNumber}
 use Rattle.csv.specs.declared.parser.State.TheVariants.{StartRecord}
+use Rattle.gc_texts.specs.Descriptions.{DescriptionSeen}
 use Rattle.gc_texts.specs.Endings.{End, line_of}
+use Rattle.gc_texts.specs.Fields.{HaveNames}
 use Rattle.gc_catalogue.specs.Answers.{IsFittingAnswer}
 use Rattle.gc_catalogue.specs.declared.answer.Answer.{Answer}
 use Rattle.gc_catalogue.specs.declared.answer.Answer.TheVariants as answers
@@ -52,7 +54,7 @@ pub record RowsReadBack : Type 0 where
   pub table : (rows : List (List (List ℕ))) → AllByRecursion (λ fields. 1 < length fields) rows
       → records_from default_config (length rows) StartRecord (flat_map row_of rows) ≡ map (map escaped) rows
   -- what comes before all records is the row of the columns' names
-  pub names : (head_text Csv ≡ row_of (header false)) × (head_text Columns ≡ row_of (header true))
+  pub names : (columns : List (List ℕ)) → (head_text Csv columns ≡ row_of (header false columns)) × (head_text Columns columns ≡ row_of (header true columns))
   -- no two lists of bytes have one escaped form
   pub once : (xs ys : List ℕ) → AreBytes xs → AreBytes ys → escaped xs ≡ escaped ys → xs ≡ ys
 
@@ -121,9 +123,14 @@ pub record FitsIn64Bits (when : When) : Type 0 where
   pub place : when.stamp.turn.place < 2 ^ 64
   pub attempt : when.stamp.turn.attempt < 2 ^ 64
 
--- each member after the first of a record's line is plain (`IsPlainMember`), where the record's numbers have at most 64 bits, and its
--- texts are of bytes (`FitsIn64Bits`, `AreBytes`, `IsEndOfBytes`). With a run's moment of at most 64 bits `JsonLinesReadBack` speaks of
--- such a line
+-- the columns of a description, if there is one, have names of fields
+abbrev pub HasFieldNames : Option DescriptionSeen → Type 0
+HasFieldNames described = IfSome described (λ d. HaveNames d.values)
+
+-- each member after the first of a record's line is plain (`IsPlainMember`), where the record's numbers have at most 64 bits, its texts
+-- are of bytes (`FitsIn64Bits`, `AreBytes`, `IsEndOfBytes`), and its description's columns have names of fields. With a run's moment of at
+-- most 64 bits `JsonLinesReadBack` speaks of such a line
 abbrev pub RecordsHavePlainMembers : Type 0
 RecordsHavePlainMembers =
-    (r : Entry) → FitsIn64Bits r.when → AreBytes r.name → r.command.target < 2 ^ 64 → IsEndOfBytes r.end → ArePlainMembers (members_after_run r)
+    (r : Entry) → FitsIn64Bits r.when → AreBytes r.name → r.command.target < 2 ^ 64 → IsEndOfBytes r.end → HasFieldNames r.described
+    → ArePlainMembers (members_after_run r)

@@ -1,5 +1,5 @@
 -- What a reader gets of a record: under each name, what the record's cell of this name holds. This project's own.
-use Rattle.std.specs.Prelude.{◌≡◌, ℕ, ◌&&◌, Bool, true, not, List, [], ◌∷◌, ◌++◌, map, Option, Some, if◌then◌else◌, codes}
+use Rattle.std.specs.Prelude.{◌≡◌, ◌⊎◌, ℕ, ◌&&◌, Bool, true, not, List, [], ◌∷◌, ◌++◌, map, Option, None, Some, if◌then◌else◌, codes}
 use Rattle.std.specs.Fmt.{decimal}
 use Rattle.std.specs.List.{list_all, list_any}
 use Rattle.std.specs.Str.{bytes_eq}
@@ -8,10 +8,12 @@ use Rattle.json.specs.Json as json
 use Rattle.gc_lines.specs.Numbers.{IsSmallNumber}
 use Rattle.gc_texts.specs.Logs.{escaped}
 use Rattle.gc_texts.specs.Stamps.{stamp_text}
-use Rattle.gc_rows.specs.Cells.{Content, Blank, Bytes, Moment, Whole, Code, Quantity, Items, lookup}
-use Rattle.gc_rows.specs.Columns.{Entry, cells_in, members_after_run, object_columns, row_columns, row_fields}
+use Rattle.gc_texts.specs.ColumnNames.{are_columns, names_of_row}
+use Rattle.gc_texts.specs.Descriptions.{DescriptionSeen}
+use Rattle.gc_rows.specs.Cells.{Content, Blank, Bytes, Moment, Whole, Code, Quantity, Items, lookup, names_of}
+use Rattle.gc_rows.specs.Columns.{Entry, cells_in, members_after_run, object_cells, object_columns, row_columns, row_fields}
 use Rattle.gc_rows.specs.Laws.{record_read}
-use Rattle.gc_rows.specs.Quantities.{quantity_text}
+use Rattle.gc_rows.specs.Quantities.{quantity_names, quantity_text}
 use Rattle.gc_rows.specs.Records.{header}
 
 -- the field that is under a name, in a row whose fields are under these names; an empty one if there is no such name or
@@ -59,15 +61,30 @@ are_single names = list_all (λ name. is_single name names) names
 abbrev pub object_names : List (List ℕ)
 object_names = map (λ c. c.name) object_columns
 
+-- the columns of a description, if there is one, may be those of one answer, so that no two have one name, and none has a name that a
+-- record has whatever was answered (`are_columns`)
+abbrev pub HasColumns : Option DescriptionSeen → Type 0
+HasColumns None = Unit {0}
+HasColumns (Some d) = are_columns d.values ≡ true
+
+-- a name that a record has whatever was answered, or that of a quantity of the table
+abbrev pub IsKnownName : List ℕ → Type 0
+IsKnownName name = (is_among name names_of_row ≡ true) ⊎ (is_among name quantity_names ≡ true)
+
 -- a reader gets of a record under a name what the record's cell of this name holds
 pub record RecordsReadBack : Type 0 where
   -- in a row, under any name
   pub row :
       (has_quantities : Bool) (r : Entry) (name : List ℕ)
-      → IsShown (lookup name (cells_in (row_columns has_quantities) r)) (under name (header has_quantities) (map escaped (row_fields has_quantities r)))
+      → IsShown (lookup name (cells_in (row_columns has_quantities r.columns) r)) (under name (header has_quantities r.columns) (map escaped (row_fields has_quantities r)))
   -- in an object, under any name that at most one member has (`is_single`)
   pub object :
-      (r : Entry) (name : List ℕ) → is_single name object_names ≡ true
+      (r : Entry) (name : List ℕ) → is_single name (names_of (object_cells r)) ≡ true
+      → IsShown (lookup name (object_cells r)) (text_of (get_member name (record_read r.when.run (members_after_run r))))
+  -- in an object, under a name that an object may have whatever the text describes: one that each record has, or that of a quantity of
+  -- the table
+  pub known :
+      (r : Entry) (name : List ℕ) → HasColumns r.described → IsKnownName name
       → IsShown (lookup name (cells_in object_columns r)) (text_of (get_member name (record_read r.when.run (members_after_run r))))
-  -- each name of a column is such a name
+  -- no two columns have one name
   pub single : are_single object_names ≡ true

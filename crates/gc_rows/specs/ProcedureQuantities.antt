@@ -75,4 +75,4 @@ WholesHaveTheirNames =
 
 -- however a command ended, its row has a field for each name of the header, and no other
 abbrev pub RowsFillTheirColumns : Type 0
-RowsFillTheirColumns = (has_quantities : Bool) (r : Entry) → length (row_fields has_quantities r) ≡ length (header has_quantities)
+RowsFillTheirColumns = (has_quantities : Bool) (r : Entry) → length (row_fields has_quantities r) ≡ length (header has_quantities r.columns)

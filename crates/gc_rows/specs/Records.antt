@@ -50,19 +50,20 @@ record_of form ended = record_text form (entry_seen ended)
 abbrev pub first_names : List (List ℕ)
 first_names = map (λ c. c.name) (run_column ∷ first_columns)
 
--- the names of the columns of a row, with those of the quantities or without
-abbrev pub header : (has_quantities : Bool) → List (List ℕ)
-header has_quantities = map (λ c. c.name) (row_columns has_quantities)
+-- the names of the columns of a row, without those of the quantities, or with them and with these
+abbrev pub header : (has_quantities : Bool) → (columns : List (List ℕ)) → List (List ℕ)
+header has_quantities columns = map (λ c. c.name) (row_columns has_quantities columns)
 
--- what comes before all records: the names of the columns as a row, or nothing in the forms that have no columns
-abbrev pub head_text : Form → List ℕ
-head_text Lines = []
-head_text Json = []
-head_text Csv = row_of (header false)
-head_text Columns = row_of (header true)
+-- what comes before all records, where descriptions add columns with these names: the names of the columns as a row, or nothing in the
+-- forms that have no columns
+abbrev pub head_text : Form → (columns : List (List ℕ)) → List ℕ
+head_text Lines columns = []
+head_text Json columns = []
+head_text Csv columns = row_of (header false columns)
+head_text Columns columns = row_of (header true columns)
 
 -- the bytes that a file of records begins with: what comes before all records, which is nothing in the form `Lines`; or, in the form
 -- `Json`, the bytes that each line begins with
-abbrev pub form_sign : Form → List ℕ
-form_sign Json = codes "{\"run\":\""
-form_sign form = head_text form
+abbrev pub form_sign : Form → (columns : List (List ℕ)) → List ℕ
+form_sign Json columns = codes "{\"run\":\""
+form_sign form columns = head_text form columns

@@ -7,7 +7,7 @@ use Rattle.gc_catalogue.specs.Answers.{answer_fields}
 pub use Rattle.gc_catalogue.specs.Asked.{asked_line, procedure_of}
 use Rattle.gc_catalogue.specs.declared.answer.Answer.{Answer}
 use Rattle.gc_catalogue.specs.declared.asked.Asked.{Asked}
-use Rattle.gc_catalogue.specs.declared.asked.Asked.TheVariants.{Table, Raw}
+use Rattle.gc_catalogue.specs.declared.call.Call.{Call}
 use Rattle.gc_values.specs.declared.value.Value.{Value}
 use Rattle.gc_values.specs.ValueFault.{value_fault_number}
 use Rattle.gc_values.specs.declared.fault.ValueFault.{ValueFault}
@@ -103,8 +103,6 @@ abbrev pub columns_from : Option ℕ → (texts : List (List ℕ)) → List (Lis
 columns_from (Some first) texts = spread first texts
 columns_from None texts = replicate QUANTITIES []
 
--- the quantities of an answer to `asked`, each in its column; all columns are empty if the answer has no quantity, or the procedure
--- isn't in the table
-abbrev pub answer_columns : Asked → Answer → List (List ℕ)
-answer_columns (Table call) answer = columns_from (column_of call answer) (value_texts answer)
-answer_columns (Raw raw) answer = replicate QUANTITIES []
+-- the quantities of an answer to a call, each in its column; all columns are empty if the answer has no quantity
+abbrev pub answer_columns : Call → Answer → List (List ℕ)
+answer_columns call answer = columns_from (column_of call answer) (value_texts answer)

@@ -111,16 +111,29 @@ macro_rules! header {
     };
 }
 
-// The row of the columns' names, with those of the quantities.
-macro_rules! wide_header {
+// The row of the columns' names up to those of the quantities.
+macro_rules! wide_front {
     (
         [$run:literal $_run:ident]
         [$($first:literal $_first:ident = $_content:expr,)*]
         [$_column:ident; $($_place:literal $quantity:literal $_quantity:ident $_unit:literal,)*]
         $_items:tt
+        $_last:tt
+    ) => {
+        concat!($run, $(",", $first,)* $(",", $quantity,)*)
+    };
+}
+
+// The row of the columns' names after those of the quantities.
+macro_rules! header_end {
+    (
+        $_run:tt
+        $_first:tt
+        $_quantities:tt
+        $_items:tt
         [$($last:literal $_last:ident = $_end:expr,)*]
     ) => {
-        concat!($run, $(",", $first,)* $(",", $quantity,)* $(",", $last,)* "\n")
+        concat!($(",", $last,)* "\n")
     };
 }
 
@@ -188,8 +201,11 @@ macro_rules! all_columns {
 /// The row of the columns' names, with its line feed, without those of the quantities.
 pub(crate) const HEADER: &str = columns!(header, ended, reply, request, column);
 
-/// The row of the columns' names, with its line feed and those of the quantities.
-pub(crate) const WIDE_HEADER: &str = columns!(wide_header, ended, reply, request, column);
+/// The row of the columns' names with those of the quantities, up to these.
+pub(crate) const WIDE_FRONT: &str = columns!(wide_front, ended, reply, request, column);
+
+/// What follows `WIDE_FRONT` and the names of the columns that descriptions add, with the line feed.
+pub(crate) const HEADER_END: &str = columns!(header_end, ended, reply, request, column);
 
 /// All columns of rows and members of objects, in their order: `items` is of objects alone.
 pub const COLUMNS: [Column; 41] = columns!(all_columns, ended, reply, request, column);

@@ -1,18 +1,21 @@
-//! Lines of JSON: a record as one object. Its quantities are members by their names, as numbers and as the reply wrote them; the values
-//! of a procedure that isn't in the table are one list of items.
+//! Lines of JSON: a record as one object. Its quantities are members by their names, as numbers and as the reply wrote them; so are the
+//! values that a description names of a procedure that isn't in the table, whose values are also one list of items.
 
-ghost use Rattle.std.specs.Prelude.{◌≡◌, ℕ, ◌+◌, ◌*◌, ◌≤◌, ◌<◌, ◌++◌, codes, false, length, map};
+ghost use Rattle.std.specs.Prelude.{◌≡◌, ℕ, ◌+◌, ◌*◌, ◌≤◌, ◌<◌, ◌++◌, Some, codes, false, length, map, option_map};
 ghost use Rattle.std.specs.List.{flat_map};
 ghost use Rattle.arrayvec.specs.ArrayVec.{array_vec_len};
 ghost use Rattle.gc_catalogue.specs.Answers.{answer_fields};
-ghost use Rattle.gc_rows.specs.Items.{split_items};
+ghost use Rattle.gc_rows.specs.Items.{items_of, split_items};
 ghost use Rattle.gc_values.specs.Params.{total_length};
-ghost use Rattle.gc_texts.specs.Endings.{ending_seen};
+ghost use Rattle.gc_texts.specs.Descriptions.{description_seen};
+ghost use Rattle.gc_texts.specs.Fields.{field_seen};
 ghost use Rattle.gc_rows.specs.declared.cell.TheConstants.{NAME_ROOM};
 ghost use Rattle.gc_rows.specs.declared.quantity.TheConstants.{QUANTITIES};
-ghost use Rattle.gc_rows.specs.declared.json_line.TheConstants.{TEXT_ROOM, OWN_ROOM, STRINGS_ROOM, LIST_ROOM, ANSWER_ROOM};
+ghost use Rattle.gc_rows.specs.declared.json_line.TheConstants.{TEXT_ROOM, OWN_ROOM, STRINGS_ROOM, LIST_ROOM, VALUES_ROOM, ANSWER_ROOM};
 ghost use Rattle.gc_rows.specs.Cells.{AreShort, IsShortContent, cell_seen, content_seen, member_room, members_in, members_of, members_room};
-ghost use Rattle.gc_rows.specs.Columns.{answer_cells, cells_from, end_cells, items_content, line_items, split_content, value_cells};
+ghost use Rattle.gc_rows.specs.Columns.{answer_cells, cells_from, entry_seen, item_content, line_items, quantity_cells, split_content, value_cells};
+ghost use Rattle.gc_rows.specs.DescribedCells.{answer_kinds, cells_of_values, described_cells, field_cells};
+ghost use Rattle.gc_rows.specs.ValueReading.{values_read};
 ghost use Rattle.gc_rows.specs.JsonLines.{behind_backslash, member_front, string_text, text_member, number_member, comma_where, strings_text, texts_member, members_text, without_zeros, value_members};
 ghost use Rattle.gc_rows.specs.Quantities.{column_of};
 ghost use Rattle.gc_rows.specs.Records.{record_of};
@@ -21,17 +24,19 @@ ghost use Rattle.gc_rows.specs.declared.record.Form.TheVariants.{Json};
 
 use crate::cell::{Cell, Content, NAME_ROOM, request_line, texts_of};
 use crate::column::{first_cells, last_cells, quantity_name};
-use crate::quantity::{MOST_VALUES, QUANTITY_ROOM, answer_values, column_of, quantity_text};
+use crate::counted::counted_answer;
+use crate::described::described_values;
+use crate::quantity::{QUANTITY_ROOM, answer_values, column_of, quantity_text};
 use crate::record::EndedCommand;
 use arrayvec::ArrayVec;
 use gc_catalogue::{Answer, Asked, Call};
 use gc_lines::{Line, append};
-use gc_texts::{Ending, Quality, before, behind, escaped, stamp_text};
-use gc_values::{Items, Value, split};
+use gc_texts::{Description, Field, before, behind, escaped, stamp_text};
+use gc_values::{Items, MOST_ITEMS, Value, split};
 use itoa::Buffer;
 
 /// The most bytes of a line of JSON.
-pub(crate) const JSON_ROOM: usize = 20_480;
+pub(crate) const JSON_ROOM: usize = 29_696;
 
 // The most bytes of a member that is a string, besides those within its quotes. Each byte that the string holds takes at most
 // eight: it may be escaped as four, and each of these come after a backslash.
@@ -48,9 +53,11 @@ const STRINGS_ROOM: usize = 8 * 512 + 3 * 16;
 // The most bytes of the member `items`: its name, the brackets, and the strings.
 const LIST_ROOM: usize = NAME_ROOM + 2 + STRINGS_ROOM;
 
-// The most bytes of the members of an answer, which are those of its values, of which the reply wrote 512 bytes together, or the list
-// of its items.
-const ANSWER_ROOM: usize = MOST_VALUES * OWN_ROOM + 8 * 512;
+// The most bytes of the members of up to 16 values, of which the reply wrote 512 bytes together.
+const VALUES_ROOM: usize = MOST_ITEMS * OWN_ROOM + 8 * 512;
+
+// The most bytes of the members of an answer: those of its values, and the list of its items.
+const ANSWER_ROOM: usize = VALUES_ROOM + LIST_ROOM;
 
 // Appends a text with a backslash before each double quote and each backslash.
 fn append_behind_backslashes<const N: usize>(line: &mut ArrayVec<u8, N>, text: &[u8])
@@ -257,33 +264,102 @@ fn append_columns<const N: usize>(
     }
 }
 
-// Appends the members of an answer to `asked`; `reply` is the line in which the answer came. Of a call of the table they are the answer's
-// quantities, and of any other procedure the items of the line's values.
+// Appends values, each under the name of its field. `came` are the same values as the reply's line has them.
+fn append_fields<const N: usize>(
+    line: &mut ArrayVec<u8, N>,
+    fields: &[Field],
+    values: &[Value],
+    came: &Items<'_>,
+)
+    requires few { length fields.now ≤ 16 }
+    requires all { length values.now ≡ length fields.now }
+    requires written { length fields.now ≤ length came.now }
+    requires short { total_length came.now ≤ 512 }
+    requires room { array_vec_len line.old + VALUES_ROOM ≤ N }
+    ensures { Adds line.old.items line.new.items (members_text (members_of (field_cells (map field_seen fields.now) values.now came.now))) VALUES_ROOM }
+{
+    for (k, field) in fields.iter().enumerate() {
+        append_value(line, field.name.as_slice(), &values[k], came.get(k));
+    }
+}
+
+// Appends the values of an answer to a procedure that is described so (`append_fields`), which were read of `came`, the values as the reply's
+// line has them.
+fn append_read<const N: usize>(
+    line: &mut ArrayVec<u8, N>,
+    description: &Description,
+    values: &[Value],
+    came: &[u8],
+)
+    requires read { values_read (answer_kinds (description_seen description.now)) came.now ≡ Some values.now }
+    requires short { length came.now ≤ 512 }
+    requires room { array_vec_len line.old + VALUES_ROOM ≤ N }
+    ensures { Adds line.old.items line.new.items (members_text (members_of (field_cells (map field_seen description.now.values.items) values.now (items_of came.now)))) VALUES_ROOM }
+{
+    match split(came) {
+        Ok(items) => append_fields(line, description.values.as_slice(), values, &items),
+        Err(_) => {}
+    }
+}
+
+// Appends the members of an answer to a procedure that is described so, which are the values that the description names; nothing if they
+// aren't of its kinds. `came` are the answer's values as the reply's line has them, with the commas between them.
+fn append_described<const N: usize>(
+    line: &mut ArrayVec<u8, N>,
+    description: &Description,
+    came: &[u8],
+)
+    requires short { length came.now ≤ 512 }
+    requires room { array_vec_len line.old + VALUES_ROOM ≤ N }
+    ensures { Adds line.old.items line.new.items (members_text (members_of (described_cells (description_seen description.now) came.now))) VALUES_ROOM }
+{
+    match described_values(description, came) {
+        Some(values) => append_read(line, description, &values, came),
+        None => {}
+    }
+}
+
+// Appends the members of an answer to a procedure that isn't in the table: the values that its description names, if it has one, and the
+// list of the items. `came` are the answer's values as the reply's line has them.
+fn append_raw<const N: usize>(
+    line: &mut ArrayVec<u8, N>,
+    described: Option<&Description>,
+    came: &[u8],
+)
+    requires short { length came.now ≤ 512 }
+    requires room { array_vec_len line.old + ANSWER_ROOM ≤ N }
+    ensures { Adds line.old.items line.new.items (members_text (members_of (cells_of_values (option_map (λ d. description_seen d.now) described.entry) came.now) ++ members_in (codes "items") (split_content (split_items came.now)))) ANSWER_ROOM }
+{
+    if let Some(description) = described {
+        append_described(line, description, came);
+    }
+    append_items(line, came);
+}
+
+// Appends the members of an answer to what a command asked; `reply` is the line in which the answer came. Of a call of the table they are
+// the answer's quantities, and of any other procedure the values that its description names and the items of the line's values.
 fn append_answer<const N: usize>(
     line: &mut ArrayVec<u8, N>,
-    asked: &Asked,
+    ended: EndedCommand<'_>,
     answer: &Answer,
     reply: &Line,
 )
     requires { array_vec_len line.old + ANSWER_ROOM ≤ N }
-    ensures { Adds line.old.items line.new.items (members_text (members_of (answer_cells asked.now answer.now reply.now.items) ++ members_in (codes "items") (line_items asked.now reply.now.items))) ANSWER_ROOM }
+    ensures { Adds line.old.items line.new.items (members_text (members_of (answer_cells ended.entry.command.now.call (entry_seen ended.entry).described answer.now reply.now.items) ++ members_in (codes "items") (line_items ended.entry.command.now.call reply.now.items))) ANSWER_ROOM }
 {
-    match asked {
+    match &ended.command.call {
         Asked::Table(call) => append_columns(line, call, answer, texts_of(reply).values),
-        Asked::Raw(_) => append_items(line, texts_of(reply).values),
+        Asked::Raw(_) => append_raw(line, ended.described, texts_of(reply).values),
     }
 }
 
-// Appends the quantities or the items of the answer that an ending has; nothing if the ending isn't `Answered`, has no answer
-// (`None`), or one that is unconfirmed.
-fn append_quantities<const N: usize>(line: &mut ArrayVec<u8, N>, asked: &Asked, ending: Ending<'_>)
+// Appends the quantities and the items of the answer that counts of a command (`counted_answer`); nothing if there is none.
+fn append_quantities<const N: usize>(line: &mut ArrayVec<u8, N>, ended: EndedCommand<'_>)
     requires { array_vec_len line.old + ANSWER_ROOM ≤ N }
-    ensures { Adds line.old.items line.new.items (members_text (members_of (end_cells asked.now (ending_seen ending.entry)) ++ members_in (codes "items") (items_content asked.now (ending_seen ending.entry)))) ANSWER_ROOM }
+    ensures { Adds line.old.items line.new.items (members_text (members_of (quantity_cells (entry_seen ended.entry)) ++ members_in (codes "items") (item_content (entry_seen ended.entry)))) ANSWER_ROOM }
 {
-    match ending {
-        Ending::Answered(Quality::Unconfirmed, ..) => {}
-        Ending::Answered(_, Some(answer), reply) => append_answer(line, asked, answer, reply),
-        _ => {}
+    if let Some((answer, reply)) = counted_answer(ended.ending) {
+        append_answer(line, ended, answer, reply);
     }
 }
 
@@ -297,7 +373,7 @@ pub(crate) fn json_line(ended: EndedCommand<'_>) -> ArrayVec<u8, JSON_ROOM>
     append(&mut line, b"{\"run\":");
     append_string(&mut line, &stamp_text(ended.when.run));
     append_cells(&mut line, &first_cells(ended));
-    append_quantities(&mut line, &ended.command.call, ended.ending);
+    append_quantities(&mut line, ended);
     append_cells(&mut line, &last_cells(ended, &request));
     append(&mut line, b"}\n");
     line

@@ -1,7 +1,9 @@
 //! What is proved of the definitions themselves. The functions have no effect: their contracts are the laws.
 
 ghost use Rattle.gc_rows.specs.ProcedureQuantities.{QuantitiesHaveTheirNames, WholesHaveTheirNames, RowsFillTheirColumns};
+ghost use Rattle.gc_rows.specs.DescribedColumns.{AddedColumnsFollow, DescribedColumnsHoldTheirValues};
 ghost use Rattle.gc_rows.specs.Lookup.{RecordsReadBack};
+ghost use Rattle.gc_rows.specs.ReadValues.{ValuesAreRead};
 ghost use Rattle.gc_rows.specs.Laws.{ColumnsAreFields, ItemsAreTheGrammars, RowsReadBack, RowsArePrintable, JsonLinesReadBack, RecordsHavePlainMembers};
 
 /// The columns `rc_com`, `rc` and `values` of a record are the fields of the reply's line: its communication code, its return
@@ -57,4 +59,22 @@ pub fn rows_fill_their_columns()
 /// they are no text.)
 pub fn records_read_back()
     ensures { RecordsReadBack }
+{}
+
+/// Parameters are read as values of the kinds (`values_read`) exactly if the tables of kinds say so.
+pub fn values_are_read_by_kinds()
+    ensures { ValuesAreRead }
+{}
+
+/// Under each column of a quantity, of the table's and of those that descriptions add, a reader finds of an answer to a described
+/// procedure the value that the description gives this name, and nothing if it gives none; and so under the description's names in an
+/// object. Where no answer counts, and under the added columns of a call of the table, a row has nothing.
+pub fn described_columns_hold_their_values()
+    ensures { DescribedColumnsHoldTheirValues }
+{}
+
+/// The columns that descriptions add follow those of the table's quantities, in their order, before the last ones. No two columns have one
+/// name, if the added ones are new and distinct.
+pub fn added_columns_follow()
+    ensures { AddedColumnsFollow }
 {}

@@ -3,6 +3,8 @@
 
 mod cell;
 mod column;
+mod counted;
+mod described;
 mod json_line;
 pub mod laws;
 mod quantity;
@@ -11,5 +13,5 @@ mod row;
 mod when;
 
 pub use column::{COLUMNS, Column, Kind};
-pub use record::{EndedCommand, Form, head, sign, write_head, write_record};
+pub use record::{EndedCommand, Form, Head, head, sign, write_head, write_record};
 pub use when::When;

@@ -1,20 +1,22 @@
 //! Records: how a command ended, with its moments, as a line, a row of comma-separated values, or a line of JSON.
 
-ghost use Rattle.std.specs.Prelude.{◌≡◌, ℕ, ◌+◌, ◌≤◌, ◌++◌, length, option_map};
+ghost use Rattle.std.specs.Prelude.{◌≡◌, ℕ, ◌+◌, ◌*◌, ◌≤◌, ◌++◌, length, map, option_map};
 ghost use Rattle.gc_lines.specs.Ports.{FailsWith, TakesText};
 ghost use Rattle.gc_texts.specs.Endings.{ending_seen};
-ghost use Rattle.gc_rows.specs.declared.record.TheConstants.{FAULT_ROOM, REPLY_ROOM};
+ghost use Rattle.gc_rows.specs.declared.record.TheConstants.{COLUMN_ROOM, FAULT_ROOM, HEAD_ROOM, REPLY_ROOM};
 ghost use Rattle.gc_rows.specs.Records.{spaced_fault, spaced_line, ending_text, record_of, head_text, form_sign};
-ghost use Rattle.gc_rows.specs.Rows.{Adds};
+ghost use Rattle.gc_rows.specs.Rows.{Adds, behind_comma};
+ghost use Rattle.std.specs.List.{flat_map};
 ghost use Rattle.arrayvec.specs.ArrayVec.{array_vec_len};
 
-use crate::column::{HEADER, WIDE_HEADER};
+use crate::column::{HEADER, HEADER_END, WIDE_FRONT};
+use crate::described::MOST_COLUMNS;
 use crate::json_line::json_line;
-use crate::row::csv_row;
+use crate::row::{append_field_after_comma, csv_row};
 use crate::when::When;
 use arrayvec::ArrayVec;
 use gc_lines::{Line, Sink, append, write_whole};
-use gc_texts::{Ending, STAMP_ROOM, Wish, append_escaped, stamp_text};
+use gc_texts::{Description, Ending, FieldName, STAMP_ROOM, Wish, append_escaped, stamp_text};
 use gc_values::ValueFault;
 use itoa::Buffer;
 
@@ -29,6 +31,10 @@ pub struct EndedCommand<'a> {
     pub command: &'a Wish,
     /// How it ended.
     pub ending: Ending<'a>,
+    /// How the station's text describes its procedure, if that isn't in the table and is described.
+    pub described: Option<&'a Description>,
+    /// The names of the columns that the text's descriptions add to those of the table's quantities, at most 64.
+    pub columns: &'a [FieldName],
 }
 
 /// How records are written.
@@ -39,49 +45,92 @@ pub enum Form {
     Lines,
     /// Each a row of comma-separated values, quoted as RFC 4180 has it. The names of the columns are the first row.
     Csv,
-    /// As `Csv`, with a column for each quantity that an answer may have.
+    /// As `Csv`, with a column for each quantity that an answer may have: those of the table's procedures, and then those that the
+    /// text's descriptions add.
     Columns,
     /// Each an object of JSON on a line of its own, with the quantities of its answer, or, if the procedure isn't in the table,
-    /// with the items of its values.
+    /// with the values that its description names, and the items of its values.
     Json,
 }
 
-/// What comes before all records in this form: a row of the columns' names, with its line feed, or nothing if the form has no columns.
-pub fn head(form: Form) -> &'static [u8]
-    ensures { result.now ≡ head_text form }
+/// The most bytes of what comes before all records: the names of the columns, each of the added ones in a field of at most 32 bytes, each
+/// of which may be escaped as four, and each of these be doubled, within quotes after a comma.
+pub const HEAD_ROOM: usize = 512 + MOST_COLUMNS * (8 * 32 + 3);
+
+/// What comes before all records.
+pub type Head = ArrayVec<u8, HEAD_ROOM>;
+
+// The most bytes of an added column's name in the row of names, after a comma.
+const COLUMN_ROOM: usize = 8 * 32 + 3;
+
+// Appends the names of columns as fields, each after a comma.
+fn append_names(head: &mut Head, columns: &[FieldName])
+    requires few { length columns.now ≤ 64 }
+    requires room { array_vec_len head.old + COLUMN_ROOM * length columns.now ≤ HEAD_ROOM }
+    ensures { Adds head.old.items head.new.items (flat_map (λ n. behind_comma n.items) columns.now) (COLUMN_ROOM * length columns.now) }
 {
-    match form {
-        Form::Lines | Form::Json => b"",
-        Form::Csv => HEADER.as_bytes(),
-        Form::Columns => WIDE_HEADER.as_bytes(),
+    for name in columns {
+        append_field_after_comma(head, name.as_slice());
     }
+}
+
+// The row of the columns' names with those of the quantities and these.
+fn wide_head(columns: &[FieldName]) -> Head
+    requires { length columns.now ≤ 64 }
+    ensures { result.items ≡ head_text Form.Columns (map (λ n. n.items) columns.now) }
+{
+    let mut head = ArrayVec::new();
+    append(&mut head, WIDE_FRONT.as_bytes());
+    append_names(&mut head, columns);
+    append(&mut head, HEADER_END.as_bytes());
+    head
+}
+
+/// What comes before all records in this form, where descriptions add these columns: a row of the columns' names, with its line feed, or
+/// nothing if the form has no columns.
+pub fn head(form: Form, columns: &[FieldName]) -> Head
+    requires { length columns.now ≤ 64 }
+    ensures { result.items ≡ head_text form (map (λ n. n.items) columns.now) }
+{
+    let mut head = ArrayVec::new();
+    match form {
+        Form::Lines | Form::Json => (),
+        Form::Csv => append(&mut head, HEADER.as_bytes()),
+        Form::Columns => return wide_head(columns),
+    }
+    head
 }
 
 /// The bytes that a file of records in this form begins with, once it has a record: they distinguish it from a foreign file. A file of
 /// `Lines` has no such bytes: the result is empty.
-pub fn sign(form: Form) -> &'static [u8]
-    ensures { result.now ≡ form_sign form }
+pub fn sign(form: Form, columns: &[FieldName]) -> Head
+    requires { length columns.now ≤ 64 }
+    ensures { result.items ≡ form_sign form (map (λ n. n.items) columns.now) }
 {
+    let mut sign = ArrayVec::new();
     match form {
-        Form::Json => b"{\"run\":\"",
-        Form::Lines | Form::Csv | Form::Columns => head(form),
+        Form::Json => append(&mut sign, b"{\"run\":\""),
+        Form::Lines | Form::Csv | Form::Columns => return head(form, columns),
     }
+    sign
 }
 
-/// Writes what comes before all records in this form (`head`). `Err(n)`: the sink took the first n bytes of that, which aren't all, and
-/// failed.
-pub fn write_head<K: Sink>(sink: &mut K, form: Form) -> Result<(), usize>
+/// Writes what comes before all records in this form, where descriptions add these columns (`head`). `Err(n)`: the sink took the first n
+/// bytes of that, which aren't all, and failed.
+pub fn write_head<K: Sink>(sink: &mut K, form: Form, columns: &[FieldName]) -> Result<(), usize>
+    requires { length columns.now ≤ 64 }
     ensures failed { FailsWith result (K.failed sink.old) (K.failed sink.new) }
-    ensures took { TakesText (K.taken sink.old) (K.taken sink.new) result (head_text form) }
+    ensures took { TakesText (K.taken sink.old) (K.taken sink.new) result (head_text form (map (λ n. n.items) columns.now)) }
 {
-    write_whole(sink, head(form))
+    write_whole(sink, &head(form, columns))
 }
 
 /// Writes the record of a command that ended, in this form. In the form `Lines` it has neither the target's name nor the request, nor the
 /// moment at which that was sent. The record goes in one write if the sink takes all of it. `Err(n)`: the sink took the first n
 /// bytes of the record, which aren't all, and failed.
 pub fn write_record<K: Sink>(sink: &mut K, form: Form, ended: EndedCommand<'_>) -> Result<(), usize>
-    requires { length ended.name.now ≤ 64 }
+    requires named { length ended.name.now ≤ 64 }
+    requires few { length ended.columns.now ≤ 64 }
     ensures failed { FailsWith result (K.failed sink.old) (K.failed sink.new) }
     ensures took { TakesText (K.taken sink.old) (K.taken sink.new) result (record_of form ended.entry) }
 {

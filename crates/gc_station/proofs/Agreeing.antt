@@ -52,6 +52,11 @@ after_all P grows before [] all = tt
 after_all P grows before (r ∷ rs) all =
     (all.0, after_all P grows (before ++ r ∷ []) rs (all_on (P before) (P (before ++ r ∷ [])) rs (λ x. grows before (r ∷ []) x) all.1))
 
+-- what follows of each from it and those before it, whichever these are, holds of each
+pub each_after : (P : List Record → Record → Type 0) (Q : Record → Type 0) → ((before : List Record) (r : Record) → P before r → Q r) → (before rs : List Record) → AllAfter P before rs → AllByRecursion Q rs
+each_after P Q gives before [] all = tt
+each_after P Q gives before (r ∷ rs) all = (gives before r all.0, each_after P Q gives (before ++ r ∷ []) rs all.1)
+
 -- two facts of each element are one
 pub all_both : {A : Type 0} (P Q : A → Type 0) (xs : List A) → AllByRecursion P xs → AllByRecursion Q xs → AllByRecursion (λ x. P x × Q x) xs
 all_both P Q [] p q = tt

@@ -1,16 +1,19 @@
 -- Each record is of its very request: an answer came after it, with its id, and in time; a late reply came too late; and a lost
 -- one is lost for a cause. Each act preserves `IsHonest` (of `Waiting`): the outstanding requests were put among the acts, and
 -- the records are true. An act is one call on the link, with its result.
-use Rattle.std.proofs.Common.{◌≡◌, inl, inr, ℕ, ◌+◌, ◌%◌, ◌<◌, ◌≤◌, Bool, true, false, List, [], ◌∷◌, ◌++◌, length, drop, Option, Some, None, refl, sym, ap, ◌∙◌, subst, arith, append_assoc, append-nil, length-append}
+use Rattle.std.proofs.Common.{◌≡◌, inl, inr, ℕ, ◌+◌, ◌%◌, ◌<◌, ◌≤◌, false, List, [], ◌∷◌, ◌++◌, length, drop, Option, Some, None, refl, sym, ap, ◌∙◌, subst, arith, append_assoc, append-nil, length-append}
 use Rattle.std.specs.List.{AllByRecursion}
+use Rattle.std.specs.Prelude.{slice_get}
 use Rattle.gc_catalogue.specs.declared.asked.Asked.{Asked}
 use Rattle.gc_catalogue.specs.declared.asked.Asked.TheVariants.{Table}
 use Rattle.gc_catalogue.specs.declared.call.Call.TheVariants.{NullProc}
 use Rattle.gc_client.specs.declared.window.TheConstants.{WINDOW, IDS}
 use Rattle.gc_client.specs.Rule.{ById, pending_of, sends}
 use Rattle.gc_client.proofs.Digits.{send_keeps_ids}
-use Rattle.gc_texts.specs.declared.wish.Wish.{Wish}
+use Rattle.gc_client.proofs.Lists.{head_of_drop}
+use Rattle.gc_texts.specs.Endings.{End}
 use Rattle.gc_texts.specs.Tasks.{call_at}
+use Rattle.gc_texts.specs.ValueItems.{no_needs}
 use Rattle.gc_texts.specs.declared.tasks.Task.{Task}
 use Rattle.gc_station.specs.declared.mark.Mark.{Mark}
 use Rattle.gc_station.specs.declared.plan.Plan.{Plan}
@@ -27,13 +30,13 @@ use Rattle.gc_station.specs.Expecting.{IsByExpectation, AnswersAreAsExpected}
 use Rattle.gc_station.specs.Deciding.{later}
 use Rattle.gc_station.specs.Quiet.{IsAsking}
 use Rattle.gc_station.specs.Progressing.{turned, moment_noted, early_noted, cycle_begun, skipped, attempts_left_out, unsent_at, cleared, null_sent, resynchronized, sent, request_noted, loses_all, setup_sent}
-use Rattle.gc_station.specs.Marks.{commands_in, record_with}
+use Rattle.gc_station.specs.Marks.{commands_in, occasion_of, record_with}
 use Rattle.gc_station.specs.Reasons.{HoldsBefore}
 use Rattle.gc_station.specs.Records.{Record}
 use Rattle.gc_station.specs.Runs.{state_after, OfEachRecord}
 use Rattle.gc_station.specs.ActKinds.{moment_in, Puts, ReadsClock, IsOpening, ReadsLink}
-use Rattle.gc_station.specs.Model.{Model, opening, action_at, waiting_of, next_request_text, null_text, first_text, with_progress, is_heard, client_sent, asks_first, asks_next, after_pass, with_more_passes, next_left_out, with_listed, listed_after_skip, with_more_records, unsent_record, end_unsent, first_unsent_record, after_clock, after_put, after_open, after_read, Performs, moved, Runs, cycle_length, place_to_send, text_or_null, asks_setup, null_request, request_or_null, asks_for, mark_sent, mark_setup_sent}
-use Rattle.gc_station.specs.NextCommand.{mark_next, place_next, upcoming_after}
+use Rattle.gc_station.specs.Model.{Model, opening, action_at, waiting_of, next_request_text, null_text, first_text, with_progress, is_heard, client_sent, asks_first, asks_next, after_pass, with_more_passes, next_left_out, with_listed, listed_after_skip, with_more_records, unsent_record, first_unsent_record, after_clock, after_put, after_open, after_read, Performs, moved, Runs, cycle_length, place_to_send, text_or_null, asks_setup, null_request, request_or_null, asks_for, mark_sent, mark_setup_sent, occasion_at}
+use Rattle.gc_station.specs.NextCommand.{mark_next, needs_first, place_next, upcoming_after}
 use Rattle.gc_station.proofs.InCycle.{within_window}
 use Rattle.gc_station.proofs.EachRun.{invariant_holds}
 use Rattle.gc_station.proofs.Outs.{prepare_cycle, prepare_place, send_cycle, send_place, sending_asks}
@@ -43,10 +46,11 @@ use Rattle.gc_station.proofs.Going.{after_all-append}
 use Rattle.gc_station.proofs.Growing.{losing_records}
 use Rattle.gc_station.proofs.Lists.{all_append, all_on, AllRisingAt, rising_more}
 use Rattle.gc_station.proofs.Losing.{losing_honest}
-use Rattle.gc_station.proofs.Waiting.{TimedOutAsRead, StillWaits, IsJustified, Honest, IsHonest, Marked, asked_more, asked_with_equal_id, asked_number_below, as_read_without_moment, all_true_more, honest_without_moment, honest_after_moment}
+use Rattle.gc_station.proofs.Waiting.{TimedOutAsRead, StillWaits, IsJustified, Honest, IsHonest, Marked, AsksThen, WasMade, asked_more, asked_with_equal_id, asked_number_below, as_read_without_moment, all_true_more, honest_without_moment, honest_after_moment}
 use Rattle.gc_station.proofs.Pieces.{piece_honest}
 use Rattle.gc_station.specs.Scopes.{Scope}
 use Rattle.gc_station.proofs.Midway.{with_sent, sent_with_room}
+use Rattle.gc_station.proofs.Walk.{unsent_along}
 
 -- A request is sent.
 
@@ -62,19 +66,17 @@ put_honest : (plan : Plan) (commands : List Task) (scope : Scope) (acts : List A
 put_honest plan commands scope acts requests f t (Cut out n) h = h
 put_honest plan commands scope acts requests f t act h = h
 
--- a command that isn't sent is neither answered nor late nor lost, so its record is true, if its mark has the id 0
-unsent_true : (plan : Plan) (commands : List Task) (scope : Scope) (all : List Act) (missed : Bool) (utc : ℕ) (mark : Mark) (command : Wish)
-    → mark.id ≡ 0 → IsJustified plan commands scope all (record_with utc mark None command (end_unsent missed))
-unsent_true plan commands scope all true utc mark command none =
-    record { answered = λ line e. cc; late = λ e. cc; lost = λ e. cc; unsent = λ e. none; expected = ((λ well. cc), (λ line e. cc)) }
-unsent_true plan commands scope all false utc mark command none =
-    record { answered = λ line e. cc; late = λ e. cc; lost = λ e. cc; unsent = λ e. none; expected = ((λ well. cc), (λ line e. cc)) }
-
--- the record of the first of these commands, which isn't sent, is true, if its mark has the id 0
+-- the record of the first of these commands, which isn't sent, is true, if its mark has the id 0: it is neither answered nor late nor lost
 skips_first_true : (plan : Plan) (commands : List Task) (scope : Scope) (all : List Act) (p : Progress) (m : Moment) (mark : Mark) (left : List Task)
     → mark.id ≡ 0 → AllByRecursion (IsJustified plan commands scope all) (first_unsent_record p m mark left)
 skips_first_true plan commands scope all p m mark [] none = tt
-skips_first_true plan commands scope all p m mark (task ∷ others) none = (unsent_true plan commands scope all p.missed (unsent_at m p) mark task.command none, tt)
+skips_first_true plan commands scope all p m mark (task ∷ others) none = (
+  unsent_along (λ (end : End). IsJustified plan commands scope all (record_with (unsent_at m p) mark None task.command end))
+      (record { answered = λ line e. cc; late = λ e. cc; lost = λ e. cc; made = λ utc e. cc; unsent = λ e. none; expected = ((λ well. cc), (λ line e. cc)) })
+      (record { answered = λ line e. cc; late = λ e. cc; lost = λ e. cc; made = λ utc e. cc; unsent = λ e. none; expected = ((λ well. cc), (λ line e. cc)) })
+      (record { answered = λ line e. cc; late = λ e. cc; lost = λ e. cc; made = λ utc e. cc; unsent = λ e. none; expected = ((λ well. cc), (λ line e. cc)) }) p,
+  tt,
+)
 
 -- the record of the next command, if it isn't sent, is true
 skips_true : (plan : Plan) (commands : List Task) (scope : Scope) (all : List Act) (p : Progress) (act : Act) → AllByRecursion (IsJustified plan commands scope all) (unsent_record plan commands p act)
@@ -103,6 +105,7 @@ module _ (plan : Plan) (commands : List Task) (scope : Scope) (acts : List Act) 
     asks : 0 < length here.client.waiting → IsAsking (action_at plan here)
     marked : (m : Mark) → mark ≡ Some m → Marked plan commands scope acts m
     due : (m : Mark) → mark ≡ Some m → deadline ≡ deadline_after plan commands scope acts
+    made : (m : Mark) → mark ≡ Some m → AsksThen plan commands scope acts m.place call
     puts : Puts (next_request_text here.client call) act
 
   -- a request that this act puts waits after it, as `StillWaits` says: behind the others, and put as the last of the acts
@@ -121,6 +124,7 @@ module _ (plan : Plan) (commands : List Task) (scope : Scope) (acts : List Act) 
         id = (send_keeps_ids here.client.next (length here.client.waiting) fine.digit r.room).own;
         put = r.puts;
         deadline = r.due;
+        made = r.made;
         stays = tt;
       }
 
@@ -154,22 +158,29 @@ module _ (plan : Plan) (commands : List Task) (scope : Scope) (acts : List Act) 
   -- room for it, preserves `IsHonest`
   first_honest : (act : Act) (next : Upcoming) (left : List Task) (mark : Mark) → Invariant plan commands here → HonestBefore act here
       → (marked : Marked plan commands scope acts mark) → (room : length here.client.waiting < WINDOW) → (there : drop (place_to_send plan commands here) commands ≡ left)
-      → (puts : Puts (first_text mark.sent here.client left) act)
+      → (puts : Puts (first_text (occasion_of mark) here.client left) act)
       → HonestAfter act (with_progress (sent next) (asks_first mark left (with_progress turned here)))
   first_honest act next [] mark fine h is room at puts = honest_without_moment plan commands scope acts act _ _ _ (puts_read_none [] act puts) h
   first_honest act next (task ∷ others) mark fine h is room at puts =
       let s = here in
       let limit = deadline_after plan commands scope acts in
       let d : later s.progress.moment.elapsed task.deadline ≡ limit = ap (λ (left : List Task). later s.progress.moment.elapsed (first_deadline left)) (sym at) in
+      let moment = s.progress.moment in
+      let then : call_at task (occasion_of mark) ≡ call_at task (occasion_at moment) =
+      ap (λ (utc : ℕ). call_at task (record { utc = utc; values = mark.expected.values })) is.sent
+      ∙ ap (λ (values : List (List ℕ)). call_at task (record { utc = moment.utc; values = values })) is.values in
+      let made : AsksThen plan commands scope acts mark.place (call_at task (occasion_of mark)) =
+      (task, ap (slice_get commands) is.place ∙ head_of_drop commands (place_to_send plan commands s) task others at, then) in
       subst (λ (c : ById Asked). Honest plan commands scope (acts ++ act ∷ []) (acts ++ act ∷ []) c (s.marks ++ Some mark ∷ []) s.records)
-      (sym (ap (λ (e : ℕ). client_sent s.client (sends WINDOW s.client task.command.target (call_at task mark.sent) e)) d
-      ∙ sent_with_room s.client task.command.target (call_at task mark.sent) limit room))
-      (sent_honest act task.command.target (call_at task mark.sent) limit (Some mark) fine h
+      (sym (ap (λ (e : ℕ). client_sent s.client (sends WINDOW s.client task.command.target (call_at task (occasion_of mark)) e)) d
+      ∙ sent_with_room s.client task.command.target (call_at task (occasion_of mark)) limit room))
+      (sent_honest act task.command.target (call_at task (occasion_of mark)) limit (Some mark) fine h
       (record {
         room = room;
         asks = λ above. sending_asks plan s is.sends;
         marked = λ m its. let same : mark ≡ m = cc in subst (λ (x : Mark). Marked plan commands scope acts x) same is;
         due = λ m its. refl;
+        made = λ m its. let same : mark ≡ m = cc in subst (λ (x : Mark). AsksThen plan commands scope acts x.place (call_at task (occasion_of mark))) same made;
         puts = puts;
       }))
 
@@ -183,7 +194,7 @@ module _ (plan : Plan) (commands : List Task) (scope : Scope) (acts : List Act) 
       let d = later s.progress.moment.elapsed plan.deadline in
       subst (λ (c : ById Asked). Honest plan commands scope (acts ++ act ∷ []) (acts ++ act ∷ []) c (s.marks ++ None ∷ []) s.records) (sym (sent_with_room s.client 0 (Table NullProc) d room))
       (sent_honest act 0 (Table NullProc) d None fine h
-      (record { room = room; asks = asks; marked = λ m its. absurd (null_has_no_mark m its); due = λ m its. absurd (null_has_no_mark m its); puts = puts })) where
+      (record { room = room; asks = asks; marked = λ m its. absurd (null_has_no_mark m its); due = λ m its. absurd (null_has_no_mark m its); made = λ m its. absurd (null_has_no_mark m its); puts = puts })) where
         -- a null procedure has no mark
         null_has_no_mark : (m : Mark) → None ≡ Some m → ⊥
         null_has_no_mark m e = cc
@@ -191,11 +202,11 @@ module _ (plan : Plan) (commands : List Task) (scope : Scope) (acts : List Act) 
   -- an act that sends the first of the setup's commands `left`, those from the next one on, with the mark of that one (`Marked`),
   -- or a null procedure if there is none, and with room for the request, preserves `IsHonest`
   setup_honest : (act : Act) (left : List Task) (mark : Mark) → Invariant plan commands here → HonestBefore act here → (marked : Marked plan commands scope acts mark)
-      → (room : length here.client.waiting < WINDOW) → (there : drop (place_to_send plan commands here) commands ≡ left) → (puts : Puts (text_or_null mark.sent here.client left) act)
+      → (room : length here.client.waiting < WINDOW) → (there : drop (place_to_send plan commands here) commands ≡ left) → (puts : Puts (text_or_null (occasion_of mark) here.client left) act)
       → HonestAfter act (with_progress (setup_sent plan) (asks_for (request_or_null plan mark left) (with_progress turned here)))
   setup_honest act [] mark fine h is room at puts = null_honest act (setup_sent plan) fine h room (λ above. sending_asks plan here is.sends) puts
   setup_honest act (task ∷ others) mark fine h is room at puts =
-      first_honest act (record { is_chained = false; others = 0 }) (task ∷ others) mark fine h is room at puts
+      first_honest act (record { is_chained = false; others = 0; needs = no_needs }) (task ∷ others) mark fine h is room at puts
 
   -- Each action.
 
@@ -241,7 +252,7 @@ module _ (plan : Plan) (commands : List Task) (scope : Scope) (acts : List Act) 
       → HonestAfter act (moved plan commands action (with_progress turned here) act)
   moved_honest actions.ReadClock act tail fine h is needs o ends = clock_honest act (λ m p. early_noted plan (commands_in here.marks) (moment_noted m p)) here h o
   moved_honest actions.Renew act tail fine h is needs o ends = clock_honest act (λ m p. early_noted plan 0 (resynchronized plan m p)) here h o
-  moved_honest actions.Begin act tail fine h is needs o ends = clock_honest act (cycle_begun plan (cycle_length plan commands)) here h o
+  moved_honest actions.Begin act tail fine h is needs o ends = clock_honest act (cycle_begun plan (cycle_length plan commands) (needs_first (drop plan.setup commands))) here h o
   moved_honest actions.Open act tail fine h is needs o ends = open_honest act here h o
   moved_honest actions.Clear act tail fine h is needs o ends =
       let s = here in
@@ -255,7 +266,7 @@ module _ (plan : Plan) (commands : List Task) (scope : Scope) (acts : List Act) 
       let s = here in
       put_honest plan commands scope (acts ++ act ∷ []) _ (λ (x : Model). with_progress (setup_sent plan) (asks_setup plan commands x)) (with_progress turned s) act
       (setup_honest act (drop s.progress.prepared commands) (mark_setup_sent commands s) fine h
-      (record { sends = inr is; cycle = sym (prepare_cycle plan s is); place = sym (prepare_place plan commands s is); sent = refl; id = refl; expects = refl; before = refl }) (within_window _ _ needs.3.1)
+      (record { sends = inr is; cycle = sym (prepare_cycle plan s is); place = sym (prepare_place plan commands s is); sent = refl; id = refl; expects = refl; before = refl; values = refl }) (within_window _ _ needs.3.1)
       (ap (λ n. drop n commands) (prepare_place plan commands s is)) o)
   moved_honest actions.Send act tail fine h is needs o ends =
       let s = here in
@@ -264,7 +275,7 @@ module _ (plan : Plan) (commands : List Task) (scope : Scope) (acts : List Act) 
       (with_progress turned s) act
       (first_honest act (upcoming_after 1 commands s.progress)
       (drop (place_next commands s.progress) commands) (mark_sent plan commands s) fine h
-      (record { sends = inl is; cycle = sym (send_cycle plan s is); place = sym (send_place plan commands s is); sent = refl; id = refl; expects = refl; before = refl }) (within_window _ _ needs.3.1)
+      (record { sends = inl is; cycle = sym (send_cycle plan s is); place = sym (send_place plan commands s is); sent = refl; id = refl; expects = refl; before = refl; values = refl }) (within_window _ _ needs.3.1)
       (ap (λ n. drop n commands) (send_place plan commands s is)) o)
   moved_honest actions.Skip act tail fine h is needs o ends =
       let s = here in
@@ -314,6 +325,10 @@ all_true plan commands scope acts P step runs =
 -- each record of a command that wasn't sent has the id 0
 pub unsent_has_none : OfEachRecord (λ plan commands scope acts r. r.sent ≡ None → r.id ≡ 0)
 unsent_has_none plan commands scope acts runs = all_true plan commands scope acts (λ r. r.sent ≡ None → r.id ≡ 0) (λ r is. is.unsent) runs
+
+-- each record of a command that was sent is of the request that was made of its command then
+pub each_made : OfEachRecord (λ plan commands scope acts r. (utc : ℕ) → r.sent ≡ Some utc → WasMade plan commands scope acts r)
+each_made plan commands scope acts runs = all_true plan commands scope acts (λ r. (utc : ℕ) → r.sent ≡ Some utc → WasMade plan commands scope acts r) (λ r is. is.made) runs
 
 -- each record is as the text expects it, if it was answered well, and isn't, if it ended as unexpected
 pub as_expected : AnswersAreAsExpected

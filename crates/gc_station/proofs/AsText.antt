@@ -12,7 +12,7 @@ use Rattle.gc_catalogue.specs.declared.asked.Asked.{Asked}
 use Rattle.gc_client.specs.Rule
 use Rattle.gc_client.specs.Rule.{heard, hears, restarts}
 use Rattle.gc_values.specs.declared.decimal.Decimal.{Decimal}
-use Rattle.gc_texts.specs.Endings.{Answered, Elsewhere, Disagree}
+use Rattle.gc_texts.specs.Endings.{End, Answered, Elsewhere, Disagree, Unreadable}
 use Rattle.gc_texts.specs.Nears.{is_elsewhere}
 use Rattle.gc_texts.specs.declared.agree.Twice.TheVariants as twice
 use Rattle.gc_texts.specs.declared.near.Expected.{Expected}
@@ -20,12 +20,14 @@ use Rattle.gc_texts.specs.declared.tasks.Task.{Task}
 use Rattle.gc_texts.proofs.Placing.{there_unless_elsewhere, elsewhere_has_place}
 use Rattle.gc_links.specs.Acts.{Act, Told, Gave, Cut}
 use Rattle.gc_links.specs.declared.link.Moment.{Moment}
-use Rattle.gc_station.specs.Agreeing.{HasFirst, AgreesWithFirst, IsConfirmed, IsUnconfirmed, DisagreesInSecond}
+use Rattle.gc_station.specs.Agreeing.{HasFirst, AgreesWithFirst, IsComparedInFull, IsConfirmed, IsUnconfirmed, DisagreesInSecond}
+use Rattle.gc_station.specs.Firsts.{answer_first, compares, firsts_after}
 use Rattle.gc_station.specs.Marks.{agrees_in, quality_in, record_of, records_of, end_of}
 use Rattle.gc_station.specs.Model.{Model, opening, action_at, asks_for, asks_next, with_progress, with_moment, line_came, is_heard, after_piece, end_unsent, first_unsent_record, losing, moved, after, asks_setup, waiting_of, listed_unsent, request_for, null_request, mark_sent, mark_setup_sent}
 use Rattle.gc_station.specs.NextCommand.{expected_first, mark_next, place_next, commands_left, cycles_begun}
 use Rattle.gc_station.specs.Nearness.{IsAtItsTarget, HasAnswer, ElsewhereIsJustified}
-use Rattle.gc_station.specs.Qualities.{IsOfQuality, IsAsListed, accepted_at, quality_as, twice_at}
+use Rattle.gc_station.specs.Moments.{IsAsRead, IsUnreadableIfSo}
+use Rattle.gc_station.specs.Qualities.{IsOfQuality, IsAsListed, accepted_at, form_at, quality_as, twice_at}
 use Rattle.gc_station.specs.Progressing.{turned, moment_noted, loses_all}
 use Rattle.gc_station.specs.Records.{Record}
 use Rattle.gc_station.specs.Runs.{state_after}
@@ -41,7 +43,8 @@ use Rattle.gc_station.proofs.Booking.{all_settled}
 use Rattle.gc_station.proofs.Lists.{all_append, all_on}
 use Rattle.gc_station.proofs.Qualified.{ended_near, ended_away, ended_quality, ended_good, ended_second}
 use Rattle.gc_station.proofs.Tasked.{no_end_of_sent}
-use Rattle.gc_station.proofs.Walk.{came_along, first_along, setup_along, losing_along, acts_along, moved_changed}
+use Rattle.gc_station.proofs.Unread.{no_line_unsent, says_unreadable, unreadable_says}
+use Rattle.gc_station.proofs.Walk.{came_along, first_along, setup_along, losing_along, acts_along, moved_changed, unsent_along}
 use Rattle.std.proofs.lemmas.List.{length-drop}
 use Rattle.gc_texts.specs.Again.{repeats_after}
 use Rattle.gc_texts.specs.declared.again.Again.{Again}
@@ -52,10 +55,10 @@ use Rattle.gc_station.proofs.EachRun.{invariant_after, invariant_opening}
 use Rattle.gc_station.proofs.Facts.{action_for}
 use Rattle.gc_station.proofs.InCycle.{not_zero}
 use Rattle.gc_station.proofs.Invariant.{Invariant}
-use Rattle.gc_station.proofs.Listed.{code_is_in_line, named_by, any_listed, any_append, expected_as, near_expected, accepted_expected, twice_expected}
+use Rattle.gc_station.proofs.Listed.{code_is_in_line, named_by, any_listed, any_append, expected_as, near_expected, accepted_expected, form_expected, twice_expected}
 
 -- what is expected of the answer of the command at a place is what its task says
-expected_there : (commands : List Task) (k : ℕ) (task : Task) → slice_get commands k ≡ Some task → expected_first (drop k commands) ≡ expected_first (task ∷ [])
+pub expected_there : (commands : List Task) (k : ℕ) (task : Task) → slice_get commands k ≡ Some task → expected_first (drop k commands) ≡ expected_first (task ∷ [])
 expected_there [] zero task e = cc
 expected_there [] (suc k) task e = cc
 expected_there (t ∷ commands) zero task e = let same : t ≡ task = cc in ap (λ (x : Task). expected_first (x ∷ [])) same
@@ -69,29 +72,37 @@ none_known commands k answer e = by_front (drop k commands) e where
   by_front [] e = cc
   by_front (task ∷ others) e = cc
 
+-- an answer with which another is compared if that is compared in all that it has in columns: it is, and this is the answer
+compared_first : (full : Bool) (found : Option (Option Answer)) (answer : Option Answer) → (if full then found else None) ≡ Some answer → (full ≡ true) × (found ≡ Some answer)
+compared_first true found answer e = (refl, e)
+compared_first false found answer e = cc
+
 module _ (plan : Plan) (commands : List Task) (scope : Scope) where
   -- a mark expects of its command's answer what the text says; of a command of the setup, in the attempt of its turn. With which answer of
-  -- a first sending it is compared, and which number its counter had, the text doesn't say
+  -- a first sending it is compared, which number its counter had, and which values files had, the text doesn't say
   abbrev pub ExpectsAsText : Option Mark → Type 0
   ExpectsAsText None = Unit {0}
-  ExpectsAsText (Some mark) = mark.expected ≡ record (expected_of commands mark.cycle mark.expected.turn.attempt mark.place) { first = mark.expected.first; before = mark.expected.before }
+  ExpectsAsText (Some mark) = mark.expected ≡ record (expected_of commands mark.cycle mark.expected.turn.attempt mark.place) { first = mark.expected.first; before = mark.expected.before; values = mark.expected.values }
 
-  -- the answer of a first sending with which a mark has its own compared, if there is one, is that of one of these records
+  -- the answer of a first sending with which a mark has its own compared, if there is one, is that of one of these records, and its own is
+  -- compared in all that it has in columns
   abbrev ComesFrom : List Record → Option Mark → Type 0
   ComesFrom rs None = Unit {0}
-  ComesFrom rs (Some mark) = (answer : Option Answer) → mark.expected.first ≡ Some answer → HasFirst rs mark.cycle mark.expected.turn answer
+  ComesFrom rs (Some mark) =
+      (answer : Option Answer) → mark.expected.first ≡ Some answer → HasFirst rs mark.cycle mark.expected.turn answer × (compares mark.expected.form ≡ true)
 
   -- with more records behind, it still is
   comes_more : (rs more : List Record) (mark : Option Mark) → ComesFrom rs mark → ComesFrom (rs ++ more) mark
   comes_more rs more None h = tt
-  comes_more rs more (Some mark) h = λ answer e. has_first_more rs more mark.cycle mark.expected.turn answer (h answer e)
+  comes_more rs more (Some mark) h = λ answer e. let so = h answer e in (has_first_more rs more mark.cycle mark.expected.turn answer so.0, so.1)
 
-  -- a record is as its text says: `HasItsTurn`, `IsAtItsTarget`, `ElsewhereIsJustified`, `IsAsListed`, `IsUnconfirmed` and
-  -- `DisagreesInSecond` hold of it
+  -- a record is as its text says: `HasItsTurn`, `IsAtItsTarget`, `ElsewhereIsJustified`, `IsAsListed`, `IsUnconfirmed`,
+  -- `DisagreesInSecond`, `IsAsRead` and `IsUnreadableIfSo` hold of it
   abbrev pub IsAsItsText : Record → Type 0
   IsAsItsText r =
       HasItsTurn commands r × IsAtItsTarget commands r × ElsewhereIsJustified scope.reads commands r × IsAsListed scope.reads commands r
       × IsUnconfirmed commands r × DisagreesInSecond commands r
+      × IsAsRead (scope.reads (form_at commands r.place)) r × IsUnreadableIfSo (scope.reads (form_at commands r.place)) r
 
   -- a mark that is `ExpectsAsText` expects the place of its command's target
   near_as_text : (mark : Mark) → ExpectsAsText (Some mark) → mark.expected.near ≡ (expected_first (drop mark.place commands)).near
@@ -100,6 +111,10 @@ module _ (plan : Plan) (commands : List Task) (scope : Scope) where
   -- a mark that is `ExpectsAsText` accepts the return codes of its command (`accepted_at`)
   codes_as_text : (mark : Mark) → ExpectsAsText (Some mark) → mark.expected.accepted ≡ accepted_at commands mark.place
   codes_as_text mark placed = ap (λ (k : Expected). k.accepted) placed ∙ accepted_expected (nat_eq mark.cycle 0) mark.expected.turn.attempt (expected_first (drop mark.place commands))
+
+  -- a mark that is `ExpectsAsText` has the form of its command (`form_at`)
+  form_as_text : (mark : Mark) → ExpectsAsText (Some mark) → mark.expected.form ≡ form_at commands mark.place
+  form_as_text mark placed = ap (λ (k : Expected). k.form) placed ∙ form_expected (nat_eq mark.cycle 0) mark.expected.turn.attempt (expected_first (drop mark.place commands))
 
   -- a mark that is `ExpectsAsText` is of the sending of its command (`twice_at`)
   sending_as_text : (mark : Mark) → ExpectsAsText (Some mark) → mark.expected.twice ≡ twice_at commands mark.place
@@ -125,20 +140,41 @@ module _ (plan : Plan) (commands : List Task) (scope : Scope) where
         record {
           answer = away.0;
           near = is.0;
-          says = subst (λ codes. HasAnswer scope.reads codes x.call line away.0) there away.1;
+          says = subst (λ codes. HasAnswer (scope.reads task.form) codes x.call line away.0) there
+              (subst (λ form. HasAnswer (scope.reads form) mark.expected.accepted x.call line away.0) (form_as_text mark placed ∙ ap (λ (k : Expected). k.form) (expected_there commands mark.place task at)) away.1);
           known = sym near_there ∙ is.1;
           away = is.2;
         }),
     (λ quality said line e.
-        let so = ended_quality scope.reads mark.expected x.call line quality said x.outcome e in
-        (so.0, so.1 ∙ ap (λ t. quality_as t so.0) (sending_as_text mark placed), subst (λ codes. IsOfQuality scope.reads codes x.call so.0 said line) (codes_as_text mark placed) so.2)),
+        let so = ended_quality scope.reads mark.expected x.call line quality said x.outcome e in (
+          so.0,
+          so.1 ∙ ap (λ t. quality_as t so.0) (sending_as_text mark placed),
+          subst (λ form. IsOfQuality (scope.reads form) (accepted_at commands mark.place) x.call so.0 said line) (form_as_text mark placed)
+              (subst (λ codes. IsOfQuality (scope.reads mark.expected.form) codes x.call so.0 said line) (codes_as_text mark placed) so.2),
+        )),
     (λ task quality answer line at first e good.
         let so = ended_good scope.reads mark.expected x.call line x.outcome quality answer e good in
         sym so.quality ∙ ap (λ t. quality_in t so.would_be) (twice_as_text mark task placed at ∙ first)),
     (λ task line at e.
         let so = ended_second scope.reads mark.expected x.call line x.outcome e in
         (so.0, so.1, sym (twice_as_text mark task placed at) ∙ so.2)),
+    (λ line why e.
+        ap (λ form. scope.reads form x.call line) (sym (form_as_text mark placed)) ∙ unreadable_says scope.reads mark.expected x.call x.outcome line why e),
+    (λ line why its says.
+        says_unreadable scope.reads mark.expected x.call x.outcome line why its (ap (λ form. scope.reads form x.call line) (form_as_text mark placed) ∙ says)),
   )
+
+  -- a record is confirmed by these, and compared in all that it has in columns
+  abbrev pub IsFullyConfirmed : List Record → Record → Type 0
+  IsFullyConfirmed rs r = IsConfirmed commands rs r × IsComparedInFull commands r
+
+  -- it is so by more records, too
+  fully_more : (bs more : List Record) (r : Record) → IsFullyConfirmed bs r → IsFullyConfirmed (bs ++ more) r
+  fully_more bs more r h = (confirmed_more commands bs more r h.0, h.1)
+
+  -- a mark that is `ExpectsAsText` has the form of its task
+  form_of_task : (mark : Mark) (task : Task) → ExpectsAsText (Some mark) → slice_get commands mark.place ≡ Some task → mark.expected.form ≡ task.form
+  form_of_task mark task placed at = form_as_text mark placed ∙ ap (λ (k : Expected). k.form) (expected_there commands mark.place task at)
 
   -- the record of a settlement whose mark is `ExpectsAsText`, and has its answer compared with that of one of these records, is confirmed
   -- by them
@@ -152,18 +188,31 @@ module _ (plan : Plan) (commands : List Task) (scope : Scope) where
         by_first : (first : Option (Option Answer)) → mark.expected.first ≡ first → agrees_in (twice.Second agree nth) first answer ≡ true
             → AgreesWithFirst agree rs (record_of scope.reads utc mark x) answer
         by_first None is agreed = cc
-        by_first (Some said) is agreed = record { said = said; first = from said is; agreed = agreed }
+        by_first (Some said) is agreed = record { said = said; first = (from said is).0; agreed = agreed }
 
-  -- once a cycle has begun, the mark of the next command of a cycle is `ExpectsAsText`, whatever its answer is compared with
-  next_expects : (p : Progress) (first : Option (Option Answer)) (before : Option Decimal) → 0 < cycles_begun plan p
-      → let mark = mark_next plan commands p in ExpectsAsText (Some (record mark { expected = record mark.expected { first = first; before = before } }))
-  next_expects p first before many =
+  -- and it is compared in all that it has in columns
+  record_compared : (rs : List Record) (utc : ℕ) (mark : Mark) (x : Rule.Settlement Asked) → ExpectsAsText (Some mark) → ComesFrom rs (Some mark)
+      → IsComparedInFull commands (record_of scope.reads utc mark x)
+  record_compared rs utc mark x placed from task agree nth quality answer line at second e good =
+      let twice_is : mark.expected.twice ≡ twice.Second agree nth = twice_as_text mark task placed at ∙ second in
+      let so = ended_good scope.reads mark.expected x.call line x.outcome quality answer e good in
+      by_first mark.expected.first refl (ap (λ t. agrees_in t mark.expected.first answer) (sym twice_is) ∙ so.agrees) where
+        -- the lemma above, by the answer with which its own is compared
+        by_first : (first : Option (Option Answer)) → mark.expected.first ≡ first → agrees_in (twice.Second agree nth) first answer ≡ true → compares task.form ≡ true
+        by_first None is agreed = cc
+        by_first (Some said) is agreed = ap compares (sym (form_of_task mark task placed at)) ∙ (from said is).1
+
+  -- once a cycle has begun, the mark of the next command of a cycle is `ExpectsAsText`, whatever its answer is compared with,
+  -- and whichever values files had
+  next_expects : (p : Progress) (first : Option (Option Answer)) (before : Option Decimal) (values : List (List ℕ)) → 0 < cycles_begun plan p
+      → let mark = mark_next plan commands p in ExpectsAsText (Some (record mark { expected = record mark.expected { first = first; before = before; values = values } }))
+  next_expects p first before values many =
       let expected = expected_first (drop (place_next commands p) commands) in
-      ap (λ (b : Bool). record (expected_as b expected.turn.attempt expected) { first = first; before = before }) (sym (not_zero (cycles_begun plan p) many))
+      ap (λ (b : Bool). record (expected_as b expected.turn.attempt expected) { first = first; before = before; values = values }) (sym (not_zero (cycles_begun plan p) many))
 
   -- so is it if that isn't known
   next_expects_so_far : (p : Progress) → 0 < cycles_begun plan p → ExpectsAsText (Some (mark_next plan commands p))
-  next_expects_so_far p many = next_expects p (mark_next plan commands p).expected.first (mark_next plan commands p).expected.before many
+  next_expects_so_far p many = let expected = (mark_next plan commands p).expected in next_expects p expected.first expected.before expected.values many
 
   -- `listed_after_settlements` of settlements is `any_listed` of their records, if their marks are `ExpectsAsText`
   listed_as_recorded : (utc : ℕ) (marks : List (Option Mark)) (xs : List (Rule.Settlement Asked)) (b : Bool) → AllByRecursion ExpectsAsText marks
@@ -182,14 +231,14 @@ module _ (plan : Plan) (commands : List Task) (scope : Scope) where
 
   -- a model reads replies as the scope does, each of its marks is `ExpectsAsText`, each of its records `IsAsItsText`, and its
   -- `listed` is what its records say; what its marks have their answers compared with comes from its records, each of which is confirmed by
-  -- those before it
+  -- those before it, and compared in all that it has in columns
   pub record KeepsToText (s : Model) : Type 0 where
     pub reads : s.reads ≡ scope.reads
     pub marks : AllByRecursion ExpectsAsText s.marks
     pub records : AllByRecursion IsAsItsText s.records
     pub listed : s.listed ≡ any_listed scope.reads commands false s.records
     pub firsts : AllByRecursion (ComesFrom s.records) s.marks
-    pub agreed : AllAfter (IsConfirmed commands) [] s.records
+    pub agreed : AllAfter IsFullyConfirmed [] s.records
 
   -- if `KeepsToText` holds of `s`, its records and those of the settlements `x` after them are all `IsAsItsText`
   settles_keeps : (s : Model) (x : List (Rule.Settlement Asked)) → KeepsToText s → AllByRecursion IsAsItsText (s.records ++ records_of s.reads s.progress.moment.utc s.marks x)
@@ -220,18 +269,18 @@ module _ (plan : Plan) (commands : List Task) (scope : Scope) where
 
   -- if `KeepsToText` holds of `s`, each of its records and those of the settlements `x` is confirmed by those before it
   settles_agreed : (s : Model) (x : List (Rule.Settlement Asked)) → KeepsToText s
-      → AllAfter (IsConfirmed commands) [] (s.records ++ records_of s.reads s.progress.moment.utc s.marks x)
+      → AllAfter IsFullyConfirmed [] (s.records ++ records_of s.reads s.progress.moment.utc s.marks x)
   settles_agreed s x k =
       let utc = s.progress.moment.utc in
       let rs = s.records in
-      subst (λ (reads : Reads). AllAfter (IsConfirmed commands) [] (rs ++ records_of reads utc s.marks x)) (sym k.reads)
-      (after_append (IsConfirmed commands) [] rs (records_of scope.reads utc s.marks x) k.agreed
-      (after_all (IsConfirmed commands) (confirmed_more commands) rs (records_of scope.reads utc s.marks x)
-      (all_settled (λ m. ExpectsAsText m × ComesFrom rs m) (IsConfirmed commands rs) scope.reads utc s.marks [] x
-      (λ mark y both. record_confirmed rs utc mark y both.0 both.1) (all_both ExpectsAsText (ComesFrom rs) s.marks k.marks k.firsts) tt)))
+      subst (λ (reads : Reads). AllAfter IsFullyConfirmed [] (rs ++ records_of reads utc s.marks x)) (sym k.reads)
+      (after_append IsFullyConfirmed [] rs (records_of scope.reads utc s.marks x) k.agreed
+      (after_all IsFullyConfirmed fully_more rs (records_of scope.reads utc s.marks x)
+      (all_settled (λ m. ExpectsAsText m × ComesFrom rs m) (IsFullyConfirmed rs) scope.reads utc s.marks [] x
+      (λ mark y both. (record_confirmed rs utc mark y both.0 both.1, record_compared rs utc mark y both.0 both.1)) (all_both ExpectsAsText (ComesFrom rs) s.marks k.marks k.firsts) tt)))
 
   -- `KeepsToText` is preserved by a line that is heard
-  line_keeps : (s : Model) (line : List ℕ) → KeepsToText s → KeepsToText (line_came s line)
+  pub line_keeps : (s : Model) (line : List ℕ) → KeepsToText s → KeepsToText (line_came s line)
   line_keeps s line k =
       let x = hears s.client line (heard line) in
       record {
@@ -280,8 +329,10 @@ module _ (plan : Plan) (commands : List Task) (scope : Scope) where
   next_keeps s many k =
       let mark = mark_sent plan commands s in
       first_along KeepsToText mark (drop (place_next commands s.progress) commands) s
-      (λ task. asks_keeps (request_for mark task) s (next_expects s.progress mark.expected.first mark.expected.before many)
-      (λ answer e. first_is_recorded s.records mark.cycle mark.expected.turn mark.expected.twice answer e) k) k
+      (λ task. asks_keeps (request_for mark task) s (next_expects s.progress mark.expected.first mark.expected.before mark.expected.values many)
+      (λ answer e.
+      let so = compared_first (compares mark.expected.form) (answer_first (firsts_after [] s.records) mark.cycle mark.expected.turn mark.expected.twice) answer e in
+      (first_is_recorded s.records mark.cycle mark.expected.turn mark.expected.twice answer so.1, so.0)) k) k
 
   -- `KeepsToText` is preserved by the send of the next command of the setup
   setup_keeps : (s : Model) → KeepsToText s → KeepsToText (asks_setup plan commands s)
@@ -291,10 +342,9 @@ module _ (plan : Plan) (commands : List Task) (scope : Scope) where
       (λ task. asks_keeps (request_for mark task) s refl (λ answer e. absurd (none_known commands s.progress.prepared answer e)) k) (asks_keeps (null_request plan) s tt tt k)
 
   -- whether a rule names the end of a command that isn't sent is the same without a code and with the code of that end
-  unsent_named : (again : Again) (call : Asked) (missed : Bool)
-      → repeats_after again None (end_unsent missed) ≡ repeats_after again (code_of_end scope.reads call (end_unsent missed)) (end_unsent missed)
-  unsent_named again call true = refl
-  unsent_named again call false = refl
+  unsent_named : (again : Again) (call : Asked) (p : Progress)
+      → repeats_after again None (end_unsent p) ≡ repeats_after again (code_of_end scope.reads call (end_unsent p)) (end_unsent p)
+  unsent_named again call p = unsent_along (λ (end : End). repeats_after again None end ≡ repeats_after again (code_of_end scope.reads call end) end) refl refl refl p
 
   -- the record of a command that isn't sent, and whose mark is `ExpectsAsText`, is as its text says
   skips_keeps : (p : Progress) (m : Moment) (mark : Mark) (left : List Task) → ExpectsAsText (Some mark) → AllByRecursion IsAsItsText (first_unsent_record p m mark left)
@@ -302,20 +352,27 @@ module _ (plan : Plan) (commands : List Task) (scope : Scope) where
   skips_keeps p m mark (task ∷ others) placed = (
     (
       ap (λ (k : Expected). k.turn) placed,
-      (λ t near quality answer line at has e. absurd (no_end_of_sent p.missed (Answered quality (Some answer) line) refl e)),
-      (λ t line at e. absurd (no_end_of_sent p.missed (Elsewhere line) refl e)),
-      (λ quality said line e. absurd (no_end_of_sent p.missed (Answered quality said line) refl e)),
-      (λ t quality answer line at first e good. absurd (no_end_of_sent p.missed (Answered quality answer line) refl e)),
-      (λ t line at e. absurd (no_end_of_sent p.missed (Disagree line) refl e)),
+      (λ t near quality answer line at has e. absurd (no_end_of_sent p (Answered quality (Some answer) line) refl e)),
+      (λ t line at e. absurd (no_end_of_sent p (Elsewhere line) refl e)),
+      (λ quality said line e. absurd (no_end_of_sent p (Answered quality said line) refl e)),
+      (λ t quality answer line at first e good. absurd (no_end_of_sent p (Answered quality answer line) refl e)),
+      (λ t line at e. absurd (no_end_of_sent p (Disagree line) refl e)),
+      (λ line why e. absurd (no_end_of_sent p (Unreadable line why) refl e)),
+      (λ line why its says. absurd (no_line_unsent p line its)),
     ),
     tt,
   )
 
   -- the record of a command that isn't sent is confirmed by any records: it isn't answered
-  skips_confirmed : (rs : List Record) (p : Progress) (m : Moment) (mark : Mark) (left : List Task) → AllByRecursion (IsConfirmed commands rs) (first_unsent_record p m mark left)
+  skips_confirmed : (rs : List Record) (p : Progress) (m : Moment) (mark : Mark) (left : List Task) → AllByRecursion (IsFullyConfirmed rs) (first_unsent_record p m mark left)
   skips_confirmed rs p m mark [] = tt
-  skips_confirmed rs p m mark (task ∷ others) =
-      ((λ t agree nth quality answer line at second e good. absurd (no_end_of_sent p.missed (Answered quality answer line) refl e)), tt)
+  skips_confirmed rs p m mark (task ∷ others) = (
+    (
+      (λ t agree nth quality answer line at second e good. absurd (no_end_of_sent p (Answered quality answer line) refl e)),
+      (λ t agree nth quality answer line at second e good. absurd (no_end_of_sent p (Answered quality answer line) refl e)),
+    ),
+    tt,
+  )
 
   -- once a cycle has begun, `listed_unsent` of the next command, of which there is one, is `any_listed` of its
   -- record
@@ -324,9 +381,9 @@ module _ (plan : Plan) (commands : List Task) (scope : Scope) where
   skips_listed b p m [] many some = absurd (omega (arith, some))
   skips_listed b p m (task ∷ others) many some =
       let mark = mark_next plan commands p in
-      let end = end_unsent p.missed in
+      let end = end_unsent p in
       ap (λ x. (if nat_eq mark.expected.turn.link 0 then false else b) || x)
-      (unsent_named mark.expected.again task.command.call p.missed
+      (unsent_named mark.expected.again task.command.call p
       ∙ ap (λ (k : Expected). repeats_after k.again (code_of_end scope.reads task.command.call end) end) (next_expects_so_far p many))
 
   -- if this action sends the next command of a cycle, or records it without sending it, a cycle has begun, and there is such a
@@ -353,8 +410,8 @@ module _ (plan : Plan) (commands : List Task) (scope : Scope) where
         marks = k.marks;
         records = all_append IsAsItsText s.records _ k.records (skips_keeps p m (mark_next plan commands p) left (next_expects_so_far p some.0));
         firsts = all_on (ComesFrom s.records) (ComesFrom (s.records ++ rs)) s.marks (comes_more s.records rs) k.firsts;
-        agreed = after_append (IsConfirmed commands) [] s.records rs k.agreed
-            (after_all (IsConfirmed commands) (confirmed_more commands) s.records rs (skips_confirmed s.records p m (mark_next plan commands p) left));
+        agreed = after_append IsFullyConfirmed [] s.records rs k.agreed
+            (after_all IsFullyConfirmed fully_more s.records rs (skips_confirmed s.records p m (mark_next plan commands p) left));
         listed = skips_listed s.listed p m left some.0 some.1 ∙ ap (λ b. any_listed scope.reads commands b rs) k.listed ∙ sym (any_append scope.reads commands s.records rs false);
       }
   moved_keeps actions.Skip s act some k = record {
@@ -363,7 +420,7 @@ module _ (plan : Plan) (commands : List Task) (scope : Scope) where
     records = all_append IsAsItsText s.records [] k.records tt;
     listed = k.listed ∙ sym (ap (any_listed scope.reads commands false) (append-nil s.records));
     firsts = all_on (ComesFrom s.records) (ComesFrom (s.records ++ [])) s.marks (comes_more s.records []) k.firsts;
-    agreed = after_append (IsConfirmed commands) [] s.records [] k.agreed tt;
+    agreed = after_append IsFullyConfirmed [] s.records [] k.agreed tt;
   }
   moved_keeps (actions.Read until) s (Gave bytes m) some k =
       let n = came_keeps (is_heard s.progress.phase) s.progress.word bytes (with_moment m (with_progress (moment_noted m) s))

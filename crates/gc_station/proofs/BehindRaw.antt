@@ -13,7 +13,7 @@ use Rattle.gc_catalogue.specs.declared.call.Call.TheVariants.{NullProc}
 use Rattle.gc_client.specs.Rule.{pending_of}
 use Rattle.gc_client.specs.declared.pending.Pending.{Pending}
 use Rattle.gc_client.specs.declared.window.TheConstants.{WINDOW}
-use Rattle.gc_texts.proofs.TaskMoments.{at_any_moment}
+use Rattle.gc_texts.specs.declared.occasion.Occasion.{Occasion}
 use Rattle.gc_texts.specs.declared.tasks.Task.{Task}
 use Rattle.gc_station.specs.Deciding.{later}
 use Rattle.gc_station.specs.Model.{Model, asks_for, null_request}
@@ -21,7 +21,7 @@ use Rattle.gc_station.specs.Progressing.{one_more_in_window}
 use Rattle.gc_station.specs.RecordedInTime.{raw_count}
 use Rattle.gc_station.specs.Requests.{command_at}
 use Rattle.gc_station.specs.declared.plan.Plan.{Plan}
-use Rattle.gc_station.proofs.HeldUp.{IsTableCall}
+use Rattle.gc_station.proofs.HeldUp.{IsTableCall, of_table_at_any_moment}
 use Rattle.gc_station.proofs.InFlight.{EndsEarly}
 use Rattle.gc_station.proofs.Lists.{all_append}
 use Rattle.gc_station.proofs.UnderWay.{sent_with_room, IsFlushing, setup_limit, GoesNext}
@@ -50,12 +50,12 @@ raws_next (suc n) (suc k) [] task others below e raw = cc
 raws_next (suc n) (suc k) (x ∷ commands) task others below e raw = let on = raws_next n k commands task others (omega (arith, below)) e raw in omega (arith, on)
 
 -- a task that asks for a raw command asks for one in its text
-pub raw_text : (task : Task) (utc : ℕ) → is_of_table (command_at utc task).call ≡ false → is_of_table task.command.call ≡ false
-raw_text task utc raw = by_test (is_of_table task.command.call) refl where
+pub raw_text : (task : Task) (occasion : Occasion) → is_of_table (command_at occasion task).call ≡ false → is_of_table task.command.call ≡ false
+raw_text task occasion raw = by_test (is_of_table task.command.call) refl where
   -- the lemma above, whether its text has a call of the table
   by_test : (b : Bool) → is_of_table task.command.call ≡ b → is_of_table task.command.call ≡ false
   by_test false e = e
-  by_test true e = absurd (both_ways (is_of_table (command_at utc task).call) raw (at_any_moment (λ call. is_of_table call ≡ true) task utc refl e))
+  by_test true e = absurd (both_ways (is_of_table (command_at occasion task).call) raw (of_table_at_any_moment task occasion e))
 
 -- if a number of null procedures may yet be sent, and seven are reached with those that were, but not without, it isn't 0
 one_fewer : (n more : ℕ) → 7 ≤ n + more → n < 7 → (left : ℕ) × (more ≡ suc left)

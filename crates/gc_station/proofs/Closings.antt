@@ -28,7 +28,7 @@ use Rattle.gc_station.specs.Closing.{HasFreshClient, IsReasoned, Shows, ClosesFo
 use Rattle.gc_station.specs.Quiet.{HasLast}
 use Rattle.gc_station.specs.Reasons.{HoldsBefore, IsAtItsEnd, IsFinished}
 use Rattle.gc_station.specs.Runs.{state_after}
-use Rattle.gc_station.specs.Model.{Model, next_request_text, null_text, first_text, waiting_of, opening, action_at, with_progress, with_moment, is_heard, lines_completed, after_piece, Performs, moved, after, after_all, Runs, text_or_null, null_request, asks_for, asks_setup}
+use Rattle.gc_station.specs.Model.{Model, next_request_text, null_text, first_text, occasion_at, waiting_of, opening, action_at, with_progress, with_moment, is_heard, lines_completed, after_piece, Performs, moved, after, after_all, Runs, text_or_null, null_request, asks_for, asks_setup}
 use Rattle.gc_station.specs.NextCommand.{commands_before, place_next}
 use Rattle.gc_station.proofs.Counts.{with_losses_progress}
 use Rattle.gc_station.proofs.EachRun.{invariant_holds}
@@ -173,12 +173,12 @@ moved_decides plan commands action.Ask s act c o done e =
     (put_decides plan s action.Ask c (commands_before plan commands t.progress) (null_text s.progress.word) (with_progress (null_sent plan) t) refl) e
 moved_decides plan commands action.Prepare s act c o done e =
     let t = with_progress turned s in
-    let text = text_or_null s.progress.moment.utc s.client (drop s.progress.prepared commands) in
+    let text = text_or_null (occasion_at s.progress.moment) s.client (drop s.progress.prepared commands) in
     walk plan commands (DecidesIfEnded plan s action.Prepare c) action.Prepare t act o
     (put_decides plan s action.Prepare c (commands_before plan commands t.progress) text (with_progress (setup_sent plan) (asks_setup plan commands t)) refl) e
 moved_decides plan commands action.Send s act c o done e =
     let t = with_progress turned s in
-    let text = first_text s.progress.moment.utc s.client (drop (place_next commands s.progress) commands) in
+    let text = first_text (occasion_at s.progress.moment) s.client (drop (place_next commands s.progress) commands) in
     walk plan commands (DecidesIfEnded plan s action.Send c) action.Send t act o
     (put_decides plan s action.Send c (commands_before plan commands t.progress) text (model_sent plan commands t) refl) e
 moved_decides plan commands action.Flush s act c o done e =

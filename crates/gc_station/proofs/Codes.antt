@@ -2,7 +2,7 @@
 -- unless it was measured elsewhere than where its target is. `line` is the reply line of a command with this call, and `r` its
 -- fields; `reads` gives what each line says for a call (`AreReadings`), and `expected` what the command expects: the return
 -- codes that it accepts, and the place of its target.
-use Rattle.std.proofs.Common.{◌≡◌, ◌==◌, ◌&&◌, ◌||◌, ◌⊎◌, inl, inr, ℕ, zero, suc, replicate, Bool, true, false, not, List, Option, Some, if◌then◌else◌, refl, sym, ap, ◌∙◌}
+use Rattle.std.proofs.Common.{◌≡◌, ◌==◌, ◌&&◌, ◌||◌, ◌⊎◌, inl, inr, ℕ, zero, suc, replicate, Bool, true, false, not, List, Option, Some, None, if◌then◌else◌, refl, sym, ap, ◌∙◌}
 use Rattle.std.specs.List.{list_any}
 use Rattle.std.proofs.lemmas.Bool.Decides.{eqb_tells}
 use Rattle.std.proofs.lemmas.Bool.{both_ways}
@@ -12,7 +12,6 @@ use Rattle.gc_catalogue.specs.declared.answer.Reading.{Reading}
 use Rattle.gc_catalogue.specs.declared.answer.Reading.TheVariants as reading
 use Rattle.gc_catalogue.specs.declared.asked.Asked.{Asked}
 use Rattle.gc_catalogue.specs.declared.asked.Asked.TheVariants.{Table, Raw}
-use Rattle.gc_catalogue.specs.Asked.{IsAskedReading}
 use Rattle.gc_client.specs.Rule.{Answered}
 use Rattle.gc_texts.specs.Codes.{lists_code, no_codes}
 use Rattle.gc_texts.specs.Endings as ends
@@ -23,24 +22,28 @@ use Rattle.gc_texts.specs.Zeroed.{as_zero}
 use Rattle.gc_texts.specs.declared.codes.Codes.{Codes}
 use Rattle.gc_texts.specs.declared.agree.Twice.{Twice}
 use Rattle.gc_texts.specs.declared.agree.Twice.TheVariants as twice
+use Rattle.gc_texts.specs.declared.form.Form.{Form}
 use Rattle.gc_texts.specs.declared.near.Expected.{Expected}
 use Rattle.gc_texts.specs.declared.quality.Quality.{Quality}
 use Rattle.gc_texts.specs.declared.quality.Quality.TheVariants as quality
-use Rattle.gc_texts.proofs.ZeroReplies.{zero_reads}
 use Rattle.gc_station.specs.Codes.{WellIsAnAcceptedCode}
 use Rattle.gc_station.specs.Qualities.{GoodIsAnAnswer}
 use Rattle.gc_station.specs.Marks.{agrees_in, quality_in, agreed_as, answered_as, value_as, warned_as, refused_as, answer_as, end_of, is_well}
+use Rattle.gc_station.specs.Saying.{IsSaid}
 use Rattle.gc_station.specs.Scopes.{AreReadings, Reads}
+use Rattle.gc_station.proofs.Saying.{zero_said}
 
--- a reply with a communication code other than 0 says that fault, whatever was asked
-pub com_fault_is : (asked : Asked) (r : ReplyFields) → (r.rc_com ≡ 0 → ⊥) → IsAskedReading asked r (reading.ComFault r.rc_com)
-com_fault_is (Table call) r other = (other, refl)
-com_fault_is (Raw raw) r other = (other, refl)
+-- a reply with a communication code other than 0 says that fault, whatever was asked, by a form or without one
+pub com_fault_is : (form : Option Form) (asked : Asked) (r : ReplyFields) → (r.rc_com ≡ 0 → ⊥) → IsSaid form asked r (reading.ComFault r.rc_com)
+com_fault_is None (Table call) r other = (other, refl)
+com_fault_is None (Raw raw) r other = (other, refl)
+com_fault_is (Some form) asked r other = (other, refl)
 
--- a reply with communication code 0 and a return code other than 0 says that refusal, whatever was asked
-pub refused_is : (asked : Asked) (r : ReplyFields) → r.rc_com ≡ 0 → (r.rc ≡ 0 → ⊥) → IsAskedReading asked r (reading.Refused r.rc)
-refused_is (Table call) r none other = (none, other, refl)
-refused_is (Raw raw) r none other = (none, other, refl)
+-- a reply with communication code 0 and a return code other than 0 says that refusal, whatever was asked, by a form or without one
+pub refused_is : (form : Option Form) (asked : Asked) (r : ReplyFields) → r.rc_com ≡ 0 → (r.rc ≡ 0 → ⊥) → IsSaid form asked r (reading.Refused r.rc)
+refused_is None (Table call) r none other = (none, other, refl)
+refused_is None (Raw raw) r none other = (none, other, refl)
+refused_is (Some form) asked r none other = (none, other, refl)
 
 -- a good quality is a good one in each sending of a chain
 good_in : (t : Twice) (q : Quality) → is_good q ≡ true → is_good (quality_in t q) ≡ true
@@ -94,25 +97,25 @@ without_codes accepted rc none (inl same) = same
 without_codes accepted rc none (inr some) = absurd (none_accepted rc (ap (λ (cs : Codes). lists_code cs rc) (sym none) ∙ some))
 
 module _ (reads : Reads) (expected : Expected) (call : Asked) (line : List ℕ) (r : ReplyFields) (are : AreReadings reads) (is : IsReply line r) where
-  -- if a reply's fields r mean `said` for the call (`IsAskedReading`), `reads` reads its line as `said`
-  says : (said : Reading) → IsAskedReading call r said → reads call line ≡ said
-  says said reading = are call line said (record { reply = r; is_reply = is; is_reading = reading })
+  -- if a reply's fields r mean `said` for the call (`IsSaid`), `reads` reads its line as `said`
+  says : (said : Reading) → IsSaid expected.form call r said → reads expected.form call line ≡ said
+  says said reading = are expected.form call line said (record { reply = r; is_reply = is; is_reading = reading })
 
   -- if the same fields with return code 0 mean `said`, `reads` reads the line with return code 0 (`as_zero`) as `said`
-  says_zeroed : (said : Reading) → IsAskedReading call (record r { rc = 0 }) said → reads call (as_zero line) ≡ said
-  says_zeroed said reading = are call (as_zero line) said (zero_reads call line r said is reading)
+  says_zeroed : (said : Reading) → IsSaid expected.form call (record r { rc = 0 }) said → reads expected.form call (as_zero line) ≡ said
+  says_zeroed said reading = are expected.form call (as_zero line) said (zero_said expected.form call line r said is reading)
 
   -- the ending of a command that this line answers is `answer_as` of what the line says, and of what it says with return code 0
-  ended : (said : Reading) → reads call line ≡ said → end_of reads expected call (Answered line) ≡ answer_as expected said (reads call (as_zero line)) line
-  ended said e = ap (λ x. answer_as expected x (reads call (as_zero line)) line) e
+  ended : (said : Reading) → reads expected.form call line ≡ said → end_of reads expected call (Answered line) ≡ answer_as expected said (reads expected.form call (as_zero line)) line
+  ended said e = ap (λ x. answer_as expected x (reads expected.form call (as_zero line)) line) e
 
   -- a line that is a refusal ends the command as `refused_as` says, with b for whether the refusal's code is accepted
-  ended_refused : (code : ℕ) (b : Bool) → reads call line ≡ reading.Refused code → lists_code expected.accepted code ≡ b
-      → end_of reads expected call (Answered line) ≡ refused_as b expected (reads call (as_zero line)) line
-  ended_refused code b e accepted = ended (reading.Refused code) e ∙ ap (λ x. refused_as x expected (reads call (as_zero line)) line) accepted
+  ended_refused : (code : ℕ) (b : Bool) → reads expected.form call line ≡ reading.Refused code → lists_code expected.accepted code ≡ b
+      → end_of reads expected call (Answered line) ≡ refused_as b expected (reads expected.form call (as_zero line)) line
+  ended_refused code b e accepted = ended (reading.Refused code) e ∙ ap (λ x. refused_as x expected (reads expected.form call (as_zero line)) line) accepted
 
   -- a command that is refused with a code that isn't accepted isn't answered well
-  refused_unwell : (code : ℕ) → reads call line ≡ reading.Refused code → lists_code expected.accepted code ≡ false → is_well (end_of reads expected call (Answered line)) ≡ false
+  refused_unwell : (code : ℕ) → reads expected.form call line ≡ reading.Refused code → lists_code expected.accepted code ≡ false → is_well (end_of reads expected call (Answered line)) ≡ false
   refused_unwell code e none = ap is_well (ended_refused code false e none)
 
   -- a command is answered well only if the communication code of its reply is 0
@@ -120,11 +123,11 @@ module _ (reads : Reads) (expected : Expected) (call : Asked) (line : List ℕ) 
   com_zero well = elim (eqb_tells r.rc_com 0) as (λ _. r.rc_com ≡ 0) [
     | inl same ↦ same.1
     | inr other ↦ absurd
-        (both_ways (is_well (end_of reads expected call (Answered line))) (ap is_well (ended (reading.ComFault r.rc_com) (says (reading.ComFault r.rc_com) (com_fault_is call r other.1)))) well)
+        (both_ways (is_well (end_of reads expected call (Answered line))) (ap is_well (ended (reading.ComFault r.rc_com) (says (reading.ComFault r.rc_com) (com_fault_is expected.form call r other.1)))) well)
   ]
 
   -- a command that is refused, and is answered well nevertheless, was refused with an accepted code
-  accepted_one : (accepted : Bool) → lists_code expected.accepted r.rc ≡ accepted → reads call line ≡ reading.Refused r.rc → is_well (end_of reads expected call (Answered line)) ≡ true
+  accepted_one : (accepted : Bool) → lists_code expected.accepted r.rc ≡ accepted → reads expected.form call line ≡ reading.Refused r.rc → is_well (end_of reads expected call (Answered line)) ≡ true
       → lists_code expected.accepted r.rc ≡ true
   accepted_one true e said well = e
   accepted_one false e said well = absurd (both_ways (is_well (end_of reads expected call (Answered line))) (refused_unwell r.rc said e) well)
@@ -133,11 +136,11 @@ module _ (reads : Reads) (expected : Expected) (call : Asked) (line : List ℕ) 
   rc_zero : r.rc_com ≡ 0 → is_well (end_of reads expected call (Answered line)) ≡ true → (r.rc ≡ 0) ⊎ (lists_code expected.accepted r.rc ≡ true)
   rc_zero none well = elim (eqb_tells r.rc 0) as (λ _. (r.rc ≡ 0) ⊎ (lists_code expected.accepted r.rc ≡ true)) [
     | inl same ↦ inl same.1
-    | inr other ↦ inr (accepted_one (lists_code expected.accepted r.rc) refl (says (reading.Refused r.rc) (refused_is call r none other.1)) well)
+    | inr other ↦ inr (accepted_one (lists_code expected.accepted r.rc) refl (says (reading.Refused r.rc) (refused_is expected.form call r none other.1)) well)
   ]
 
   -- a command whose line says anything but an answer or a refusal with an accepted code isn't answered well
-  unread_unwell : (said : Reading) → reads call line ≡ said → ((answer : Answer) → said ≡ reading.Value answer → ⊥)
+  unread_unwell : (said : Reading) → reads expected.form call line ≡ said → ((answer : Answer) → said ≡ reading.Value answer → ⊥)
       → ((code : ℕ) → said ≡ reading.Refused code → lists_code expected.accepted code ≡ false) → is_well (end_of reads expected call (Answered line)) ≡ false
   unread_unwell (reading.Value answer) e none unlisted = absurd (none answer refl)
   unread_unwell (reading.Refused code) e none unlisted = refused_unwell code e (unlisted code refl)
@@ -146,27 +149,27 @@ module _ (reads : Reads) (expected : Expected) (call : Asked) (line : List ℕ) 
 
   -- a reply with both codes 0 and an answer ends a command as answered with the quality `Fine`, or as elsewhere where its
   -- direction isn't near the target's place
-  value_ends : (answer : Answer) → IsAskedReading call r (reading.Value answer)
+  value_ends : (answer : Answer) → IsSaid expected.form call r (reading.Value answer)
       → end_of reads expected call (Answered line) ≡ value_as expected quality.Fine (is_elsewhere expected.near answer) answer line
   value_ends answer has = ended (reading.Value answer) (says (reading.Value answer) has)
 
   -- a reply with an accepted return code other than 0 ends a command as `warned_as` says, by what its line says with return
   -- code 0
-  warned_ends : (said : Reading) → r.rc_com ≡ 0 → (r.rc ≡ 0 → ⊥) → lists_code expected.accepted r.rc ≡ true → IsAskedReading call (record r { rc = 0 }) said
+  warned_ends : (said : Reading) → r.rc_com ≡ 0 → (r.rc ≡ 0 → ⊥) → lists_code expected.accepted r.rc ≡ true → IsSaid expected.form call (record r { rc = 0 }) said
       → end_of reads expected call (Answered line) ≡ warned_as expected said line
   warned_ends said none some accepted read =
-      ended_refused r.rc true (says (reading.Refused r.rc) (refused_is call r none some)) accepted ∙ ap (λ x. warned_as expected x line) (says_zeroed said read)
+      ended_refused r.rc true (says (reading.Refused r.rc) (refused_is expected.form call r none some)) accepted ∙ ap (λ x. warned_as expected x line) (says_zeroed said read)
 
 -- the law: if no code is accepted, the line of an answer of a good quality says an answer (both codes are 0), and the record has
 -- it
 pub without_accept : GoodIsAnAnswer
-without_accept reads call quality.Fine said line is good = is
-without_accept reads call quality.Warning said line (code, refusal, listed, has) good = absurd (none_accepted code listed)
-without_accept reads call quality.Unconfirmed said line is good = absurd is
-without_accept reads call quality.Refused said line is good = cc
+without_accept says call quality.Fine said line is good = is
+without_accept says call quality.Warning said line (code, refusal, listed, has) good = absurd (none_accepted code listed)
+without_accept says call quality.Unconfirmed said line is good = absurd is
+without_accept says call quality.Refused said line is good = cc
 
 -- the law: how a command that a reply in time ended is answered well or not, by its codes (`EndsByItsCodes`); and one that is
--- late, lost, skipped or missed never is answered well
+-- late, lost, skipped, without a value or missed never is answered well
 pub accepted_codes : WellIsAnAcceptedCode
 accepted_codes = record {
   replied = λ reads expected call line r are is. record {
@@ -188,5 +191,5 @@ accepted_codes = record {
     warned_without = λ fault none some accepted unreadable.
         warned_ends reads expected call line r are is (reading.Unreadable fault) none some accepted unreadable;
   };
-  none = λ reads expected call. (refl, refl, refl, refl);
+  none = λ reads expected call. (refl, refl, refl, refl, refl);
 }

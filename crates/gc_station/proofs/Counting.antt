@@ -1,7 +1,7 @@
 -- A tally counts the records of the last attempts. `count` is one of its counts, and `so` says which endings it counts; no count
 -- exceeds 2^64 - 1 (`capped`).
 use Rattle.std.proofs.Common.{◌||◌, ◌&&◌, not, nat_eq, nat_lt, ◌≡◌, ℕ, suc, ◌+◌, Bool, true, false, List, [], ◌∷◌, if◌then◌else◌, refl, sym, ap, ◌∙◌, arith}
-use Rattle.gc_texts.specs.Endings.{End, Answered, Unreadable, Elsewhere, Disagree, Unexpected, Late, Lost, Skipped, Missed}
+use Rattle.gc_texts.specs.Endings.{End, Answered, Unreadable, Elsewhere, Disagree, Unexpected, Late, Lost, Skipped, NoValue, Missed}
 use Rattle.gc_texts.specs.declared.quality.Quality.TheVariants.{Fine, Warning, Unconfirmed, Refused}
 use Rattle.gc_station.specs.Counting.{is_followed, last_attempts, further_attempts, how_many, ended_answered, ended_refused, ended_unreadable, ended_elsewhere, ended_disagree, ended_unexpected, ended_late, ended_lost, ended_skipped, ended_missed, TalliesCountRecords}
 use Rattle.gc_station.specs.Records.{Record}
@@ -71,6 +71,7 @@ counted_by_ending (Unexpected line) t = refl
 counted_by_ending Late t = refl
 counted_by_ending Lost t = refl
 counted_by_ending Skipped t = refl
+counted_by_ending NoValue t = refl
 counted_by_ending Missed t = refl
 
 -- a count that grows by one for each command with this ending (`so`), stays for any other, adds up, and doesn't depend on `again`

@@ -16,7 +16,7 @@ use Rattle.gc_station.specs.Reasons.{HoldsBefore, MayGo}
 use Rattle.gc_station.specs.Runs.{state_after}
 use Rattle.gc_station.specs.Scopes.{Scope}
 use Rattle.gc_station.specs.Model.{Model, opening, action_at, waiting_of, with_progress, piece_at, moved, Performs, Runs, cycle_length}
-use Rattle.gc_station.specs.NextCommand.{cycles_begun, place_next, first_is_chained, is_chained_after}
+use Rattle.gc_station.specs.NextCommand.{cycles_begun, place_next, first_is_chained, is_chained_after, needs_first}
 use Rattle.gc_station.specs.declared.cause.Cause.{Cause}
 use Rattle.gc_station.specs.declared.cause.Cause.TheVariants as cause
 use Rattle.gc_station.specs.declared.plan.Plan.{Plan}
@@ -164,7 +164,7 @@ module _ (plan : Plan) (commands : List Task) (scope : Scope) (some : 0 < plan.e
 
   -- `Cycling` holds after the act that begins a cycle at the moment m, if a cycle was left, and the cycle has a `Start`
   pub begins_cycle : (acts : List Act) (m : Moment) (p : Progress) → (unbegun : 0 < p.left) → (within : p.left ≤ plan.cycles) → Start acts m p
-      → Cycling (acts ++ Told m ∷ []) (cycle_begun plan (cycle_length plan commands) m p)
+      → Cycling (acts ++ Told m ∷ []) (cycle_begun plan (cycle_length plan commands) (needs_first (drop plan.setup commands)) m p)
   begins_cycle acts m p left within x =
       let past = x.past in
       let number = x.number in

@@ -13,7 +13,7 @@ use Rattle.gc_station.specs.EachOnce.{RunRequest, requests, of_task, all_cycles,
 use Rattle.gc_station.specs.Requests.{asked_at, of_command}
 use Rattle.gc_station.proofs.Timing.{asked_text, unsent_text}
 use Rattle.gc_station.proofs.InCycle.{not_zero}
-use Rattle.gc_station.specs.Marks.{commands_in, record_of, records_of, with_marks}
+use Rattle.gc_station.specs.Marks.{commands_in, occasion_of, record_of, records_of, with_marks}
 use Rattle.gc_station.specs.Records.{Record}
 use Rattle.gc_station.specs.Scopes.{Reads}
 use Rattle.std.proofs.lemmas.List.Elements.{filter-append}
@@ -206,20 +206,20 @@ module _ (commands : List Task) (ms : List (Option Mark)) (ws : List (Pending As
     (h : IsRowInText commands ms ws rs kept) where
   -- if each outstanding request has a mark, `IsRowInText` holds after the command is sent with this mark, with its request after
   -- `kept`
-  pub row_in_text_sent : (mark : Mark) (p : Pending Asked) → (paired : length ms ≡ length ws) → (there : drop mark.place commands ≡ task ∷ others) → (asks : of_pending p ≡ asked_at mark.sent task)
+  pub row_in_text_sent : (mark : Mark) (p : Pending Asked) → (paired : length ms ≡ length ws) → (there : drop mark.place commands ≡ task ∷ others) → (asks : of_pending p ≡ asked_at (occasion_of mark) task)
       → (above : 0 < mark.cycle) → IsRowInText commands (ms ++ Some mark ∷ []) (ws ++ p ∷ []) rs (kept ++ requests mark.cycle mark.place (of_task task ∷ []))
   row_in_text_sent mark p paired at is some =
       let begun = mark.cycle in
       let place = mark.place in
-      let utc = mark.sent in
+      let occasion = occasion_of mark in
       let front = map of_record rs in
-      let one = requests begun place (asked_at utc task ∷ []) in
+      let one = requests begun place (asked_at occasion task ∷ []) in
       let waits = still_waiting ms ws in
       ap (of_text commands) (ap (λ xs. front ++ xs) (more_waiting ms ws (Some mark) p paired ∙ ap (λ a. waits ++ requests begun place (a ∷ [])) is)
       ∙ sym (append_assoc front waits one))
       ∙ of_text-append commands (front ++ waits) one
-      ∙ ap (λ xs. of_text commands (front ++ waits) ++ map (in_text commands) xs) (cycles_all begun place (asked_at utc task ∷ []) some)
-      ∙ ap (λ x. of_text commands (front ++ waits) ++ x ∷ []) (asked_text commands begun place utc task others at)
+      ∙ ap (λ xs. of_text commands (front ++ waits) ++ map (in_text commands) xs) (cycles_all begun place (asked_at occasion task ∷ []) some)
+      ∙ ap (λ x. of_text commands (front ++ waits) ++ x ∷ []) (asked_text commands begun place occasion task others at)
       ∙ ap (λ xs. xs ++ requests begun place (of_task task ∷ [])) h
 
   -- if no command is outstanding, `IsRowInText` holds after the command is recorded without being sent, with its request after

@@ -32,7 +32,7 @@ use Rattle.gc_station.specs.Records.{Record}
 use Rattle.gc_station.specs.Runs.{state_after}
 use Rattle.gc_station.specs.Tasked.{EachRecordIsOfItsTask}
 use Rattle.gc_station.specs.Model.{Model, opening, action_at, waiting_of, with_progress, asks_first, asks_next, next_left_out, with_more_passes, with_listed, listed_after_skip, after_pass, with_more_records, end_unsent, unsent_record, first_unsent_record, after_clock, moved, after, after_all, cycle_length, asks_setup, request_for, null_request, request_or_null, asks_for, mark_sent, mark_setup_sent}
-use Rattle.gc_station.specs.NextCommand.{place_next, commands_left, mark_next, upcoming_after, cycles_begun}
+use Rattle.gc_station.specs.NextCommand.{place_next, commands_left, mark_next, needs_first, upcoming_after, cycles_begun}
 use Rattle.gc_station.proofs.InCycle.{within_window}
 use Rattle.gc_station.proofs.Acting.{mid_fail, mid_moment, mid_clock, mid_put, mid_open, mid_close, mid_read}
 use Rattle.gc_station.proofs.Each.{row_empty, reached_whole}
@@ -76,7 +76,7 @@ going_on plan p w (inr over) = over.2
 -- unsent
 mid_begun : (plan : Plan) (commands : List Task) (s : Model) (m : Moment) → (going : IsGoingOn s.progress.phase) → (none_unsent : s.progress.unsent ≡ 0)
     → (some : 0 < s.progress.left) → HoldsMidAct plan commands s
-    → HoldsMidAct plan commands (with_progress (cycle_begun plan (cycle_length plan commands) m) s)
+    → HoldsMidAct plan commands (with_progress (cycle_begun plan (cycle_length plan commands) (needs_first (drop plan.setup commands)) m) s)
 mid_begun plan commands s m is none some mid =
     let p = s.progress in (
       sound_begun plan commands (ledger_at s p) none some mid.0,
@@ -146,8 +146,8 @@ module _ (plan : Plan) (commands : List Task) (next : Upcoming) (s : Model) wher
       absurd (omega (arith, n, some, sound.unsents))
   mid_skips m (task ∷ others) at is some none mid =
       let p = s.progress in (
-        sound_skipped plan commands (ledger_at s p) (unsent_at m p) (end_unsent p.missed)
-            (mark_next plan commands p).expected task others none some at (unsent_end p.missed) mid.0,
+        sound_skipped plan commands (ledger_at s p) (unsent_at m p) (end_unsent p)
+            (mark_next plan commands p).expected task others none some at (unsent_end p) mid.0,
         going_fits p.phase p.left p.unsent p.left (p.unsent - 1) s.rest s.marks s.marks is mid.1,
       )
 
@@ -195,7 +195,7 @@ mid_moved plan commands s action.Renew act fine is =
 mid_moved plan commands s action.Begin act fine is =
     let t = with_progress turned s in
     let mid = mid_act_of plan commands s fine in
-    mid_clock plan commands (cycle_begun plan (cycle_length plan commands)) t act mid (λ m. mid_begun plan commands t m (going_on plan s.progress (waiting_of s) is.0) is.2 is.4 mid)
+    mid_clock plan commands (cycle_begun plan (cycle_length plan commands) (needs_first (drop plan.setup commands))) t act mid (λ m. mid_begun plan commands t m (going_on plan s.progress (waiting_of s) is.0) is.2 is.4 mid)
 mid_moved plan commands s action.Open act fine is = mid_open plan commands (with_progress turned s) act is (mid_act_of plan commands s fine)
 mid_moved plan commands s action.Clear act fine is =
     let t = with_progress turned s in mid_put plan commands _ (with_progress cleared) t act (mid_cleared plan commands t is (mid_act_of plan commands s fine))

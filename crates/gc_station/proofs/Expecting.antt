@@ -1,6 +1,6 @@
 -- An answer that isn't as expected ends its command as unexpected, and leaves the station in doubt: the act that adds such a record notes
 -- that a synchronization is called for. So the setup is sent anew. An act is one call on the link, with its result.
-use Rattle.std.proofs.Common.{◌≡◌, ℕ, ◌||◌, Bool, true, false, List, [], ◌∷◌, ◌++◌, map, Option, Some, None, refl, sym, ap, ◌∙◌, append_assoc, append-nil}
+use Rattle.std.proofs.Common.{◌≡◌, ℕ, ◌||◌, Bool, true, false, List, [], ◌∷◌, ◌++◌, map, nat_lt, Option, Some, None, refl, sym, ap, ◌∙◌, append_assoc, append-nil}
 use Rattle.std.proofs.lemmas.Bool.{both_ways}
 use Rattle.std.proofs.lemmas.List.{append_cancel_left}
 use Rattle.gc_catalogue.specs.declared.asked.Asked.{Asked}
@@ -18,7 +18,7 @@ use Rattle.gc_station.specs.declared.progress.Progress.{Progress}
 use Rattle.gc_station.specs.Expecting.{IsByExpectation, TheSetUpIsAsExpected, ChainsAreAsExpected, BringsUnexpected, RenewsAfterAnUnexpectedAnswer}
 use Rattle.gc_station.specs.Lines.{calls_for_renewal}
 use Rattle.gc_station.specs.Marks.{any_unexpected, is_well, records_of, unexpected_noted}
-use Rattle.gc_station.specs.Model.{Model, opening, action_at, waiting_of, is_heard, after_piece, end_unsent, first_unsent_record, line_came, line_news, losing, moved, after, with_moment, with_progress}
+use Rattle.gc_station.specs.Model.{Model, opening, action_at, waiting_of, is_heard, after_piece, first_unsent_record, line_busy, line_came, line_news, losing, moved, after, with_moment, with_progress}
 use Rattle.gc_station.specs.NextCommand.{commands_left, mark_next}
 use Rattle.gc_station.specs.Progressing.{turned, moment_noted, loses_all}
 use Rattle.gc_station.specs.Quiet.{IsAsking}
@@ -35,7 +35,7 @@ use Rattle.gc_station.proofs.Moments.{of_one}
 use Rattle.gc_station.proofs.Prepared.{none_before_the_set_up}
 use Rattle.gc_station.proofs.Records.{unexpected-append}
 use Rattle.gc_station.proofs.Starts.{in_doubt_at_end, set_up_anew_after_a_doubt}
-use Rattle.gc_station.proofs.Walk.{came_along, moved_changed}
+use Rattle.gc_station.proofs.Walk.{came_along, moved_changed, unsent_along}
 
 -- Records.
 
@@ -68,11 +68,7 @@ lost_as_expected reads utc (Some mark ∷ marks) (p ∷ ps) = lost_as_expected r
 -- nor does one that isn't sent
 unsent_as_expected : (p : Progress) (m : Moment) (mark : Mark) (left : List Task) → any_unexpected false (first_unsent_record p m mark left) ≡ false
 unsent_as_expected p m mark [] = refl
-unsent_as_expected p m mark (task ∷ others) = by_missed p.missed where
-  -- the lemma above, by whether the cycle is missed
-  by_missed : (missed : Bool) → unexpected_noted (end_unsent missed) false ≡ false
-  by_missed true = refl
-  by_missed false = refl
+unsent_as_expected p m mark (task ∷ others) = unsent_along (λ (end : End). unexpected_noted end false ≡ false) refl refl refl p
 
 -- One act.
 
@@ -89,7 +85,8 @@ line_doubts old s line a = record {
   added = ap (λ rs. rs ++ line_news line s) a.added ∙ append_assoc old a.news (line_news line s);
   doubt = λ one.
       let either = either_unexpected (any_unexpected false a.news) (line_news line s) (sym (unexpected-append false a.news (line_news line s)) ∙ one) in
-      noted (any_unexpected false a.news) s.progress.doubtful (calls_for_renewal s.client line) (any_unexpected false (line_news line s)) a.doubt either;
+      ap (λ (d : Bool). d || nat_lt 0 (line_busy line s))
+      (noted (any_unexpected false a.news) s.progress.doubtful (calls_for_renewal s.client line) (any_unexpected false (line_news line s)) a.doubt either);
 } where
   -- if one of two alternatives holds, so does one of three, the first of which follows from that of the two
   noted : (a b call new : Bool) → (a ≡ true → b ≡ true) → (a || new) ≡ true → ((b || call) || new) ≡ true
@@ -163,6 +160,13 @@ module _ (plan : Plan) (commands : List Task) where
         sym a.added ∙ sym (ap (λ (t : Model). t.records) (after_all-append plan commands (opening plan scope) acts (act ∷ []))) ∙ w.written in
         a.doubt (ap (any_unexpected false) (append_cancel_left s.records a.news (w.earlier ++ b.answer ∷ w.later) same) ∙ one_unexpected false w.earlier b.answer w.later b.line b.unexpected)
 
+-- no request of the client is sent in doubt
+pub none_asked : (plan : Plan) (s : Model) (o : Action) → HoldsBefore plan s.progress (waiting_of s) o → IsAsking o → s.progress.doubtful ≡ true → ⊥
+none_asked plan s action.Prepare needs asks doubt = both_ways s.progress.doubtful needs.3.2 doubt
+none_asked plan s action.Send needs asks doubt = both_ways s.progress.doubtful needs.3.2 doubt
+none_asked plan s action.Flush needs asks doubt = both_ways s.progress.doubtful needs.4.2 doubt
+none_asked plan s o needs asks doubt = absurd asks
+
 -- The laws.
 
 -- the law: where a command of a cycle is sent, the answer of each command of the setup is as the text expects it
@@ -196,10 +200,4 @@ renews_after_an_unexpected_answer = record {
       let end = state_after plan commands scope (earlier ++ act ∷ behind) in
       let doubt = in_doubt_at_end plan commands scope earlier behind act runs (unexpected_doubts plan commands scope earlier act brings) up in
       none_asked plan end (action_at plan end) (action_for plan end.progress (waiting_of end)) asks doubt;
-} where
-  -- no request is sent in doubt
-  none_asked : (plan : Plan) (s : Model) (o : Action) → HoldsBefore plan s.progress (waiting_of s) o → IsAsking o → s.progress.doubtful ≡ true → ⊥
-  none_asked plan s action.Prepare needs asks doubt = both_ways s.progress.doubtful needs.3.2 doubt
-  none_asked plan s action.Send needs asks doubt = both_ways s.progress.doubtful needs.3.2 doubt
-  none_asked plan s action.Flush needs asks doubt = both_ways s.progress.doubtful needs.4.2 doubt
-  none_asked plan s o needs asks doubt = absurd asks
+}

@@ -1,6 +1,6 @@
 -- What holds if an action is next (`Holds`): of the setup, of a synchronization, of a cycle that is overdue, and so of each action.
 use Rattle.std.proofs.Common.{◌≡◌, ℕ, ◌-◌, ◌<◌, ◌⊎◌, ◌&&◌, ◌||◌, Bool, true, false, not, if◌then◌else◌, nat_lt, nat_le, nat_eq, refl, sym, ap, ◌∙◌, subst, inl, inr, arith}
-use Rattle.std.proofs.lemmas.Bool.{ltb-true, ltb-false, leb-true, leb-false, le-leb, eqb-true, eq-eqb, not-true, and_parts, false_from_ne_true, cond_both}
+use Rattle.std.proofs.lemmas.Bool.{ltb-true, ltb-false, leb-true, leb-false, le-leb, eqb-true, eq-eqb, not-true, and_parts, false_from_ne_true, cond_both, and_cases}
 use Rattle.std.proofs.lemmas.Bool.Decides.{nat_tests}
 use Rattle.gc_station.specs.declared.plan.Plan.{Plan}
 use Rattle.gc_station.specs.declared.cause.Cause.{Cause}
@@ -13,7 +13,7 @@ use Rattle.gc_station.specs.declared.progress.Progress.{Progress}
 use Rattle.gc_station.specs.declared.progress.Until.TheVariants.{Limit, Due}
 use Rattle.gc_station.specs.declared.progress.Waiting.{Waiting}
 use Rattle.gc_station.specs.Reasons.{HoldsBefore, MayPrepare, IsOutOfTime, IsGoingOn, IsOverdue, IsPreparedOrOverdue}
-use Rattle.gc_station.specs.Deciding.{has_begun, is_up, is_dead, is_due, is_idle, is_finished, action_of, action_in, action_on, action_of_phase, action_ready, action_begun, action_beginning, action_to_send, action_waiting, action_without_turns, is_stale, is_resting, is_stopping, is_held_back, action_cycle, action_to_prepare, action_preparing, action_in_setup, is_preparing, is_out_of_time, waits_out, has_no_time_left, is_overdue, action_overdue, may_abandon, setup_permits}
+use Rattle.gc_station.specs.Deciding.{has_begun, is_up, is_dead, is_due, is_idle, is_finished, action_of, action_in, action_on, action_of_phase, action_ready, action_begun, action_beginning, action_to_send, action_waiting, action_without_turns, is_stale, is_resting, is_stopping, is_held_back, action_cycle, action_to_prepare, action_preparing, action_in_setup, is_preparing, is_out_of_time, waits_out, has_no_time_left, is_overdue, action_overdue, may_abandon, setup_permits, may_ask}
 use Rattle.gc_station.specs.Stations.{SuitsAction}
 use Rattle.gc_station.proofs.InCycle.{within_window, Awake, Holds, IsAtWork, IsInChainIfStopping, Timely, Wakes, above_zero, awake_reads, awake_up, cycle_for, dead_parts, finished_by_test, has_connection_for, held_back_for, in_chain_if_stopping, not_zero, or_first, resting_by_test, room_for, to_send_for, waiting_for_reply, zero_if_not_above}
 
@@ -105,11 +105,17 @@ beginning_for plan p w awake begun =
     let P = Holds plan p w in
     cond_both (is_finished w.commands p) (action.Close cause.Done) _ P (λ none. ((awake_up p awake, inr (finished_by_test w.commands p none)), tt, tt))
     (λ more. cond_both (is_idle plan p) (action.Read Due) _ P (λ idle. ((awake.1, inl (idle, inl begun)), awake_reads p awake, tt))
-    (λ busy. cond_both (nat_le p.again p.moment.elapsed) _ (action.Read Limit) P
-    (λ past. cond_both (is_dead plan p w) (action.Close cause.Dead) action.Ask P
-    (λ d. let it = dead_parts plan p w d in ((awake_up p awake, inr (it.0, it.1, λ not_begun. leb-true p.again p.moment.elapsed past)), tt, inr awake))
-    (λ alive. ((awake.1, begun, leb-true p.again p.moment.elapsed past, busy, alive), tt, awake)))
-    (λ e. (inr (inr (awake.1, inl (begun, leb-false p.again p.moment.elapsed e))), awake_reads p awake, tt))))
+    (λ busy. cond_both (may_ask p) _ (action.Read Limit) P
+    (λ may. let free = and_parts (nat_eq p.hold 0) (nat_le p.again p.moment.elapsed) may in
+    let past = leb-true p.again p.moment.elapsed free.1 in
+    cond_both (is_dead plan p w) (action.Close cause.Dead) action.Ask P
+    (λ d. let it = dead_parts plan p w d in ((awake_up p awake, inr (it.0, it.1, λ not_begun. past)), tt, inr awake))
+    (λ alive. ((awake.1, begun, past, busy, alive, eqb-true p.hold 0 free.0), tt, awake)))
+    (λ e. (inr (inr (awake.1, inl (begun, waits (and_cases (nat_eq p.hold 0) (nat_le p.again p.moment.elapsed) e)))), awake_reads p awake, tt)))) where
+      -- a busy answer has the station wait, or the null procedure that was sent last hasn't timed out
+      waits : ((nat_eq p.hold 0 ≡ false) ⊎ (nat_le p.again p.moment.elapsed ≡ false)) → (0 < p.hold) ⊎ (p.moment.elapsed < p.again)
+      waits (inl held) = inl (above_zero p.hold held)
+      waits (inr early) = inr (leb-false p.again p.moment.elapsed early)
 
 -- for a station that is `Awake`, `Holds` is true of `action_ready`, unless the run ends because that was asked for
 -- (`is_stopping`)
@@ -175,7 +181,7 @@ overdue_for plan p w now over =
     ((inr overdue, inr overdue, all_sent, zero_left, some_left p.left p.unsent w.commands (not-true (is_finished w.commands p) more.1) all_sent zero_left, late.1, ready), (due_if_out_of_time plan p late.0, now), tt))
     (λ unsent. let here = above_zero p.unsent unsent in cond_both (nat_lt 0 p.next_others) action.Pass action.Skip P
     (λ others. ((inr overdue, inr overdue, here, zero_left, ltb-true 0 p.next_others others, inr overdue, ready), now, tt))
-    (λ first. ((inr overdue, inr overdue, here, zero_left, inr overdue, ready), now, tt)))) where
+    (λ first. ((inr overdue, inr overdue, here, zero_left, inr (inr overdue), ready), now, tt)))) where
       -- why no time is left for the cycle
       NoTime : Type 0
       NoTime = ((p.missed ≡ true) × (0 < p.unsent)) ⊎ (IsOutOfTime plan p × (p.stops ≡ false))

@@ -39,7 +39,7 @@ use Rattle.gc_station.specs.Counters.{counts_after_settlements}
 use Rattle.gc_station.specs.Firsts.{firsts_after}
 use Rattle.gc_station.specs.Marks.{commands_in, records_of, last_well, any_unexpected}
 use Rattle.gc_station.specs.Watching.{fresh_after, cut_to}
-use Rattle.gc_station.specs.Progressing.{behind_noted, ended_noted, doubt_noted, line_noted, bytes_noted, early_noted, after_failure, closed, failing, lines_synchronizing, line_synchronizing}
+use Rattle.gc_station.specs.Progressing.{behind_noted, ended_noted, doubt_noted, hold_noted, line_noted, bytes_noted, early_noted, after_failure, closed, failing, lines_synchronizing, line_synchronizing}
 use Rattle.gc_station.specs.Records.{Record, Grew, texts_of, WritesPart, WritesBy}
 use Rattle.gc_station.specs.Model.{Model, Performs, calls_for_renewal, line_called, line_came, lines_came, lines_completed, lines_taken, with_rest, with_progress, with_moment, waiting_of, settles, piece_heard}
 use Rattle.gc_station.specs.Stations.{waiting_of_station, Refines, Took, TookPart, RefinesOrTookPart, Makes, ReadsMoment, DropsMarks, as_seen, station_expiring}
@@ -50,6 +50,7 @@ use Rattle.gc_station.proofs.Growing.{lines_records}
 use Rattle.gc_station.proofs.Making.{refines_with}
 use Rattle.gc_station.proofs.Readings.{lines_reads, same_readings}
 use Rattle.gc_station.proofs.Records.{grew_none, grew_then, part_since_grew, part_more_grew, tallied-append, last-append, firsts-append}
+use Rattle.gc_station.specs.Busy.{busy_after_settlements}
 
 -- the lines of a frame and of the frames after it: first its line, if it has one
 pub lines_split : (frame : Frame) (later : List Frame) → filter_map line_in (completed frame ++ later) ≡ option_to_list (line_in frame) ++ filter_map line_in later
@@ -313,6 +314,14 @@ module _ (text : Record → List ℕ) (old mid : Station) (s : Model) (x : Settl
   settles_unexpected new none notes =
       ap (λ (r : Recorded). r.unexpected) (notes s.reads stands.reads) ∙ ap (λ b. any_unexpected b to_write) none ∙ ap (any_unexpected false) records_same
 
+  -- if these records were noted, and no busy answer had been before, the longest wait is noted that one of them calls for
+  pub settles_busy : (new : Station) → mid.recorded.busy ≡ 0 → UpdatesRecorded mid new xs
+      → new.recorded.busy ≡ busy_after_settlements s.reads 0 s.marks x.settlements
+  settles_busy new none notes =
+      ap (λ (r : Recorded). r.busy) (notes s.reads stands.reads) ∙ ap (λ k. busy_after_settlements s.reads k mid.marks.items xs) none
+      ∙ ap (λ (ms : List (Option Mark)). busy_after_settlements s.reads 0 ms xs) (ap (λ ms. ms.items) between.marks ∙ stands.marks)
+      ∙ ap (busy_after_settlements s.reads 0 s.marks) same
+
   -- if the book failed at one of these records, it took the earlier records of the model and a part of the others
   pub settles_part : (start taken' : Option (List ℕ))
       → (AreReadings s.reads → WritesPart text s.records (s.records ++ to_write) start taken') → TookPart text s.records start taken' (settles x s)
@@ -332,9 +341,10 @@ adds_acts_append (Some a) None c xs ys p q = absurd p
 adds_acts_append (Some a) (Some b) None xs ys p q = absurd q
 adds_acts_append (Some a) (Some b) (Some c) xs ys p q = q ∙ ap (λ zs. zs ++ ys) p ∙ append_assoc a xs ys
 
--- a station is as a model, whatever it has noted of commands that ended as unexpected
-refines_forgetting : (station : Station) (b : Bool) (s : Model) → Refines station s → Refines (record station { recorded = record station.recorded { unexpected = b } }) s
-refines_forgetting station b s stands = record {
+-- a station is as a model, whatever it has noted of commands that ended as unexpected, or by a busy answer
+refines_forgetting : (station : Station) (b : Bool) (k : ℕ) (s : Model) → Refines station s
+    → Refines (record station { recorded = record station.recorded { unexpected = b; busy = k } }) s
+refines_forgetting station b k s stands = record {
   progress = stands.progress;
   ids = stands.ids;
   width = stands.width;
@@ -350,14 +360,14 @@ refines_forgetting station b s stands = record {
   counts = stands.counts;
 }
 
--- a station that noted whether a line that comes calls for a synchronization, and that no command ended as unexpected, is as the model that
--- noted the former
+-- a station that noted whether a line that comes calls for a synchronization, and that no command ended as unexpected or by a busy answer, is
+-- as the model that noted the former
 pub refines_called : (mid new : Station) (line : List ℕ) (s : Model) → Refines mid s
-    → new ≡ record mid { progress = doubt_noted (calls_for_renewal mid.client.ids line) mid.progress; recorded = record mid.recorded { unexpected = false } }
+    → new ≡ record mid { progress = doubt_noted (calls_for_renewal mid.client.ids line) mid.progress; recorded = record mid.recorded { unexpected = false; busy = 0 } }
     → Refines new (line_called line s)
 refines_called mid new line s stands is =
     subst (λ (x : Station). Refines x (line_called line s)) (sym is)
-    (refines_forgetting (record mid { progress = doubt_noted (calls_for_renewal mid.client.ids line) mid.progress }) false (line_called line s)
+    (refines_forgetting (record mid { progress = doubt_noted (calls_for_renewal mid.client.ids line) mid.progress }) false 0 (line_called line s)
     (refines_with mid (doubt_noted (calls_for_renewal mid.client.ids line) mid.progress) (doubt_noted (calls_for_renewal s.client line)) s stands
     (ap (λ ids. doubt_noted (calls_for_renewal ids line) mid.progress) stands.ids)))
 
@@ -365,6 +375,11 @@ refines_called mid new line s stands is =
 pub refines_doubted : (mid : Station) (p : Progress) (b b' : Bool) (s : Model) → Refines mid s → b ≡ b' → p ≡ doubt_noted b mid.progress
     → Refines (record mid { progress = p }) (with_progress (doubt_noted b') s)
 refines_doubted mid p b b' s stands e is = refines_with mid p (doubt_noted b') s stands (is ∙ ap (λ t. doubt_noted t mid.progress) e)
+
+-- a station that noted the wait that a line's busy answers call for is as the model that noted it
+pub refines_held : (mid : Station) (p : Progress) (k k' : ℕ) (s : Model) → Refines mid s → k ≡ k' → p ≡ hold_noted k mid.progress
+    → Refines (record mid { progress = p }) (with_progress (hold_noted k') s)
+refines_held mid p k k' s stands e is = refines_with mid p (hold_noted k') s stands (is ∙ ap (λ n. hold_noted n mid.progress) e)
 
 -- a station that noted whether a line was a reply is as the model that noted it
 pub refines_noted : (mid : Station) (p : Progress) (b b' : Bool) (s : Model) → Refines mid s → b ≡ b' → p ≡ line_noted b mid.progress

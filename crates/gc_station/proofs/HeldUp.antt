@@ -5,7 +5,7 @@
 use Rattle.std.proofs.Common.{◌≡◌, ◌⊎◌, inl, inr, ℕ, zero, suc, ◌+◌, ◌-◌, ◌<◌, ◌≤◌, ◌&&◌, Bool, true, false, not, List, [], ◌∷◌, ◌++◌, length, map, drop, Option, Some, None, refl, sym, ap, ◌∙◌, subst, arith, if◌then◌else◌, nat_lt, nat_eq, length-drop}
 use Rattle.std.specs.Prelude.{slice_get}
 use Rattle.std.specs.List.{AllByRecursion}
-use Rattle.std.proofs.lemmas.Bool.{ltb-true, ltb-false, lt-ltb, eqb-true, and_right, cond-true}
+use Rattle.std.proofs.lemmas.Bool.{ltb-true, ltb-false, lt-ltb, eqb-true, and_right, both_ways, cond-true}
 use Rattle.std.proofs.lemmas.Bool.Decides.{nat_tests}
 use Rattle.std.proofs.lemmas.List.{length-map, length-append, nil_from_length}
 use Rattle.gc_values.proofs.Every.{every_drop}
@@ -17,6 +17,7 @@ use Rattle.gc_client.specs.declared.pending.Pending.{Pending}
 use Rattle.gc_client.specs.declared.window.TheConstants.{WINDOW}
 use Rattle.gc_client.proofs.OneForOne.{length-settle}
 use Rattle.gc_texts.specs.Tasks.{call_at}
+use Rattle.gc_texts.specs.declared.occasion.Occasion.{Occasion}
 use Rattle.gc_texts.specs.declared.tasks.Task.{Task}
 use Rattle.gc_texts.proofs.TaskMoments.{at_any_moment}
 use Rattle.gc_links.specs.declared.link.Moment.{Moment}
@@ -29,7 +30,7 @@ use Rattle.gc_station.specs.declared.progress.Progress.{Progress}
 use Rattle.gc_station.specs.declared.progress.Waiting.{Waiting}
 use Rattle.gc_station.specs.Behind.{AreOfTable, AwaitsFirstReply, IsNotHeldUp, TheTableIsNeverHeldUp}
 use Rattle.gc_station.specs.Deciding.{has_begun, has_room_to_ask, is_dead, action_to_send, action_room, action_waiting, width_of}
-use Rattle.gc_station.specs.Marks.{commands_in}
+use Rattle.gc_station.specs.Marks.{commands_in, occasion_of}
 use Rattle.gc_station.specs.Parts.{put_part, request_part, first_request_part, client_part, sync_part, part_of_act, client_stepped, client_after, course_at}
 use Rattle.gc_station.specs.Progressing.{one_more_in_window, turned, time_passed, is_over, loses_all}
 use Rattle.gc_station.specs.Reasons.{HoldsBefore}
@@ -200,14 +201,15 @@ unended_steps c b (step ∷ steps) all h =
 
 -- Acts.
 
--- if a task asks for a call of the table, it does so at any moment
-of_table_at_any_moment : (task : Task) (utc : ℕ) → is_of_table task.command.call ≡ true → is_of_table (call_at task utc) ≡ true
-of_table_at_any_moment task utc is = at_any_moment (λ call. is_of_table call ≡ true) task utc refl is
+-- if the text of a task asks for a call of the table, the task does so on any occasion
+pub of_table_at_any_moment : (task : Task) (occasion : Occasion) → is_of_table task.command.call ≡ true → is_of_table (call_at task occasion) ≡ true
+of_table_at_any_moment task occasion is =
+    at_any_moment (λ call. is_of_table call ≡ true) task occasion refl (λ raw other e same. absurd (both_ways (is_of_table task.command.call) (ap is_of_table e) is)) is
 
 -- the step that sends the first of these commands sends a call of the table, if all of them are
 first_tables : (now : ℕ) (mark : Mark) (left : List Task) → AreOfTable left → AllByRecursion SendsTableCalls (first_request_part now mark left).steps
 first_tables now mark [] all = tt
-first_tables now mark (task ∷ others) all = (of_table_at_any_moment task mark.sent all.0, tt)
+first_tables now mark (task ∷ others) all = (of_table_at_any_moment task (occasion_of mark) all.0, tt)
 
 -- the step that sends the first of these commands of the setup, or a null procedure if there is none, sends a call of the table,
 -- if all of them are
@@ -403,7 +405,7 @@ full_waits : (plan : Plan) (p : Progress) (w : Waiting) (o : Action) → nat_lt 
 full_waits plan p w o full =
     let all : WINDOW ≤ w.all = ltb-false w.all WINDOW full in
     let more : nat_lt (w.all + p.last_ended) WINDOW ≡ false = not_less (w.all + p.last_ended) WINDOW (omega (arith, all)) in
-    let lacks : has_room_to_ask plan p w ≡ false = ap (λ (b : Bool). b && not p.doubtful) (and_right (nat_lt w.current (width_of plan)) (nat_lt (w.all + p.last_ended) WINDOW) more) in
+    let lacks : has_room_to_ask plan p w ≡ false = ap (λ (b : Bool). b && not p.doubtful && nat_eq p.hold 0) (and_right (nat_lt w.current (width_of plan)) (nat_lt (w.all + p.last_ended) WINDOW) more) in
     ap (λ (b : Bool). if b && not (is_dead plan p w) then o else action_waiting plan p w) lacks
 
 -- if as many requests were sent after the last call of the table that a reply ended (`behind`) as are outstanding,

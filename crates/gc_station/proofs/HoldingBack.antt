@@ -2,7 +2,7 @@
 -- outstanding ones are together fewer than seven; and it sends none once a line called for a synchronization. An act changes what the station notes of
 -- lines at least as the client's steps of its part do (`lines_noted`): an answer that isn't as expected calls for one, too. A part reaches from one synchronization to the next. An act is one call on
 -- the link, with its result.
-use Rattle.std.proofs.Common.{◌≡◌, inl, inr, ℕ, ◌+◌, ◌<◌, ◌&&◌, ◌||◌, Bool, true, false, not, List, [], ◌∷◌, ◌++◌, length, map, drop, Some, refl, sym, ap, ◌∙◌, subst, append_assoc, if◌then◌else◌}
+use Rattle.std.proofs.Common.{◌≡◌, inl, inr, ℕ, ◌+◌, ◌<◌, ◌&&◌, ◌||◌, Bool, true, false, not, List, [], ◌∷◌, ◌++◌, length, map, drop, nat_lt, Some, refl, sym, ap, ◌∙◌, subst, append_assoc, if◌then◌else◌}
 use Rattle.std.specs.Prelude.{slice_get}
 use Rattle.std.specs.List.{AllByRecursion}
 use Rattle.std.proofs.lemmas.Bool.{both_ways}
@@ -28,7 +28,7 @@ use Rattle.gc_station.specs.Marks.{any_unexpected}
 use Rattle.gc_station.specs.Parts.{Part, parts_joined, put_part, first_request_part, heard_steps, client_part, sync_part, part_of_act, in_front, parts_of, client_after, client_stepped}
 use Rattle.gc_station.specs.Progressing.{turned, time_passed, ended_last, is_over, loses_all}
 use Rattle.gc_station.specs.Reasons.{HoldsBefore}
-use Rattle.gc_station.specs.Model.{Model, opening, action_at, waiting_of, is_heard, with_progress, with_rest, line_came, lines_came, line_news, lines_completed, after_piece, moved, losing, after, Performs, Runs, with_losses, mark_sent}
+use Rattle.gc_station.specs.Model.{Model, opening, action_at, waiting_of, is_heard, with_progress, with_rest, line_came, lines_came, line_busy, line_news, lines_completed, after_piece, moved, losing, after, Performs, Runs, with_losses, mark_sent}
 use Rattle.gc_station.specs.NextCommand.{place_next}
 use Rattle.gc_station.specs.Scopes.{Scope}
 use Rattle.gc_station.proofs.Asked.{steps_none, begun_if_nothing_lost}
@@ -116,7 +116,8 @@ lines_noted s n [] is = is
 lines_noted s n (line ∷ others) is =
     lines_noted (line_came s line) (noted_at s.client n (Hear line)) others (
       ap (ended_last (length (hears s.client line (heard line)).settlements)) is.0,
-      λ d. ap (λ (x : Bool). x || any_unexpected false (line_news line s)) (either_way n.doubtful s.progress.doubtful (calls_for_renewal s.client line) is.1 d),
+      λ d. ap (λ (x : Bool). (x || any_unexpected false (line_news line s)) || nat_lt 0 (line_busy line s))
+          (either_way n.doubtful s.progress.doubtful (calls_for_renewal s.client line) is.1 d),
     )
 
 -- once the station has synchronized, a piece changes it at least as the steps that hear its lines do

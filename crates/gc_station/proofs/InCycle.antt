@@ -13,8 +13,8 @@ use Rattle.gc_station.specs.declared.progress.Action.TheVariants as action
 use Rattle.gc_station.specs.declared.progress.Progress.{Progress}
 use Rattle.gc_station.specs.declared.progress.Until.TheVariants.{Limit, Due}
 use Rattle.gc_station.specs.declared.progress.Waiting.{Waiting}
-use Rattle.gc_station.specs.Reasons.{HoldsBefore, IsBetweenChains, IsFinished, IsHeld, HasRoomToAsk, MayGo, MayRetry, NothingMayGo, WaitsForWhatIsInFlight, IsAtItsEnd, IsResting, MayAskNoMore, StaysInItsChain, HasConnectionFor, WantsNull}
-use Rattle.gc_station.specs.Deciding.{width_of, has_begun, is_up, is_unquiet, is_silent, is_dead, is_due, is_finished, has_room_to_ask, may_go, waits_for_all, action_again, action_held, action_settled, action_done, action_to_send, action_room, action_waiting, is_between_chains, is_resting, is_cut, is_stopping, is_held_back, action_cycle, is_preparing}
+use Rattle.gc_station.specs.Reasons.{HoldsBefore, IsBetweenChains, IsFinished, IsHeld, HasRoomToAsk, MayGo, MayRetry, NothingMayGo, WaitsForWhatIsInFlight, IsAtItsEnd, IsOverdue, IsResting, MayAskNoMore, StaysInItsChain, HasConnectionFor, WantsNull}
+use Rattle.gc_station.specs.Deciding.{width_of, has_begun, is_up, is_unquiet, is_silent, is_dead, is_due, is_finished, has_room_to_ask, lacks_value, may_go, waits_for_all, action_again, action_held, action_settled, action_done, action_to_send, action_room, action_waiting, is_between_chains, is_resting, is_cut, is_stopping, is_held_back, action_cycle, is_preparing}
 
 -- Tests.
 
@@ -49,9 +49,10 @@ not_zero n some = grind (arith, nat_tests, some)
 -- where `has_room_to_ask` says so, there is room
 room_by_test : (plan : Plan) (p : Progress) (w : Waiting) → has_room_to_ask plan p w ≡ true → HasRoomToAsk plan p w
 room_by_test plan p w e =
-    let both = and_parts (nat_lt w.current (width_of plan) && nat_lt (w.all + p.last_ended) WINDOW) (not p.doubtful) e in
+    let free = and_parts (nat_lt w.current (width_of plan) && nat_lt (w.all + p.last_ended) WINDOW && not p.doubtful) (nat_eq p.hold 0) e in
+    let both = and_parts (nat_lt w.current (width_of plan) && nat_lt (w.all + p.last_ended) WINDOW) (not p.doubtful) free.0 in
     let it = and_parts (nat_lt w.current (width_of plan)) (nat_lt (w.all + p.last_ended) WINDOW) both.0 in
-    (ltb-true w.current (width_of plan) it.0, ltb-true (w.all + p.last_ended) WINDOW it.1, not-true p.doubtful both.1)
+    (ltb-true w.current (width_of plan) it.0, ltb-true (w.all + p.last_ended) WINDOW it.1, not-true p.doubtful both.1, eqb-true p.hold 0 free.1)
 
 -- if there is room, fewer than seven requests are outstanding
 pub within_window : (all last : ℕ) → all + last < WINDOW → all < WINDOW
@@ -64,16 +65,21 @@ LacksRoom plan p w = (width_of plan ≤ w.current) ⊎ MayAskNoMore p w
 
 -- so it is where `has_room_to_ask` says so
 lacks_by_test : (plan : Plan) (p : Progress) (w : Waiting) → has_room_to_ask plan p w ≡ false → LacksRoom plan p w
-lacks_by_test plan p w e = by_doubt (and_cases (nat_lt w.current (width_of plan) && nat_lt (w.all + p.last_ended) WINDOW) (not p.doubtful) e) where
+lacks_by_test plan p w e = by_hold (and_cases (nat_lt w.current (width_of plan) && nat_lt (w.all + p.last_ended) WINDOW && not p.doubtful) (nat_eq p.hold 0) e) where
   -- the lemma above, by which of the first two tests fails
   by_test : ((nat_lt w.current (width_of plan) ≡ false) ⊎ (nat_lt (w.all + p.last_ended) WINDOW ≡ false)) → LacksRoom plan p w
   by_test (inl full) = inl (ltb-false w.current (width_of plan) full)
   by_test (inr full) = inr (inl (ltb-false (w.all + p.last_ended) WINDOW full))
 
-  -- the lemma above, whether the last test fails
+  -- the lemma above, whether the third test fails
   by_doubt : (((nat_lt w.current (width_of plan) && nat_lt (w.all + p.last_ended) WINDOW) ≡ false) ⊎ (not p.doubtful ≡ false)) → LacksRoom plan p w
   by_doubt (inl full) = by_test (and_cases (nat_lt w.current (width_of plan)) (nat_lt (w.all + p.last_ended) WINDOW) full)
-  by_doubt (inr doubt) = inr (inr (not-false p.doubtful doubt))
+  by_doubt (inr doubt) = inr (inr (inl (not-false p.doubtful doubt)))
+
+  -- the lemma above, whether the last test fails
+  by_hold : (((nat_lt w.current (width_of plan) && nat_lt (w.all + p.last_ended) WINDOW && not p.doubtful) ≡ false) ⊎ (nat_eq p.hold 0 ≡ false)) → LacksRoom plan p w
+  by_hold (inl other) = by_doubt (and_cases (nat_lt w.current (width_of plan) && nat_lt (w.all + p.last_ended) WINDOW) (not p.doubtful) other)
+  by_hold (inr held) = inr (inr (inr (above_zero p.hold held)))
 
 -- if the line is dead, it is silent, and all outstanding requests have timed out
 pub dead_parts : (plan : Plan) (p : Progress) (w : Waiting) → is_dead plan p w ≡ true → (is_silent plan p w ≡ true) × (w.current ≡ 0)
@@ -206,10 +212,12 @@ to_send_for plan p w o work near far =
     (λ current. waiting_for_reply plan p w work (above_zero w.current current) (inr (inl many))))
 
 -- for a station in its cycles (`IsMeasuring`), `Holds` is true of `action_to_send` with `Send` if a command is unsent, it may be
--- sent (`MayGo`, `MayRetry`), and it goes on with its chain if the end of the run was asked for
-send_for : (plan : Plan) (p : Progress) (w : Waiting) → IsMeasuring plan p w → 0 < p.unsent → MayGo p w → MayRetry p w → StaysInItsChain p → Holds plan p w (action_to_send plan p w action.Send)
-send_for plan p w m some may retry stays =
-    to_send_for plan p w action.Send m.work (λ near room alive. ((m.work.awake.1, m.work.begun, some, room, may, near, retry, stays, m.set_up, alive), tt, m.work.awake)) (λ many. inr (inl (some, may), many))
+-- sent (`MayGo`, `MayRetry`), it goes on with its chain if the end of the run was asked for, and the values that it takes of files are there
+send_for : (plan : Plan) (p : Progress) (w : Waiting) → IsMeasuring plan p w → 0 < p.unsent → MayGo p w → MayRetry p w → StaysInItsChain p → lacks_value p ≡ false
+    → Holds plan p w (action_to_send plan p w action.Send)
+send_for plan p w m some may retry stays there =
+    to_send_for plan p w action.Send m.work (λ near room alive. ((m.work.awake.1, m.work.begun, some, room, may, near, retry, stays, m.set_up, alive, there), tt, m.work.awake))
+    (λ many. inr (inl (some, may), many))
 
 -- If the end of the run was asked for.
 
@@ -313,11 +321,12 @@ done_for plan p w m sent settled unasked =
     (λ d. ((inl m.work.awake.1, inl m.work.begun, sent, settled, above_zero p.left e, unasked, inl m.set_up), (d, m.work.awake.0), tt)) (λ d. ((m.work.awake.1, inr (sent, settled, d, m.set_up)), awake_reads p m.work.awake, tt)))
 
 -- if no command may be sent before those that are outstanding are settled (`IsHeld`), one is unsent, and it begins no further
--- attempt, that one is chained
-held_is_chained : (p : Progress) → IsHeld p → nat_eq p.unsent 0 ≡ false → p.next_others ≡ 0 → p.next_is_chained ≡ true
+-- attempt, that one is chained, or a value that it takes of a file isn't there
+held_is_chained : (p : Progress) → IsHeld p → nat_eq p.unsent 0 ≡ false → p.next_others ≡ 0 → (p.next_is_chained ≡ true) ⊎ (lacks_value p ≡ true)
 held_is_chained p (inl none) e first = let some : 0 < p.unsent = above_zero p.unsent e in absurd (omega (arith, none, some))
-held_is_chained p (inr (inl next_is_chained)) e first = next_is_chained
-held_is_chained p (inr (inr more)) e first = absurd (omega (arith, more, first))
+held_is_chained p (inr (inl next_is_chained)) e first = inl next_is_chained
+held_is_chained p (inr (inr (inl more))) e first = absurd (omega (arith, more, first))
+held_is_chained p (inr (inr (inr lacks))) e first = inr lacks
 
 -- for a station in its cycles (`IsMeasuring`), `Holds` is true of `action_again` if the next command begins a further attempt,
 -- each command that was sent is settled, and the next one goes on with its chain if the end of the run was asked for
@@ -326,7 +335,9 @@ again_for : (plan : Plan) (p : Progress) (w : Waiting) → IsMeasuring plan p w 
 again_for plan p w m some settled more stays =
     cond_both (w.listed && not p.next_is_chained) _ action.Pass (Holds plan p w)
     (λ e. let it = and_parts w.listed (not p.next_is_chained) e in
-    send_for plan p w m some (inl (not-true p.next_is_chained it.1)) (inr (settled, it.0)) stays)
+    cond_both (lacks_value p) action.Skip _ (Holds plan p w)
+    (λ lacks. ((inl m.work.awake.1, inl m.work.begun, some, settled, inr (inl (lacks, stays)), inl m.set_up), m.work.awake.0, tt))
+    (λ there. send_for plan p w m some (inl (not-true p.next_is_chained it.1)) (inr (settled, it.0)) stays there))
     (λ e. ((inl m.work.awake.1, inl m.work.begun, some, settled, more, inl (by_test (and_cases w.listed (not p.next_is_chained) e)), inl m.set_up), m.work.awake.0, tt)) where
       -- why the attempt is left out, by which of the two tests fails
       by_test : ((w.listed ≡ false) ⊎ (not p.next_is_chained ≡ false)) → (w.listed ≡ false) ⊎ (p.next_is_chained ≡ true)
@@ -341,8 +352,15 @@ settled_for plan p w m held settled only =
     cond_both (nat_eq p.unsent 0) _ _ P (λ e. done_for plan p w m (eqb-true p.unsent 0 e) settled (not_asked_to_stop p only (eqb-true p.unsent 0 e)))
     (λ e. cond_both (nat_lt 0 p.next_others) _ _ P (λ more. again_for plan p w m (above_zero p.unsent e) settled (ltb-true 0 p.next_others more) (λ stops. (only stops).1))
     (λ first. let none = zero_if_not_above p.next_others first in cond_both (may_go p w) _ action.Skip P
-    (λ well. let it = and_parts w.well p.chain_unbroken well in send_for plan p w m (above_zero p.unsent e) (inr (settled, it.0, it.1)) (inl none) (λ stops. (only stops).1))
-    (λ broken. ((inl m.work.awake.1, inl m.work.begun, above_zero p.unsent e, settled, inl (held_is_chained p held e none, broken), inl m.set_up), m.work.awake.0, tt))))
+    (λ may. let both = and_parts (w.well && p.chain_unbroken) (not (lacks_value p)) may in
+    let it = and_parts w.well p.chain_unbroken both.0 in
+    send_for plan p w m (above_zero p.unsent e) (inr (settled, it.0, it.1)) (inl none) (λ stops. (only stops).1) (not-true (lacks_value p) both.1))
+    (λ broken. ((inl m.work.awake.1, inl m.work.begun, above_zero p.unsent e, settled, unsent_for (held_is_chained p held e none) broken, inl m.set_up), m.work.awake.0, tt)))) where
+      -- why the command isn't sent
+      unsent_for : (p.next_is_chained ≡ true) ⊎ (lacks_value p ≡ true) → may_go p w ≡ false
+          → ((p.next_is_chained ≡ true) × (may_go p w ≡ false)) ⊎ (((lacks_value p ≡ true) × StaysInItsChain p) ⊎ IsOverdue plan p w)
+      unsent_for (inl chained) broken = inl (chained, broken)
+      unsent_for (inr lacks) broken = inr (inl (lacks, λ stops. (only stops).1))
 
 -- for a station in its cycles (`IsMeasuring`), `Holds` is true of `action_held` if no command may be sent before all that were
 -- sent are settled (`IsHeld`), and a chain goes on if the end of the run was asked for
@@ -358,26 +376,27 @@ held_for plan p w m held only =
 -- if no command is left, or the next one is sent only once all are settled, `IsHeld` holds
 held_by_test : (p : Progress) → (nat_lt 0 p.unsent && not (waits_for_all p)) ≡ false → IsHeld p
 held_by_test p e = by_half (and_cases (nat_lt 0 p.unsent) (not (waits_for_all p)) e) where
-  -- the lemma above for a command to wait for all, by which of the two tests holds: that it is chained, or that it begins a
-  -- further attempt
-  by_test : (b c : Bool) → p.next_is_chained ≡ b → nat_lt 0 p.next_others ≡ c → (b || c) ≡ true → IsHeld p
+  -- the lemma above for a command to wait for all, by which of the three tests holds: that it is chained, that it begins a
+  -- further attempt, or that a value which it takes of a file isn't there
+  by_test : (b c : Bool) → p.next_is_chained ≡ b → nat_lt 0 p.next_others ≡ c → ((b || c) || lacks_value p) ≡ true → IsHeld p
   by_test true c bound more e = inr (inl bound)
-  by_test false true bound more e = inr (inr (ltb-true 0 p.next_others more))
-  by_test false false bound more e = cc
+  by_test false true bound more e = inr (inr (inl (ltb-true 0 p.next_others more)))
+  by_test false false bound more e = inr (inr (inr e))
 
   -- `held_by_test` by which of the two tests fails: that a command is unsent, or that it needn't wait
   by_half : ((nat_lt 0 p.unsent ≡ false) ⊎ (not (waits_for_all p) ≡ false)) → IsHeld p
   by_half (inl none) = inl (zero_if_not_above p.unsent none)
   by_half (inr waits) = by_test p.next_is_chained (nat_lt 0 p.next_others) refl refl (not-false (waits_for_all p) waits)
 
--- a command that needn't wait for all isn't chained, and begins no further attempt
-unchained_if_free : (p : Progress) → not (waits_for_all p) ≡ true → (p.next_is_chained ≡ false) × (p.next_others ≡ 0)
+-- a command that needn't wait for all isn't chained, begins no further attempt, and the values that it takes of files are there
+unchained_if_free : (p : Progress) → not (waits_for_all p) ≡ true → (p.next_is_chained ≡ false) × (p.next_others ≡ 0) × (lacks_value p ≡ false)
 unchained_if_free p e = by_test p.next_is_chained (nat_lt 0 p.next_others) refl refl e where
-  -- the lemma above, by both tests
-  by_test : (b c : Bool) → p.next_is_chained ≡ b → nat_lt 0 p.next_others ≡ c → not (b || c) ≡ true → (p.next_is_chained ≡ false) × (p.next_others ≡ 0)
+  -- the lemma above, by the first two tests
+  by_test : (b c : Bool) → p.next_is_chained ≡ b → nat_lt 0 p.next_others ≡ c → not ((b || c) || lacks_value p) ≡ true
+      → (p.next_is_chained ≡ false) × (p.next_others ≡ 0) × (lacks_value p ≡ false)
   by_test true c bound more e = cc
   by_test false true bound more e = cc
-  by_test false false bound more e = (bound, zero_if_not_above p.next_others more)
+  by_test false false bound more e = (bound, zero_if_not_above p.next_others more, not-true (lacks_value p) e)
 
 -- for a station in its cycles (`IsMeasuring`), `Holds` is true of `action_cycle` if a chain goes on in case the end of the run
 -- was asked for (`IsInChainIfStopping`)
@@ -386,7 +405,7 @@ cycle_for plan p w m only =
     cond_both (nat_lt 0 p.unsent && not (waits_for_all p)) _ _ (Holds plan p w)
     (λ some. let it = and_parts (nat_lt 0 p.unsent) (not (waits_for_all p)) some in
     let free = unchained_if_free p it.1 in
-    send_for plan p w m (ltb-true 0 p.unsent it.0) (inl free.0) (inl free.1) (λ stops. (only stops).1))
+    send_for plan p w m (ltb-true 0 p.unsent it.0) (inl free.0) (inl free.1) (λ stops. (only stops).1) free.2)
     (λ none. held_for plan p w m (held_by_test p none) only)
 
 -- if the test says that all is done, `IsFinished` holds: no cycle and no command is left, and none is outstanding

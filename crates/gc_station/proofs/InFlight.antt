@@ -17,6 +17,7 @@ use Rattle.gc_catalogue.specs.declared.asked.Asked.TheVariants.{Table}
 use Rattle.gc_catalogue.specs.declared.call.Call.TheVariants.{NullProc}
 use Rattle.gc_station.specs.Deciding.{later}
 use Rattle.gc_station.specs.Progressing.{turned, moment_noted, cycle_start, due_at, time_passed, loses_all}
+use Rattle.gc_station.specs.Marks.{occasion_of}
 use Rattle.gc_station.specs.Model.{Model, sent_to, client_sent, with_progress, with_moment, with_rest, waiting_of, line_came, lines_completed, is_heard, piece_at, Performs, moved, asks_for, asks_first, asks_setup, null_request, request_or_null, with_losses, mark_sent, mark_setup_sent}
 use Rattle.gc_station.specs.NextCommand.{place_next}
 use Rattle.gc_station.specs.Requests.{command_at}
@@ -172,7 +173,7 @@ module _ (plan : Plan) (longest span : ℕ) where
         → AllByRecursion (λ (task : Task). task.deadline ≤ longest) left → AllByRecursion (EndsBy limit) (asks_first mark left s).client.waiting
     first_ends s limit mark [] short h within = h
     first_ends s limit mark (task ∷ others) short h within =
-        let command = command_at mark.sent task in
+        let command = command_at (occasion_of mark) task in
         all_sent (EndsBy limit) WINDOW s.client command s.progress.moment.elapsed task.deadline h
         (ends_by limit s.progress.moment.elapsed task.deadline command.target command.call short within.0)
 

@@ -9,7 +9,7 @@ use Rattle.gc_texts.specs.declared.tasks.Task.{Task}
 use Rattle.gc_links.specs.Acts.{Act, Told, Gave, Silent, Opened}
 use Rattle.gc_station.specs.CallTimes.{MayTakeTime, CallsReturn}
 use Rattle.gc_station.specs.Cycles.{ClockRises}
-use Rattle.gc_station.specs.Deciding.{has_begun, is_between_chains, setup_permits, is_out_of_time, waits_out, is_overdue, is_stale, is_stopping, is_held_back, is_preparing, is_finished, is_idle, is_dead, is_up, may_abandon, waits_for_all, action_in, action_on, action_overdue, action_of_phase, action_without_turns, action_begun, action_beginning, action_waiting, action_preparing, action_in_setup, action_cycle, action_held, action_settled, action_done}
+use Rattle.gc_station.specs.Deciding.{has_begun, is_between_chains, setup_permits, is_out_of_time, waits_out, is_overdue, is_stale, is_stopping, is_held_back, is_preparing, is_finished, is_idle, is_dead, is_up, may_abandon, waits_for_all, action_in, action_on, action_overdue, action_of_phase, action_without_turns, action_begun, action_beginning, action_waiting, action_preparing, action_in_setup, action_cycle, action_held, action_settled, action_done, may_ask}
 use Rattle.gc_station.specs.Model.{Model, opening, action_at, waiting_of, with_rest, with_progress, moved, after, Performs, Runs}
 use Rattle.gc_station.specs.Progressing.{turned}
 use Rattle.gc_station.specs.Quiet.{IsAsking}
@@ -72,7 +72,7 @@ module _ (plan : Plan) (p : Progress) (w : Waiting) where
   beginning_mum =
       cond_both (is_finished w.commands p) (actions.Close cause.Done) _ Mum (λ e o. o)
       (λ e. cond_both (is_idle plan p) (actions.Read Due) _ Mum (λ e o. o)
-      (λ e. cond_both (nat_le p.again p.moment.elapsed) _ (actions.Read Limit) Mum
+      (λ e. cond_both (may_ask p) _ (actions.Read Limit) Mum
       (λ e. cond_both (is_dead plan p w) (actions.Close cause.Dead) actions.Ask Mum (λ e o. o) (λ e o. o)) (λ e o. o)))
 
   -- once all is done, no action of a cycle sends a request

@@ -2,6 +2,7 @@ pub mod Acting
 mod Always
 mod Agreeing
 mod Expecting
+mod WhileBusy
 mod AsText
 pub mod Answers
 pub mod Beginnings
@@ -53,12 +54,17 @@ mod Walk
 pub mod Freshness
 mod Listed
 mod Retrying
+mod Needed
 pub mod Words
 pub mod Asked
 pub mod SentAt
 pub mod OnePart
 pub mod PartFronts
 pub mod Linking
+mod OfKinds
+pub mod DescribedRecords
+mod Unread
+pub mod Saying
 mod Codes
 mod Counting
 mod Room
@@ -105,5 +111,6 @@ mod BoundRuns
 mod NoPeriodRun
 mod Starts
 pub mod Moments
+mod Values
 pub mod FirstActs
 pub mod CountedIds

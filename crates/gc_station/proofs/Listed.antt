@@ -1,6 +1,6 @@
 -- Whether a command of an attempt ended as the rule of its chain names, by the ends that records have: `listed` of a model is
 -- what its records say.
-use Rattle.std.proofs.Common.{◌≡◌, ◌⊎◌, inl, inr, ℕ, zero, suc, ◌<◌, ◌||◌, Bool, true, false, List, [], ◌∷◌, ◌++◌, Option, if◌then◌else◌, nat_eq, refl, sym, ap, ◌∙◌, subst, arith}
+use Rattle.std.proofs.Common.{◌≡◌, ◌⊎◌, inl, inr, ℕ, zero, suc, ◌<◌, ◌||◌, Bool, true, false, List, [], ◌∷◌, ◌++◌, Option, None, if◌then◌else◌, nat_eq, refl, sym, ap, ◌∙◌, subst, arith}
 use Rattle.std.specs.List.{AllByRecursion}
 use Rattle.std.proofs.lemmas.Bool.{or_right, eqb-true, eqb-false}
 use Rattle.std.proofs.lemmas.Option.{same_Some}
@@ -9,7 +9,7 @@ use Rattle.gc_catalogue.specs.declared.answer.Reading.{Reading}
 use Rattle.gc_catalogue.specs.declared.asked.Asked.{Asked}
 use Rattle.gc_client.specs.Rule
 use Rattle.gc_texts.specs.Again.{repeats_after, has_code}
-use Rattle.gc_texts.specs.Endings.{End, Answered, Unreadable, Elsewhere, Disagree, Unexpected, Late, Lost, Skipped, Missed, line_of}
+use Rattle.gc_texts.specs.Endings.{End, Answered, Unreadable, Elsewhere, Disagree, Unexpected, Late, Lost, Skipped, NoValue, Missed, line_of}
 use Rattle.gc_texts.specs.Zeroed.{as_zero}
 use Rattle.gc_texts.specs.declared.again.Again.{Again}
 use Rattle.gc_texts.specs.declared.near.Expected.{Expected}
@@ -34,15 +34,15 @@ answered_line expected x zeroed q line l said e = same_Some line l (sym (answer_
 
 -- if a request ended as answered by the line l, the code of its outcome is the code in that line
 pub code_is_in_line : (reads : Reads) (expected : Expected) (call : Asked) (outcome : Rule.Outcome) (q : Quality) (said : Option Answer) (l : List ℕ)
-    → end_of reads expected call outcome ≡ Answered q said l → code_of reads call outcome ≡ code_in (reads call l)
-code_is_in_line reads expected call (Rule.Answered line) q said l e = ap (λ k. code_in (reads call k)) (answered_line expected (reads call line) (reads call (as_zero line)) q line l said e)
+    → end_of reads expected call outcome ≡ Answered q said l → code_of reads call outcome ≡ code_in (reads None call l)
+code_is_in_line reads expected call (Rule.Answered line) q said l e = ap (λ k. code_in (reads None call k)) (answered_line expected (reads expected.form call line) (reads expected.form call (as_zero line)) q line l said e)
 code_is_in_line reads expected call Rule.Late q said l e = cc
 code_is_in_line reads expected call Rule.Lost q said l e = cc
 
 -- whether a rule names an end is the same with the code `code` as with the code that the end's line has, if an answered end has
 -- that code in its line
 pub named_by : (reads : Reads) (again : Again) (call : Asked) (code : Option ℕ) (end : End)
-    → ((q : Quality) (said : Option Answer) (l : List ℕ) → end ≡ Answered q said l → code ≡ code_in (reads call l))
+    → ((q : Quality) (said : Option Answer) (l : List ℕ) → end ≡ Answered q said l → code ≡ code_in (reads None call l))
     → repeats_after again code end ≡ repeats_after again (code_of_end reads call end) end
 named_by reads again call code (Answered q said l) is = ap (has_code again.codes) (is q said l refl)
 named_by reads again call code (Unreadable line fault) is = refl
@@ -52,6 +52,7 @@ named_by reads again call code (Unexpected line) is = refl
 named_by reads again call code Late is = refl
 named_by reads again call code Lost is = refl
 named_by reads again call code Skipped is = refl
+named_by reads again call code NoValue is = refl
 named_by reads again call code Missed is = refl
 
 -- What records list.
@@ -148,6 +149,11 @@ near_expected false attempt expected = refl
 pub accepted_expected : (is_setup : Bool) (attempt : ℕ) (expected : Expected) → (expected_as is_setup attempt expected).accepted ≡ expected.accepted
 accepted_expected true attempt expected = refl
 accepted_expected false attempt expected = refl
+
+-- the form in `expected_as` is that of the command
+pub form_expected : (is_setup : Bool) (attempt : ℕ) (expected : Expected) → (expected_as is_setup attempt expected).form ≡ expected.form
+form_expected true attempt expected = refl
+form_expected false attempt expected = refl
 
 -- in either case it is of the same sending
 pub twice_expected : (is_setup : Bool) (attempt : ℕ) (expected : Expected) → (expected_as is_setup attempt expected).twice ≡ expected.twice

@@ -22,7 +22,7 @@ use Rattle.gc_station.specs.declared.progress.Progress.{Progress}
 use Rattle.gc_station.specs.declared.progress.Waiting.{Waiting}
 use Rattle.gc_links.specs.Acts.{Act, Cut}
 use Rattle.gc_station.specs.Deciding.{has_begun, is_up, action_of, action_in, action_without_turns}
-use Rattle.gc_station.specs.Answers.{IsWrittenAt}
+use Rattle.gc_station.specs.Answers.{IsRecordedBy, IsWrittenAt}
 use Rattle.gc_station.specs.Ends.{Resynchronizes, IsLast, IsLostIn}
 use Rattle.gc_station.specs.Marks.{records_of, end_of, is_well}
 use Rattle.gc_station.specs.Progressing.{turned, sent, failing, is_over, is_over_in, loses_all, setup_sent}
@@ -38,8 +38,8 @@ use Rattle.gc_station.proofs.Invariant.{Invariant}
 use Rattle.gc_station.proofs.Going.{after_all-append}
 use Rattle.gc_station.proofs.Growing.{moved_grew}
 use Rattle.gc_station.proofs.Lists.{all_append, all_split, CutOf, AtEnd, Before, cut_at_end_or_before, rising_all}
-use Rattle.gc_station.proofs.Meets.{IsRecordOf, is_record_of, some_sent, own_request, all_records_at, was_answered, was_late}
-use Rattle.gc_station.proofs.Waiting.{WasAsked, TimedOutAsRead, StillWaits, IsJustified, IsHonest}
+use Rattle.gc_station.proofs.Meets.{IsRecordOf, is_record_of, some_sent, own_request, made_then, all_records_at, was_answered, was_late}
+use Rattle.gc_station.proofs.Waiting.{WasAsked, TimedOutAsRead, StillWaits, IsJustified, IsHonest, WasMade}
 use Rattle.gc_station.proofs.Parting.{keeps_new_client}
 use Rattle.gc_station.proofs.Walk.{sent_same, moved_changed}
 use Rattle.gc_station.proofs.Words.{renews_only, renews_needs}
@@ -180,6 +180,7 @@ module _ (plan : Plan) (commands : List Task) (scope : Scope) (acts : List Act) 
     answered = λ line e. absurd (not_answered line (sym outcome ∙ was_answered r it.0 it.1 it.2 line e));
     late = λ e. absurd (not_late (sym outcome ∙ was_late r it.0 it.1 it.2 e));
     lost = λ e. on (cut_at_end_or_before acts a.before a.between act a.request a.order);
+    made = λ utc e. was_made (cut_at_end_or_before acts a.before a.between act a.request a.order);
     unsent = λ e. some_sent r it.0 it.1 it.2 e;
     expected = (
       (λ well. let bad : false ≡ true = sym (ap is_well ended) ∙ well in cc),
@@ -222,23 +223,44 @@ module _ (plan : Plan) (commands : List Task) (scope : Scope) (acts : List Act) 
       written = let rs = s.records in ends ∙ append_assoc rs news (earlier ++ r ∷ later) ∙ ap (λ xs. rs ++ xs) (sym (append_assoc news earlier (r ∷ later)));
     }
 
-    -- the request was put among the acts before this act, which sends none: so its record is lost for a cause, as `IsLostIn` says
-    on : CutOf acts act a.before a.between a.request → IsLostIn plan commands scope all r
-    on (AtEnd same) =
+    -- the settlement is of the call of that request
+    asks : x.pending.call ≡ it.1.call
+    asks = sym (ap (λ (y : Settlement Asked). y.call) x.is)
+
+    -- the request isn't this act, which sends none
+    not_here : acts ≡ a.before → ⊥
+    not_here same =
         let sends : IsSending plan s = subst (λ (xs : List Act). IsSending plan (state_after plan commands scope xs)) (sym same) (a.its it.0 refl).sends in
-        absurd (both_ways (loses_all t.progress) (sending_loses_none plan commands s act sends) loses)
+        both_ways (loses_all t.progress) (sending_loses_none plan commands s act sends) loses
+
+    -- if these acts are between the request and this act, that adds the record
+    recorded : (between : List Act) → acts ≡ a.before ++ a.request ∷ between → a.between ≡ between ++ act ∷ [] → IsRecordedBy plan commands scope all r act
+    recorded between at rest = record {
+      before = a.before;
+      request = a.request;
+      between = between;
+      behind = [];
+      order = a.order ∙ ap (λ xs. a.before ++ a.request ∷ xs) rest;
+      own = own_request plan commands scope all TimedOutAsRead x.number x.at x.id x.pending it.0 r it.1 it.2 asks a;
+      written = subst (λ (xs : List Act). IsWrittenAt plan commands scope xs act r) at here;
+    }
+
+    -- the request was put among the acts before this act, as that of its command was made then
+    was_made : CutOf acts act a.before a.between a.request → WasMade plan commands scope all r
+    was_made (AtEnd same) = absurd (not_here same)
+    was_made (Before between at rest) = record {
+      act = act;
+      its = recorded between at rest;
+      asks = made_then plan commands scope all TimedOutAsRead x.number x.at x.id x.pending it.0 r it.1 it.2 asks a;
+    }
+
+    -- so its record is lost for a cause, as `IsLostIn` says
+    on : CutOf acts act a.before a.between a.request → IsLostIn plan commands scope all r
+    on (AtEnd same) = absurd (not_here same)
     on (Before between at rest) =
         record {
           act = act;
-          its = record {
-            before = a.before;
-            request = a.request;
-            between = between;
-            behind = [];
-            order = a.order ∙ ap (λ xs. a.before ++ a.request ∷ xs) rest;
-            own = own_request plan commands scope all TimedOutAsRead x.number x.at x.id x.pending it.0 r it.1 it.2 (sym (ap (λ (y : Settlement Asked). y.call) x.is)) a;
-            written = subst (λ (xs : List Act). IsWrittenAt plan commands scope xs act r) at here;
-          };
+          its = recorded between at rest;
           shown = inr (subst (λ (xs : List Act). Resynchronizes plan (state_after plan commands scope xs) act ⊎ IsLast plan commands scope xs act []) at why);
         }
 

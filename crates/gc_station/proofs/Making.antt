@@ -27,7 +27,7 @@ use Rattle.gc_links.specs.Acts.{Act, AddsActs, put_act, IsPartIfErr}
 use Rattle.gc_station.specs.Deciding.{later}
 use Rattle.gc_station.specs.Counters.{count_noted}
 use Rattle.gc_station.specs.Firsts.{first_noted, firsts_after}
-use Rattle.gc_station.specs.Marks.{is_well, ended_confirmed, last_well, record_with, unexpected_noted}
+use Rattle.gc_station.specs.Marks.{is_well, ended_confirmed, last_well, occasion_of, record_with, unexpected_noted}
 use Rattle.gc_station.specs.Progressing.{failing, unsent_at}
 use Rattle.gc_station.specs.Records.{Record}
 use Rattle.gc_station.specs.ActKinds.{Puts, ReadsLink}
@@ -42,7 +42,7 @@ use Rattle.gc_station.specs.declared.station.sending.Outgoing.{Outgoing}
 use Rattle.gc_station.proofs.Records.{tallied-append, last-append, firsts-append}
 use Rattle.gc_station.specs.Watching.{renewed}
 use Rattle.gc_station.specs.declared.watching.Watch.{Watch}
-use Rattle.gc_station.proofs.Walk.{first_along}
+use Rattle.gc_station.proofs.Walk.{first_along, unsent_along}
 use Rattle.gc_station.proofs.Freshness.{unwell_changes_none}
 
 -- if a station is as the model `s`, then with the progress `p`, which is `f` of its own, it is as `s` with its progress changed
@@ -140,16 +140,16 @@ pub first_took : (text : Record → List ℕ) (start taken : Option (List ℕ)) 
 first_took text start taken s mark list so = first_along (Took text start taken) mark list s (λ task. so) so
 
 -- the bytes of the request that `request_or_null` gives are those that `text_or_null` gives
-pub setup_text : (plan : Plan) (client : ById Asked) (mark : Mark) (list : List Task) → next_request_text client (request_or_null plan mark list).command.call ≡ text_or_null mark.sent client list
+pub setup_text : (plan : Plan) (client : ById Asked) (mark : Mark) (list : List Task) → next_request_text client (request_or_null plan mark list).command.call ≡ text_or_null (occasion_of mark) client list
 setup_text plan client mark [] = refl
 setup_text plan client mark (task ∷ others) = refl
 
 -- A command is skipped.
 
--- if `list` begins with `task`, and the two marks are equal, the record of `task` as missed or skipped (`end`), with the moment
+-- if `list` begins with `task`, and the two marks are equal, the record of `task` as missed, without a value or skipped (`end`), with the moment
 -- of `unsent_at`, is the one record that the model adds (`first_unsent_record`)
 pub skip_record_same : (p : Progress) (m : Moment) (mark mark' : Mark) (utc : ℕ) (end : End) (list : List Task) (task : Task) (others : List Task)
-    → list ≡ task ∷ others → mark ≡ mark' → utc ≡ unsent_at m p → end ≡ end_unsent p.missed
+    → list ≡ task ∷ others → mark ≡ mark' → utc ≡ unsent_at m p → end ≡ end_unsent p
     → record_with utc mark None task.command end ∷ [] ≡ first_unsent_record p m mark' list
 skip_record_same p m mark mark' utc end list task others is e at ends =
     ap (λ (u : ℕ). record_with u mark None task.command end ∷ []) at
@@ -157,93 +157,91 @@ skip_record_same p m mark mark' utc end list task others is e at ends =
     ∙ ap (λ (x : End). record_with (unsent_at m p) mark' None task.command x ∷ []) ends
     ∙ sym (ap (first_unsent_record p m mark') is)
 
--- neither ending of a command that isn't sent, as missed or as skipped, is that of one that was answered well
-pub unwell_end : (missed : Bool) → is_well (end_unsent missed) ≡ false
-unwell_end true = refl
-unwell_end false = refl
+-- no ending of a command that isn't sent is that of one that was answered well
+pub unwell_end : (p : Progress) → is_well (end_unsent p) ≡ false
+unwell_end p = unsent_along (λ (end : End). is_well end ≡ false) refl refl refl p
 
 -- nor that of one with a confirmed answer
-pub unconfirmed_end : (missed : Bool) → ended_confirmed (end_unsent missed) ≡ false
-unconfirmed_end true = refl
-unconfirmed_end false = refl
+pub unconfirmed_end : (p : Progress) → ended_confirmed (end_unsent p) ≡ false
+unconfirmed_end p = unsent_along (λ (end : End). ended_confirmed end ≡ false) refl refl refl p
 
 -- nor does it have an answer of a first sending
-pub unsent_is_no_first : (cycle : ℕ) (turn : Turn) (missed : Bool) (fs : List (Option FirstAnswer)) → first_noted cycle turn (end_unsent missed) fs ≡ fs
-unsent_is_no_first cycle turn true fs = refl
-unsent_is_no_first cycle turn false fs = refl
+pub unsent_is_no_first : (cycle : ℕ) (turn : Turn) (p : Progress) (fs : List (Option FirstAnswer)) → first_noted cycle turn (end_unsent p) fs ≡ fs
+unsent_is_no_first cycle turn p fs = unsent_along (λ (end : End). first_noted cycle turn end fs ≡ fs) refl refl refl p
 
 -- nor a line with a number of a counter
-unsent_counts_none : (expected : Expected) (missed : Bool) (counts : List (Option Decimal)) → count_noted expected (end_unsent missed) counts ≡ counts
-unsent_counts_none expected true counts = refl
-unsent_counts_none expected false counts = refl
+unsent_counts_none : (expected : Expected) (p : Progress) (counts : List (Option Decimal)) → count_noted expected (end_unsent p) counts ≡ counts
+unsent_counts_none expected p counts = unsent_along (λ (end : End). count_noted expected end counts ≡ counts) refl refl refl p
 
 -- nor is it an unexpected one
-unsent_as_expected : (missed b : Bool) → unexpected_noted (end_unsent missed) b ≡ b
-unsent_as_expected true b = refl
-unsent_as_expected false b = refl
+unsent_as_expected : (p : Progress) (b : Bool) → unexpected_noted (end_unsent p) b ≡ b
+unsent_as_expected p b = unsent_along (λ (end : End). unexpected_noted end b ≡ b) refl refl refl p
 
 -- what is noted of the first command of `list`, which isn't sent, if the two marks are equal: its record is counted, and it
 -- wasn't answered well
 pub noted_unsent : (p : Progress) (m : Moment) (mark mark' : Mark) (end : End) (list : List Task) (task : Task) (others : List Task) (r : Recorded)
-    → list ≡ task ∷ others → mark ≡ mark' → end ≡ end_unsent p.missed
+    → list ≡ task ∷ others → mark ≡ mark' → end ≡ end_unsent p
     → noted mark m None end r
-    ≡ recorded_unsent (first_unsent_record p m mark' list) (listed_after r.listed mark'.expected None (end_unsent p.missed)) r
+    ≡ recorded_unsent (first_unsent_record p m mark' list) (listed_after r.listed mark'.expected None (end_unsent p)) r
 noted_unsent p m mark mark' end list task others r is e ends =
     ap (λ (x : Mark). noted x m None end r) e
     ∙ ap (λ (x : End). noted mark' m None x r) ends
     ∙ ap (λ (b : Bool). record {
-      tally = counted_in mark'.cycle mark'.expected.turn (end_unsent p.missed) r.tally;
+      tally = counted_in mark'.cycle mark'.expected.turn (end_unsent p) r.tally;
       well = b;
-      listed = listed_after r.listed mark'.expected None (end_unsent p.missed);
-      fresh = map (renewed m.elapsed m.utc mark'.cycle mark'.expected.turn.place (end_unsent p.missed)) r.fresh;
-      firsts = first_noted mark'.cycle mark'.expected.turn (end_unsent p.missed) r.firsts;
-      counts = count_noted mark'.expected (end_unsent p.missed) r.counts;
-      unexpected = unexpected_noted (end_unsent p.missed) r.unexpected;
-    }) (unwell_end p.missed)
+      listed = listed_after r.listed mark'.expected None (end_unsent p);
+      fresh = map (renewed m.elapsed m.utc mark'.cycle mark'.expected.turn.place (end_unsent p)) r.fresh;
+      firsts = first_noted mark'.cycle mark'.expected.turn (end_unsent p) r.firsts;
+      counts = count_noted mark'.expected (end_unsent p) r.counts;
+      unexpected = unexpected_noted (end_unsent p) r.unexpected;
+      busy = r.busy;
+    }) (unwell_end p)
     ∙ ap (λ (ws : List Watch). record {
-      tally = counted_in mark'.cycle mark'.expected.turn (end_unsent p.missed) r.tally;
+      tally = counted_in mark'.cycle mark'.expected.turn (end_unsent p) r.tally;
       well = false;
-      listed = listed_after r.listed mark'.expected None (end_unsent p.missed);
+      listed = listed_after r.listed mark'.expected None (end_unsent p);
       fresh = ws;
-      firsts = first_noted mark'.cycle mark'.expected.turn (end_unsent p.missed) r.firsts;
-      counts = count_noted mark'.expected (end_unsent p.missed) r.counts;
-      unexpected = unexpected_noted (end_unsent p.missed) r.unexpected;
-    }) (unwell_changes_none m.elapsed m.utc mark'.cycle mark'.expected.turn.place (end_unsent p.missed) r.fresh (unconfirmed_end p.missed))
+      firsts = first_noted mark'.cycle mark'.expected.turn (end_unsent p) r.firsts;
+      counts = count_noted mark'.expected (end_unsent p) r.counts;
+      unexpected = unexpected_noted (end_unsent p) r.unexpected;
+      busy = r.busy;
+    }) (unwell_changes_none m.elapsed m.utc mark'.cycle mark'.expected.turn.place (end_unsent p) r.fresh (unconfirmed_end p))
     ∙ ap (λ (fs : List (Option FirstAnswer)). record {
-      tally = counted_in mark'.cycle mark'.expected.turn (end_unsent p.missed) r.tally;
+      tally = counted_in mark'.cycle mark'.expected.turn (end_unsent p) r.tally;
       well = false;
-      listed = listed_after r.listed mark'.expected None (end_unsent p.missed);
+      listed = listed_after r.listed mark'.expected None (end_unsent p);
       fresh = r.fresh;
       firsts = fs;
-      counts = count_noted mark'.expected (end_unsent p.missed) r.counts;
-      unexpected = unexpected_noted (end_unsent p.missed) r.unexpected;
-    }) (unsent_is_no_first mark'.cycle mark'.expected.turn p.missed r.firsts)
+      counts = count_noted mark'.expected (end_unsent p) r.counts;
+      unexpected = unexpected_noted (end_unsent p) r.unexpected;
+      busy = r.busy;
+    }) (unsent_is_no_first mark'.cycle mark'.expected.turn p r.firsts)
     ∙ ap (λ (cs : List (Option Decimal)). record r {
-      tally = counted_in mark'.cycle mark'.expected.turn (end_unsent p.missed) r.tally;
+      tally = counted_in mark'.cycle mark'.expected.turn (end_unsent p) r.tally;
       well = false;
-      listed = listed_after r.listed mark'.expected None (end_unsent p.missed);
+      listed = listed_after r.listed mark'.expected None (end_unsent p);
       counts = cs;
-      unexpected = unexpected_noted (end_unsent p.missed) r.unexpected;
-    }) (unsent_counts_none mark'.expected p.missed r.counts)
+      unexpected = unexpected_noted (end_unsent p) r.unexpected;
+    }) (unsent_counts_none mark'.expected p r.counts)
     ∙ ap (λ (b : Bool). record r {
-      tally = counted_in mark'.cycle mark'.expected.turn (end_unsent p.missed) r.tally;
+      tally = counted_in mark'.cycle mark'.expected.turn (end_unsent p) r.tally;
       well = false;
-      listed = listed_after r.listed mark'.expected None (end_unsent p.missed);
+      listed = listed_after r.listed mark'.expected None (end_unsent p);
       unexpected = b;
-    }) (unsent_as_expected p.missed r.unexpected)
-    ∙ sym (ap (λ (left : List Task). recorded_unsent (first_unsent_record p m mark' left) (listed_after r.listed mark'.expected None (end_unsent p.missed)) r) is)
+    }) (unsent_as_expected p r.unexpected)
+    ∙ sym (ap (λ (left : List Task). recorded_unsent (first_unsent_record p m mark' left) (listed_after r.listed mark'.expected None (end_unsent p)) r) is)
 
 -- after the record of the first of the commands in `list`, of which there is one, as not sent, the last command wasn't answered
 -- well
 pub skips_unwell : (well : Bool) (p : Progress) (m : Moment) (mark : Mark) (list : List Task) → 0 < length list
     → last_well well (first_unsent_record p m mark list) ≡ false
 skips_unwell b p m mark [] some = absurd (omega (arith, some))
-skips_unwell b p m mark (task ∷ others) some = unwell_end p.missed
+skips_unwell b p m mark (task ∷ others) some = unwell_end p
 
 -- the record of a command that isn't sent has no answer of a first sending
 pub skips_no_first : (p : Progress) (m : Moment) (mark : Mark) (list : List Task) (fs : List (Option FirstAnswer)) → firsts_after fs (first_unsent_record p m mark list) ≡ fs
 skips_no_first p m mark [] fs = refl
-skips_no_first p m mark (task ∷ others) fs = unsent_is_no_first mark.cycle mark.expected.turn p.missed fs
+skips_no_first p m mark (task ∷ others) fs = unsent_is_no_first mark.cycle mark.expected.turn p fs
 
 -- if the station `old` is as the model `s`, and after the records `rs` the last command wasn't answered well, whatever it was
 -- before them, and they have no answer of a first sending, then `old` with these records counted, and `b` as `listed`, is as `s` with these records, and b' as `listed`. b

@@ -15,10 +15,11 @@ use Rattle.gc_station.specs.declared.progress.Action.TheVariants as action
 use Rattle.gc_station.specs.declared.station.sending.Outgoing.{Outgoing}
 use Rattle.gc_links.specs.Acts.{Act, Put, Cut, Closed}
 use Rattle.gc_station.specs.Deciding.{later, has_begun}
+use Rattle.gc_station.specs.Marks.{occasion_of}
 use Rattle.gc_station.specs.Parts.{Asks, Part, only_sync_steps, idle_part, request_part, first_request_part, put_part, sync_part}
 use Rattle.gc_station.specs.Reasons.{HoldsBefore}
 use Rattle.gc_station.specs.ActKinds.{Puts, ReadsClock, IsOpening, ReadsLink}
-use Rattle.gc_station.specs.Model.{Model, action_at, waiting_of, next_request_text, null_text, first_text, Performs, text_or_null, request_for, null_request, request_or_null, mark_sent, mark_setup_sent}
+use Rattle.gc_station.specs.Model.{Model, action_at, waiting_of, next_request_text, null_text, first_text, Performs, text_or_null, request_for, null_request, request_or_null, mark_sent, mark_setup_sent, occasion_at}
 use Rattle.gc_station.specs.NextCommand.{place_next}
 use Rattle.gc_station.proofs.InCycle.{within_window}
 use Rattle.gc_station.proofs.Facts.{action_for}
@@ -87,14 +88,14 @@ request_put s x bytes room e = record {
 module _ (plan : Plan) (commands : List Task) where
   -- if fewer than seven requests wait, and there is a command, the bytes of the first of these commands with this mark are the
   -- line of the request of its part (`IsSent`)
-  first_put : (s : Model) (mark : Mark) (left : List Task) (bytes : List ℕ) → 0 < length left → length s.client.waiting < WINDOW → bytes ≡ first_text mark.sent s.client left
+  first_put : (s : Model) (mark : Mark) (left : List Task) (bytes : List ℕ) → 0 < length left → length s.client.waiting < WINDOW → bytes ≡ first_text (occasion_of mark) s.client left
       → IsSent s bytes (first_request_part s.progress.moment.elapsed mark left)
   first_put s mark [] bytes some room e = absurd (omega (arith, some))
   first_put s mark (task ∷ others) bytes some room e = request_put s (request_for mark task) bytes room e
 
   -- if fewer than seven requests wait, the bytes of the first of these commands of the setup, or of a null procedure if there is
   -- none, are the line of the request of its part (`IsSent`)
-  setup_put : (s : Model) (left : List Task) (bytes : List ℕ) → length s.client.waiting < WINDOW → bytes ≡ text_or_null s.progress.moment.utc s.client left
+  setup_put : (s : Model) (left : List Task) (bytes : List ℕ) → length s.client.waiting < WINDOW → bytes ≡ text_or_null (occasion_at s.progress.moment) s.client left
       → IsSent s bytes (request_part s.progress.moment.elapsed (request_or_null plan (mark_setup_sent commands s) left))
   setup_put s [] bytes room e = request_put s (null_request plan) bytes room e
   setup_put s (task ∷ others) bytes room e = request_put s (request_for (mark_setup_sent commands s) task) bytes room e
@@ -107,11 +108,11 @@ module _ (plan : Plan) (commands : List Task) where
   put_by_action s action.Renew act bytes fine is obeys e begun = absurd (never_puts act bytes e (inl obeys))
   put_by_action s action.Flush act bytes fine is obeys e begun = inr (request_put s (null_request plan) bytes (within_window _ _ is.4.1) (puts_same (next_request_text s.client (Table NullProc)) bytes act e obeys))
   put_by_action s action.Prepare act bytes fine is obeys e begun =
-      let left = drop s.progress.prepared commands in inr (setup_put s left bytes (within_window _ _ is.3.1) (puts_same (text_or_null s.progress.moment.utc s.client left) bytes act e obeys))
+      let left = drop s.progress.prepared commands in inr (setup_put s left bytes (within_window _ _ is.3.1) (puts_same (text_or_null (occasion_at s.progress.moment) s.client left) bytes act e obeys))
   put_by_action s action.Send act bytes fine is obeys e begun =
       let left = drop (place_next commands s.progress) commands in
       let many : length left ≡ length commands - place_next commands s.progress = length-drop (place_next commands s.progress) commands in
-      inr (first_put s (mark_sent plan commands s) left bytes (omega (arith, many, is.2, fine.unsent)) (within_window _ _ is.3.1) (puts_same (first_text s.progress.moment.utc s.client left) bytes act e obeys))
+      inr (first_put s (mark_sent plan commands s) left bytes (omega (arith, many, is.2, fine.unsent)) (within_window _ _ is.3.1) (puts_same (first_text (occasion_at s.progress.moment) s.client left) bytes act e obeys))
   put_by_action s action.ReadClock act bytes fine is obeys e begun = absurd (never_puts act bytes e (inl obeys))
   put_by_action s action.Skip act bytes fine is obeys e begun = absurd (never_puts act bytes e (inl obeys))
   put_by_action s action.Pass act bytes fine is obeys e begun = absurd (never_puts act bytes e (inl obeys))

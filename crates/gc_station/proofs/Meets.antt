@@ -3,6 +3,7 @@
 -- act is one call on the link, with its result. `EndedBy` says how a request that a line settles has ended, and by which id.
 use Rattle.std.proofs.Common.{◌≡◌, ℕ, zero, suc, ◌+◌, ◌-◌, ◌<◌, ◌≤◌, Bool, true, false, List, [], ◌∷◌, length, drop, Option, Some, None, if◌then◌else◌, nat_lt, refl, sym, ap, ◌∙◌, subst, arith}
 use Rattle.std.specs.List.{AllByRecursion}
+use Rattle.std.specs.Prelude.{slice_get}
 use Rattle.std.proofs.lemmas.Bool.{ltb-true}
 use Rattle.std.proofs.lemmas.List.{length-drop}
 use Rattle.gc_catalogue.specs.declared.answer.Reading.{Reading}
@@ -31,7 +32,7 @@ use Rattle.gc_station.specs.Answers.{IsOwnRequest}
 use Rattle.gc_station.specs.Model.{next_request_text}
 use Rattle.gc_station.proofs.Lists.{AllAt, AllRisingAt, RisingAt, rising_shifted, rising_drop, rising_at}
 use Rattle.gc_station.proofs.Records.{answer_along}
-use Rattle.gc_station.proofs.Waiting.{WasAsked, TimedOutAsReadBy, StillWaitsAt, asked_with_equal_id}
+use Rattle.gc_station.proofs.Waiting.{AsksThen, WasAsked, TimedOutAsReadBy, StillWaitsAt, asked_with_equal_id}
 use Rattle.gc_station.specs.Scopes.{Scope, Reads}
 
 -- an id was heard, and this is the place (`place_in`) of the outstanding request that has it, if one has
@@ -217,6 +218,14 @@ own_request plan commands scope acts S number at id p mark r x of_it asks s =
           (asks ∙ sym (ap (λ (y : Wish). y.call) of_it.command)) s.put;
     }
 
+-- and its call is what its command asks for if it is sent then
+pub made_then : (plan : Plan) (commands : List Task) (scope : Scope) (acts : List Act) (S : Bool → ℕ → List Act → Type 0) (number at id : ℕ) (p : Pending Asked) (mark : Mark)
+    (r : Record) (x : Settlement Asked) → IsRecordOf r mark x → p.call ≡ x.call → (s : WasAsked plan commands scope acts S number at id p (Some mark))
+    → AsksThen plan commands scope s.before r.place r.command.call
+made_then plan commands scope acts S number at id p mark r x of_it asks s =
+    let made = s.made mark refl in
+    (made.0, ap (slice_get commands) of_it.place ∙ made.1, ap (λ (y : Wish). y.call) of_it.command ∙ sym asks ∙ made.2)
+
 -- the ending by a reply in time has the reply's line, whatever it says
 pub answer_line : (expected : Expected) (x y : Reading) (line : List ℕ) → line_of (answer_as expected x y line) ≡ Some line
 answer_line expected x y line = answer_along (λ (end : End). line_of end ≡ Some line) expected x y line (λ quality answer. refl) refl refl refl (λ fault. refl)
@@ -227,19 +236,19 @@ unanswered expected x y line end none e = let bad : Some line ≡ None = sym (an
 
 -- if the ending of a command by `o` has the line l, `o` is an answer by l
 pub settled_answered : (reads : Reads) (expected : Expected) (call : Asked) (o : Outcome) (l : List ℕ) → line_of (end_of reads expected call o) ≡ Some l → o ≡ Answered l
-settled_answered reads expected call (Answered line) l e = let same : Some line ≡ Some l = sym (answer_line expected (reads call line) (reads call (as_zero line)) line) ∙ e in cc
+settled_answered reads expected call (Answered line) l e = let same : Some line ≡ Some l = sym (answer_line expected (reads expected.form call line) (reads expected.form call (as_zero line)) line) ∙ e in cc
 settled_answered reads expected call Late l e = cc
 settled_answered reads expected call Lost l e = cc
 
 -- a command that ended as late was settled as late
 settled_late : (reads : Reads) (expected : Expected) (call : Asked) (o : Outcome) → end_of reads expected call o ≡ ends.Late → o ≡ Late
-settled_late reads expected call (Answered line) e = absurd (unanswered expected (reads call line) (reads call (as_zero line)) line ends.Late refl e)
+settled_late reads expected call (Answered line) e = absurd (unanswered expected (reads expected.form call line) (reads expected.form call (as_zero line)) line ends.Late refl e)
 settled_late reads expected call Late e = refl
 settled_late reads expected call Lost e = cc
 
 -- a command that ended as lost was settled as lost
 settled_lost : (reads : Reads) (expected : Expected) (call : Asked) (o : Outcome) → end_of reads expected call o ≡ ends.Lost → o ≡ Lost
-settled_lost reads expected call (Answered line) e = absurd (unanswered expected (reads call line) (reads call (as_zero line)) line ends.Lost refl e)
+settled_lost reads expected call (Answered line) e = absurd (unanswered expected (reads expected.form call line) (reads expected.form call (as_zero line)) line ends.Lost refl e)
 settled_lost reads expected call Late e = cc
 settled_lost reads expected call Lost e = refl
 

@@ -25,7 +25,7 @@ use Rattle.gc_station.specs.declared.progress.Progress.{Progress}
 use Rattle.gc_station.specs.Deciding.{has_begun, is_up}
 use Rattle.gc_station.specs.EachOnce.{of_text, Interleave, RunRequest, requests, of_task, commands_reached}
 use Rattle.gc_station.proofs.Interleaving.{interleave_more, interleave_past}
-use Rattle.gc_station.specs.Marks.{commands_in, records_of, record_with}
+use Rattle.gc_station.specs.Marks.{commands_in, occasion_of, records_of, record_with}
 use Rattle.gc_station.specs.Progressing.{is_over_in, is_over, loses_all}
 use Rattle.gc_station.specs.Parts.{MarksAsk, MarkAsks, went_out}
 use Rattle.gc_station.specs.Records.{Record}
@@ -208,9 +208,9 @@ ledger_mark plan commands b utc id expected = record { cycle = plan.cycles - b.l
 -- to send the cycle's next command, `task`, for which there is room, preserves `Sound`, with one command fewer unsent
 pub sound_sent : (plan : Plan) (commands : List Task) (b : Ledger) (utc id deadline : ℕ) (expected : Expected) (task : Task) (others : List Task)
     → length b.client.waiting < WINDOW → 0 < b.unsent → drop (length commands - b.unsent) commands ≡ task ∷ others → Sound plan commands b
-    → Sound plan commands (with_request (record b { unsent = b.unsent - 1 }) task.command.target (call_at task utc) deadline (Some (ledger_mark plan commands b utc id expected)))
+    → Sound plan commands (with_request (record b { unsent = b.unsent - 1 }) task.command.target (call_at task (occasion_of (ledger_mark plan commands b utc id expected))) deadline (Some (ledger_mark plan commands b utc id expected)))
 sound_sent plan commands b utc id deadline expected task others room some at sound =
-    let p = pending_of task.command.target (call_at task utc) deadline in
+    let p = pending_of task.command.target (call_at task (occasion_of (ledger_mark plan commands b utc id expected))) deadline in
     let begun = plan.cycles - b.left in
     let place = length commands - b.unsent in
     let mark : Mark = record { cycle = begun; place = place; sent = utc; id = id; expected = expected } in
@@ -228,7 +228,7 @@ sound_sent plan commands b utc id deadline expected task others room some at sou
     (interleave_by_equal _ _ _ _ (row_in_text_sent commands b.marks b.client.waiting b.records task others kept refl mark p sound.paired at refl many)
     (interleave_more kept b.passes (commands_reached plan.setup commands begun place) one sound.each)) in
     subst (λ (c : ById Asked). Sound plan commands (record b { unsent = b.unsent - 1; client = c; marks = b.marks ++ Some mark ∷ [] }))
-    (sym (sent_with_room b.client task.command.target (call_at task utc) deadline room)) (record {
+    (sym (sent_with_room b.client task.command.target (call_at task (occasion_of (ledger_mark plan commands b utc id expected))) deadline room)) (record {
       unsents = omega (arith, sound.unsents);
       lefts = sound.lefts;
       begun = λ e. below;
@@ -244,12 +244,12 @@ sound_sent plan commands b utc id deadline expected task others room some at sou
 -- to send `task`, a command of the setup for which there is room, with a mark of cycle 0 and of its place, preserves `Sound`
 pub sound_prepared : (plan : Plan) (commands : List Task) (b : Ledger) (deadline : ℕ) (mark : Mark) (task : Task)
     → length b.client.waiting < WINDOW → mark.cycle ≡ 0 → slice_get commands mark.place ≡ Some task → Sound plan commands b
-    → Sound plan commands (with_request b task.command.target (call_at task mark.sent) deadline (Some mark))
+    → Sound plan commands (with_request b task.command.target (call_at task (occasion_of mark)) deadline (Some mark))
 sound_prepared plan commands b deadline mark task room none at sound =
-    let p = pending_of task.command.target (call_at task mark.sent) deadline in
+    let p = pending_of task.command.target (call_at task (occasion_of mark)) deadline in
     let more : length (b.client.waiting ++ p ∷ []) ≡ length b.client.waiting + 1 = length-append b.client.waiting (p ∷ []) in
     subst (λ (c : ById Asked). Sound plan commands (record b { client = c; marks = b.marks ++ Some mark ∷ [] }))
-    (sym (sent_with_room b.client task.command.target (call_at task mark.sent) deadline room)) (record {
+    (sym (sent_with_room b.client task.command.target (call_at task (occasion_of mark)) deadline room)) (record {
       unsents = sound.unsents;
       lefts = sound.lefts;
       begun = sound.begun;

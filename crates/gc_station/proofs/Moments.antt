@@ -1,32 +1,21 @@
--- Each record has the moment of the act by which its command ended; and the fault of an unreadable one is that of its line. The records
+-- Each record has the moment of the act by which its command ended; and the fault of an unreadable one is that of its line (`AsText`). The records
 -- that one act adds are its `news`. An act is one call on the link, with its result.
 use Rattle.std.proofs.Common.{◌≡◌, ℕ, suc, Bool, true, false, List, [], ◌∷◌, ◌++◌, Option, Some, None, if◌then◌else◌, refl, sym, ap, ◌∙◌, subst, append_assoc, append-nil}
 use Rattle.std.proofs.lemmas.List.{append_cancel_left}
 use Rattle.std.specs.List.{AllByRecursion}
 use Rattle.std.specs.Prelude.{slice_get}
-use Rattle.gc_catalogue.specs.declared.answer.Answer.{Answer}
-use Rattle.gc_catalogue.specs.declared.answer.Reading.{Reading}
-use Rattle.gc_catalogue.specs.declared.answer.Reading.TheVariants as reading
 use Rattle.gc_catalogue.specs.declared.asked.Asked.{Asked}
-use Rattle.gc_client.specs.Rule as client
 use Rattle.gc_client.specs.Rule.{Settlement, hears, heard, restarts}
 use Rattle.gc_links.specs.Acts.{Act, Told, Gave}
 use Rattle.gc_links.specs.declared.link.Moment.{Moment}
-use Rattle.gc_texts.specs.Codes.{lists_code}
-use Rattle.gc_texts.specs.Endings.{Answered, Disagree, Unexpected, Unreadable, Missed, line_of}
-use Rattle.gc_texts.specs.Expectations.{meets}
-use Rattle.gc_texts.specs.Nears.{is_elsewhere}
-use Rattle.gc_texts.specs.Zeroed.{as_zero}
-use Rattle.gc_texts.specs.declared.near.Expected.{Expected}
-use Rattle.gc_texts.specs.declared.quality.Quality.{Quality}
-use Rattle.gc_texts.specs.declared.quality.Quality.TheVariants as quality
+use Rattle.gc_texts.specs.Endings.{End, Skipped, NoValue, Missed, line_of}
 use Rattle.gc_texts.specs.declared.tasks.Task.{Task}
-use Rattle.gc_values.specs.declared.fault.ValueFault.{ValueFault}
 use Rattle.gc_station.specs.ActKinds.{moment_in}
 use Rattle.gc_station.specs.Answers.{AnswerIsJustified, IsAnsweredIn, IsWrittenAt}
 use Rattle.gc_station.specs.Cycles.{UnsentIsJustified}
-use Rattle.gc_station.specs.Marks.{agrees_in, agreed_as, answer_as, answered_as, end_of, record_of, records_of, refused_as, quality_in, value_as, warned_as}
-use Rattle.gc_station.specs.Model.{Model, Performs, Runs, action_at, after, after_piece, end_unsent, first_unsent_record, is_heard, line_came, lines_completed, losing, moved, opening, with_moment, with_progress}
+use Rattle.gc_station.specs.Deciding.{lacks_value}
+use Rattle.gc_station.specs.Marks.{records_of}
+use Rattle.gc_station.specs.Model.{Model, Performs, Runs, action_at, after, after_piece, first_unsent_record, is_heard, line_came, lines_completed, losing, moved, opening, with_moment, with_progress}
 use Rattle.gc_station.specs.NextCommand.{commands_left, mark_next}
 use Rattle.gc_station.specs.Progressing.{lines_synchronizing, loses_all, moment_noted, turned}
 use Rattle.gc_station.specs.Records.{Record}
@@ -37,7 +26,9 @@ use Rattle.gc_station.specs.declared.plan.Plan.{Plan}
 use Rattle.gc_station.specs.declared.progress.Action.{Action}
 use Rattle.gc_station.specs.declared.progress.Action.TheVariants as actions
 use Rattle.gc_station.specs.declared.progress.Progress.{Progress}
+use Rattle.gc_station.specs.Qualities.{form_at}
 use Rattle.gc_station.proofs.Always.{always}
+use Rattle.gc_station.proofs.AsText.{IsAsItsText, kept_all}
 use Rattle.gc_station.proofs.Answers.{answers_true}
 use Rattle.gc_station.proofs.Booking.{all_records}
 use Rattle.gc_station.proofs.Closings.{runs_split}
@@ -49,76 +40,18 @@ use Rattle.gc_station.proofs.Unsent.{unsent_for_a_cause}
 use Rattle.gc_station.proofs.Walk.{asked_along, came_along, losing_along, moved_changed, walk, HoldsInEachCase}
 use Rattle.gc_station.specs.Moments.{AnswersHaveTheirMoments, CameAt, EachRecordHasItsMoment, HasItsMoment, IsAsRead, UnreadableAsTheyRead, utc_or, utc_read}
 
--- What a reply's ending says of its line.
-
-module _ (expected : Expected) (l line : List ℕ) (why : ValueFault) where
-  -- `agreed_as` never ends a command as unreadable
-  agreed_reads : (q : Quality) (given : Option Answer) → agreed_as expected q given l ≡ Unreadable line why → ⊥
-  agreed_reads q given e = by_test (agrees_in expected.twice expected.first given) e where
-    -- the lemma above, by whether the values agree
-    by_test : (b : Bool) → (if b then Answered (quality_in expected.twice q) given l else Disagree l) ≡ Unreadable line why → ⊥
-    by_test true e = cc
-    by_test false e = cc
-
-  -- nor does `answered_as`
-  answered_reads : (q : Quality) (given : Option Answer) → answered_as expected q given l ≡ Unreadable line why → ⊥
-  answered_reads q given e = by_test (meets expected.expects expected.before l) e where
-    -- the lemma above, by whether the line is as expected
-    by_test : (b : Bool) → (if b then agreed_as expected q given l else Unexpected l) ≡ Unreadable line why → ⊥
-    by_test true e = agreed_reads q given e
-    by_test false e = cc
-
-  -- nor does an answer
-  value_reads : (q : Quality) (away : Bool) (a : Answer) → value_as expected q away a l ≡ Unreadable line why → ⊥
-  value_reads q true a e = cc
-  value_reads q false a e = answered_reads q (Some a) e
-
-  -- nor a reply with an accepted code
-  warned_reads : (z : Reading) → warned_as expected z l ≡ Unreadable line why → ⊥
-  warned_reads (reading.Value a) e = value_reads quality.Warning (is_elsewhere expected.near a) a e
-  warned_reads (reading.Refused code) e = answered_reads quality.Warning None e
-  warned_reads (reading.ComFault code) e = answered_reads quality.Warning None e
-  warned_reads (reading.Unreadable fault) e = answered_reads quality.Warning None e
-
-  -- nor any other refusal
-  refused_reads : (b : Bool) (z : Reading) → refused_as b expected z l ≡ Unreadable line why → ⊥
-  refused_reads true z e = warned_reads z e
-  refused_reads false z e = cc
-
-  -- a reply ends its command as unreadable only if its values don't read, for the same fault
-  ended_unreadable : (said z : Reading) → answer_as expected said z l ≡ Unreadable line why → (said ≡ reading.Unreadable why) × (l ≡ line)
-  ended_unreadable (reading.Value a) z e = absurd (value_reads quality.Fine (is_elsewhere expected.near a) a e)
-  ended_unreadable (reading.Refused code) z e = absurd (refused_reads (lists_code expected.accepted code) z e)
-  ended_unreadable (reading.ComFault code) z e = cc
-  ended_unreadable (reading.Unreadable fault) z e = let same : fault ≡ why = cc in let own : l ≡ line = cc in (ap reading.Unreadable same, own)
-
 -- the record has the moment `utc`, unless its command is missed
 abbrev pub IsOfMoment : (utc : ℕ) → Record → Type 0
 IsOfMoment utc r = (r.end ≡ Missed → ⊥) → r.utc ≡ utc
 
--- both hold
-abbrev pub IsNews : Reads → (utc : ℕ) → Record → Type 0
-IsNews reads utc r = IsOfMoment utc r × IsAsRead reads r
-
--- the record of a settlement is `IsNews`
-settled_news : (reads : Reads) (utc : ℕ) (mark : Mark) (x : Settlement Asked) → IsNews reads utc (record_of reads utc mark x)
-settled_news reads utc mark x = (λ not_missed. refl, as_read x.outcome) where
-  -- an outcome ends the command as unreadable only if the line doesn't read
-  as_read : (o : client.Outcome) (line : List ℕ) (why : ValueFault) → end_of reads mark.expected x.call o ≡ Unreadable line why → reads x.call line ≡ reading.Unreadable why
-  as_read (client.Answered l) line why e =
-      let is = ended_unreadable mark.expected l line why (reads x.call l) (reads x.call (as_zero l)) e in
-      subst (λ (t : List ℕ). reads x.call t ≡ reading.Unreadable why) is.1 is.0
-  as_read client.Late line why e = cc
-  as_read client.Lost line why e = cc
-
--- the record of the first of these commands, which isn't sent, is `IsNews`
-unsent_news : (reads : Reads) (p : Progress) (m : Moment) (mark : Mark) (left : List Task) → AllByRecursion (IsNews reads m.utc) (first_unsent_record p m mark left)
-unsent_news reads p m mark [] = tt
-unsent_news reads p m mark (task ∷ others) = (by_missed p.missed, tt) where
-  -- by whether the cycle is missed
-  by_missed : (missed : Bool) → IsNews reads m.utc (record { sent = None; id = mark.id; utc = if missed then p.due else m.utc; cycle = mark.cycle; place = mark.place; turn = mark.expected.turn; command = task.command; end = end_unsent missed })
-  by_missed true = (λ not_missed. absurd (not_missed refl), λ line why e. cc)
-  by_missed false = (λ not_missed. refl, λ line why e. cc)
+-- the record of the first of these commands, which isn't sent, has the moment `m`
+unsent_news : (p : Progress) (m : Moment) (mark : Mark) (left : List Task) → AllByRecursion (IsOfMoment m.utc) (first_unsent_record p m mark left)
+unsent_news p m mark [] = tt
+unsent_news p m mark (task ∷ others) = (by_missed p.missed (if lacks_value p then NoValue else Skipped), tt) where
+  -- by whether the cycle is missed; if it isn't, the command has the other end
+  by_missed : (missed : Bool) (other : End) → IsOfMoment m.utc (record { sent = None; id = mark.id; utc = if missed then p.due else m.utc; cycle = mark.cycle; place = mark.place; turn = mark.expected.turn; command = task.command; end = if missed then Missed else other })
+  by_missed true other = λ not_missed. absurd (not_missed refl)
+  by_missed false other = λ not_missed. refl
 
 -- One act.
 
@@ -128,18 +61,18 @@ pub record AddsNews (reads : Reads) (utc : ℕ) (old : List Record) (t : Model) 
   pub now : t.progress.moment.utc ≡ utc
   pub news : List Record
   pub added : t.records ≡ old ++ news
-  pub each : AllByRecursion (IsNews reads utc) news
+  pub each : AllByRecursion (IsOfMoment utc) news
 
 -- settlements are recorded with news
 settles_adds : (reads : Reads) (utc : ℕ) (old : List Record) (s : Model) (xs : List (Settlement Asked)) → (a : AddsNews reads utc old s)
-    → (more : List Record) × (s.records ++ records_of s.reads s.progress.moment.utc s.marks xs ≡ old ++ more) × AllByRecursion (IsNews reads utc) more
+    → (more : List Record) × (s.records ++ records_of s.reads s.progress.moment.utc s.marks xs ≡ old ++ more) × AllByRecursion (IsOfMoment utc) more
 settles_adds reads utc old s xs a =
     let one = records_of reads utc s.marks xs in
     let same : records_of s.reads s.progress.moment.utc s.marks xs ≡ one =
     ap (λ (f : Reads). records_of f s.progress.moment.utc s.marks xs) a.reads_so ∙ ap (λ (n : ℕ). records_of reads n s.marks xs) a.now in (
       a.news ++ one,
       ap (λ (l : List Record). s.records ++ l) same ∙ ap (λ (l : List Record). l ++ one) a.added ∙ append_assoc old a.news one,
-      all_append (IsNews reads utc) a.news one a.each (all_records reads utc (IsNews reads utc) s.marks xs (λ n mark x at got. settled_news reads utc mark x)),
+      all_append (IsOfMoment utc) a.news one a.each (all_records reads utc (IsOfMoment utc) s.marks xs (λ n mark x at got not_missed. refl)),
     )
 
 -- a line that is heard adds news
@@ -164,11 +97,21 @@ losing_adds reads utc old all s a =
     let more = settles_adds reads utc old s (restarts s.client).settlements a in
     losing_along (AddsNews reads utc old) all s (record { reads_so = a.reads_so; now = a.now; news = more.0; added = more.1; each = more.2 }) a
 
+-- this moment, if an act read one, and else `m`
+abbrev pub moment_or : (m : Moment) → Option Moment → Moment
+moment_or m None = m
+moment_or m (Some read) = read
+
+-- its time by the clock of time stamps
+utc_of_moment : (m : Moment) (read : Option Moment) → (moment_or m read).utc ≡ utc_or m.utc read
+utc_of_moment m None = refl
+utc_of_moment m (Some read) = refl
+
 -- an act that performs an action reads the moment that its model then has
 module _ (plan : Plan) (commands : List Task) where
   -- the model `t` after an act on the model `s` has the moment that the act read, or the one that `s` has
-  abbrev Ticks : Model → Act → Model → Type 0
-  Ticks s act t = t.progress.moment.utc ≡ utc_or s.progress.moment.utc (moment_in act)
+  abbrev pub Ticks : Model → Act → Model → Type 0
+  Ticks s act t = t.progress.moment ≡ moment_or s.progress.moment (moment_in act)
 
   -- `Ticks` holds in each case of each action
   ticks_in_each : (o : Action) (s : Model) → HoldsInEachCase plan commands (Ticks s) o s
@@ -184,14 +127,25 @@ module _ (plan : Plan) (commands : List Task) where
   ticks_in_each actions.Pass s = (λ m. refl, λ n. refl)
   ticks_in_each actions.Flush s = (λ m. refl, λ n. refl)
   ticks_in_each (actions.Read until) s = (
-    (λ bytes m. ap (λ (x : Moment). x.utc) (gave_stays plan commands until s bytes m).1.0),
-    (λ m. ap (λ (x : Moment). x.utc) (silent_stays plan s.progress.phase s.progress until m).1.0),
+    (λ bytes m. (gave_stays plan commands until s bytes m).1.0),
+    (λ m. (silent_stays plan s.progress.phase s.progress until m).1.0),
     refl,
     refl,
     refl,
   )
-  ticks_in_each (actions.Close why) s = ap (λ (x : Moment). x.utc) (closed_stays plan s why).1.0
+  ticks_in_each (actions.Close why) s = (closed_stays plan s why).1.0
   ticks_in_each (actions.Stop why) s = tt
+
+  -- an act of a run leaves the moment that it read, or the one before it
+  moved_ticks : (s : Model) (act : Act) → Performs commands s (action_at plan s) act → Ticks s act (moved plan commands (action_at plan s) (with_progress turned s) act)
+  moved_ticks s act obeys =
+      walk plan commands (Ticks (with_progress turned s)) (action_at plan s) (with_progress turned s) act obeys (ticks_in_each (action_at plan s) (with_progress turned s))
+
+  -- so it does with all that follows it
+  pub after_ticks : (s : Model) (act : Act) → Performs commands s (action_at plan s) act → Ticks s act (after plan commands s act)
+  after_ticks s act obeys =
+      let t = moved plan commands (action_at plan s) (with_progress turned s) act in
+      losing_along (Ticks s act) (loses_all t.progress) t (moved_ticks s act obeys) (moved_ticks s act obeys)
 
   -- a model that read the moment `utc` last, and has no other records than `s`
   none_added : (reads : Reads) (utc : ℕ) (s t : Model) → t.reads ≡ reads → t.progress.moment.utc ≡ utc → t.records ≡ s.records → AddsNews reads utc s.records t
@@ -206,8 +160,8 @@ module _ (plan : Plan) (commands : List Task) where
         now = now;
         news = first_unsent_record s.progress m (mark_next plan commands s.progress) (commands_left commands s.progress);
         added = refl;
-        each = subst (λ (n : ℕ). AllByRecursion (IsNews reads n) (first_unsent_record s.progress m (mark_next plan commands s.progress) (commands_left commands s.progress))) now
-            (unsent_news reads s.progress m (mark_next plan commands s.progress) (commands_left commands s.progress));
+        each = subst (λ (n : ℕ). AllByRecursion (IsOfMoment n) (first_unsent_record s.progress m (mark_next plan commands s.progress) (commands_left commands s.progress))) now
+            (unsent_news s.progress m (mark_next plan commands s.progress) (commands_left commands s.progress));
       }
   moved_adds reads utc actions.Skip s act reads_so now = none_added reads utc s (moved plan commands actions.Skip s act) reads_so now (append-nil s.records)
   moved_adds reads utc (actions.Read until) s (Gave bytes m) reads_so now =
@@ -228,7 +182,7 @@ module _ (plan : Plan) (commands : List Task) where
       let utc = utc_or s.progress.moment.utc (moment_in act) in
       losing_adds reads utc s.records (loses_all t.progress) t
       (moved_adds reads utc (action_at plan s) (with_progress turned s) act reads_so
-      (walk plan commands (Ticks (with_progress turned s)) (action_at plan s) (with_progress turned s) act obeys (ticks_in_each (action_at plan s) (with_progress turned s))))
+      (ap (λ (x : Moment). x.utc) (moved_ticks s act obeys) ∙ utc_of_moment s.progress.moment (moment_in act)))
 
 -- what holds of the record at each place holds of all records
 pub all_of_each : (P : Record → Type 0) (rs : List Record) → ((n : ℕ) (r : Record) → slice_get rs n ≡ Some r → P r) → AllByRecursion P rs
@@ -264,7 +218,7 @@ module _ (plan : Plan) (commands : List Task) (scope : Scope) where
       (subst (λ (t : Model). AddsNews scope.reads (utc_or s.progress.moment.utc (moment_in act)) s.records t) (sym (after_all-append plan commands (opening plan scope) acts (act ∷ [])))
       (after_adds plan commands scope.reads s act (reads_as_in_scope plan commands scope acts) split.1))
 
-  -- the record was added by one of these acts, and has the moment read last by then; and it is as its line reads
+  -- the record was added by one of these acts, and has the moment read last by then
   pub record IsAdded (acts : List Act) (r : Record) : Type 0 where
     pub before : List Act
     pub act : Act
@@ -272,7 +226,6 @@ module _ (plan : Plan) (commands : List Task) (scope : Scope) where
     pub order : acts ≡ before ++ act ∷ behind
     pub written : IsWrittenAt plan commands scope before act r
     pub of_moment : IsOfMoment (utc_read 0 (before ++ act ∷ [])) r
-    pub as_read : IsAsRead scope.reads r
 
   -- it was so with one act more
   added_more : (acts : List Act) (act : Act) (r : Record) → IsAdded acts r → IsAdded (acts ++ act ∷ []) r
@@ -284,7 +237,6 @@ module _ (plan : Plan) (commands : List Task) (scope : Scope) where
         order = ap (λ (xs : List Act). xs ++ act ∷ []) a.order ∙ append_assoc a.before (a.act ∷ a.behind) (act ∷ []);
         written = a.written;
         of_moment = a.of_moment;
-        as_read = a.as_read;
       }
 
   -- what holds of each of the records `xs ++ ys` that has the others around it, holds of all of `ys`
@@ -312,24 +264,27 @@ module _ (plan : Plan) (commands : List Task) (scope : Scope) where
             let a = act_adds done [] act (runs-append plan commands (opening plan scope) done (act ∷ []) runs (o, tt)) in
             let is = after_all-append plan commands (opening plan scope) done (act ∷ []) in
             let new = each_apart (IsAdded (done ++ act ∷ [])) [] a.news (λ earlier r later e.
-            let news = of_one (IsNews scope.reads (utc_read 0 (done ++ act ∷ []))) a.news earlier r later e a.each in
+            let news = of_one (IsOfMoment (utc_read 0 (done ++ act ∷ []))) a.news earlier r later e a.each in
             record {
               before = done;
               act = act;
               behind = [];
               order = refl;
               written = record { earlier = earlier; later = later; written = a.added ∙ ap (λ (l : List Record). (state done).records ++ l) e };
-              of_moment = news.0;
-              as_read = news.1;
+              of_moment = news;
             }) in
             subst (λ (t : Model). AllByRecursion (IsAdded (done ++ act ∷ [])) t.records) is
             (subst (AllByRecursion (IsAdded (done ++ act ∷ []))) (sym a.added)
             (all_append (IsAdded (done ++ act ∷ [])) (state done).records a.news (all_on (IsAdded done) (IsAdded (done ++ act ∷ [])) (state done).records (added_more done act) all) new))
 
+  -- each record is as its line reads
+  pub all_read : (acts : List Act) → AllByRecursion (λ r. IsAsRead (scope.reads (form_at commands r.place)) r) (state acts).records
+  all_read acts = all_on (IsAsItsText plan commands scope) (λ r. IsAsRead (scope.reads (form_at commands r.place)) r) (state acts).records (λ r is. is.6) (kept_all plan commands scope acts).records
+
   -- the record at a place among those of a run has its moment, where cycles have due moments and the clock doesn't go back also if it is
   -- missed; and it is as its line reads
   pub one_added : (acts : List Act) → Runs plan commands (opening plan scope) acts → (n : ℕ) (r : Record) → slice_get (state acts).records n ≡ Some r
-      → HasItsMoment plan commands scope acts r × IsAsRead scope.reads r
+      → HasItsMoment plan commands scope acts r × IsAsRead (scope.reads (form_at commands r.place)) r
   one_added acts runs n r got =
       let a = all_at (IsAdded acts) (state acts).records n r (all_added acts runs) got in (
         record {
@@ -341,12 +296,8 @@ module _ (plan : Plan) (commands : List Task) (scope : Scope) where
           moment = a.of_moment;
           missed = λ e some rises. (all_at (UnsentIsJustified plan commands scope acts) (state acts).records n r (unsent_for_a_cause plan commands scope acts runs some rises) got).0 e;
         },
-        a.as_read,
+        all_at (λ (x : Record). IsAsRead (scope.reads (form_at commands x.place)) x) (state acts).records n r (all_read acts) got,
       )
-
-  -- each record of a run is as its line reads
-  pub all_read : (acts : List Act) → Runs plan commands (opening plan scope) acts → AllByRecursion (IsAsRead scope.reads) (state acts).records
-  all_read acts runs = all_on (IsAdded acts) (IsAsRead scope.reads) (state acts).records (λ r a. a.as_read) (all_added acts runs)
 
   -- a line that answered a record came at the record's moment
   pub came_at : (acts : List Act) → Runs plan commands (opening plan scope) acts → (r : Record) (line : List ℕ) → line_of r.end ≡ Some line
@@ -359,8 +310,8 @@ module _ (plan : Plan) (commands : List Task) (scope : Scope) where
       let a = act_adds front its.behind read (subst (λ (xs : List Act). Runs plan commands (opening plan scope) xs) order runs) in
       let split : a.news ≡ its.written.earlier ++ r ∷ its.written.later =
       append_cancel_left (state front).records a.news (its.written.earlier ++ r ∷ its.written.later) (sym a.added ∙ its.written.written) in
-      let news = of_one (IsNews scope.reads (utc_read 0 (front ++ read ∷ []))) a.news its.written.earlier r its.written.later split a.each in
-      record { came = came; moment = news.0 (λ missed. let none = ap line_of (sym missed) ∙ answers in cc) ∙ utc_more 0 front read }
+      let news = of_one (IsOfMoment (utc_read 0 (front ++ read ∷ []))) a.news its.written.earlier r its.written.later split a.each in
+      record { came = came; moment = news (λ missed. let none = ap line_of (sym missed) ∙ answers in cc) ∙ utc_more 0 front read }
 
   -- each record of a run has its moment
   each_has_moment : (acts : List Act) → Runs plan commands (opening plan scope) acts → AllByRecursion (HasItsMoment plan commands scope acts) (state acts).records
@@ -383,4 +334,4 @@ answers_have_moments plan commands scope acts runs = each_came_at plan commands 
 
 -- the law: each record of a run is unreadable only as its line reads
 pub unreadable_as_read : UnreadableAsTheyRead
-unreadable_as_read plan commands scope acts runs = all_read plan commands scope acts runs
+unreadable_as_read plan commands scope acts runs = all_read plan commands scope acts

@@ -29,7 +29,7 @@ use Rattle.gc_station.specs.Quiet.{TellsMoment, IsListening, StaysConnected}
 use Rattle.gc_station.specs.Reasons.{HoldsBefore}
 use Rattle.gc_station.specs.Runs.{state_after}
 use Rattle.gc_station.specs.Silences.{HasAllTimedOut, latest, IsNoReply, BringsNoReply, IsMute, WentBack, PutsFirst, IsMuteFor}
-use Rattle.gc_station.specs.Model.{Model, next_request_text, null_text, first_text, opening, action_at, waiting_of, with_progress, with_moment, with_rest, lines_came, lines_completed, after_piece, is_heard, after, after_all, Runs, text_or_null}
+use Rattle.gc_station.specs.Model.{Model, next_request_text, null_text, first_text, occasion_at, opening, action_at, waiting_of, with_progress, with_moment, with_rest, lines_came, lines_completed, after_piece, is_heard, after, after_all, Runs, text_or_null}
 use Rattle.gc_station.specs.NextCommand.{place_next}
 use Rattle.gc_station.proofs.Closings.{came_phase}
 use Rattle.gc_station.proofs.Connected.{is_in_use, HoldsInUse, holds_in_use_always}
@@ -371,9 +371,9 @@ module _ (plan : Plan) (commands : List Task) (scope : Scope) where
   mute_line actions.Ask s acts needs tells rest q =
       let p = s.progress in λ m. asks_mute (is_sought p.word (later p.moment.elapsed plan.deadline) true) p acts (null_text p.word) needs.0 tells q
   mute_line actions.Prepare s acts needs tells rest q =
-      let p = s.progress in λ m. asks_mute (is_sought p.word p.again true) p acts (text_or_null s.progress.moment.utc s.client (drop p.prepared commands)) needs.0 tells q
+      let p = s.progress in λ m. asks_mute (is_sought p.word p.again true) p acts (text_or_null (occasion_at s.progress.moment) s.client (drop p.prepared commands)) needs.0 tells q
   mute_line actions.Send s acts needs tells rest q =
-      let p = s.progress in λ m. asks_mute (is_sought p.word p.again true) p acts (first_text s.progress.moment.utc s.client (drop (place_next commands p) commands)) needs.0 tells q
+      let p = s.progress in λ m. asks_mute (is_sought p.word p.again true) p acts (first_text (occasion_at s.progress.moment) s.client (drop (place_next commands p) commands)) needs.0 tells q
   mute_line actions.Flush s acts needs tells rest q = let p = s.progress in λ m. asks_mute (is_sought p.word p.again true) p acts (next_request_text s.client (Table NullProc)) needs.0 tells q
   mute_line (actions.Read until) s acts needs tells rest q =
       let p = s.progress in

@@ -1,13 +1,13 @@
 -- Answers are near their targets' places, their qualities are as listed, and those of two sendings agree: each record is as its text says
 -- (`IsAsItsText`), and is confirmed by those before it.
 use Rattle.std.proofs.Common.{[]}
-use Rattle.gc_station.specs.Agreeing.{IsConfirmed, IsUnconfirmed, DisagreesInSecond, AgreedRowsAgree}
+use Rattle.gc_station.specs.Agreeing.{IsComparedInFull, IsUnconfirmed, DisagreesInSecond, AgreedRowsAgree}
 use Rattle.gc_station.specs.Nearness.{IsAtItsTarget, ElsewhereIsJustified, AnswersAreAtTheirTargets}
 use Rattle.gc_station.specs.Qualities.{IsAsListed, QualitiesAreAsListed}
 use Rattle.gc_station.specs.Runs.{state_after}
 use Rattle.gc_station.proofs.Lists.{all_on}
-use Rattle.gc_station.proofs.Agreeing.{after_split}
-use Rattle.gc_station.proofs.AsText.{IsAsItsText, kept_all}
+use Rattle.gc_station.proofs.Agreeing.{after_split, each_after}
+use Rattle.gc_station.proofs.AsText.{IsAsItsText, IsFullyConfirmed, kept_all}
 
 -- the law: after any acts, `IsAtItsTarget` and `ElsewhereIsJustified` hold of each record
 pub at_their_targets : AnswersAreAtTheirTargets
@@ -26,7 +26,9 @@ qualities_as_listed plan commands scope acts =
 pub rows_agree : AgreedRowsAgree
 rows_agree = record {
   second = λ plan commands scope acts earlier later r at.
-      after_split (IsConfirmed commands) [] (state_after plan commands scope acts).records earlier r later (kept_all plan commands scope acts).agreed at;
+      (after_split (IsFullyConfirmed plan commands scope) [] (state_after plan commands scope acts).records earlier r later (kept_all plan commands scope acts).agreed at).0;
+  compared = λ plan commands scope acts.
+      each_after (IsFullyConfirmed plan commands scope) (IsComparedInFull commands) (λ before r so. so.1) [] (state_after plan commands scope acts).records (kept_all plan commands scope acts).agreed;
   first = λ plan commands scope acts.
       all_on (IsAsItsText plan commands scope) (λ r. IsUnconfirmed commands r) (state_after plan commands scope acts).records (λ r so. so.4) (kept_all plan commands scope acts).records;
   disagree = λ plan commands scope acts.

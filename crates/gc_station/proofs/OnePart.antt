@@ -13,7 +13,7 @@ use Rattle.gc_station.specs.Progressing.{is_over}
 use Rattle.gc_station.specs.Runs.{state_after}
 use Rattle.gc_station.specs.Scopes.{Scope}
 use Rattle.gc_station.specs.ActKinds.{Puts}
-use Rattle.gc_station.specs.Model.{Model, Performs, Runs, opening, action_at, first_text, after, after_all}
+use Rattle.gc_station.specs.Model.{Model, Performs, Runs, opening, action_at, first_text, occasion_at, after, after_all}
 use Rattle.gc_station.specs.NextCommand.{commands_left}
 use Rattle.gc_station.proofs.Chaining.{StaysBegun}
 use Rattle.gc_station.proofs.Going.{after_all-append, runs_behind}
@@ -66,7 +66,7 @@ parts_more plan commands s (act ∷ xs) ys one =
 
 -- an act that sends the next command of a cycle puts the line of that command, whole or in part
 pub puts_text : (commands : List Task) (plan : Plan) (s : Model) (act : Act) → action_at plan s ≡ Send → Performs commands s (action_at plan s) act
-    → Puts (first_text s.progress.moment.utc s.client (commands_left commands s.progress)) act
+    → Puts (first_text (occasion_at s.progress.moment) s.client (commands_left commands s.progress)) act
 puts_text commands plan s act is obeys = subst (λ (o : Action). Performs commands s o act) is obeys
 
 module _ (plan : Plan) (commands : List Task) (scope : Scope) where

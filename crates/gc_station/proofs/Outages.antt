@@ -8,7 +8,7 @@ use Rattle.gc_client.specs.Rule.{ById}
 use Rattle.gc_texts.specs.declared.tasks.Task.{Task}
 use Rattle.gc_links.specs.Acts.{Act, Told}
 use Rattle.gc_station.specs.Cycles.{first_due, due_after}
-use Rattle.gc_station.specs.Deciding.{has_begun, is_out_of_time, is_overdue, setup_permits, is_stale, is_stopping, is_preparing, is_finished, is_up, may_abandon, action_in, action_on, action_overdue, action_of_phase, action_without_turns}
+use Rattle.gc_station.specs.Deciding.{has_begun, lacks_value, is_out_of_time, is_overdue, setup_permits, is_stale, is_stopping, is_preparing, is_finished, is_up, may_abandon, action_in, action_on, action_overdue, action_of_phase, action_without_turns}
 use Rattle.gc_station.specs.EachOnce.{Interleave, RunRequest, of_record, still_waiting, all_cycles, of_text}
 use Rattle.gc_station.specs.Marks.{commands_in}
 use Rattle.gc_station.specs.Model.{Model, opening, action_at, waiting_of, with_progress, with_rest, moved, Performs}
@@ -411,18 +411,20 @@ no_read_if_sent plan p w until awaits may = by_until until awaits where
     by_going : MayGo p w → ⊥
     by_going (inl free) = both_ways p.next_is_chained free bound
     by_going (inr going) = let none = going.0 in omega (arith, none, some)
-  not_held (inl (inr (inr more))) some = by_retry may.0.6 where
+  not_held (inl (inr (inr (inl more)))) some = by_retry may.0.6 where
     -- a further attempt goes only once all are settled
     by_retry : MayRetry p w → ⊥
     by_retry (inl none) = omega (arith, none, more)
     by_retry (inr listed) = let none = listed.0 in omega (arith, none, some)
+  not_held (inl (inr (inr (inr lacks)))) some = both_ways (lacks_value p) may.0.10 lacks
   not_held (inr set_up) some = both_ways (is_preparing plan p w) may.0.8 set_up.0
 
   -- something may go
   not_nothing : NothingMayGo plan p w → ⊥
   not_nothing (inl full) = let room = may.0.3.0 in omega (arith, full, room)
   not_nothing (inr (inl (inl seven))) = let room = may.0.3.1 in omega (arith, seven, room)
-  not_nothing (inr (inl (inr doubt))) = both_ways p.doubtful may.0.3.2 doubt
+  not_nothing (inr (inl (inr (inl doubt)))) = both_ways p.doubtful may.0.3.2 doubt
+  not_nothing (inr (inl (inr (inr held)))) = let none = may.0.3.3 in omega (arith, held, none)
   not_nothing (inr (inr (inl held))) = not_held held.0 held.1
   not_nothing (inr (inr (inr (inl far)))) = let few = may.0.5 in omega (arith, few, far)
   not_nothing (inr (inr (inr (inr (inl asked))))) = both_ways p.stops may.1 asked.0

@@ -115,7 +115,7 @@ module _ (plan : Plan) (commands : List Task) where
   -- the record of a command that isn't sent isn't among those of commands that were sent
   skips_first_unsent : (p : Progress) (m : Moment) (mark : Mark) (left : List Task) → sent_of (first_unsent_record p m mark left) ≡ []
   skips_first_unsent p m mark [] = refl
-  skips_first_unsent p m mark (task ∷ others) = ap (λ (out : Bool). if out then first_unsent_record p m mark (task ∷ others) else []) (unsent_end p.missed)
+  skips_first_unsent p m mark (task ∷ others) = ap (λ (out : Bool). if out then first_unsent_record p m mark (task ∷ others) else []) (unsent_end p)
 
   -- the record of the next command, if that isn't sent, isn't among those of commands that were sent
   skips_unsent : (s : Model) (m : Moment) → sent_of (unsent_record plan commands s.progress (Told m)) ≡ []

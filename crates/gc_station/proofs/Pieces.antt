@@ -31,7 +31,7 @@ use Rattle.gc_station.specs.ActKinds.{Puts}
 use Rattle.gc_station.specs.Model.{Model, action_at, next_request_text, with_rest, line_came, lines_came, lines_completed, after_piece}
 use Rattle.gc_station.proofs.Growing.{lines_records}
 use Rattle.gc_station.proofs.Lists.{all_append, all_split, cuts_on, AllRisingAt}
-use Rattle.gc_station.proofs.Meets.{HasPlace, EndedBy, heard_ended, hears_settles_oldest, left_within_limits, left_still_wait, all_records_at, IsRecordOf, is_record_of, some_sent, own_request, was_answered, was_late, was_lost}
+use Rattle.gc_station.proofs.Meets.{HasPlace, EndedBy, heard_ended, hears_settles_oldest, left_within_limits, left_still_wait, all_records_at, IsRecordOf, is_record_of, some_sent, own_request, made_then, was_answered, was_late, was_lost}
 use Rattle.gc_station.proofs.Qualified.{ended_met, ended_unmet}
 use Rattle.gc_station.proofs.Waiting.{WasAsked, TimedOutAsRead, TimedOutAsReadBy, StillWaitsAt, IsJustified, IsHonest, as_read_after_moment, still_wait_at_moment, expired_within_limits, still_wait_after_moment, honest_after_moment}
 use Rattle.gc_station.specs.Scopes.{Scope, Reads}
@@ -263,6 +263,11 @@ module _ (plan : Plan) (commands : List Task) (scope : Scope) (acts : List Act) 
                 its = recorded_by s.before s.request s.between r down;
                 shown = inl (overtaken_in_piece c line x.number f.number at a.place x.pending f.one (Some mark) f.beside l s f.holds above a.above a.heard);
               };
+          made = λ utc e. record {
+            act = Gave piece m;
+            its = recorded_by s.before s.request s.between r down;
+            asks = made_then plan commands scope acts (TimedOutAsReadBy m.elapsed) x.number at (id_of c at) x.pending mark r it.2 of_it x.asks s;
+          };
           unsent = λ e. some_sent r mark it.2 of_it e;
           expected = expected_in_piece c x.number at x.pending mark r it.2 of_it s down;
         }

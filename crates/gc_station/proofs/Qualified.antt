@@ -9,10 +9,6 @@ use Rattle.gc_catalogue.specs.declared.answer.Reading.{Reading}
 use Rattle.gc_catalogue.specs.declared.answer.Reading.TheVariants as reading
 use Rattle.gc_catalogue.specs.declared.asked.Asked.{Asked}
 use Rattle.gc_client.specs.Rule
-use Rattle.gc_catalogue.specs.Asked.{IsAskedReading}
-use Rattle.gc_client.specs.Settlements.{outcome_seen, IsReadBy}
-use Rattle.gc_client.specs.declared.settlement.Outcome.{Outcome}
-use Rattle.gc_client.specs.declared.settlement.Outcome.TheVariants as outcomes
 use Rattle.gc_texts.specs.Codes.{lists_code}
 use Rattle.gc_texts.specs.Endings.{End, Answered, Elsewhere, Disagree, Unexpected, line_of}
 use Rattle.gc_texts.specs.Expectations.{meets}
@@ -28,8 +24,7 @@ use Rattle.gc_texts.specs.declared.quality.Quality.TheVariants as quality
 use Rattle.gc_station.specs.Marks.{agrees_in, quality_in, agreed_as, answered_as, value_as, warned_as, refused_as, answer_as, end_of, is_well}
 use Rattle.gc_station.specs.Nearness.{HasAnswer}
 use Rattle.gc_station.specs.Qualities.{answer_in, IsRefusedReading, IsOfQuality, quality_as}
-use Rattle.gc_station.specs.Scopes.{AreReadings, Reads}
-use Rattle.gc_station.specs.Zeros.{IsZeroOf}
+use Rattle.gc_station.specs.Scopes.{Reads}
 use Rattle.gc_station.proofs.Meets.{settled_answered}
 
 -- Where an answer was measured.
@@ -253,13 +248,13 @@ module _ (reads : Reads) (expected : Expected) (call : Asked) (line : List ℕ) 
   pub ended_good : (o : Rule.Outcome) (k : Quality) (said : Option Answer) → end_of reads expected call o ≡ Answered k said line → is_good k ≡ true → IsGoodSo expected line k said
   ended_good o k said e good =
       let is : o ≡ Rule.Answered line = settled_answered reads expected call o line (ap line_of e) in
-      answer_good expected line (reads call line) (reads call (as_zero line)) k said (subst (λ (x : Rule.Outcome). end_of reads expected call x ≡ Answered k said line) is e) good
+      answer_good expected line (reads expected.form call line) (reads expected.form call (as_zero line)) k said (subst (λ (x : Rule.Outcome). end_of reads expected call x ≡ Answered k said line) is e) good
 
   -- if a command ends as disagreeing, it is of a second sending
   pub ended_second : (o : Rule.Outcome) → end_of reads expected call o ≡ Disagree line → IsSecond expected line expected.twice
   ended_second o e =
       let is : o ≡ Rule.Answered line = settled_answered reads expected call o line (ap line_of e) in
-      answer_second expected line (reads call line) (reads call (as_zero line)) (subst (λ (x : Rule.Outcome). end_of reads expected call x ≡ Disagree line) is e)
+      answer_second expected line (reads expected.form call line) (reads expected.form call (as_zero line)) (subst (λ (x : Rule.Outcome). end_of reads expected call x ≡ Disagree line) is e)
 
   -- if a command is answered well, its line is as expected
   pub ended_met : (o : Rule.Outcome) → line_of (end_of reads expected call o) ≡ Some line → is_well (end_of reads expected call o) ≡ true → meets expected.expects expected.before line ≡ true
@@ -274,7 +269,7 @@ module _ (reads : Reads) (expected : Expected) (call : Asked) (line : List ℕ) 
   pub ended_unmet : (o : Rule.Outcome) → end_of reads expected call o ≡ Unexpected line → meets expected.expects expected.before line ≡ false
   ended_unmet o e =
       let is : o ≡ Rule.Answered line = settled_answered reads expected call o line (ap line_of e) in
-      answer_unmet expected line (reads call line) (reads call (as_zero line)) (subst (λ (x : Rule.Outcome). end_of reads expected call x ≡ Unexpected line) is e)
+      answer_unmet expected line (reads expected.form call line) (reads expected.form call (as_zero line)) (subst (λ (x : Rule.Outcome). end_of reads expected call x ≡ Unexpected line) is e)
 
   -- if a reply in time, which says x, ends a command as answered, with an answer, that answer isn't elsewhere
   answer_near : (x z : Reading) (k : Quality) (answer : Answer) → answer_as expected x z line ≡ Answered k (Some answer) line → is_elsewhere expected.near answer ≡ false
@@ -287,14 +282,14 @@ module _ (reads : Reads) (expected : Expected) (call : Asked) (line : List ℕ) 
   pub ended_near : (o : Rule.Outcome) (k : Quality) (answer : Answer) → end_of reads expected call o ≡ Answered k (Some answer) line → is_elsewhere expected.near answer ≡ false
   ended_near o k answer e =
       let is : o ≡ Rule.Answered line = settled_answered reads expected call o line (ap line_of e) in
-      answer_near (reads call line) (reads call (as_zero line)) k answer (subst (λ (x : Rule.Outcome). end_of reads expected call x ≡ Answered k (Some answer) line) is e)
+      answer_near (reads expected.form call line) (reads expected.form call (as_zero line)) k answer (subst (λ (x : Rule.Outcome). end_of reads expected call x ≡ Answered k (Some answer) line) is e)
 
   -- the line has an answer that was measured elsewhere
   abbrev HasAwayAnswer : Type 0
-  HasAwayAnswer = (answer : Answer) × HasAnswer reads expected.accepted call line answer × (is_elsewhere expected.near answer ≡ true)
+  HasAwayAnswer = (answer : Answer) × HasAnswer (reads expected.form) expected.accepted call line answer × (is_elsewhere expected.near answer ≡ true)
 
   -- if a reply in time, which says x, ends a command as elsewhere, its line has an answer that was measured elsewhere
-  answer_away : (x z : Reading) → reads call line ≡ x → reads call (as_zero line) ≡ z → answer_as expected x z line ≡ Elsewhere line → HasAwayAnswer
+  answer_away : (x z : Reading) → reads expected.form call line ≡ x → reads expected.form call (as_zero line) ≡ z → answer_as expected x z line ≡ Elsewhere line → HasAwayAnswer
   answer_away (reading.Value a) z is zs e = (a, inl is, value_away expected line quality.Fine a (is_elsewhere expected.near a) refl e)
   answer_away (reading.Refused code) z is zs e =
       let both = refused_away expected line (lists_code expected.accepted code) z e in
@@ -306,14 +301,14 @@ module _ (reads : Reads) (expected : Expected) (call : Asked) (line : List ℕ) 
   pub ended_away : (o : Rule.Outcome) → end_of reads expected call o ≡ Elsewhere line → HasAwayAnswer
   ended_away o e =
       let is : o ≡ Rule.Answered line = settled_answered reads expected call o line (ap line_of e) in
-      answer_away (reads call line) (reads call (as_zero line)) refl refl (subst (λ (x : Rule.Outcome). end_of reads expected call x ≡ Elsewhere line) is e)
+      answer_away (reads expected.form call line) (reads expected.form call (as_zero line)) refl refl (subst (λ (x : Rule.Outcome). end_of reads expected call x ≡ Elsewhere line) is e)
 
   -- The quality.
 
   module _ (k : Quality) (said : Option Answer) where
     -- the line has a quality that its sending makes k (`quality_as`), and the answer `said`, as `IsOfQuality` says
     abbrev LineIsOfQuality : Type 0
-    LineIsOfQuality = (plain : Quality) × (k ≡ quality_as expected.twice plain) × IsOfQuality reads expected.accepted call plain said line
+    LineIsOfQuality = (plain : Quality) × (k ≡ quality_as expected.twice plain) × IsOfQuality (reads expected.form) expected.accepted call plain said line
 
     -- `Fine` is in each sending as `quality_as` has it
     fine_in : (t : Twice) → quality_in t quality.Fine ≡ quality_as t quality.Fine
@@ -334,48 +329,48 @@ module _ (reads : Reads) (expected : Expected) (call : Asked) (line : List ℕ) 
     refusal_in (twice.Second agree nth) = refl
 
     -- a line that says an answer has the quality with which it ends a command as answered: that of `Fine` in its sending, and that answer
-    value_quality : (a : Answer) (away : Bool) → reads call line ≡ reading.Value a → value_as expected quality.Fine away a line ≡ Answered k said line → LineIsOfQuality
+    value_quality : (a : Answer) (away : Bool) → reads expected.form call line ≡ reading.Value a → value_as expected quality.Fine away a line ≡ Answered k said line → LineIsOfQuality
     value_quality a true is e = cc
     value_quality a false is e =
         let so = answered_so expected line quality.Fine k (Some a) said e in
         (quality.Fine, sym so.quality ∙ fine_in expected.twice, (a, sym so.same, is))
 
-    module _ (code : ℕ) (is : reads call line ≡ reading.Refused code) where
+    module _ (code : ℕ) (is : reads expected.form call line ≡ reading.Refused code) where
       -- a line with an accepted code has the quality with which it ends a command as answered: that of `Warning` in its sending, and the
       -- answer, if any, that it says with return code 0
-      warning_quality : (z : Reading) (given : Option Answer) → lists_code expected.accepted code ≡ true → reads call (as_zero line) ≡ z → given ≡ answer_in z
+      warning_quality : (z : Reading) (given : Option Answer) → lists_code expected.accepted code ≡ true → reads expected.form call (as_zero line) ≡ z → given ≡ answer_in z
           → answered_as expected quality.Warning given line ≡ Answered k said line → LineIsOfQuality
       warning_quality z given listed zs has e =
           let so = answered_so expected line quality.Warning k given said e in
           (quality.Warning, sym so.quality ∙ warning_in expected.twice, (code, is, listed, sym so.same ∙ has ∙ ap answer_in (sym zs)))
 
       -- the same of a line that says the answer a with return code 0
-      warned_value_quality : (a : Answer) (away : Bool) → lists_code expected.accepted code ≡ true → reads call (as_zero line) ≡ reading.Value a
+      warned_value_quality : (a : Answer) (away : Bool) → lists_code expected.accepted code ≡ true → reads expected.form call (as_zero line) ≡ reading.Value a
           → value_as expected quality.Warning away a line ≡ Answered k said line → LineIsOfQuality
       warned_value_quality a true listed zs e = cc
       warned_value_quality a false listed zs e = warning_quality (reading.Value a) (Some a) listed zs refl e
 
       -- a line with an accepted code has the quality with which it ends a command as answered, whatever it says with return
       -- code 0
-      warned_quality : (z : Reading) → lists_code expected.accepted code ≡ true → reads call (as_zero line) ≡ z → warned_as expected z line ≡ Answered k said line → LineIsOfQuality
+      warned_quality : (z : Reading) → lists_code expected.accepted code ≡ true → reads expected.form call (as_zero line) ≡ z → warned_as expected z line ≡ Answered k said line → LineIsOfQuality
       warned_quality (reading.Value a) listed zs e = warned_value_quality a (is_elsewhere expected.near a) listed zs e
       warned_quality (reading.Refused c) listed zs e = warning_quality (reading.Refused c) None listed zs refl e
       warned_quality (reading.ComFault c) listed zs e = warning_quality (reading.ComFault c) None listed zs refl e
       warned_quality (reading.Unreadable fault) listed zs e = warning_quality (reading.Unreadable fault) None listed zs refl e
 
     -- a line that is a refusal without an accepted code has the quality `Refused`, and no answer
-    refusal_quality : (x : Reading) → reads call line ≡ x → IsRefusedReading expected.accepted x → quality.Refused ≡ k → ◌≡◌ {A = Option Answer} None said → LineIsOfQuality
+    refusal_quality : (x : Reading) → reads expected.form call line ≡ x → IsRefusedReading expected.accepted x → quality.Refused ≡ k → ◌≡◌ {A = Option Answer} None said → LineIsOfQuality
     refusal_quality x is none same has =
         (quality.Refused, sym same ∙ sym (refusal_in expected.twice), (sym has, subst (IsRefusedReading expected.accepted) (sym is) none))
 
     -- a refusal, whether its code is accepted (b) or not, has the quality with which it ends a command as answered
-    refused_quality : (code : ℕ) (b : Bool) (z : Reading) → lists_code expected.accepted code ≡ b → reads call line ≡ reading.Refused code → reads call (as_zero line) ≡ z
+    refused_quality : (code : ℕ) (b : Bool) (z : Reading) → lists_code expected.accepted code ≡ b → reads expected.form call line ≡ reading.Refused code → reads expected.form call (as_zero line) ≡ z
         → refused_as b expected z line ≡ Answered k said line → LineIsOfQuality
     refused_quality code true z listed is zs e = warned_quality code is z listed zs e
     refused_quality code false z none is zs e = let same : quality.Refused ≡ k = cc in let has : ◌≡◌ {A = Option Answer} None said = cc in refusal_quality (reading.Refused code) is none same has
 
     -- a line that says x has the quality with which it ends a command as answered
-    answer_quality : (x z : Reading) → reads call line ≡ x → reads call (as_zero line) ≡ z → answer_as expected x z line ≡ Answered k said line → LineIsOfQuality
+    answer_quality : (x z : Reading) → reads expected.form call line ≡ x → reads expected.form call (as_zero line) ≡ z → answer_as expected x z line ≡ Answered k said line → LineIsOfQuality
     answer_quality (reading.Value a) z is zs e = value_quality a (is_elsewhere expected.near a) is e
     answer_quality (reading.Refused code) z is zs e = refused_quality code (lists_code expected.accepted code) z refl is zs e
     answer_quality (reading.ComFault code) z is zs e = let same : quality.Refused ≡ k = cc in let has : ◌≡◌ {A = Option Answer} None said = cc in refusal_quality (reading.ComFault code) is tt same has
@@ -385,20 +380,4 @@ module _ (reads : Reads) (expected : Expected) (call : Asked) (line : List ℕ) 
     pub ended_quality : (o : Rule.Outcome) → end_of reads expected call o ≡ Answered k said line → LineIsOfQuality
     ended_quality o e =
         let is : o ≡ Rule.Answered line = settled_answered reads expected call o line (ap line_of e) in
-        answer_quality (reads call line) (reads call (as_zero line)) refl refl (subst (λ (x : Rule.Outcome). end_of reads expected call x ≡ Answered k said line) is e)
-
--- What the code takes for the ending of a refused reply.
-
--- `end` is what the code makes of a refused reply: the ending of the refusal, by whether its code is accepted, and by what the
--- line says with return code 0 (`zeroed`). It is the ending that `end_of` gives the settlement
-pub refused_ends : (reads : Reads) (expected : Expected) (call : Asked) (outcome : Outcome) (code : ℕ) (line : _) (zeroed : Reading) (end : End)
-    → (are : AreReadings reads) → (is_refused : outcome ≡ outcomes.Answered (reading.Refused code) line) → (is_read : IsReadBy IsAskedReading call outcome) → (zero_is : IsZeroOf call outcome zeroed)
-    → (ends : end ≡ refused_as (lists_code expected.accepted code) expected zeroed line.items) → end ≡ end_of reads expected call (outcome_seen outcome)
-refused_ends reads expected call outcome code line zeroed end are is read zero_is e =
-    let r : IsReadBy IsAskedReading call (outcomes.Answered (reading.Refused code) line) = subst (IsReadBy IsAskedReading call) is read in
-    let z : IsZeroOf call (outcomes.Answered (reading.Refused code) line) zeroed = subst (λ (o : Outcome). IsZeroOf call o zeroed) is zero_is in
-    let said : reads call line.items ≡ reading.Refused code = are call line.items (reading.Refused code) r in
-    let bare : reads call (as_zero line.items) ≡ zeroed = are call (as_zero line.items) zeroed (z r.reply r.is_reply) in
-    e ∙ ap (λ x. refused_as (lists_code expected.accepted code) expected x line.items) (sym bare)
-    ∙ ap (λ x. answer_as expected x (reads call (as_zero line.items)) line.items) (sym said)
-    ∙ ap (λ (o : Outcome). end_of reads expected call (outcome_seen o)) (sym is)
+        answer_quality (reads expected.form call line) (reads expected.form call (as_zero line)) refl refl (subst (λ (x : Rule.Outcome). end_of reads expected call x ≡ Answered k said line) is e)

@@ -25,7 +25,7 @@ use Rattle.gc_station.specs.Quiet.{SendsRequest, TellsMoment, IsListening, IsSil
 use Rattle.gc_station.specs.Reasons.{HoldsBefore, IsGoingOn, IsReadyOrOverdue}
 use Rattle.gc_station.specs.declared.progress.Waiting.{Waiting}
 use Rattle.gc_station.specs.Runs.{state_after}
-use Rattle.gc_station.specs.Model.{Model, null_text, next_request_text, first_text, opening, action_at, waiting_of, with_progress, lines_completed, is_heard, Performs, Runs, text_or_null}
+use Rattle.gc_station.specs.Model.{Model, null_text, next_request_text, first_text, occasion_at, opening, action_at, waiting_of, with_progress, lines_completed, is_heard, Performs, Runs, text_or_null}
 use Rattle.gc_station.specs.NextCommand.{place_next}
 use Rattle.gc_station.proofs.Closings.{runs_split}
 use Rattle.gc_station.proofs.Connected.{is_in_use, HoldsInUse, holds_in_use_always}
@@ -322,10 +322,10 @@ module _ (plan : Plan) (commands : List Task) (scope : Scope) where
       λ m. stage_ready (has_begun p) (has_begun p) p.clock_due true p.since p.since p.phase acts (Put (null_text p.word)) tt needs.0 st
   stage_line actions.Prepare s acts there needs time st =
       let p = s.progress in λ m. stage_ready (has_begun p) (has_begun p) p.clock_due true p.since p.since p.phase acts
-      (Put (text_or_null s.progress.moment.utc s.client (drop p.prepared commands))) tt needs.0 st
+      (Put (text_or_null (occasion_at s.progress.moment) s.client (drop p.prepared commands))) tt needs.0 st
   stage_line actions.Send s acts there needs time st =
       let p = s.progress in λ m. stage_ready (has_begun p) (has_begun p) p.clock_due true p.since p.since p.phase acts
-      (Put (first_text s.progress.moment.utc s.client (drop (place_next commands p) commands))) tt needs.0 st
+      (Put (first_text (occasion_at s.progress.moment) s.client (drop (place_next commands p) commands))) tt needs.0 st
   stage_line actions.Flush s acts there needs time st = let p = s.progress in
       λ m. stage_ready (has_begun p) (has_begun p) p.clock_due true p.since p.since p.phase acts (Put (next_request_text s.client (Table NullProc))) tt needs.0 st
   stage_line actions.Renew s acts there needs time st =
@@ -354,7 +354,7 @@ close_is_no_request : (act : Act) → act ≡ Closed → SendsRequest act → �
 close_is_no_request act o asks = subst SendsRequest o asks
 
 -- by any action but `Ask`, `Send`, `Flush` and `Prepare` no request is sent
-others_send_no_request : (plan : Plan) (commands : List Task) (next : Action) (s : Model) (act : Act) → Performs commands s next act
+pub others_send_no_request : (plan : Plan) (commands : List Task) (next : Action) (s : Model) (act : Act) → Performs commands s next act
     → (next ≡ actions.Ask → ⊥) × (next ≡ actions.Send → ⊥) × (next ≡ actions.Flush → ⊥) × (next ≡ actions.Prepare → ⊥) → SendsRequest act → ⊥
 others_send_no_request plan commands actions.Ask s act o other = absurd (other.0 refl)
 others_send_no_request plan commands actions.Prepare s act o other = absurd (other.3 refl)

@@ -1,15 +1,14 @@
 -- What replies say: no act changes it, and some function gives the reading of each line for each call. An act is one call on the
 -- link, with its result.
-use Rattle.std.proofs.Common.{◌≡◌, Bool, ℕ, List, Result, Ok, Err, refl, sym, ap, ◌∙◌, subst}
+use Rattle.std.proofs.Common.{◌≡◌, Bool, ℕ, List, Option, Result, Ok, Err, refl, sym, ap, ◌∙◌, subst}
 use Rattle.gc_lines.specs.Replies.{ReplyFields}
 use Rattle.gc_lines.specs.Readers.{reply_at}
 use Rattle.gc_lines.specs.declared.fault.LineFault.{LineFault}
 use Rattle.gc_lines.proofs.Replies.{reply_again, one_reply}
 use Rattle.gc_catalogue.specs.declared.answer.Reading.{Reading}
 use Rattle.gc_catalogue.specs.declared.asked.Asked.{Asked}
-use Rattle.gc_catalogue.specs.Asked.{IsAskedReading}
 use Rattle.gc_catalogue.specs.declared.answer.Reading.TheVariants.{Refused}
-use Rattle.gc_catalogue.proofs.AskedRules.{one_asked_reading, each_asked_reply}
+use Rattle.gc_texts.specs.declared.form.Form.{Form}
 use Rattle.gc_texts.specs.declared.tasks.Task.{Task}
 use Rattle.gc_station.specs.declared.plan.Plan.{Plan}
 use Rattle.gc_station.specs.declared.progress.Action.{Action}
@@ -17,6 +16,8 @@ use Rattle.gc_links.specs.Acts.{Act}
 use Rattle.gc_station.specs.Progressing.{turned, loses_all}
 use Rattle.gc_station.specs.Runs.{state_after}
 use Rattle.gc_station.specs.Scopes.{Scope, AreReadings, OneReadingForALine, SomeReadings, ForEachReadings, ForEachAndSomeReadings, Reads}
+use Rattle.gc_station.specs.Saying.{IsSaid}
+use Rattle.gc_station.proofs.Saying.{each_said, one_said}
 use Rattle.gc_station.proofs.Walk.{lines_along, losing_along, acts_along, moved_changed}
 use Rattle.gc_station.specs.Model.{Model, opening, action_at, with_progress, lines_came, moved, losing, stepped, after_all}
 
@@ -53,23 +54,23 @@ same_readings a b e are = subst (λ (r : Reads). AreReadings r) (sym e) are
 
 -- a line has at most one reading for a call
 pub one_for_a_line : OneReadingForALine
-one_for_a_line call line x y p q =
+one_for_a_line form call line x y p q =
     let same = one_reply line p.reply q.reply p.is_reply q.is_reply in
-    one_asked_reading call q.reply x y (subst (λ (r : ReplyFields). IsAskedReading call r x) same p.is_reading) q.is_reading
+    one_said form call q.reply x y (subst (λ (r : ReplyFields). IsSaid form call r x) same p.is_reading) q.is_reading
 
 -- the reading of a line for a call, by how the line reads: that of the reply; or, if it is no reply, `Refused 0`, as any would do
-reading_by : Asked → Result ReplyFields LineFault → Reading
-reading_by call (Ok reply) = (each_asked_reply call reply).0
-reading_by call (Err fault) = Refused 0
+reading_by : Option Form → Asked → Result ReplyFields LineFault → Reading
+reading_by form call (Ok reply) = (each_said form call reply).0
+reading_by form call (Err fault) = Refused 0
 
--- some function gives each line's reading for a call: it reads the line as a reply, and that for the call
+-- some function gives each line's reading for a call, by each form and without one: it reads the line as a reply, and that for the call
 pub some_readings : SomeReadings
 unfolding reading_by
 some_readings = (
-  λ call line. reading_by call (reply_at line),
-  λ call line reading is.
-      ap (reading_by call) (reply_again line is.reply is.is_reply)
-      ∙ one_asked_reading call is.reply (each_asked_reply call is.reply).0 reading (each_asked_reply call is.reply).1 is.is_reading,
+  λ form call line. reading_by form call (reply_at line),
+  λ form call line reading is.
+      ap (reading_by form call) (reply_again line is.reply is.is_reply)
+      ∙ one_said form call is.reply (each_said form call is.reply).0 reading (each_said form call is.reply).1 is.is_reading,
 )
 
 -- what holds for every function that gives the readings is `ForEachAndSomeReadings`, because there is such a function

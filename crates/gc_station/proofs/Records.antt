@@ -6,6 +6,7 @@ use Rattle.std.proofs.Common.{◌≡◌, ℕ, ◌+◌, ◌<◌, Bool, true, fals
 use Rattle.std.proofs.lemmas.List.{get_or_default, length-map, length-take, map-append, map_more, take_more, take-append-drop}
 use Rattle.std.specs.Io.KnownBytes.{Appends}
 use Rattle.std.proofs.KnownBytes.{Appends-trans}
+use Rattle.std.proofs.lemmas.List.Concat.{flat_map-append}
 use Rattle.gc_lines.specs.Ports.{TakesFront}
 use Rattle.gc_catalogue.specs.declared.answer.Answer.{Answer}
 use Rattle.gc_catalogue.specs.declared.answer.Reading.{Reading}
@@ -38,6 +39,7 @@ use Rattle.gc_station.specs.Writing.{recorded_after}
 use Rattle.gc_links.specs.declared.link.Moment.{Moment}
 use Rattle.gc_station.specs.declared.recorded.Recorded.{Recorded}
 use Rattle.gc_station.specs.declared.tally.Counts.{Counts}
+use Rattle.gc_station.specs.Busy.{busy_after, busy_after_settlements}
 
 -- Marks.
 
@@ -247,6 +249,13 @@ part_one text before r start old new part so took = record {
       (Appends-trans start old new (texts_of text before) (take part (text r)) so took.1);
 }
 
+-- if a book took the records `before`, and then the record r, it took them all
+pub whole_one : (text : Record → List ℕ) (before : List Record) (r : Record) (start old new : Option (List ℕ))
+    → Appends start old (texts_of text before) → Appends old new (text r) → Appends start new (texts_of text (before ++ r ∷ []))
+whole_one text before r start old new so took =
+    subst (λ (l : List ℕ). Appends start new l) (ap (λ l. texts_of text before ++ l) (sym (append-nil (text r))) ∙ sym (flat_map-append text before (r ∷ [])))
+    (Appends-trans start old new (texts_of text before) (text r) so took)
+
 -- a write that broke off within the records `all` broke off within `all` and more
 pub part_more : (text : Record → List ℕ) (before all more : List Record) (old new : Option (List ℕ)) → WritesPart text before all old new → WritesPart text before (all ++ more) old new
 part_more text before all more old new w = record {
@@ -290,6 +299,33 @@ part_behind text before front next more all later start new is whole w =
     ∙ sym (append_assoc before front (more ++ later)) ∙ sym (append_assoc (before ++ front) more later) in
     part_since text before front (before ++ all) start new (part_more_grew text (before ++ front) ((before ++ front) ++ more) (before ++ all) start new (later, order) w)
 
+-- The longest wait after busy answers: it is carried over settlements, as the counts are.
+
+-- without settlements it stays
+busy-none : (reads : Reads) (k : ℕ) (marks : List (Option Mark)) → busy_after_settlements reads k marks [] ≡ k
+busy-none reads k [] = refl
+busy-none reads k (mark ∷ marks) = refl
+
+-- that of one settlement is by the first mark alone
+busy_first : (reads : Reads) (k : ℕ) (marks : List (Option Mark)) (x : Rule.Settlement Asked)
+    → busy_after_settlements reads k marks (x ∷ []) ≡ busy_after_settlements reads k (first_mark marks ∷ []) (x ∷ [])
+busy_first reads k [] x = refl
+busy_first reads k (None ∷ marks) x = busy-none reads k marks
+busy_first reads k (Some mark ∷ marks) x = busy-none reads _ marks
+
+-- that of two lists of settlements is that of the second, with the marks that are left, from that of the first on
+busy-append : (reads : Reads) (marks : List (Option Mark)) (xs ys : List (Rule.Settlement Asked)) (k : ℕ)
+    → busy_after_settlements reads k marks (xs ++ ys) ≡ busy_after_settlements reads (busy_after_settlements reads k marks xs) (drop (length xs) marks) ys
+busy-append reads [] [] ys k = refl
+busy-append reads [] (x ∷ xs) ys k = refl
+busy-append reads (mark ∷ marks) [] ys k = refl
+busy-append reads (None ∷ marks) (x ∷ xs) ys k = busy-append reads marks xs ys k
+busy-append reads (Some mark ∷ marks) (x ∷ xs) ys k = busy-append reads marks xs ys (busy_after k mark.expected (code_of reads x.call x.outcome))
+
+-- that of settlements as the client returns them
+abbrev busy_seen : (reads : Reads) (longest : ℕ) (marks : List (Option Mark)) → List (Settlement Asked) → ℕ
+busy_seen reads longest marks ss = busy_after_settlements reads longest marks (map settlement_seen ss)
+
 -- f carries a value over records. If it takes two joined lists one after the other (`append`), b is what it makes of a and
 -- `front`, c of b and `one`, and `next` is `front` and then `one`, c is what it makes of a and `next`
 fold_more : {A : Type 0} (f : A → List Record → A) → ((a : A) (xs ys : List Record) → f a (xs ++ ys) ≡ f (f a xs) ys) → (a b c : A) (front one next : List Record) → b ≡ f a front → c ≡ f b one
@@ -324,15 +360,16 @@ unexpected-append b (x ∷ xs) ys = unexpected-append (unexpected_noted x.end b)
 
 -- what is kept of records is equal where each of its fields is
 recorded_same : (a b : Recorded) → a.tally ≡ b.tally → a.well ≡ b.well → a.listed ≡ b.listed → a.fresh ≡ b.fresh → a.firsts ≡ b.firsts → a.counts ≡ b.counts
-    → a.unexpected ≡ b.unexpected → a ≡ b
-recorded_same a b tally well listed fresh firsts counts unexpected =
+    → a.unexpected ≡ b.unexpected → a.busy ≡ b.busy → a ≡ b
+recorded_same a b tally well listed fresh firsts counts unexpected busy =
     ap (λ (x : Counts). record a { tally = x }) tally
     ∙ ap (λ (x : Bool). record a { tally = b.tally; well = x }) well
     ∙ ap (λ (x : Bool). record a { tally = b.tally; well = b.well; listed = x }) listed
     ∙ ap (λ (x : List Watch). record a { tally = b.tally; well = b.well; listed = b.listed; fresh = x }) fresh
     ∙ ap (λ (x : List (Option FirstAnswer)). record a { tally = b.tally; well = b.well; listed = b.listed; fresh = b.fresh; firsts = x }) firsts
     ∙ ap (λ (x : List (Option Decimal)). record a { tally = b.tally; well = b.well; listed = b.listed; fresh = b.fresh; firsts = b.firsts; counts = x }) counts
-    ∙ ap (λ (x : Bool). record b { unexpected = x }) unexpected
+    ∙ ap (λ (x : Bool). record b { unexpected = x; busy = a.busy }) unexpected
+    ∙ ap (λ (x : ℕ). record b { busy = x }) busy
 
 -- without settlements, what is kept of records stays as it was
 pub recorded-none : (reads : Reads) (now : Moment) (marks : List (Option Mark)) (r : Recorded) → recorded_after now marks [] reads r ≡ r
@@ -340,6 +377,7 @@ recorded-none reads now marks r =
     let none = records-none reads now.utc marks in
     recorded_same (recorded_after now marks [] reads r) r (ap (tallied r.tally) none) (ap (last_well r.well) none) (listed-none reads r.listed marks)
     (ap (fresh_after now.elapsed r.fresh) none) (ap (firsts_after r.firsts) none) (counts-none reads r.counts marks) (ap (any_unexpected r.unexpected) none)
+    (busy-none reads r.busy marks)
 
 -- `s` is the settlement at place i, and `mark` the first of the marks from place i on
 module _ (reads : Reads) (marks : List (Option Mark)) (ss : List (Settlement Asked)) (i : ℕ) (s : Settlement Asked) (mark : Option Mark)
@@ -381,6 +419,17 @@ module _ (reads : Reads) (marks : List (Option Mark)) (ss : List (Settlement Ask
       ∙ sym (counts-append reads marks front (settlement_seen s ∷ []) a)
       ∙ sym (ap (counts_after_settlements reads a marks) (map_more settlement_seen ss i s below ∙ ap (λ x. front ++ settlement_seen x ∷ []) (sym is)))
 
+  -- the same of the longest wait
+  busy_more : (a b c : ℕ) → b ≡ busy_seen reads a marks (take i ss) → c ≡ busy_seen reads b (mark ∷ []) (s ∷ []) → c ≡ busy_seen reads a marks (take (i + 1) ss)
+  busy_more a b c so more =
+      let front = map settlement_seen (take i ss) in
+      more ∙ ap (λ x. busy_after_settlements reads x (mark ∷ []) (settlement_seen s ∷ [])) so
+      ∙ ap (λ k. busy_after_settlements reads (busy_after_settlements reads a marks front) (k ∷ []) (settlement_seen s ∷ [])) first
+      ∙ sym (busy_first reads (busy_after_settlements reads a marks front) (drop i marks) (settlement_seen s))
+      ∙ ap (λ n. busy_after_settlements reads (busy_after_settlements reads a marks front) (drop n marks) (settlement_seen s ∷ [])) (sym front_length)
+      ∙ sym (busy-append reads marks front (settlement_seen s ∷ []) a)
+      ∙ sym (ap (busy_after_settlements reads a marks) (map_more settlement_seen ss i s below ∙ ap (λ x. front ++ settlement_seen x ∷ []) (sym is)))
+
   -- if b is what the first i settlements make of a, and c what s makes of b, c is what the first i + 1 make of a
   pub recorded_more : (now : Moment) (a b c : Recorded) → b ≡ recorded_after now marks (map settlement_seen (take i ss)) reads a
       → c ≡ recorded_after now (mark ∷ []) (settlement_seen s ∷ []) reads b → c ≡ recorded_after now marks (map settlement_seen (take (i + 1) ss)) reads a
@@ -396,6 +445,7 @@ module _ (reads : Reads) (marks : List (Option Mark)) (ss : List (Settlement Ask
       (fold_more firsts_after firsts-append a.firsts b.firsts c.firsts front one _ (ap (λ (r : Recorded). r.firsts) so) (ap (λ (r : Recorded). r.firsts) more) next)
       (counts_more a.counts b.counts c.counts (ap (λ (r : Recorded). r.counts) so) (ap (λ (r : Recorded). r.counts) more))
       (fold_more any_unexpected unexpected-append a.unexpected b.unexpected c.unexpected front one _ (ap (λ (r : Recorded). r.unexpected) so) (ap (λ (r : Recorded). r.unexpected) more) next)
+      (busy_more a.busy b.busy c.busy (ap (λ (r : Recorded). r.busy) so) (ap (λ (r : Recorded). r.busy) more))
 
 -- the record with the ending that a settlement gives is the record of the settlement
 pub record_of_ending : (reads : Reads) (utc : ℕ) (mark : Mark) (x : Rule.Settlement Asked) (end : End) → end ≡ end_of reads mark.expected x.call x.outcome

@@ -7,7 +7,7 @@ use Rattle.gc_lines.specs.Lines.{with_end}
 use Rattle.gc_catalogue.specs.Asked.{asked_line}
 use Rattle.gc_client.specs.declared.window.TheConstants.{IDS}
 use Rattle.gc_links.specs.Acts.{Act, Gave}
-use Rattle.gc_texts.specs.Endings.{End, Answered, Unreadable, Elsewhere, Disagree, Unexpected, Late, Lost, Skipped, Missed, line_of}
+use Rattle.gc_texts.specs.Endings.{End, Answered, Unreadable, Elsewhere, Disagree, Unexpected, Late, Lost, Skipped, NoValue, Missed, line_of}
 use Rattle.gc_texts.specs.declared.tasks.Task.{Task}
 use Rattle.gc_station.specs.ActKinds.{Puts}
 use Rattle.gc_station.specs.Answers.{AnswerIsJustified, IsRecordedBy}
@@ -46,6 +46,7 @@ module _ (plan : Plan) (commands : List Task) (scope : Scope) (acts : List Act) 
   recorded_sent answered late lost Late is out = let came = late is in (Gave came.reply.piece came.reply.moment, came.reply.its)
   recorded_sent answered late lost Lost is out = let it = lost is in (it.act, it.its)
   recorded_sent answered late lost Skipped is out = cc
+  recorded_sent answered late lost NoValue is out = cc
   recorded_sent answered late lost Missed is out = cc
 
   -- a record that an act adds after the one that writes its request has its request

@@ -22,7 +22,7 @@ use Rattle.gc_station.specs.declared.progress.Progress.{Progress}
 use Rattle.gc_station.specs.declared.progress.Until.{Until}
 use Rattle.gc_station.specs.Deciding.{later}
 use Rattle.gc_station.specs.EachOnce.{RunRequest, of_record, of_cycles, of_text, in_text, of_waiting}
-use Rattle.gc_station.specs.Marks.{commands_in}
+use Rattle.gc_station.specs.Marks.{commands_in, occasion_of}
 use Rattle.gc_station.specs.Progressing.{moment_noted, turned, loses_all}
 use Rattle.gc_station.specs.Reasons.{HoldsBefore}
 use Rattle.gc_station.specs.Runs.{state_after}
@@ -104,12 +104,12 @@ sent_last : (mark : Mark) (left : List Task) (s : Model) → Paired s → length
 sent_last mark [] s paired room some many = absurd (omega (arith, some))
 sent_last mark (task ∷ others) s paired room some many =
     let d = later s.progress.moment.elapsed task.deadline in
-    let p = pending_of task.command.target (call_at task mark.sent) d in
+    let p = pending_of task.command.target (call_at task (occasion_of mark)) d in
     let one = of_waiting mark p in
     let is : row (s.marks ++ Some mark ∷ []) (s.client.waiting ++ p ∷ []) s.records ≡ row_of s ++ one ∷ [] =
     ap (λ xs. map of_record s.records ++ xs) (more_waiting s.marks s.client.waiting (Some mark) p paired) ∙ sym (append_assoc (map of_record s.records) _ (one ∷ [])) in
     let last : 0 < last_cycle 0 (row_of s ++ one ∷ []) = subst (λ (n : ℕ). 0 < n) (sym (last_behind 0 (row_of s) one)) many in
-    subst (λ (c : _). 0 < last_cycle 0 (row (s.marks ++ Some mark ∷ []) c.waiting s.records)) (sym (sent_with_room s.client task.command.target (call_at task mark.sent) d room))
+    subst (λ (c : _). 0 < last_cycle 0 (row (s.marks ++ Some mark ∷ []) c.waiting s.records)) (sym (sent_with_room s.client task.command.target (call_at task (occasion_of mark)) d room))
     (subst (λ (xs : List RunRequest). 0 < last_cycle 0 xs) (sym is) last)
 
 module _ (plan : Plan) (commands : List Task) where

@@ -12,6 +12,7 @@ use Rattle.gc_catalogue.specs.declared.asked.Asked.{Asked}
 use Rattle.gc_client.specs.Rule.{deadlines, expired, pending_of}
 use Rattle.gc_client.specs.declared.pending.Pending.{Pending}
 use Rattle.gc_client.specs.declared.window.TheConstants.{WINDOW}
+use Rattle.gc_texts.specs.declared.occasion.Occasion.{Occasion}
 use Rattle.gc_texts.specs.declared.tasks.Task.{Task}
 use Rattle.gc_lines.specs.Frames.{rest_behind}
 use Rattle.gc_catalogue.specs.declared.asked.Asked.TheVariants.{Table}
@@ -21,7 +22,7 @@ use Rattle.gc_links.specs.declared.link.Moment.{Moment}
 use Rattle.gc_station.specs.CallTimes.{IsAskedToWait}
 use Rattle.gc_station.specs.Cycles.{ClockRises}
 use Rattle.gc_station.specs.Deciding.{later, has_begun, is_none_left, is_preparing, setup_permits}
-use Rattle.gc_station.specs.Marks.{commands_in, last_well}
+use Rattle.gc_station.specs.Marks.{commands_in, last_well, occasion_of}
 use Rattle.gc_station.specs.Model.{Model, waiting_of, with_progress, with_moment, with_rest, with_more_records, after_piece, asks_for, asks_setup, request_or_null, null_request, lines_completed, is_heard, moved, Performs, mark_setup_sent}
 use Rattle.gc_station.specs.NextCommand.{commands_before}
 use Rattle.gc_station.specs.Progressing.{turned, failing, moment_noted, time_passed, quieted, setup_sent, request_noted, null_sent, cleared, early_noted}
@@ -333,18 +334,18 @@ module _ (plan : Plan) (longest call turn loss : ℕ) (commands : List Task) (sp
           absurd (omega (arith, n, listed, below))
       sent_alone (task ∷ others) e =
           let mark = mark_setup_sent commands u in
-          let command = command_at mark.sent task in
+          let command = command_at (occasion_of mark) task in
           let one = pending_of command.target command.call (later s.progress.moment.elapsed task.deadline) in
           let more = commands-append s.marks (Some mark ∷ []) in (
             subst (λ (ws : List (Pending Asked)). LastIsAlone (Early (suc k) (limit_of s.progress.began (suc k))) (s.marks ++ Some mark ∷ []) ws)
                 (sym (sent_with_room s.client command s.progress.moment.elapsed task.deadline (within_window _ _ may.3.1)))
-                (alone_sent (Early (suc k) (limit_of s.progress.began (suc k))) mark one (λ raw. early mark.sent raw) s.marks s.client.waiting paired),
+                (alone_sent (Early (suc k) (limit_of s.progress.began (suc k))) mark one (λ raw. early (occasion_of mark) raw) s.marks s.client.waiting paired),
             omega (arith, more),
           ) where
             -- if it is a raw command, its deadline is early
-            early : (utc : ℕ) → is_of_table (command_at utc task).call ≡ false → Early (suc k) (limit_of s.progress.began (suc k)) (later s.progress.moment.elapsed task.deadline)
-            early utc raw left =
-                let one_more = raws_next (plan.setup - 1) k commands task others (omega (arith, left)) e (raw_text task utc raw) in
+            early : (occasion : Occasion) → is_of_table (command_at occasion task).call ≡ false → Early (suc k) (limit_of s.progress.began (suc k)) (later s.progress.moment.elapsed task.deadline)
+            early occasion raw left =
+                let one_more = raws_next (plan.setup - 1) k commands task others (omega (arith, left)) e (raw_text task occasion raw) in
                 let most = raws_within (suc k) fronts in
                 let all : raw_count (take (suc k) fronts) * loss ≡ suc (raw_count (take k fronts)) * loss = ap (λ (n : ℕ). n * loss) one_more in
                 let more = suc-mul (raw_count (take k fronts)) loss in

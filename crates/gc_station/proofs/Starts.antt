@@ -55,7 +55,7 @@ module _ (plan : Plan) (commands : List Task) where
   IsInDoubt s = (has_begun s.progress ≡ true) × (s.progress.doubtful ≡ true)
 
   -- an act of a run notes a doubt that the steps of its part note, if the station had synchronized before it and has after it
-  noted_after : (s : Model) (act : Act) → Performs commands s (action_at plan s) act → has_begun s.progress ≡ true → has_begun (after plan commands s act).progress ≡ true
+  pub noted_after : (s : Model) (act : Act) → Performs commands s (action_at plan s) act → has_begun s.progress ≡ true → has_begun (after plan commands s act).progress ≡ true
       → (noted_by s.client (noted_in s.progress) (client_part plan commands s (action_at plan s) act).steps).doubtful ≡ true → (after plan commands s act).progress.doubtful ≡ true
   noted_after s act performs begun still doubt =
       let t = moved plan commands (action_at plan s) (with_progress turned s) act in

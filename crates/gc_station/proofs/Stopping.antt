@@ -117,7 +117,7 @@ fresh_cases now w (r ∷ rs) =
 -- the record of the first of these commands, if it isn't sent, isn't of one that was answered well
 unsent_unwell : (p : Progress) (m : Moment) (mark : Mark) (list : List Task) → AllByRecursion IsNotWell (first_unsent_record p m mark list)
 unsent_unwell p m mark [] = tt
-unsent_unwell p m mark (task ∷ others) = (unconfirmed_end p.missed, tt)
+unsent_unwell p m mark (task ∷ others) = (unconfirmed_end p, tt)
 
 -- the records of requests that are lost are of commands that weren't answered well
 lost_unwell : (reads : Reads) (utc : ℕ) (marks : List (Option Mark)) (ps : List (Pending Asked)) → AllByRecursion IsNotWell (records_of reads utc marks (map lost ps))

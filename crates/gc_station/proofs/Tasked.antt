@@ -1,10 +1,11 @@
 -- Each record is of the task at its place, and its command is what that task asks at the moment at which its request was sent.
 -- A mark says which command an outstanding request is of, and when that was sent.
-use Rattle.std.proofs.Common.{◌≡◌, ℕ, Bool, true, false, List, [], ◌∷◌, ◌++◌, length, drop, map, Option, Some, None, refl, sym, ap, ◌∙◌, subst}
+use Rattle.std.proofs.Common.{◌≡◌, ℕ, true, false, List, [], ◌∷◌, ◌++◌, length, drop, map, Option, Some, None, refl, sym, ap, ◌∙◌, subst}
 use Rattle.std.specs.Prelude.{slice_get}
 use Rattle.std.specs.List.{AllByRecursion}
 use Rattle.std.proofs.lemmas.Bool.{both_ways}
 use Rattle.std.proofs.lemmas.List.{length-map, map-append}
+use Rattle.gc_values.specs.FileValues.{no_values}
 use Rattle.gc_catalogue.specs.declared.asked.Asked.{Asked}
 use Rattle.gc_client.specs.OneForOne.{Wanted, of_pending, of_settled}
 use Rattle.gc_client.specs.Rule.{Settlement}
@@ -18,7 +19,9 @@ use Rattle.gc_station.specs.Parts.{MarksAsk, MarkAsks, went_out}
 use Rattle.gc_station.specs.Scopes.{Reads}
 use Rattle.gc_station.specs.Tasked.{IsOfItsTask}
 use Rattle.gc_station.specs.declared.mark.Mark.{Mark}
+use Rattle.gc_station.specs.declared.progress.Progress.{Progress}
 use Rattle.gc_station.proofs.Booking.{ended_sent, marks_ask_append}
+use Rattle.gc_station.proofs.Walk.{unsent_along}
 
 -- if the requests `xs` and then `ys` ask what these marks say, one for one, `ys` ask what the marks after those of `xs` say
 marks_ask_left : (commands : List Task) (ms : List (Option Mark)) (xs ys : List (Wanted Asked)) → MarksAsk commands ms (xs ++ ys) → MarksAsk commands (drop (length xs) ms) ys
@@ -48,6 +51,7 @@ record_tasked reads commands utc mark s h =
       task = h.0;
       listed = h.1;
       sent = sym (ended_sent reads mark.expected s.call s.outcome);
+      values = mark.expected.values;
       command = ap wish h.2;
     }
 
@@ -59,17 +63,16 @@ settled_tasked reads commands utc (m ∷ ms) [] ys h = tt
 settled_tasked reads commands utc (None ∷ ms) (s ∷ ss) ys h = settled_tasked reads commands utc ms ss ys h.1
 settled_tasked reads commands utc (Some mark ∷ ms) (s ∷ ss) ys h = (record_tasked reads commands utc mark s h.0, settled_tasked reads commands utc ms ss ys h.1)
 
--- a command that is recorded as missed or skipped wasn't sent
-pub unsent_end : (missed : Bool) → went_out (end_unsent missed) ≡ false
-unsent_end true = refl
-unsent_end false = refl
+-- a command that is recorded as missed, without a value or skipped wasn't sent
+pub unsent_end : (p : Progress) → went_out (end_unsent p) ≡ false
+unsent_end p = unsent_along (λ (end : End). went_out end ≡ false) refl refl refl p
 
--- the ending of a command that isn't sent, as missed or as skipped, is no ending of a command that was sent
-pub no_end_of_sent : (missed : Bool) (end : End) → went_out end ≡ true → end_unsent missed ≡ end → ⊥
-no_end_of_sent missed end out e = both_ways (went_out end) (sym (ap went_out e) ∙ unsent_end missed) out
+-- the ending of a command that isn't sent, as missed, without a value or skipped, is no ending of a command that was sent
+pub no_end_of_sent : (p : Progress) (end : End) → went_out end ≡ true → end_unsent p ≡ end → ⊥
+no_end_of_sent p end out e = both_ways (went_out end) (sym (ap went_out e) ∙ unsent_end p) out
 
 -- the record of the command of `task`, with this mark, as not sent is of this task, if `task` is the one at the place of the
 -- mark, and `end` isn't the ending of a command that was sent
 pub unsent_tasked : (commands : List Task) (utc : ℕ) (mark : Mark) (end : End) (task : Task) → slice_get commands mark.place ≡ Some task → went_out end ≡ false
     → IsOfItsTask commands (record_with utc mark None task.command end)
-unsent_tasked commands utc mark end task at out = record { task = task; listed = at; sent = sym out; command = refl }
+unsent_tasked commands utc mark end task at out = record { task = task; listed = at; sent = sym out; values = no_values; command = refl }

@@ -11,6 +11,7 @@ use Rattle.gc_client.specs.declared.pending.Pending.{Pending}
 use Rattle.gc_client.specs.declared.window.TheConstants.{WINDOW}
 use Rattle.gc_client.specs.Rule.{ById, Settled, hears, heard, expired, deadlines, pending_of, settles_at, settle, fits, place_in, send_unless_full, Answered, Late}
 use Rattle.gc_client.proofs.OneForOne.{length-settle}
+use Rattle.gc_texts.specs.Endings.{End}
 use Rattle.gc_texts.specs.declared.tasks.Task.{Task}
 use Rattle.gc_links.specs.Acts.{Act}
 use Rattle.gc_links.specs.declared.link.Moment.{Moment}
@@ -28,7 +29,7 @@ use Rattle.gc_station.specs.declared.progress.Action.TheVariants as actions
 use Rattle.gc_station.specs.declared.progress.Progress.{Progress}
 use Rattle.gc_station.proofs.InCycle.{within_window}
 use Rattle.gc_station.proofs.Records.{commands-append, records-none, last-append}
-use Rattle.gc_station.proofs.Walk.{came_along, walk}
+use Rattle.gc_station.proofs.Walk.{came_along, unsent_along, walk}
 
 -- Requests of commands that have timed out.
 
@@ -176,14 +177,13 @@ moment_read m s h =
     (omega (arith, many, same), timed_expired m.elapsed s.marks s.client.waiting h.1, h.2)
 
 -- a command that isn't sent isn't answered well
-unsent_not_well : (missed : Bool) → is_well (end_unsent missed) ≡ false
-unsent_not_well true = refl
-unsent_not_well false = refl
+unsent_not_well : (p : Progress) → is_well (end_unsent p) ≡ false
+unsent_not_well p = unsent_along (λ (end : End). is_well end ≡ false) refl refl refl p
 
 -- nor is the last command once its record was made
 unsent_last : (p : Progress) (m : Moment) (mark : Mark) (left : List Task) (before : Bool) → before ≡ false → last_well before (first_unsent_record p m mark left) ≡ false
 unsent_last p m mark [] before e = e
-unsent_last p m mark (task ∷ others) before e = unsent_not_well p.missed
+unsent_last p m mark (task ∷ others) before e = unsent_not_well p
 
 module _ (plan : Plan) (commands : List Task) where
   -- a null procedure keeps it so, if there is room for one

@@ -1,28 +1,26 @@
--- A command that sets the clock asks for the moment at which its request is sent. As the text has it, it asks for the beginning
--- of 1970, whenever it is sent; and so the requests of a run can be compared with the text.
+-- A command that sets the clock asks for the moment at which its request is sent, and one that takes values of files for these. As the text
+-- has it, either asks for the beginning of 1970, whenever it is sent; and so the requests of a run can be compared with the text.
 use Rattle.std.proofs.Common.{◌≡◌, ℕ, Bool, true, false, List, ◌∷◌, drop, if◌then◌else◌, refl, ap, ◌∙◌}
 use Rattle.gc_catalogue.specs.declared.asked.Asked.{Asked}
-use Rattle.gc_catalogue.specs.declared.asked.Asked.TheVariants.{Table}
-use Rattle.gc_catalogue.specs.declared.call.Call.TheVariants.{SetDate}
-use Rattle.gc_texts.specs.Stamps.{date_time}
-use Rattle.gc_texts.specs.Tasks.{call_at}
+use Rattle.gc_texts.specs.Tasks.{call_at, made_at}
+use Rattle.gc_texts.specs.declared.occasion.Occasion.{Occasion}
 use Rattle.gc_texts.specs.declared.tasks.Task.{Task}
 use Rattle.gc_station.specs.Requests.{RunRequest, asked_at, in_text, of_command, of_task, sets_clock, untimed}
 
--- what a task asks at any moment is what the text says, if the moment of a command that sets the clock is left out (`untimed`)
-untimed_at : (task : Task) (utc : ℕ) → untimed task.now (call_at task utc) ≡ untimed task.now task.command.call
-untimed_at task utc = by_clock task.now where
-  -- the lemma above, whether the task sets the clock (`true`)
-  by_clock : (b : Bool) → untimed b (if b then Table (SetDate (date_time utc)) else task.command.call) ≡ untimed b task.command.call
+-- what a task asks on any occasion is what the text says, if what a request takes that is made anew is left out (`untimed`)
+untimed_at : (task : Task) (occasion : Occasion) → untimed task.now (call_at task occasion) ≡ untimed task.now task.command.call
+untimed_at task occasion = by_clock task.now where
+  -- the lemma above, whether the task's request is made anew (`true`)
+  by_clock : (b : Bool) → untimed b (if b then made_at task.needs.first occasion task.command.call else task.command.call) ≡ untimed b task.command.call
   by_clock true = refl
   by_clock false = refl
 
 -- the request for the command at a place, as the text has it, is that of the command's task, whenever it is sent
-pub asked_text : (commands : List Task) (cycle place utc : ℕ) (task : Task) (others : List Task) → drop place commands ≡ task ∷ others
-    → in_text commands (record { cycle = cycle; place = place; asked = asked_at utc task }) ≡ record { cycle = cycle; place = place; asked = of_task task }
-asked_text commands cycle place utc task others at =
+pub asked_text : (commands : List Task) (cycle place : ℕ) (occasion : Occasion) (task : Task) (others : List Task) → drop place commands ≡ task ∷ others
+    → in_text commands (record { cycle = cycle; place = place; asked = asked_at occasion task }) ≡ record { cycle = cycle; place = place; asked = of_task task }
+asked_text commands cycle place occasion task others at =
     let request : Asked → RunRequest = λ (call : Asked). record { cycle = cycle; place = place; asked = record { target = task.command.target; call = call } } in
-    ap (λ (left : List Task). request (untimed (sets_clock left) (call_at task utc))) at ∙ ap request (untimed_at task utc)
+    ap (λ (left : List Task). request (untimed (sets_clock left) (call_at task occasion))) at ∙ ap request (untimed_at task occasion)
 
 -- the request of a command that isn't sent, as the text has it, is that of the command's task
 pub unsent_text : (commands : List Task) (cycle place : ℕ) (task : Task) (others : List Task) → drop place commands ≡ task ∷ others

@@ -1,7 +1,7 @@
 -- A chain that isn't broken goes on over a connection, once the station has synchronized. `preparing` of a progress is true if
 -- there is a setup, and since the connection was made and the station synchronized no cycle began or went on. An act is one call
 -- on the link, with its result.
-use Rattle.std.proofs.Common.{◌≡◌, ◌&&◌, ◌<◌, Bool, true, false, List, [], inl, inr, ◌⊎◌, if◌then◌else◌, nat_eq, refl, sym, ap, ◌∙◌, subst, arith}
+use Rattle.std.proofs.Common.{◌≡◌, ◌&&◌, ◌<◌, Bool, true, false, not, List, [], inl, inr, ◌⊎◌, if◌then◌else◌, nat_eq, refl, sym, ap, ◌∙◌, subst, arith}
 use Rattle.std.proofs.lemmas.Bool.{and_parts, false_from_ne_true, both_ways}
 use Rattle.gc_texts.specs.declared.tasks.Task.{Task}
 use Rattle.gc_links.specs.Acts.{Act, Told, Cut, Opened}
@@ -13,7 +13,7 @@ use Rattle.gc_station.specs.declared.progress.Action.TheVariants as actions
 use Rattle.gc_station.specs.declared.progress.Phase.TheVariants as phase
 use Rattle.gc_station.specs.declared.progress.Progress.{Progress}
 use Rattle.gc_station.specs.declared.progress.Waiting.{Waiting}
-use Rattle.gc_station.specs.Deciding.{has_begun, is_up, may_go}
+use Rattle.gc_station.specs.Deciding.{has_begun, is_up, lacks_value, may_go}
 use Rattle.gc_station.specs.Model.{Model, opening, action_at, waiting_of, is_heard, lines_completed, with_progress, with_rest, Performs, moved, Runs}
 use Rattle.gc_station.specs.NextCommand.{commands_before}
 use Rattle.gc_station.specs.Progressing.{turned, failing, cleared, time_passed}
@@ -159,7 +159,7 @@ unbroken_holds plan commands scope acts runs =
 -- where `IsOnLineIfUnbroken` holds and the run may end (`IsResting`), a command that is left, and that is chained, may not be
 -- sent (`may_go`)
 pub resting_sends_no_chained : (p : Progress) (w : Waiting) → IsOnLineIfUnbroken p → IsResting p w → 0 < p.unsent → p.next_is_chained ≡ true → may_go p w ≡ false
-resting_sends_no_chained p w on rests some chained = false_from_ne_true (may_go p w) (λ may. by_rest (and_parts w.well p.chain_unbroken may).1 rests) where
+resting_sends_no_chained p w on rests some chained = false_from_ne_true (may_go p w) (λ may. by_rest (and_parts w.well p.chain_unbroken (and_parts (w.well && p.chain_unbroken) (not (lacks_value p)) may).0).1 rests) where
   -- the lemma above, by why the run may end there
   by_rest : p.chain_unbroken ≡ true → IsResting p w → ⊥
   by_rest c (inl down) = both_ways (is_up p.phase) down (on c).0

@@ -2,7 +2,7 @@
 -- or one was and the request has timed out. What every run keeps of this, and of the truth of its records, is `Honest`. An act
 -- is one call on the link, with its result.
 use Rattle.std.proofs.Common.{◌≡◌, ◌⊎◌, inl, inr, ℕ, ◌+◌, ◌<◌, ◌≤◌, ◌||◌, Bool, true, false, List, [], ◌∷◌, ◌++◌, length, map, Option, Some, None, IfSome, nat_le, refl, sym, ap, ◌∙◌, subst, arith, append_assoc, length-append}
-use Rattle.std.specs.Prelude.{IsSomeAnd}
+use Rattle.std.specs.Prelude.{IsSomeAnd, slice_get}
 use Rattle.std.specs.List.{AllByRecursion}
 use Rattle.std.proofs.lemmas.Bool.Decides.{nat_tests}
 use Rattle.std.proofs.lemmas.List.{length-map}
@@ -11,6 +11,7 @@ use Rattle.gc_client.specs.declared.pending.Pending.{Pending}
 use Rattle.gc_client.specs.Ids
 use Rattle.gc_client.specs.Ids.{id_at_place, IsWithinLimits}
 use Rattle.gc_client.specs.Rule.{ById, expired, expires}
+use Rattle.gc_texts.specs.Tasks.{call_at}
 use Rattle.gc_texts.specs.declared.tasks.Task.{Task}
 use Rattle.gc_station.specs.declared.mark.Mark.{Mark}
 use Rattle.gc_station.specs.declared.plan.Plan.{Plan}
@@ -27,7 +28,7 @@ use Rattle.gc_station.specs.Quiet.{IsAsking}
 use Rattle.gc_station.specs.Records.{Record}
 use Rattle.gc_station.specs.Runs.{state_after}
 use Rattle.gc_station.specs.ActKinds.{Puts, moment_in}
-use Rattle.gc_station.specs.Model.{Model, IsSending, action_at, cycle_to_send, place_to_send, next_request_text, Performs}
+use Rattle.gc_station.specs.Model.{Model, IsSending, action_at, cycle_to_send, place_to_send, next_request_text, occasion_at, Performs}
 use Rattle.gc_station.proofs.Lists.{all_append, all_on, AllRisingAt, rising_follow, rising_map}
 use Rattle.gc_station.specs.Scopes.{Scope}
 
@@ -80,8 +81,8 @@ module _ (plan : Plan) (commands : List Task) (scope : Scope) where
   abbrev state : List Act → Model
   state acts = state_after plan commands scope acts
 
-  -- after these acts, the command with this mark is sent next; the mark has what the text expects of its answer, and the number that is
-  -- kept of its counter
+  -- after these acts, the command with this mark is sent next; the mark has what the text expects of its answer, the number that is
+  -- kept of its counter, and the values of the moment read last
   pub record Marked (acts : List Act) (mark : Mark) : Type 0 where
     pub sends : IsSending plan (state acts)
     pub cycle : mark.cycle ≡ cycle_to_send plan (state acts)
@@ -90,6 +91,11 @@ module _ (plan : Plan) (commands : List Task) (scope : Scope) where
     pub id : mark.id ≡ (state acts).client.next
     pub expects : mark.expected.expects ≡ (expected_at commands mark.place).expects
     pub before : mark.expected.before ≡ count_at (state acts).counts (expected_at commands mark.place).counter
+    pub values : mark.expected.values ≡ (state acts).progress.moment.values
+
+  -- `call` is what the command at this place asks for if it is sent after these acts
+  abbrev pub AsksThen : (acts : List Act) (place : ℕ) → (call : Asked) → Type 0
+  AsksThen acts place call = (task : Task) × (slice_get commands place ≡ Some task) × (call ≡ call_at task (occasion_at (state acts).progress.moment))
 
   -- the request p that waits at the place `at`, with this id and mark, was put among these acts; `number` acts came before it,
   -- and `Stays` holds of the acts after it, by whether p has timed out and its deadline. If p isn't the oldest (`at` is above 0),
@@ -106,6 +112,7 @@ module _ (plan : Plan) (commands : List Task) (scope : Scope) where
     pub id : with_id ≡ (state before).client.next
     pub put : Puts (next_request_text (state before).client p.call) request
     pub deadline : (m : Mark) → mark ≡ Some m → p.deadline ≡ deadline_after plan commands scope before
+    pub made : (m : Mark) → mark ≡ Some m → AsksThen before m.place p.call
     pub stays : Stays p.given_up p.deadline between
 
   -- an outstanding request at the place `at` was put among these acts, with the id of that place, and `TimedOutAsRead` holds of
@@ -119,12 +126,19 @@ module _ (plan : Plan) (commands : List Task) (scope : Scope) where
   StillWaitsAt acts client now next count number at p mark =
       WasAsked acts (TimedOutAsReadBy now) number at (id_at_place next count at) p mark × Ids.Waits client (id_at_place next count at)
 
-  -- a record is true: if it is of a reply in time, late or lost, it came about as the law on such records says; and it is as the text
-  -- expects it, or isn't, as its ending says
+  -- an act adds the record after one of these acts wrote its request; and that asked for what its command did then
+  pub record WasMade (acts : List Act) (r : Record) : Type 0 where
+    pub act : Act
+    pub its : IsRecordedBy plan commands scope acts r act
+    pub asks : AsksThen its.before r.place r.command.call
+
+  -- a record is true: if its command was sent, its request was made so; if it is of a reply in time, late or lost, it came about as the law
+  -- on such records says; and it is as the text expects it, or isn't, as its ending says
   pub record IsJustified (acts : List Act) (r : Record) : Type 0 where
     pub answered : AnswerIsJustified plan commands scope acts r
     pub late : LateIsJustified plan commands scope acts r
     pub lost : LostIsJustified plan commands scope acts r
+    pub made : (utc : ℕ) → r.sent ≡ Some utc → WasMade acts r
     pub unsent : r.sent ≡ None → r.id ≡ 0
     pub expected : IsByExpectation plan commands scope acts r
 
@@ -154,6 +168,7 @@ module _ (plan : Plan) (commands : List Task) (scope : Scope) where
     id = s.id;
     put = s.put;
     deadline = s.deadline;
+    made = s.made;
     stays = step p.given_up p.deadline s.between s.stays;
   }
 
@@ -173,6 +188,7 @@ module _ (plan : Plan) (commands : List Task) (scope : Scope) where
     id = ids ∙ s.id;
     put = s.put;
     deadline = s.deadline;
+    made = s.made;
     stays = s.stays;
   }
 
@@ -208,11 +224,15 @@ module _ (plan : Plan) (commands : List Task) (scope : Scope) where
   true_more : (acts : List Act) (act : Act) (r : Record)
       → Performs commands (state acts) (action_at plan (state acts)) act
       → IsJustified acts r → IsJustified (acts ++ act ∷ []) r
-  true_more acts act r obeys is = record { answered = answered_more; late = late_more; lost = lost_more; unsent = is.unsent; expected = (met_more, unmet_more) } where
+  true_more acts act r obeys is = record { answered = answered_more; late = late_more; lost = lost_more; made = made_more; unsent = is.unsent; expected = (met_more, unmet_more) } where
     -- a record of a reply in time is true by one act more
     answered_more : AnswerIsJustified plan commands scope (acts ++ act ∷ []) r
     answered_more line e =
         let a = is.answered line e in record { reply = replied_more acts act r line a.reply; waits = a.waits; in_time = a.in_time }
+
+    -- a record whose request was made so is by one act more
+    made_more : (utc : ℕ) → r.sent ≡ Some utc → WasMade (acts ++ act ∷ []) r
+    made_more utc e = let a = is.made utc e in record { act = a.act; its = recorded_more acts act r a.act a.its; asks = a.asks }
 
     -- a record of a reply that was compared with what the text expects is so by one act more
     compared_more : (met : Bool) → IsCompared plan commands scope acts r met → IsCompared plan commands scope (acts ++ act ∷ []) r met
@@ -288,6 +308,7 @@ module _ (plan : Plan) (commands : List Task) (scope : Scope) where
     id = s.id;
     put = s.put;
     deadline = s.deadline;
+    made = s.made;
     stays = as_read_at_moment now p.given_up p.deadline s.between s.stays;
   }
 

@@ -3,9 +3,11 @@
 -- one call on the link, with its result.
 use Rattle.std.proofs.Common.{◌≡◌, ℕ, Bool, true, false, List, [], ◌∷◌, drop, if◌then◌else◌, refl, sym, subst}
 use Rattle.gc_lines.specs.Frames.{rest_behind}
+use Rattle.gc_values.specs.FileValues.{no_values}
 use Rattle.gc_catalogue.specs.declared.asked.Asked.TheVariants.{Table}
 use Rattle.gc_catalogue.specs.declared.call.Call.TheVariants.{NullProc}
 use Rattle.gc_client.specs.Rule.{restarts}
+use Rattle.gc_texts.specs.Endings.{End, Missed, NoValue, Skipped}
 use Rattle.gc_texts.specs.declared.tasks.Task.{Task}
 use Rattle.gc_links.specs.declared.link.Moment.{Moment}
 use Rattle.gc_station.specs.declared.mark.Mark.{Mark}
@@ -21,12 +23,12 @@ use Rattle.gc_station.specs.declared.progress.Until.{Until}
 use Rattle.gc_station.specs.declared.progress.Upcoming.{Upcoming}
 use Rattle.gc_station.specs.declared.progress.Waiting.{Waiting}
 use Rattle.gc_links.specs.Acts.{Act, Told, Untold, Put, Cut, Gave, Silent, Ended, Broke, Closed, Opened, Unopened}
-use Rattle.gc_station.specs.Deciding.{is_quiet}
+use Rattle.gc_station.specs.Deciding.{is_quiet, lacks_value}
 use Rattle.gc_station.specs.Marks.{commands_in}
 use Rattle.gc_station.specs.Progressing.{turned, moment_noted, cycle_begun, skipped, failing, opened, after_failure, cleared, request_noted, null_sent, resynchronized, sent, line_synchronizing, lines_synchronizing, pause_ended, drained, quieted, time_passed, early_noted, ended_for, closed, setup_sent}
 use Rattle.gc_station.specs.ActKinds.{Puts}
-use Rattle.gc_station.specs.Model.{Model, waiting_of, next_request_text, null_text, first_text, listed_after_skip, with_listed, after_pass, Performs, is_heard, with_progress, with_moment, with_rest, with_more_records, asks_for, asks_first, asks_next, unsent_record, line_came, lines_came, lines_completed, piece_heard, after_piece, piece_noted, piece_at, after_read, after_put, after_close, moved, settles, losing, after, after_all, cycle_length, text_or_null, asks_setup, request_for, null_request, request_or_null, mark_sent}
-use Rattle.gc_station.specs.NextCommand.{place_next, commands_left, commands_before, upcoming_after}
+use Rattle.gc_station.specs.Model.{Model, waiting_of, next_request_text, null_text, first_text, occasion_at, listed_after_skip, with_listed, after_pass, Performs, is_heard, with_progress, with_moment, with_rest, with_more_records, asks_for, asks_first, asks_next, unsent_record, line_came, lines_came, lines_completed, piece_heard, after_piece, piece_noted, piece_at, after_read, after_put, after_close, moved, settles, losing, after, after_all, cycle_length, end_unsent, text_or_null, asks_setup, request_for, null_request, request_or_null, mark_sent}
+use Rattle.gc_station.specs.NextCommand.{place_next, commands_left, commands_before, needs_first, upcoming_after}
 
 -- Parts of an act.
 
@@ -93,6 +95,16 @@ pub losing_along : (P : Model → Type 0) (all : Bool) (s : Model) → P (settle
 losing_along P true s lost same = lost
 losing_along P false s lost same = same
 
+-- a fact of endings holds of that of a command that isn't sent, if it holds in each of three cases: its cycle is missed, a value isn't
+-- there that it takes of a file, or neither is so
+pub unsent_along : (P : End → Type 0) → P Missed → P NoValue → P Skipped → (p : Progress) → P (end_unsent p)
+unsent_along P missed without neither p = by_tests p.missed (lacks_value p) where
+  -- the lemma above by the two tests
+  by_tests : (is_missed lacks : Bool) → P (if is_missed then Missed else if lacks then NoValue else Skipped)
+  by_tests true lacks = missed
+  by_tests false true = without
+  by_tests false false = neither
+
 -- a fact of models that each act keeps is kept by all acts
 pub acts_along : (plan : Plan) (commands : List Task) (P : Model → Type 0) → ((t : Model) (act : Act) → P t → P (after plan commands t act))
     → (s : Model) (acts : List Act) → P s → P (after_all plan commands s acts)
@@ -132,6 +144,7 @@ told_of p q = record p {
   since = q.since;
   alive = q.alive;
   began = q.began;
+  hold = q.hold;
   clock_due = q.clock_due;
   stops = q.stops;
   early = q.early;
@@ -147,6 +160,7 @@ next_of p q = record p {
   unsent = q.unsent;
   next_is_chained = q.next_is_chained;
   next_others = q.next_others;
+  next_needs = q.next_needs;
   chain_unbroken = q.chain_unbroken;
   preparing = q.preparing;
 }
@@ -186,6 +200,7 @@ progress_of Begin p q = record (told_of p q) {
   unsent = q.unsent;
   next_is_chained = q.next_is_chained;
   next_others = q.next_others;
+  next_needs = q.next_needs;
   chain_unbroken = q.chain_unbroken;
   preparing = q.preparing;
 }
@@ -237,7 +252,7 @@ changed action s t = record (changed_by action s t) {
 
 -- the progress p with those fields of q that lines change which are heard while the station synchronizes
 abbrev asked_of : (p q : Progress) → Progress
-asked_of p q = record p { word = q.word; again = q.again; alive = q.alive; asked = q.asked; behind = q.behind; last_ended = q.last_ended; doubtful = q.doubtful }
+asked_of p q = record p { word = q.word; again = q.again; hold = q.hold; alive = q.alive; asked = q.asked; behind = q.behind; last_ended = q.last_ended; doubtful = q.doubtful }
 
 -- lines that are heard while the station synchronizes change no other fields than `asked_of` says
 lines_changed : (p : Progress) (lines : List (List ℕ)) → lines_synchronizing p lines ≡ asked_of p (lines_synchronizing p lines)
@@ -331,15 +346,15 @@ HoldsAfterClock P t u = ((m : Moment) → P (Told m) (with_moment m (t m))) × (
 abbrev pub HoldsInEachCase : Plan → List Task → (P : Act → Model → Type 0) → Action → Model → Type 0
 HoldsInEachCase plan commands P ReadClock s = HoldsAfterClock P (λ m. with_progress (λ p. early_noted plan (commands_in s.marks) (moment_noted m p)) s) s
 HoldsInEachCase plan commands P Renew s = HoldsAfterClock P (λ m. with_progress (λ p. early_noted plan 0 (resynchronized plan m p)) s) s
-HoldsInEachCase plan commands P Begin s = HoldsAfterClock P (λ m. with_progress (cycle_begun plan (cycle_length plan commands) m) s) s
+HoldsInEachCase plan commands P Begin s = HoldsAfterClock P (λ m. with_progress (cycle_begun plan (cycle_length plan commands) (needs_first (drop plan.setup commands)) m) s) s
 HoldsInEachCase plan commands P Open s = ((m : Moment) → P Opened (with_progress opened s)) × ((n : ℕ) → P Unopened (with_progress (after_failure plan (commands_in s.marks) cause.Open) s))
 HoldsInEachCase plan commands P Clear s = HoldsAfterPut P (commands_before plan commands s.progress) (10 ∷ []) (with_progress cleared s)
 HoldsInEachCase plan commands P Ask s = HoldsAfterPut P (commands_before plan commands s.progress) (null_text s.progress.word) (with_progress (null_sent plan) s)
 HoldsInEachCase plan commands P Prepare s =
-    HoldsAfterPut P (commands_before plan commands s.progress) (text_or_null s.progress.moment.utc s.client (drop s.progress.prepared commands))
+    HoldsAfterPut P (commands_before plan commands s.progress) (text_or_null (occasion_at s.progress.moment) s.client (drop s.progress.prepared commands))
     (with_progress (setup_sent plan) (asks_setup plan commands s))
 HoldsInEachCase plan commands P Send s =
-    HoldsAfterPut P (commands_before plan commands s.progress) (first_text s.progress.moment.utc s.client (commands_left commands s.progress)) (model_sent plan commands s)
+    HoldsAfterPut P (commands_before plan commands s.progress) (first_text (occasion_at s.progress.moment) s.client (commands_left commands s.progress)) (model_sent plan commands s)
 HoldsInEachCase plan commands P Skip s =
     HoldsAfterClock P (λ m. with_progress (λ p. early_noted plan (commands_in s.marks) (skipped (upcoming_after 1 commands s.progress) m p))
     (with_listed (listed_after_skip plan commands s (Told m)) (with_more_records (unsent_record plan commands s.progress (Told m)) s)))
@@ -353,10 +368,14 @@ HoldsInEachCase plan commands P (Read until) s =
 HoldsInEachCase plan commands P (Close why) s = P Closed (after_close plan why s)
 HoldsInEachCase plan commands P (Stop why) s = Unit {0}
 
+-- some moment, for a row that is given one though no clock is read
+abbrev no_moment : Moment
+no_moment = record { elapsed = 0; utc = 0; stops = false; values = no_values }
+
 -- `HoldsAfterPut` gives P after an act that puts the bytes
 put_walk : (P : Act → Model → Type 0) (requests : ℕ) (bytes : List ℕ) (f : Model → Model) (s : Model) (act : Act) → Puts bytes act
     → HoldsAfterPut P requests bytes (f s) → P act (after_put requests f s act)
-put_walk P requests bytes f s (Put out) o h = subst (λ (xs : List ℕ). P (Put xs) (f s)) (sym o) (h.0 (record { elapsed = 0; utc = 0; stops = false }))
+put_walk P requests bytes f s (Put out) o h = subst (λ (xs : List ℕ). P (Put xs) (f s)) (sym o) (h.0 (no_moment))
 put_walk P requests bytes f s (Cut out n) o h = subst (λ (xs : List ℕ). P (Cut xs n) (with_progress (failing (cause.Write requests n)) (f s))) (sym o.0) (h.1 n)
 put_walk P requests bytes f s act o h = absurd o
 
@@ -372,18 +391,18 @@ walk plan commands P Renew s act o h = absurd o
 walk plan commands P Begin s (Told m) o h = h.0 m
 walk plan commands P Begin s Untold o h = h.1 0
 walk plan commands P Begin s act o h = absurd o
-walk plan commands P Open s Opened o h = h.0 (record { elapsed = 0; utc = 0; stops = false })
+walk plan commands P Open s Opened o h = h.0 (no_moment)
 walk plan commands P Open s Unopened o h = h.1 0
 walk plan commands P Open s act o h = absurd o
 walk plan commands P Clear s act o h = put_walk P (commands_before plan commands s.progress) (10 ∷ []) (with_progress cleared) s act o h
 walk plan commands P Ask s act o h = put_walk P (commands_before plan commands s.progress) (null_text s.progress.word) (λ (x : Model). with_progress (null_sent plan) x) s act o h
 walk plan commands P Prepare s act o h =
     let requests = commands_before plan commands s.progress in
-    let text = text_or_null s.progress.moment.utc s.client (drop s.progress.prepared commands) in
+    let text = text_or_null (occasion_at s.progress.moment) s.client (drop s.progress.prepared commands) in
     put_walk P requests text (λ (x : Model). with_progress (setup_sent plan) (asks_setup plan commands x)) s act o h
 walk plan commands P Send s act o h =
     let requests = commands_before plan commands s.progress in
-    let text = first_text s.progress.moment.utc s.client (drop (place_next commands s.progress) commands) in
+    let text = first_text (occasion_at s.progress.moment) s.client (drop (place_next commands s.progress) commands) in
     put_walk P requests text (λ (x : Model). with_progress (sent (upcoming_after 1 commands s.progress)) (asks_next plan commands x)) s act o
     (subst (λ (u : Model). HoldsAfterPut P requests text u) (sent_same plan commands s) h)
 walk plan commands P Skip s (Told m) o h = h.0 m

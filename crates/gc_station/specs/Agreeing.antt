@@ -10,6 +10,7 @@ use Rattle.gc_texts.specs.declared.agree.Twice.TheVariants as twice
 use Rattle.gc_texts.specs.declared.quality.Quality.{Quality}
 use Rattle.gc_texts.specs.declared.quality.Quality.TheVariants.{Unconfirmed}
 use Rattle.gc_texts.specs.declared.tasks.Task.{Task}
+use Rattle.gc_station.specs.Firsts.{compares}
 use Rattle.gc_texts.specs.declared.turn.Turn.{Turn}
 use Rattle.gc_station.specs.Records.{Record}
 use Rattle.gc_station.specs.Runs.{state_after, OfAnyActs, OfAnyRecord}
@@ -48,6 +49,13 @@ IsUnconfirmed commands r =
     (task : Task) (quality : Quality) (answer : Option Answer) (line : List ℕ)
     → slice_get commands r.place ≡ Some task → task.twice ≡ twice.First → r.end ≡ Answered quality answer line → is_good quality ≡ true → quality ≡ Unconfirmed
 
+-- if the record `r` is of a second sending, and ended as answered and isn't refused, its answer is compared in all that it has in columns
+abbrev pub IsComparedInFull : List Task → Record → Type 0
+IsComparedInFull commands r =
+    (task : Task) (agree : Agree) (nth : ℕ) (quality : Quality) (answer : Option Answer) (line : List ℕ)
+    → slice_get commands r.place ≡ Some task → task.twice ≡ twice.Second agree nth → r.end ≡ Answered quality answer line → is_good quality ≡ true
+    → compares task.form ≡ true
+
 -- if the record `r` ended as disagreeing, it is of a second sending
 abbrev pub DisagreesInSecond : List Task → Record → Type 0
 DisagreesInSecond commands r =
@@ -59,6 +67,8 @@ pub record AgreedRowsAgree : Type 0 where
   -- after any acts, `IsConfirmed` holds of each record, with the records before it
   pub second : OfAnyActs (λ plan commands scope acts.
       (earlier later : List Record) (r : Record) → (state_after plan commands scope acts).records ≡ earlier ++ r ∷ later → IsConfirmed commands earlier r)
+  -- after any acts, `IsComparedInFull` holds of each record
+  pub compared : OfAnyRecord (λ commands scope r. IsComparedInFull commands r)
   -- and `IsUnconfirmed` holds of each record
   pub first : OfAnyRecord (λ commands scope r. IsUnconfirmed commands r)
   -- and `DisagreesInSecond` does

@@ -21,7 +21,7 @@ code_in _ = None
 -- the return code other than 0 of the reply that ended a request for `call` with this outcome; `None` if no reply in time did,
 -- or it has no such code with communication code 0
 abbrev pub code_of : Reads → Asked → Outcome → Option ℕ
-code_of reads call (Answered line) = code_in (reads call line)
+code_of reads call (Answered line) = code_in (reads None call line)
 code_of reads call Late = None
 code_of reads call Lost = None
 

@@ -4,6 +4,7 @@
 use Rattle.std.specs.Prelude.{◌≡◌, ℕ, suc, ◌+◌, ◌<◌, ◌≤◌, Bool, true, false, List, [], ◌∷◌, length, codes, pos, None}
 use Rattle.std.specs.List.{AllByRecursion}
 use Rattle.gc_lines.specs.Lines.{with_end}
+use Rattle.gc_values.specs.FileValues.{no_values}
 use Rattle.gc_catalogue.specs.declared.answer.Answer.TheVariants.{Long}
 use Rattle.gc_catalogue.specs.declared.answer.Reading.TheVariants.{Value}
 use Rattle.gc_catalogue.specs.declared.asked.Asked.TheVariants.{Table}
@@ -11,6 +12,7 @@ use Rattle.gc_catalogue.specs.declared.call.Call.TheVariants.{InstrumentNo}
 use Rattle.gc_texts.specs.Again.{no_again}
 use Rattle.gc_texts.specs.Codes.{no_codes}
 use Rattle.gc_texts.specs.Endings.{Missed}
+use Rattle.gc_texts.specs.ValueItems.{no_needs}
 use Rattle.gc_texts.specs.declared.agree.Twice.TheVariants.{Once}
 use Rattle.gc_texts.specs.declared.tasks.Task.{Task}
 use Rattle.gc_links.specs.Acts.{Act, Told, Put, Gave, Silent, Opened, Unopened}
@@ -34,14 +36,17 @@ number_task deadline chained = record {
   deadline = deadline;
   chained = chained;
   near = None;
+  form = None;
   watched = true;
   accepted = no_codes;
+  busy = no_codes;
   expects = None;
   counter = None;
   again = no_again;
   turn = no_turn;
   others = 0;
   now = false;
+  needs = no_needs;
   twice = Once;
 }
 
@@ -52,15 +57,15 @@ plan_of every deadline quiet =
 
 -- at most a hundred acts, in which every reply is taken to say the number 0
 abbrev pub scope : Scope
-scope = scoped 100 [] (λ call line. Value (Long (pos 0)))
+scope = scoped 100 [] (λ form call line. Value (Long (pos 0)))
 
 -- the moment at which both clocks show this number
 abbrev pub at : ℕ → Moment
-at now = record { elapsed = now; utc = now; stops = false }
+at now = record { elapsed = now; utc = now; stops = false; values = no_values }
 
 -- the same, at which the end of the run was asked for
 abbrev pub at_asking : ℕ → Moment
-at_asking now = record { elapsed = now; utc = now; stops = true }
+at_asking now = record { elapsed = now; utc = now; stops = true; values = no_values }
 
 -- what has to hold of acts beside the premise that is looked at: they are a run, cycles have due moments, the list has each command of
 -- the setup, and the clock doesn't go back

@@ -1,7 +1,6 @@
 -- Whether a command was answered well, in the codes of its reply's line: this project's own.
 use Rattle.std.specs.Prelude.{◌≡◌, ◌≢◌, ◌⊎◌, ◌&&◌, ℕ, true, false, not, List, Some, None}
 use Rattle.gc_lines.specs.Replies.{ReplyFields, IsReply}
-use Rattle.gc_catalogue.specs.Asked.{IsAskedReading}
 use Rattle.gc_catalogue.specs.declared.answer.Answer.{Answer}
 use Rattle.gc_catalogue.specs.declared.answer.Reading.{Reading}
 use Rattle.gc_catalogue.specs.declared.answer.Reading.TheVariants as reading
@@ -15,31 +14,32 @@ use Rattle.gc_texts.specs.declared.near.Expected.{Expected}
 use Rattle.gc_texts.specs.declared.quality.Quality.TheVariants as quality
 use Rattle.gc_values.specs.declared.fault.ValueFault.{ValueFault}
 use Rattle.gc_station.specs.Marks.{agrees_in, answered_as, end_of, is_well}
+use Rattle.gc_station.specs.Saying.{IsSaid}
 use Rattle.gc_station.specs.Scopes.{AreReadings, Reads}
 
 -- `claim` is true if these fields of a reply to `call` have communication code 0 and an accepted return code other than 0, and
--- would say `zeroed` with return code 0
+-- would say `zeroed` with return code 0, by the form if there is one
 abbrev pub IfAccepted : Expected → (call : Asked) → ReplyFields → (zeroed : Reading) → (claim : Type 0) → Type 0
 IfAccepted expected call r zeroed claim =
-    r.rc_com ≡ 0 → r.rc ≢ 0 → lists_code expected.accepted r.rc ≡ true → IsAskedReading call (record r { rc = 0 }) zeroed → claim
+    r.rc_com ≡ 0 → r.rc ≢ 0 → lists_code expected.accepted r.rc ≡ true → IsSaid expected.form call (record r { rc = 0 }) zeroed → claim
 
 -- how a command ended (`ended`) that asked for `call`, and whose reply, `line`, came in time. `r` has the reply's fields.
--- `expected` says where the command's target is, if the text says so, which return codes are accepted of it, which values are expected, and
--- with which answer of a first sending its own is compared
+-- `expected` says by which form the reply is read, if there is one, where the command's target is, if the text says so, which return codes
+-- are accepted of it, which values are expected, and with which answer of a first sending its own is compared
 pub record EndsByItsCodes (expected : Expected) (call : Asked) (line : List ℕ) (r : ReplyFields) (ended : end.End) : Type 0 where
   -- it was answered well only if the communication code is 0, and the return code is 0 or an accepted one
   pub only : is_well ended ≡ true → (r.rc_com ≡ 0) × ((r.rc ≡ 0) ⊎ (lists_code expected.accepted r.rc ≡ true))
   -- if no code is accepted, both codes have to be 0
   pub without : expected.accepted ≡ no_codes → is_well ended ≡ true → (r.rc_com ≡ 0) × (r.rc ≡ 0)
   -- it wasn't answered well if the reply says neither an answer nor a refusal with an accepted code
-  pub unread : (said : Reading) → IsAskedReading call r said → ((answer : Answer) → said ≡ reading.Value answer → ⊥)
+  pub unread : (said : Reading) → IsSaid expected.form call r said → ((answer : Answer) → said ≡ reading.Value answer → ⊥)
       → ((code : ℕ) → said ≡ reading.Refused code → lists_code expected.accepted code ≡ false) → is_well ended ≡ false
   -- if both codes are 0, and the parameters are an answer to what was asked, it was answered well, unless the answer was measured
   -- elsewhere than the target is, or isn't as the text expects it, or, in a second sending, doesn't agree with that of the first
-  pub found : (answer : Answer) → IsAskedReading call r (reading.Value answer)
+  pub found : (answer : Answer) → IsSaid expected.form call r (reading.Value answer)
       → is_well ended ≡ (not (is_elsewhere expected.near answer) && meets expected.expects expected.before line && agrees_in expected.twice expected.first (Some answer))
   -- and where the answer was measured elsewhere, it ended as elsewhere
-  pub away : (answer : Answer) → IsAskedReading call r (reading.Value answer) → is_elsewhere expected.near answer ≡ true
+  pub away : (answer : Answer) → IsSaid expected.form call r (reading.Value answer) → is_elsewhere expected.near answer ≡ true
       → ended ≡ end.Elsewhere line
   -- as `found`, with an accepted return code other than 0
   pub warned : (answer : Answer)
@@ -61,4 +61,4 @@ pub record WellIsAnAcceptedCode : Type 0 where
   -- a command that is late, lost, skipped or missed never
   pub none : (reads : Reads) (expected : Expected) (call : Asked)
       → (is_well (end_of reads expected call Late) ≡ false) × (is_well (end_of reads expected call Lost) ≡ false)
-      × (is_well end.Skipped ≡ false) × (is_well end.Missed ≡ false)
+      × (is_well end.Skipped ≡ false) × (is_well end.NoValue ≡ false) × (is_well end.Missed ≡ false)

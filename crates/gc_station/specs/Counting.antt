@@ -1,7 +1,7 @@
 -- A tally counts the records of the last attempts: this project's own.
 use Rattle.std.specs.Prelude.{◌≡◌, ℕ, suc, Bool, true, false, List, [], ◌∷◌, if◌then◌else◌, ◌||◌, ◌&&◌, not, nat_eq, nat_lt}
 use Rattle.gc_texts.specs.Qualities.{is_good}
-use Rattle.gc_texts.specs.Endings.{End, Answered, Unreadable, Elsewhere, Disagree, Unexpected, Late, Lost, Skipped, Missed}
+use Rattle.gc_texts.specs.Endings.{End, Answered, Unreadable, Elsewhere, Disagree, Unexpected, Late, Lost, Skipped, NoValue, Missed}
 use Rattle.gc_station.specs.Records.{Record}
 use Rattle.gc_station.specs.Tallies.{capped, tally_of}
 use Rattle.gc_station.specs.declared.tally.Tally.{Tally}
@@ -51,9 +51,10 @@ abbrev pub ended_lost : End → Bool
 ended_lost Lost = true
 ended_lost _ = false
 
--- whether an ending is `Skipped`
+-- whether an ending is `Skipped`, or `NoValue`, which counts as one
 abbrev pub ended_skipped : End → Bool
 ended_skipped Skipped = true
+ended_skipped NoValue = true
 ended_skipped _ = false
 
 -- whether an ending is `Missed`

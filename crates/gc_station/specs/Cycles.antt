@@ -1,9 +1,10 @@
 -- When cycles begin, and which commands aren't sent, in the acts' own moments: this project's own. Cycles are due on a grid:
 -- the first when it begins, but at the latest `every` milliseconds after the start of the clock, and each other one `every`
 -- milliseconds after the one before it. An act is one call on the link, with its result.
-use Rattle.std.specs.Prelude.{◌≡◌, ℕ, zero, suc, ◌+◌, ◌-◌, ◌<◌, ◌≤◌, ◌⊎◌, false, min, List, [], ◌∷◌, ◌++◌, None, MatchOption}
+use Rattle.std.specs.Prelude.{◌≡◌, ℕ, zero, suc, ◌+◌, ◌-◌, ◌<◌, ◌≤◌, ◌⊎◌, true, false, min, List, [], ◌∷◌, ◌++◌, None, MatchOption}
 use Rattle.std.specs.List.{AllByRecursion}
-use Rattle.gc_texts.specs.Endings.{Skipped, Missed}
+use Rattle.gc_texts.specs.Endings.{Skipped, NoValue, Missed}
+use Rattle.gc_texts.specs.ValueItems.{lack}
 use Rattle.gc_texts.specs.declared.tasks.Task.{Task}
 use Rattle.gc_links.specs.Acts.{Act, Told}
 use Rattle.gc_links.specs.declared.link.Moment.{Moment}
@@ -14,7 +15,7 @@ use Rattle.gc_station.specs.Records.{Record}
 use Rattle.gc_station.specs.Runs.{state_after, OfEachRun, WhereNext}
 use Rattle.gc_station.specs.Scopes.{Scope}
 use Rattle.gc_station.specs.Model.{Model, opening, action_at, waiting_of, Runs}
-use Rattle.gc_station.specs.NextCommand.{cycles_begun, place_next}
+use Rattle.gc_station.specs.NextCommand.{commands_left, cycles_begun, needs_first, place_next}
 use Rattle.gc_station.specs.declared.plan.Plan.{Plan}
 use Rattle.gc_station.specs.declared.progress.Action.TheVariants.{Begin, Send, Skip}
 use Rattle.gc_station.specs.Chains.{IsChained}
@@ -93,9 +94,14 @@ pub record IsMissedIn (plan : Plan) (commands : List Task) (scope : Scope) (acts
 abbrev pub IsBroken : Plan → List Task → Model → Type 0
 IsBroken plan commands s = IsChained plan commands s.progress × (may_go s.progress (waiting_of s) ≡ false)
 
+-- the next command of a station that has the model `s` takes these values of files (`needs`), and one of them wasn't there at the moment read
+-- last
+abbrev pub IsWithoutValue : List Task → Model → Type 0
+IsWithoutValue commands s = lack (needs_first (commands_left commands s.progress)) s.progress.moment.values ≡ true
+
 -- the command of the record `r` is skipped: one of `acts` reads the clock at the moment `moment` to record that the cycle's next
--- command isn't sent
-pub record IsSkippedIn (plan : Plan) (commands : List Task) (scope : Scope) (acts : List Act) (r : Record) : Type 0 where
+-- command isn't sent, for the reason `Why` of the model before
+pub record IsUnsentIn (Why : Model → Type 0) (plan : Plan) (commands : List Task) (scope : Scope) (acts : List Act) (r : Record) : Type 0 where
   pub before : List Act
   pub moment : Moment
   pub behind : List Act
@@ -103,22 +109,29 @@ pub record IsSkippedIn (plan : Plan) (commands : List Task) (scope : Scope) (act
   pub skips : action_at plan (state_after plan commands scope before) ≡ Skip
   pub cycle : r.cycle ≡ cycles_begun plan (state_after plan commands scope before).progress
   pub place : r.place ≡ place_next commands (state_after plan commands scope before).progress
-  -- its chain is broken, or its cycle is overdue
-  pub why : IsBroken plan commands (state_after plan commands scope before)
-      ⊎ IsOverdue plan (state_after plan commands scope before).progress (waiting_of (state_after plan commands scope before))
+  pub why : Why (state_after plan commands scope before)
   -- its cycle began before the next one was due
   pub last : LastBegan plan commands scope before
   pub in_time : last.late < plan.every
   pub sent : r.sent ≡ None
   pub utc : r.utc ≡ moment.utc
 
--- if the record `r` is of a missed or a skipped command, that command was missed as `IsMissedIn` says, or skipped as
--- `IsSkippedIn` says
+-- the command of the record `r` is skipped, because its chain is broken, or its cycle is overdue
+abbrev pub IsSkippedIn : Plan → List Task → Scope → List Act → Record → Type 0
+IsSkippedIn plan commands scope acts r = IsUnsentIn (λ s. IsBroken plan commands s ⊎ IsOverdue plan s.progress (waiting_of s)) plan commands scope acts r
+
+-- the command of the record `r` wasn't sent, because a value that it takes of a file wasn't there
+abbrev pub IsWithoutValueIn : Plan → List Task → Scope → List Act → Record → Type 0
+IsWithoutValueIn plan commands scope acts r = IsUnsentIn (λ s. IsWithoutValue commands s) plan commands scope acts r
+
+-- if the record `r` is of a command that was missed, skipped or without a value, that command was missed as `IsMissedIn` says, skipped as
+-- `IsSkippedIn` says, or without a value as `IsWithoutValueIn` says
 abbrev pub UnsentIsJustified : Plan → List Task → Scope → List Act → Record → Type 0
 UnsentIsJustified plan commands scope acts r =
     (r.end ≡ Missed → IsMissedIn plan commands scope acts r) × (r.end ≡ Skipped → IsSkippedIn plan commands scope acts r)
+    × (r.end ≡ NoValue → IsWithoutValueIn plan commands scope acts r)
 
--- each record of a missed or a skipped command is justified, where cycles have due moments and the clock doesn't go back
+-- each record of a command that was missed, skipped or without a value is justified, where cycles have due moments and the clock doesn't go back
 abbrev pub UnsentForACause : Type 0
 UnsentForACause = OfEachRun (λ plan commands scope acts.
     0 < plan.every → ClockRises 0 acts → AllByRecursion (UnsentIsJustified plan commands scope acts) (state_after plan commands scope acts).records)

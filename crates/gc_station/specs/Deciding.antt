@@ -7,6 +7,7 @@
 use Rattle.std.specs.Prelude.{◌+◌, ℕ, ◌-◌, ◌&&◌, ◌||◌, Bool, true, false, not, if◌then◌else◌, nat_lt, nat_le, nat_eq, min, max, List, [], ◌∷◌}
 pub use Rattle.gc_catalogue.specs.Moments.{later}
 use Rattle.gc_client.specs.declared.window.TheConstants.{WINDOW}
+use Rattle.gc_texts.specs.ValueItems.{lack}
 use Rattle.gc_station.specs.declared.plan.Plan.{Plan}
 use Rattle.gc_station.specs.declared.cause.Cause.TheVariants.{Done, Dead, Turns, Stale, Stopped, SetUp}
 use Rattle.gc_station.specs.declared.progress.Phase.{Phase}
@@ -126,12 +127,17 @@ is_finished count p = nat_eq p.left 0 && nat_eq p.unsent 0 && nat_eq count 0
 abbrev pub action_unless_idle : Plan → Progress → Waiting → Action → Action
 action_unless_idle plan p w action = if is_finished w.commands p then Close Done else if is_idle plan p then Read Due else action
 
+-- whether the null procedure of the first id that isn't answered may be sent: no busy answer has the station wait (`hold`), and the deadline
+-- of the null procedure that was sent last has come
+abbrev pub may_ask : Progress → Bool
+may_ask p = nat_eq p.hold 0 && nat_le p.again p.moment.elapsed
+
 -- the next action while the station synchronizes, unless the run is done or the station idle (`action_unless_idle`): to read until
--- the deadline of the null procedure that was sent last; and else to close the connection if the line is dead, and to send the
+-- it may ask (`may_ask`); and else to close the connection if the line is dead, and to send the
 -- null procedure of the first id that isn't answered if it isn't
 abbrev pub action_beginning : Plan → Progress → Waiting → Action
 action_beginning plan p w =
-    action_unless_idle plan p w (if nat_le p.again p.moment.elapsed then (if is_dead plan p w then Close Dead else Ask) else Read Limit)
+    action_unless_idle plan p w (if may_ask p then (if is_dead plan p w then Close Dead else Ask) else Read Limit)
 
 -- the next action if each command of the cycle is settled: to close the connection if no cycle is left, to begin the next cycle
 -- if it is due, and else to read until it is
@@ -140,7 +146,7 @@ action_done plan p = if nat_eq p.left 0 then Close Done else if is_due plan p th
 
 -- whether there is room for another request: the test of `HasRoomToAsk`
 abbrev pub has_room_to_ask : Plan → Progress → Waiting → Bool
-has_room_to_ask plan p w = nat_lt w.current (width_of plan) && nat_lt (w.all + p.last_ended) WINDOW && not p.doubtful
+has_room_to_ask plan p w = nat_lt w.current (width_of plan) && nat_lt (w.all + p.last_ended) WINDOW && not p.doubtful && nat_eq p.hold 0
 
 -- `action`, which sends a request, if there is room for one and the line isn't dead; otherwise the action of a station that waits
 abbrev pub action_room : Plan → Progress → Waiting → Action → Action
@@ -157,21 +163,26 @@ action_flush plan p w = if nat_eq w.current 0 then action_room plan p w Flush el
 abbrev pub action_to_send : Plan → Progress → Waiting → Action → Action
 action_to_send plan p w action = if nat_lt p.behind WINDOW then action_room plan p w action else action_flush plan p w
 
--- whether the next command of a chain may be sent: the one before it was answered well, and since that was sent no connection
--- was closed, and the station didn't resynchronize
-abbrev pub may_go : Progress → Waiting → Bool
-may_go p w = w.well && p.chain_unbroken
+-- whether a value that the next command takes of a file wasn't there at the moment read last
+abbrev pub lacks_value : Progress → Bool
+lacks_value p = lack p.next_needs p.moment.values
 
--- whether the next command is sent only once all that were sent are settled: it is chained, or begins a further attempt of its
--- chain
+-- whether the next command of a chain may be sent: the one before it was answered well, since that was sent no connection was closed,
+-- and the station didn't resynchronize; and the values that it takes of files are there
+abbrev pub may_go : Progress → Waiting → Bool
+may_go p w = (w.well && p.chain_unbroken) && not (lacks_value p)
+
+-- whether the next command is sent, or recorded without being sent, only once all that were sent are settled: it is chained, or begins a
+-- further attempt of its chain, or a value that it takes of a file isn't there
 abbrev pub waits_for_all : Progress → Bool
-waits_for_all p = p.next_is_chained || nat_lt 0 p.next_others
+waits_for_all p = (p.next_is_chained || nat_lt 0 p.next_others) || lacks_value p
 
 -- the next action if the next command begins a further attempt of its chain, and each command that was sent is settled: the
--- command is sent if a command of the attempt before ended as its rule names; otherwise this attempt and those after it are
--- left out, as they are in a missed cycle, in which each command counts as chained
+-- command is sent if a command of the attempt before ended as its rule names, and skipped then if a value that it takes of a file isn't
+-- there; otherwise this attempt and those after it are left out, as they are in a missed cycle, in which each command counts as chained
 abbrev pub action_again : Plan → Progress → Waiting → Action
-action_again plan p w = if w.listed && not p.next_is_chained then action_to_send plan p w Send else Pass
+action_again plan p w =
+    if w.listed && not p.next_is_chained then (if lacks_value p then Skip else action_to_send plan p w Send) else Pass
 
 -- the next action if each command that was sent is settled: that of a done cycle if no command is left; that of a further
 -- attempt if the next command begins one; that of `action_to_send` if the next command may be sent; and else to skip it
@@ -183,7 +194,7 @@ action_settled plan p w =
     else Skip
 
 -- the next action if no command may be sent before those that are outstanding are settled: none of the cycle is left, or the next
--- one is chained or begins a further attempt. If no command is outstanding, it is that of `action_settled`; otherwise that of
+-- one waits for all (`waits_for_all`). If no command is outstanding, it is that of `action_settled`; otherwise that of
 -- `action_flush`
 abbrev pub action_held : Plan → Progress → Waiting → Action
 action_held plan p w = if nat_eq w.commands 0 then action_settled plan p w else action_flush plan p w

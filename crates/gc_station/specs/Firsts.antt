@@ -1,9 +1,12 @@
 -- The answers of a chain's first sending, with which those of its second are compared: this project's own.
-use Rattle.std.specs.Prelude.{ℕ, ◌-◌, ◌==◌, ◌&&◌, if◌then◌else◌, nat_lt, List, [], ◌∷◌, ◌++◌, take, Option, Some, None, slice_get, unwrap_or}
+use Rattle.std.specs.Prelude.{ℕ, Bool, true, ◌-◌, ◌==◌, ◌&&◌, if◌then◌else◌, nat_lt, List, [], ◌∷◌, ◌++◌, take, Option, Some, None, slice_get, unwrap_or}
 use Rattle.gc_catalogue.specs.declared.answer.Answer.{Answer}
 use Rattle.gc_texts.specs.Endings.{End, Answered}
+use Rattle.gc_texts.specs.Forms.{is_compared}
 use Rattle.gc_texts.specs.declared.agree.Twice.{Twice}
 use Rattle.gc_texts.specs.declared.agree.Twice.TheVariants as twice
+use Rattle.gc_texts.specs.declared.form.Form.{Form}
+use Rattle.gc_texts.specs.declared.near.Expected.{Expected}
 use Rattle.gc_texts.specs.declared.quality.Quality.TheVariants.{Unconfirmed}
 use Rattle.gc_texts.specs.declared.turn.Turn.{Turn}
 use Rattle.gc_station.specs.declared.firsts.FirstAnswer.{FirstAnswer}
@@ -44,7 +47,17 @@ abbrev pub firsts_after : List (Option FirstAnswer) → List Record → List (Op
 firsts_after firsts [] = firsts
 firsts_after firsts (r ∷ others) = firsts_after (first_noted r.cycle r.turn r.end firsts) others
 
+-- whether the answers of a command are compared in all that they have in columns: those of the table are, and those that are read by a form
+-- if its columns are those of a measurement alone (`is_compared`)
+abbrev pub compares : Option Form → Bool
+compares None = true
+compares (Some form) = is_compared form
+
+-- the answer of the first sending with which that of a command of which this is expected is compared, in this cycle: none if its answers
+-- aren't compared in all that they have in columns
+abbrev pub first_for : (firsts : List (Option FirstAnswer)) (cycle : ℕ) → Expected → Option (Option Answer)
+first_for firsts cycle expected = if compares expected.form then answer_first firsts cycle expected.turn expected.twice else None
+
 -- `mark` of a command that is sent, with the answer of the first sending with which its own is compared
 abbrev pub with_first : List (Option FirstAnswer) → Mark → Mark
-with_first firsts mark =
-    record mark { expected = record mark.expected { first = answer_first firsts mark.cycle mark.expected.turn mark.expected.twice } }
+with_first firsts mark = record mark { expected = record mark.expected { first = first_for firsts mark.cycle mark.expected } }

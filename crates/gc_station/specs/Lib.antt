@@ -1,4 +1,5 @@
 pub mod Causes
+pub mod Saying
 pub mod Scopes
 pub mod Records
 pub mod Marks
@@ -18,6 +19,7 @@ pub mod Keeping
 pub mod EachOnce
 pub mod Requests
 pub mod Attempts
+pub mod Busy
 pub mod Counters
 pub mod Reasons
 pub mod Closing
@@ -43,6 +45,7 @@ pub mod HoldingBack
 pub mod InDoubt
 pub mod Starts
 pub mod Expecting
+pub mod WhileBusy
 pub mod Codes
 pub mod Counting
 pub mod Room
@@ -51,6 +54,7 @@ pub mod Pauses
 pub mod Nearness
 pub mod Agreeing
 pub mod Qualities
+pub mod Described
 pub mod Stopping
 pub mod CallTimes
 pub mod RecordedInTime
@@ -60,4 +64,5 @@ pub mod OnceAsked
 pub mod NoPeriodRun
 pub mod Moments
 pub mod Requested
+pub mod Values
 pub mod FirstActs

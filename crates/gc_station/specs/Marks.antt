@@ -15,6 +15,7 @@ use Rattle.gc_texts.specs.Nears.{is_elsewhere}
 use Rattle.gc_texts.specs.Qualities.{is_good, is_confirmed}
 use Rattle.gc_texts.specs.Zeroed.{as_zero}
 use Rattle.gc_texts.specs.declared.near.Expected.{Expected}
+use Rattle.gc_texts.specs.declared.occasion.Occasion.{Occasion}
 use Rattle.gc_texts.specs.declared.agree.Twice.{Twice}
 use Rattle.gc_texts.specs.declared.agree.Twice.TheVariants as twice
 use Rattle.gc_texts.specs.declared.quality.Quality.{Quality}
@@ -37,6 +38,14 @@ first_mark marks = unwrap_or (slice_get marks 0) None
 -- the mark of a command whose request has this id
 abbrev pub with_id : (id : ℕ) → Mark → Mark
 with_id id mark = record mark { id = id }
+
+-- the mark of a command that is sent when files have these values
+abbrev pub with_values : (values : List (List ℕ)) → Mark → Mark
+with_values values mark = record mark { expected = record mark.expected { values = values } }
+
+-- what a request with this mark takes from the moment at which it is sent: that moment, and the values of files
+abbrev pub occasion_of : Mark → Occasion
+occasion_of mark = record { utc = mark.sent; values = mark.expected.values }
 
 -- those of `xs` that are of commands, each with its mark. The marks are those of all outstanding requests, the oldest first, and
 -- `xs` has one for each of these, or for each of the oldest ones; a null procedure has no mark, and is left out
@@ -92,16 +101,18 @@ refused_as false expected zeroed line = end.Answered quality.Refused None line
 
 -- how a command ends whose reply, `line`, came in time. The line says `said`, and would say `zeroed` with return code 0;
 -- `expected` says where the target is, if the text says so, which return codes are accepted, which values are expected, and with which
--- answer of a first sending the answer is compared. An answer ends it as `value_as` says, and a return code as `refused_as` does. It is unreadable if its values don't read, and refused with a communication code
+-- answer of a first sending the answer is compared. An answer ends it as `value_as` says, and a return code as `refused_as` does. It is
+-- unreadable if its values don't read, and refused with a communication code
 abbrev pub answer_as : Expected → (said zeroed : Reading) → (line : List ℕ) → End
 answer_as expected (reading.Unreadable fault) zeroed line = end.Unreadable line fault
 answer_as expected (reading.Value answer) zeroed line = value_as expected quality.Fine (is_elsewhere expected.near answer) answer line
 answer_as expected (reading.Refused code) zeroed line = refused_as (lists_code expected.accepted code) expected zeroed line
 answer_as expected (reading.ComFault code) zeroed line = end.Answered quality.Refused None line
 
--- how a command ended that asked for `call`, if its request had this outcome, and `expected` is expected of its answer
+-- how a command ended that asked for `call`, if its request had this outcome, and `expected` is expected of its answer, with the form by which
+-- it is read, if there is one
 abbrev pub end_of : Reads → Expected → Asked → Outcome → End
-end_of reads expected call (Answered line) = answer_as expected (reads call line) (reads call (as_zero line)) line
+end_of reads expected call (Answered line) = answer_as expected (reads expected.form call line) (reads expected.form call (as_zero line)) line
 end_of reads expected call Late = end.Late
 end_of reads expected call Lost = end.Lost
 

@@ -14,6 +14,7 @@ use Rattle.gc_catalogue.specs.Asked.{asked_line, is_of_table}
 use Rattle.gc_client.specs.declared.window.TheConstants.{WINDOW}
 use Rattle.gc_client.specs.Rule.{ById, Settlement, Settled, Sending, fresh, sends, hears, heard, expires, restarts, deadlines}
 use Rattle.gc_texts.specs.Tasks.{call_at}
+use Rattle.gc_texts.specs.declared.occasion.Occasion.{Occasion}
 use Rattle.gc_texts.specs.declared.tasks.Task.{Task}
 use Rattle.gc_texts.specs.declared.wish.Wish.{Wish}
 use Rattle.gc_links.specs.declared.link.Moment.{Moment}
@@ -32,20 +33,21 @@ use Rattle.gc_station.specs.declared.mark.Mark.{Mark}
 use Rattle.gc_station.specs.declared.station.sending.Outgoing.{Outgoing}
 use Rattle.gc_links.specs.Acts.{Act, Told, Cut, Gave, Silent, Ended, Broke, Closed, Opened}
 use Rattle.gc_station.specs.ActKinds.{Puts, ReadsClock, IsOpening, ReadsLink}
-use Rattle.gc_station.specs.Deciding.{later, is_none_left, is_preparing, action_of}
+use Rattle.gc_station.specs.Deciding.{later, is_none_left, is_preparing, lacks_value, action_of}
 pub use Rattle.gc_station.specs.Lines.{is_reply, calls_for_renewal}
 use Rattle.gc_station.specs.Attempts.{listed_after, listed_after_settlements}
+use Rattle.gc_station.specs.Busy.{busy_after_settlements}
 use Rattle.gc_station.specs.Counters.{no_counts, with_before, counts_after_settlements}
 use Rattle.gc_station.specs.Firsts.{firsts_after, with_first}
-use Rattle.gc_station.specs.Marks.{commands_in, with_id, record_with, records_of, last_well, any_unexpected}
-use Rattle.gc_station.specs.NextCommand.{place_next, commands_left, cycles_begun, mark_next, mark_setup, commands_before, upcoming_after}
-use Rattle.gc_station.specs.Progressing.{at_start, turned, moment_noted, cycle_begun, skipped, attempts_left_out, unsent_at, failing, opened, after_failure, cleared, request_noted, null_sent, resynchronized, sent, behind_noted, ended_noted, doubt_noted, line_noted, lines_synchronizing, bytes_noted, silent, early_noted, closed, loses_all, setup_sent}
+use Rattle.gc_station.specs.Marks.{commands_in, occasion_of, with_id, with_values, record_with, records_of, last_well, any_unexpected}
+use Rattle.gc_station.specs.NextCommand.{place_next, commands_left, cycles_begun, mark_next, mark_setup, commands_before, needs_first, upcoming_after}
+use Rattle.gc_station.specs.Progressing.{at_start, turned, moment_noted, cycle_begun, skipped, attempts_left_out, unsent_at, failing, opened, after_failure, cleared, request_noted, null_sent, resynchronized, sent, behind_noted, ended_noted, doubt_noted, hold_noted, line_noted, lines_synchronizing, bytes_noted, silent, early_noted, closed, loses_all, setup_sent}
 use Rattle.gc_station.specs.Records.{Record}
 use Rattle.gc_station.specs.Requests.{RunRequest, requests, of_task, command_at}
 use Rattle.gc_station.specs.Scopes.{Scope, Reads}
 use Rattle.gc_station.specs.Watching.{unanswered, fresh_after, fresh_of, cut_to}
 use Rattle.gc_station.specs.declared.watching.Watch.{Watch}
-use Rattle.gc_texts.specs.Endings.{End, Skipped, Missed}
+use Rattle.gc_texts.specs.Endings.{End, Skipped, NoValue, Missed}
 
 -- the state of a station after the acts of a run so far
 pub record Model : Type 0 where
@@ -130,18 +132,21 @@ abbrev pub null_text : List ℕ → List ℕ
 null_text [] = []
 null_text (asked ∷ others) = with_end (request_line (Some asked) NullProc)
 
--- the bytes of the request of `client` for the first of these commands, if it is sent at the moment `utc`; no bytes if there is
--- no command
-abbrev pub first_text : (utc : ℕ) → ById Asked → List Task → List ℕ
-first_text utc client [] = []
-first_text utc client (task ∷ others) = next_request_text client (call_at task utc)
+-- what a request takes from this moment if it is sent when that was read last
+abbrev pub occasion_at : Moment → Occasion
+occasion_at m = record { utc = m.utc; values = m.values }
 
--- the bytes of the request of `client` for the first of these commands, which is one of the setup, if it is sent at the moment
--- `utc`. If there is no command, the bytes of its request for a null procedure; that doesn't happen if the station's list has at
+-- the bytes of the request of `client` for the first of these commands, if it is sent on this occasion; no bytes if there is no command
+abbrev pub first_text : Occasion → ById Asked → List Task → List ℕ
+first_text occasion client [] = []
+first_text occasion client (task ∷ others) = next_request_text client (call_at task occasion)
+
+-- the bytes of the request of `client` for the first of these commands, which is one of the setup, if it is sent on this occasion. If there
+-- is no command, the bytes of its request for a null procedure; that doesn't happen if the station's list has at
 -- least `plan.setup` commands
-abbrev pub text_or_null : (utc : ℕ) → ById Asked → List Task → List ℕ
-text_or_null utc client [] = next_request_text client (Table NullProc)
-text_or_null utc client (task ∷ others) = first_text utc client (task ∷ others)
+abbrev pub text_or_null : Occasion → ById Asked → List Task → List ℕ
+text_or_null occasion client [] = next_request_text client (Table NullProc)
+text_or_null occasion client (task ∷ others) = first_text occasion client (task ∷ others)
 
 -- the action sends a command, of a cycle or of the setup
 abbrev pub SendsCommand : Action → Type 0
@@ -160,8 +165,8 @@ Performs commands s Begin act = ReadsClock act
 Performs commands s Open act = IsOpening act
 Performs commands s Clear act = Puts (10 ∷ []) act
 Performs commands s Ask act = Puts (null_text s.progress.word) act
-Performs commands s Prepare act = Puts (text_or_null s.progress.moment.utc s.client (drop s.progress.prepared commands)) act
-Performs commands s Send act = Puts (first_text s.progress.moment.utc s.client (commands_left commands s.progress)) act
+Performs commands s Prepare act = Puts (text_or_null (occasion_at s.progress.moment) s.client (drop s.progress.prepared commands)) act
+Performs commands s Send act = Puts (first_text (occasion_at s.progress.moment) s.client (commands_left commands s.progress)) act
 Performs commands s Skip act = ReadsClock act
 Performs commands s Pass act = ReadsClock act
 Performs commands s Flush act = Puts (next_request_text s.client (Table NullProc)) act
@@ -191,7 +196,7 @@ sent_to width client command now wait = client_sent client (sends width client c
 
 -- the request for the command of `task`, with `mark`
 abbrev pub request_for : Mark → Task → Outgoing
-request_for mark task = record { command = command_at mark.sent task; wait = task.deadline; mark = Some mark }
+request_for mark task = record { command = command_at (occasion_of mark) task; wait = task.deadline; mark = Some mark }
 
 -- the request for a null procedure of the station's own: it is for no target, and waits for the plan's deadline
 abbrev pub null_request : Plan → Outgoing
@@ -202,15 +207,16 @@ abbrev pub request_or_null : Plan → Mark → List Task → Outgoing
 request_or_null plan mark [] = null_request plan
 request_or_null plan mark (task ∷ others) = request_for mark task
 
--- the mark with which the setup's next command is sent: that of `mark_setup`, with the id that is next, and with the number that is kept
--- of its counter
+-- the mark with which the setup's next command is sent: that of `mark_setup`, with the id that is next, with the number that is kept of its
+-- counter, and with the values of files by the moment read last
 abbrev pub mark_setup_sent : List Task → Model → Mark
-mark_setup_sent commands s = with_id s.client.next (with_before s.counts (mark_setup commands s.progress))
+mark_setup_sent commands s = with_values s.progress.moment.values (with_id s.client.next (with_before s.counts (mark_setup commands s.progress)))
 
 -- the request for the setup's next command at the progress `p`, with this id and the number that these counts have at its counter; if the
 -- list has none, the request for a null procedure
 abbrev pub request_of_setup : Plan → List Task → (id : ℕ) → (counts : List (Option Decimal)) → Progress → Outgoing
-request_of_setup plan commands id counts p = request_or_null plan (with_id id (with_before counts (mark_setup commands p))) (drop p.prepared commands)
+request_of_setup plan commands id counts p =
+    request_or_null plan (with_values p.moment.values (with_id id (with_before counts (mark_setup commands p)))) (drop p.prepared commands)
 
 -- the model `s` once the request `x` was sent, which waits from the moment read last on
 abbrev pub asks_for : Outgoing → Model → Model
@@ -229,9 +235,10 @@ abbrev pub firsts_of : Model → List (Option FirstAnswer)
 firsts_of s = firsts_after [] s.records
 
 -- the mark with which the cycle's next command is sent: that of `mark_next`, with the id that is next, with the answer of the first
--- sending with which its own is compared, and with the number that is kept of its counter
+-- sending with which its own is compared, with the number that is kept of its counter, and with the values of files by the moment read last
 abbrev pub mark_sent : Plan → List Task → Model → Mark
-mark_sent plan commands s = with_id s.client.next (with_before s.counts (with_first (firsts_of s) (mark_next plan commands s.progress)))
+mark_sent plan commands s =
+    with_values s.progress.moment.values (with_id s.client.next (with_before s.counts (with_first (firsts_of s) (mark_next plan commands s.progress))))
 
 -- the model `s` once the cycle's next command was sent
 abbrev pub asks_next : Plan → List Task → Model → Model
@@ -241,15 +248,16 @@ asks_next plan commands s = asks_first (mark_sent plan commands s) (commands_lef
 abbrev pub asks_setup : Plan → List Task → Model → Model
 asks_setup plan commands s = asks_for (request_of_setup plan commands s.client.next s.counts s.progress) s
 
--- how a command ends that isn't sent: as missed if its cycle is missed, otherwise as skipped
-abbrev pub end_unsent : (missed : Bool) → End
-end_unsent missed = if missed then Missed else Skipped
+-- how the next command ends if it isn't sent: as missed if its cycle is missed, as without a value if one that it takes of a file isn't there,
+-- otherwise as skipped
+abbrev pub end_unsent : Progress → End
+end_unsent p = if p.missed then Missed else if lacks_value p then NoValue else Skipped
 
 -- the record of the first of these commands, which isn't sent (`end_unsent`). `m` is the moment read for that record, and the
 -- command has `mark`. No record if there is no command
 abbrev pub first_unsent_record : Progress → Moment → Mark → List Task → List Record
 first_unsent_record p m mark [] = []
-first_unsent_record p m mark (task ∷ others) = record_with (unsent_at m p) mark None task.command (end_unsent p.missed) ∷ []
+first_unsent_record p m mark (task ∷ others) = record_with (unsent_at m p) mark None task.command (end_unsent p) ∷ []
 
 -- the record of the cycle's next command, which isn't sent, if the act read the clock; no record if the clock couldn't be read
 abbrev pub unsent_record : Plan → List Task → Progress → Act → List Record
@@ -259,7 +267,7 @@ unsent_record plan commands p _ = []
 -- whether a command of the current attempt has ended as its rule names, once the cycle's next command was recorded without being
 -- sent; `listed` says whether one had before
 abbrev pub listed_unsent : Plan → List Task → Progress → (listed : Bool) → Bool
-listed_unsent plan commands p listed = listed_after listed (mark_next plan commands p).expected None (end_unsent p.missed)
+listed_unsent plan commands p listed = listed_after listed (mark_next plan commands p).expected None (end_unsent p)
 
 -- whether a command of the current attempt has ended as its rule names, after an act that records the cycle's next command
 -- without sending it: `listed_unsent`, or as before if the clock couldn't be read
@@ -323,10 +331,15 @@ line_called line s = with_progress (doubt_noted (calls_for_renewal s.client line
 abbrev pub line_news : List ℕ → Model → List Record
 line_news line s = records_of s.reads s.progress.moment.utc s.marks (hears s.client line (heard line)).settlements
 
+-- the longest wait that busy answers call for which `line` brings, which the client of `s` is about to hear; 0 if it brings none
+abbrev pub line_busy : List ℕ → Model → ℕ
+line_busy line s = busy_after_settlements s.reads 0 s.marks (hears s.client line (heard line)).settlements
+
 -- the model `s` once it is noted whether a synchronization is called for by `line`, which its client is about to hear: by itself
--- (`line_called`), or because it ends a command as unexpected
+-- (`line_called`), or because it ends a command as unexpected or by a busy answer; and until when the station asks for nothing then
 abbrev pub line_doubted : List ℕ → Model → Model
-line_doubted line s = with_progress (doubt_noted (any_unexpected false (line_news line s))) (line_called line s)
+line_doubted line s =
+    with_progress (hold_noted (line_busy line s)) (with_progress (doubt_noted (any_unexpected false (line_news line s))) (line_called line s))
 
 -- the model `s` after the client heard `line`
 abbrev pub line_came : Model → List ℕ → Model
@@ -423,7 +436,7 @@ after_close plan cause s = with_progress (closed plan (waiting_of s) cause) (wit
 abbrev pub moved : Plan → List Task → Action → Model → Act → Model
 moved plan commands ReadClock s act = after_clock (λ m p. early_noted plan (commands_in s.marks) (moment_noted m p)) s act
 moved plan commands Renew s act = after_clock (λ m p. early_noted plan 0 (resynchronized plan m p)) s act
-moved plan commands Begin s act = after_clock (cycle_begun plan (cycle_length plan commands)) s act
+moved plan commands Begin s act = after_clock (cycle_begun plan (cycle_length plan commands) (needs_first (drop plan.setup commands))) s act
 moved plan commands Open s act = after_open plan s act
 moved plan commands Clear s act = after_put (commands_before plan commands s.progress) (with_progress cleared) s act
 moved plan commands Ask s act = after_put (commands_before plan commands s.progress) (with_progress (null_sent plan)) s act

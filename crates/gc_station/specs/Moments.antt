@@ -10,9 +10,11 @@ use Rattle.gc_texts.specs.declared.tasks.Task.{Task}
 use Rattle.gc_station.specs.ActKinds.{moment_in}
 use Rattle.gc_station.specs.Answers.{IsAnsweredIn, IsWrittenAt}
 use Rattle.gc_station.specs.Cycles.{ClockRises, IsMissedIn}
+use Rattle.gc_station.specs.Qualities.{form_at}
 use Rattle.gc_station.specs.Records.{Record}
 use Rattle.gc_station.specs.Runs.{OfEachRecord}
-use Rattle.gc_station.specs.Scopes.{Reads, Scope}
+use Rattle.gc_station.specs.Saying.{Says}
+use Rattle.gc_station.specs.Scopes.{Scope}
 use Rattle.gc_station.specs.declared.plan.Plan.{Plan}
 
 -- the moment `m`, by the clock of time stamps; `now` if there is none
@@ -44,9 +46,14 @@ module _ (plan : Plan) (commands : List Task) (scope : Scope) (acts : List Act) 
     pub came : IsAnsweredIn plan commands scope acts r line
     pub moment : r.utc ≡ came.reply.moment.utc
 
--- the record is unreadable only if its line, as the reply to its call, doesn't read, and for the very fault for which that doesn't
-abbrev pub IsAsRead : Reads → Record → Type 0
-IsAsRead reads r = (line : List ℕ) (why : ValueFault) → r.end ≡ Unreadable line why → reads r.command.call line ≡ reading.Unreadable why
+-- the record is unreadable only if its line, as the reply to its call, doesn't read, and for the very fault for which that doesn't; `says` is
+-- what lines say by the form of its command, or without one
+abbrev pub IsAsRead : Says → Record → Type 0
+IsAsRead says r = (line : List ℕ) (why : ValueFault) → r.end ≡ Unreadable line why → says r.command.call line ≡ reading.Unreadable why
+
+-- and if the line of the record, as the reply to its call, doesn't read, the record is unreadable, for the fault for which that doesn't
+abbrev pub IsUnreadableIfSo : Says → Record → Type 0
+IsUnreadableIfSo says r = (line : List ℕ) (why : ValueFault) → line_of r.end ≡ Some line → says r.command.call line ≡ reading.Unreadable why → r.end ≡ Unreadable line why
 
 -- each record of a run has its moment (`HasItsMoment`)
 abbrev pub EachRecordHasItsMoment : Type 0
@@ -58,4 +65,4 @@ AnswersHaveTheirMoments = OfEachRecord (λ plan commands scope acts r. (line : L
 
 -- each record of a run is unreadable only as its line reads (`IsAsRead`)
 abbrev pub UnreadableAsTheyRead : Type 0
-UnreadableAsTheyRead = OfEachRecord (λ plan commands scope acts r. IsAsRead scope.reads r)
+UnreadableAsTheyRead = OfEachRecord (λ plan commands scope acts r. IsAsRead (scope.reads (form_at commands r.place)) r)

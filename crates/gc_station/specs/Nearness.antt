@@ -15,6 +15,7 @@ use Rattle.gc_texts.specs.declared.quality.Quality.{Quality}
 use Rattle.gc_texts.specs.declared.tasks.Task.{Task}
 use Rattle.gc_station.specs.Records.{Record}
 use Rattle.gc_station.specs.Runs.{OfAnyRecord}
+use Rattle.gc_station.specs.Saying.{Says}
 use Rattle.gc_station.specs.Scopes.{Reads}
 
 -- if the record `r` is answered, with an answer, and the text says where its command's target is, the answer was measured there: its
@@ -26,17 +27,18 @@ IsAtItsTarget commands r =
 
 -- `line` says `answer` of `call`: it has both codes 0; or it has an accepted return code, and says the answer once 0 replaces
 -- that code
-abbrev pub HasAnswer : Reads → Codes → Asked → List ℕ → Answer → Type 0
-HasAnswer reads accepted call line answer =
-    (reads call line ≡ Value answer)
-    ⊎ ((code : ℕ) × (reads call line ≡ Refused code) × (lists_code accepted code ≡ true) × (reads call (as_zero line) ≡ Value answer))
+abbrev pub HasAnswer : Says → Codes → Asked → List ℕ → Answer → Type 0
+HasAnswer says accepted call line answer =
+    (says call line ≡ Value answer)
+    ⊎ ((code : ℕ) × (says call line ≡ Refused code) × (lists_code accepted code ≡ true) × (says call (as_zero line) ≡ Value answer))
 
--- `line` says an answer of `call` (`HasAnswer`), the text says where the target of `task` is (`known`), and the answer was measured
--- away from there: it has a direction that isn't near that place, or a distance that isn't within the tolerance of the target's (`away`)
+-- `line` says an answer of `call` (`HasAnswer`), by the form of `task` if it has one, the text says where the target of `task` is
+-- (`known`), and the answer was measured away from there: it has a direction that isn't near that place, or a distance that isn't within
+-- the tolerance of the target's (`away`)
 pub record WasMeasuredElsewhere (reads : Reads) (task : Task) (call : Asked) (line : List ℕ) : Type 0 where
   pub answer : Answer
   pub near : Near
-  pub says : HasAnswer reads task.accepted call line answer
+  pub says : HasAnswer (reads task.form) task.accepted call line answer
   pub known : task.near ≡ Some near
   pub away : IsAway near answer
 

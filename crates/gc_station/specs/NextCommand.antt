@@ -2,11 +2,14 @@
 -- given progress.
 use Rattle.std.specs.Prelude.{ℕ, ◌+◌, ◌-◌, ◌||◌, Bool, false, List, [], ◌∷◌, length, drop, None, if◌then◌else◌, nat_eq}
 use Rattle.gc_texts.specs.Again.{no_again}
+use Rattle.gc_values.specs.FileValues.{no_values}
 use Rattle.gc_texts.specs.Codes.{no_codes}
+use Rattle.gc_texts.specs.ValueItems.{no_needs}
 use Rattle.gc_texts.specs.declared.agree.Twice.TheVariants as twice
 use Rattle.gc_texts.specs.declared.near.Expected.{Expected}
 use Rattle.gc_texts.specs.declared.tasks.Task.{Task}
 use Rattle.gc_texts.specs.declared.turn.Turn.{Turn}
+use Rattle.gc_texts.specs.declared.value_item.Needs.{Needs}
 use Rattle.gc_station.specs.declared.plan.Plan.{Plan}
 use Rattle.gc_station.specs.declared.progress.Progress.{Progress}
 use Rattle.gc_station.specs.declared.progress.Upcoming.{Upcoming}
@@ -34,16 +37,34 @@ cycles_begun plan p = plan.cycles - p.left
 abbrev pub no_turn : Turn
 no_turn = record { place = 0; attempt = 1; link = 0 }
 
--- what the text says of the answer of the first of these commands: where its target is, which return codes are accepted, which values
--- are expected, and which endings send the chain again; its turn, and which sending of its chain it is of. If there is no command: no
--- place, no codes, no values, no endings, `no_turn`, and a chain that is sent once. With which answer its own is compared, and which number
--- its counter had, is known once it is sent
+-- what the text says of the answer of the first of these commands: where its target is, which return codes are accepted, which say that
+-- the instrument is busy, and for how long nothing is asked then, which values are expected, and which endings send the chain again; its
+-- turn, and which sending of its chain it is of. If there is no command: no place, no codes, no values, no endings, `no_turn`, and a chain that is sent once. With which answer its own is compared, which
+-- number its counter had, and which values files had, is known once it is sent
 abbrev pub expected_first : List Task → Expected
-expected_first [] = record { near = None; accepted = no_codes; expects = None; counter = None; before = None; again = no_again; turn = no_turn; twice = twice.Once; first = None }
+expected_first [] =
+    record {
+      near = None;
+      form = None;
+      accepted = no_codes;
+      busy = no_codes;
+      wait = 0;
+      expects = None;
+      counter = None;
+      before = None;
+      again = no_again;
+      turn = no_turn;
+      twice = twice.Once;
+      first = None;
+      values = no_values;
+    }
 expected_first (task ∷ others) =
     record {
       near = task.near;
+      form = task.form;
       accepted = task.accepted;
+      busy = task.busy;
+      wait = task.deadline;
       expects = task.expects;
       counter = task.counter;
       before = None;
@@ -51,6 +72,7 @@ expected_first (task ∷ others) =
       turn = task.turn;
       twice = task.twice;
       first = None;
+      values = no_values;
     }
 
 -- what is expected of the answer of the command at `place` in the list `commands` (`expected_first`)
@@ -100,6 +122,11 @@ abbrev pub others_in : List Task → ℕ
 others_in [] = 0
 others_in (task ∷ others) = task.others
 
+-- which values of files the first of these commands takes; none if there is no command
+abbrev pub needs_first : List Task → Needs
+needs_first [] = no_needs
+needs_first (task ∷ others) = task.needs
+
 -- whether the command `count` places after the cycle's next one is sent only once the one before it was answered well; false if
 -- there is no such command. In a missed cycle, in which none is sent, always true
 abbrev pub is_chained_after : (count : ℕ) → List Task → Progress → Bool
@@ -115,4 +142,5 @@ abbrev pub upcoming_after : (count : ℕ) → List Task → Progress → Upcomin
 upcoming_after count commands p = record {
   is_chained = is_chained_after count commands p;
   others = others_after count commands p;
+  needs = needs_first (commands_left_after count commands p);
 }

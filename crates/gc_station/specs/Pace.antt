@@ -30,11 +30,11 @@ longest_timeout plan = if plan.watched then 1000 else 60000
 
 -- the moment at which a read in this phase ends if nothing comes, leaving out the deadlines of the outstanding requests: at the
 -- next attempt to connect (`retry_at`), at the end of a drain, or, while the station synchronizes, at the deadline of its null
--- procedure; otherwise the greatest `u64`, since only the deadlines of requests matter
+-- procedure, or the end of the wait after a busy answer if that is later; otherwise the greatest `u64`, since only the deadlines of requests matter
 abbrev pub read_end_in : Phase → Plan → Progress → ℕ
 read_end_in phase.Pausing plan p = retry_at plan p
 read_end_in phase.Draining plan p = later p.since plan.quiet
-read_end_in _ plan p = if has_begun p then 18446744073709551615 else p.again
+read_end_in _ plan p = if has_begun p then 18446744073709551615 else max p.again p.hold
 
 -- as `read_end_in` in the phase of `p`, except that a read that only waits for the next cycle ends when that cycle is due
 abbrev pub read_end_without_deadline : Plan → Progress → Until → ℕ

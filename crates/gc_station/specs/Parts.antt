@@ -11,8 +11,9 @@ use Rattle.gc_client.specs.OneForOne.{Wanted, Step, Send, Hear, Expire, course_a
 pub use Rattle.gc_client.specs.OneForOne.{course_at}
 use Rattle.gc_client.specs.Rule.{ById}
 use Rattle.gc_texts.specs.declared.near.Expected.{Expected}
+use Rattle.gc_texts.specs.declared.occasion.Occasion.{Occasion}
 use Rattle.gc_texts.specs.declared.tasks.Task.{Task}
-use Rattle.gc_texts.specs.Endings.{End, Answered, Unreadable, Elsewhere, Disagree, Unexpected, Late, Lost, Skipped, Missed}
+use Rattle.gc_texts.specs.Endings.{End, Answered, Unreadable, Elsewhere, Disagree, Unexpected, Late, Lost, Skipped, NoValue, Missed}
 use Rattle.gc_station.specs.declared.plan.Plan.{Plan}
 use Rattle.gc_station.specs.declared.mark.Mark.{Mark}
 use Rattle.gc_station.specs.declared.station.sending.Outgoing.{Outgoing}
@@ -21,6 +22,7 @@ use Rattle.gc_station.specs.declared.progress.Action.TheVariants as action
 use Rattle.gc_links.specs.Acts.{Act, Told, Put, Cut, Gave, Silent}
 use Rattle.gc_station.specs.Deciding.{later, has_begun}
 use Rattle.gc_station.specs.Progressing.{loses_all}
+use Rattle.gc_station.specs.Marks.{occasion_of}
 use Rattle.gc_station.specs.Records.{Record}
 use Rattle.gc_station.specs.Requests.{asked_at}
 use Rattle.gc_station.specs.Model.{Model, action_at, lines_completed, is_heard, after, request_for, null_request, request_of_setup, mark_sent}
@@ -134,11 +136,11 @@ parts_of plan commands s [] = idle_part ∷ []
 parts_of plan commands s (act ∷ acts) =
     in_front (part_of_act plan commands s (action_at plan s) act) (ends_part plan commands s act) (parts_of plan commands (after plan commands s act) acts)
 
--- a request with this mark asks for `a`: what the command of the mark asks if it is sent at the moment of the mark; if there is
+-- a request with this mark asks for `a`: what the command of the mark asks if it is sent on the occasion of the mark; if there is
 -- no mark, a null procedure
 abbrev pub MarkAsks : List Task → Option Mark → Wanted Asked → Type 0
 MarkAsks commands None a = a ≡ record { target = 0; call = Table NullProc }
-MarkAsks commands (Some mark) a = (task : Task) × (slice_get commands mark.place ≡ Some task) × (a ≡ asked_at mark.sent task)
+MarkAsks commands (Some mark) a = (task : Task) × (slice_get commands mark.place ≡ Some task) × (a ≡ asked_at (occasion_of mark) task)
 
 -- requests with these marks ask for these targets and calls, one for one
 abbrev pub MarksAsk : List Task → List (Option Mark) → List (Wanted Asked) → Type 0
@@ -154,6 +156,7 @@ went_out (Unexpected line) = true
 went_out Late = true
 went_out Lost = true
 went_out Skipped = false
+went_out NoValue = false
 went_out Missed = false
 
 -- those of these records whose command was sent, in order
@@ -167,6 +170,10 @@ sent_at r = unwrap_or r.sent 0
 -- the mark that the command of the record `r` had, if `expected` is expected of its answer
 abbrev pub mark_of : Expected → Record → Mark
 mark_of expected r = record { cycle = r.cycle; place = r.place; sent = sent_at r; id = r.id; expected = expected }
+
+-- what the request of the record `r` took from the moment at which it was sent, if `expected` is what its mark had
+abbrev pub occasion_in : Expected → Record → Occasion
+occasion_in expected r = occasion_of (mark_of expected r)
 
 -- the record `r` with 0 for the moment of its end
 abbrev pub timeless : Record → Record

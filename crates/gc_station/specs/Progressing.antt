@@ -5,6 +5,9 @@ use Rattle.std.specs.Prelude.{ℕ, ◌+◌, ◌-◌, ◌&&◌, ◌||◌, Bool, t
 use Rattle.gc_client.specs.Beginning.{the_word, is_answered, left_by}
 use Rattle.gc_client.specs.Rule.{heard}
 use Rattle.gc_client.specs.declared.window.TheConstants.{WINDOW}
+use Rattle.gc_values.specs.FileValues.{no_values}
+use Rattle.gc_texts.specs.ValueItems.{no_needs}
+use Rattle.gc_texts.specs.declared.value_item.Needs.{Needs}
 use Rattle.gc_links.specs.declared.link.Moment.{Moment}
 use Rattle.gc_station.specs.declared.plan.Plan.{Plan}
 use Rattle.gc_station.specs.declared.cause.Cause.{Cause}
@@ -27,8 +30,9 @@ at_start plan turns = record {
   phase = phase.Down;
   word = the_word;
   again = 0;
+  hold = 0;
   clock_due = false;
-  moment = record { elapsed = 0; utc = 0; stops = false };
+  moment = record { elapsed = 0; utc = 0; stops = false; values = no_values };
   since = 0;
   alive = 0;
   asked = false;
@@ -40,6 +44,7 @@ at_start plan turns = record {
   unsent = 0;
   next_is_chained = false;
   next_others = 0;
+  next_needs = no_needs;
   chain_unbroken = false;
   tries = plan.retries;
   pause = 0;
@@ -57,15 +62,20 @@ at_start plan turns = record {
 abbrev pub turned : Progress → Progress
 turned p = record p { turns = p.turns - 1 }
 
+-- what is left of a hold at the moment `now`: none (0) once it is reached
+abbrev pub hold_left : (hold now : ℕ) → ℕ
+hold_left hold now = if nat_lt now hold then hold else 0
+
 -- the progress once the moment `m` was read, by any act but a read that gave nothing: the quiet time counts from `m`. If the
 -- clock went back, so that the cycle's beginning (`began`) or the moment from which a dead line counts (`alive`) lies after
--- `m`, it becomes `m`: so the next cycle isn't put off. If `m` asks for the end of the run, that stays asked for
+-- `m`, it becomes `m`: so the next cycle isn't put off. A hold that is reached is over. If `m` asks for the end of the run, that stays asked for
 abbrev pub moment_noted : Moment → Progress → Progress
 moment_noted m p = record p {
   moment = m;
   since = m.elapsed;
   alive = min p.alive m.elapsed;
   began = min p.began m.elapsed;
+  hold = hold_left p.hold m.elapsed;
   clock_due = false;
   stops = p.stops || m.stops;
 }
@@ -105,9 +115,10 @@ due_of plan m p = m.utc - lateness plan m p
 abbrev pub still_prepares : (were_sent : Bool) → Progress → Bool
 still_prepares were_sent p = (not were_sent && p.preparing) && nat_eq p.prepared 0
 
--- the progress after a cycle of `count` commands began at the moment `m`. If the cycle is missed, none of them is sent
-abbrev pub cycle_begun : Plan → (count : ℕ) → Moment → Progress → Progress
-cycle_begun plan count m p =
+-- the progress after a cycle of `count` commands, the first of which takes these values of files, began at the moment `m`. If the cycle is
+-- missed, none of them is sent
+abbrev pub cycle_begun : Plan → (count : ℕ) → Needs → Moment → Progress → Progress
+cycle_begun plan count needs m p =
     let q = moment_noted_meanwhile m p in
     record q {
       began = cycle_start plan m p;
@@ -118,6 +129,7 @@ cycle_begun plan count m p =
       unsent = count;
       next_is_chained = is_missed_at plan m p;
       next_others = 0;
+      next_needs = needs;
       chain_unbroken = false;
       preparing = still_prepares false p;
     }
@@ -135,6 +147,7 @@ advanced count next were_sent p = record p {
   unsent = p.unsent - count;
   next_is_chained = next.is_chained;
   next_others = next.others;
+  next_needs = next.needs;
   chain_unbroken = were_sent;
   preparing = still_prepares were_sent p;
 }
@@ -264,6 +277,14 @@ ended_noted more p = record p { last_ended = ended_last more p.last_ended }
 -- the progress once a line came that called for a synchronization, or not (`raised`): the station is in doubt until it resynchronizes
 abbrev pub doubt_noted : (raised : Bool) → Progress → Progress
 doubt_noted raised p = record p { doubtful = p.doubtful || raised }
+
+-- the progress once a line came in which busy answers call for a wait, of `wait` milliseconds at most from the moment read last on, or none
+-- does (0): the station asks for nothing until then (`hold`), and is in doubt until it resynchronizes
+abbrev pub hold_noted : (wait : ℕ) → Progress → Progress
+hold_noted wait p = record p {
+  doubtful = p.doubtful || nat_lt 0 wait;
+  hold = if nat_lt 0 wait then max p.hold (later p.moment.elapsed wait) else p.hold;
+}
 
 -- the progress after `line` was heard while the station synchronizes: if the line's id is that of the first null procedure that
 -- is left, that one is answered, and the next one, if there is one, is sent at once

@@ -13,24 +13,24 @@ use Rattle.gc_station.specs.declared.progress.Progress.{Progress}
 use Rattle.gc_station.specs.declared.progress.Until.{Until}
 use Rattle.gc_station.specs.declared.progress.Until.TheVariants.{Limit, Due}
 use Rattle.gc_station.specs.declared.progress.Waiting.{Waiting}
-use Rattle.gc_station.specs.Deciding.{width_of, has_begun, is_up, is_unquiet, is_due, is_idle, is_silent, is_dead, is_stale, may_go, is_preparing}
+use Rattle.gc_station.specs.Deciding.{width_of, has_begun, is_up, is_unquiet, is_due, is_idle, is_silent, is_dead, is_stale, lacks_value, may_go, is_preparing}
 
 -- another request may be sent: fewer that haven't timed out are in flight than `width_of` allows; all that are outstanding, and those
--- that the last line ended that ended any, are together fewer than the window has places; and since the station synchronized no line
--- called for another synchronization (`doubtful`)
+-- that the last line ended that ended any, are together fewer than the window has places; since the station synchronized no line called
+-- for another synchronization (`doubtful`); and no busy answer has it wait (`hold`)
 abbrev pub HasRoomToAsk : Plan → Progress → Waiting → Type 0
-HasRoomToAsk plan p w = (w.current < width_of plan) × (w.all + p.last_ended < WINDOW) × (p.doubtful ≡ false)
+HasRoomToAsk plan p w = (w.current < width_of plan) × (w.all + p.last_ended < WINDOW) × (p.doubtful ≡ false) × (p.hold ≡ 0)
 
 -- another request may not be sent, though nothing is in flight that hasn't timed out: all that are outstanding, and those that the last
 -- line ended that ended any, are together as many as the window has places, or more; or since the station synchronized a line called for
--- another synchronization
+-- another synchronization; or a busy answer has it wait
 abbrev pub MayAskNoMore : Progress → Waiting → Type 0
-MayAskNoMore p w = (WINDOW ≤ w.all + p.last_ended) ⊎ (p.doubtful ≡ true)
+MayAskNoMore p w = (WINDOW ≤ w.all + p.last_ended) ⊎ ((p.doubtful ≡ true) ⊎ (0 < p.hold))
 
 -- no further command may be sent before those that were sent are settled: no command of the cycle is left, or the next one waits
--- for the answer of the one before it in its chain, or begins a further attempt of its chain
+-- for the answer of the one before it in its chain, or begins a further attempt of its chain, or a value that it takes of a file isn't there
 abbrev pub IsHeld : Progress → Type 0
-IsHeld p = (p.unsent ≡ 0) ⊎ ((p.next_is_chained ≡ true) ⊎ (0 < p.next_others))
+IsHeld p = (p.unsent ≡ 0) ⊎ ((p.next_is_chained ≡ true) ⊎ ((0 < p.next_others) ⊎ (lacks_value p ≡ true)))
 
 -- the station is between two chains: no command of the cycle is left, or the next one begins a chain or a further attempt of one;
 -- or there is a setup, and since the connection was made and the station synchronized no command of a cycle was sent (`preparing`). In
@@ -147,12 +147,12 @@ AwaitsDueMoment plan p w =
     ((is_idle plan p ≡ true) × ((has_begun p ≡ false) ⊎ ((is_preparing plan p w ≡ true) × (p.prepared ≡ 0))))
     ⊎ ((p.unsent ≡ 0) × (w.commands ≡ 0) × (is_due plan p ≡ false) × (is_preparing plan p w ≡ false))
 
--- what another read waits for where requests may be sent: the reply to a null procedure of the synchronization, whose deadline hasn't
--- come; or something in flight that hasn't timed out, while no command may be sent. The last case is one without a setup, in which
+-- what another read waits for on a connection that was quiet: while the station synchronizes, the end of the wait after a busy answer, or
+-- the reply to a null procedure whose deadline hasn't come; or something in flight that hasn't timed out, while no command may be sent. The last case is one without a setup, in which
 -- a station never prepares one: by the law `a_read_awaits_something` it never occurs
 abbrev pub AwaitsReply : Plan → Progress → Waiting → Type 0
 AwaitsReply plan p w =
-    ((has_begun p ≡ false) × (p.moment.elapsed < p.again))
+    ((has_begun p ≡ false) × ((0 < p.hold) ⊎ (p.moment.elapsed < p.again)))
     ⊎ ((NothingMayGo plan p w × (0 < w.current)) ⊎ ((is_preparing plan p w ≡ true) × (plan.setup ≡ 0)))
 
 -- what a read waits for: the end of a pause, or of a draining; a reply (`AwaitsReply`); or the next due moment (`AwaitsDueMoment`)
@@ -173,20 +173,22 @@ HoldsBefore plan p w action.Begin =
     × (p.stops ≡ false) × IsPreparedOrOverdue plan p w
 HoldsBefore plan p w action.Open = p.phase ≡ phase.Down
 HoldsBefore plan p w action.Clear = p.phase ≡ phase.Clearing
--- the null procedure of a synchronization is sent, and again at its deadline, unless the cycle is done and the next isn't due
+-- the null procedure of a synchronization is sent, and again at its deadline, unless the cycle is done and the next isn't due, or a busy
+-- answer has the station wait
 HoldsBefore plan p w action.Ask = (p.phase ≡ phase.Ready) × (has_begun p ≡ false) × (p.again ≤ p.moment.elapsed) × (is_idle plan p ≡ false)
-    × (is_dead plan p w ≡ false)
+    × (is_dead plan p w ≡ false) × (p.hold ≡ 0)
 -- no command of the setup is sent if the end of the run was asked for
 HoldsBefore plan p w action.Prepare =
     (p.phase ≡ phase.Ready) × (has_begun p ≡ true) × MayPrepare plan p w × HasRoomToAsk plan p w × (p.behind < WINDOW) × (p.stops ≡ false)
     × (is_dead plan p w ≡ false)
--- a command of a cycle has its turn only once the setup is done
+-- a command of a cycle has its turn only once the setup is done, and is sent only if the values that it takes of files are there
 HoldsBefore plan p w action.Send =
     (p.phase ≡ phase.Ready) × (has_begun p ≡ true) × (0 < p.unsent) × HasRoomToAsk plan p w × MayGo p w × (p.behind < WINDOW) × MayRetry p w
-    × StaysInItsChain p × (is_preparing plan p w ≡ false) × (is_dead plan p w ≡ false)
+    × StaysInItsChain p × (is_preparing plan p w ≡ false) × (is_dead plan p w ≡ false) × (lacks_value p ≡ false)
 HoldsBefore plan p w action.Skip =
     IsReadyOrOverdue plan p w × ((has_begun p ≡ true) ⊎ IsOverdue plan p w) × (0 < p.unsent) × (w.commands ≡ 0)
-    × (((p.next_is_chained ≡ true) × (may_go p w ≡ false)) ⊎ IsOverdue plan p w) × IsPreparedOrOverdue plan p w
+    × (((p.next_is_chained ≡ true) × (may_go p w ≡ false)) ⊎ (((lacks_value p ≡ true) × StaysInItsChain p) ⊎ IsOverdue plan p w))
+    × IsPreparedOrOverdue plan p w
 -- the further attempts of a chain are left out if all that were sent are settled, and no command of the attempt before ended as
 -- its rule names; or if nothing is sent, because the cycle is missed
 HoldsBefore plan p w action.Pass =

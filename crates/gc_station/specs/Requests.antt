@@ -1,5 +1,6 @@
 -- The requests of a run, by their cycles and places: this project's own. A command that sets the clock asks for the moment at
--- which its request is sent; as the text has it, it asks for the beginning of 1970.
+-- which its request is sent, and one that takes values of files for these; as the text has it, either counts as one for the beginning of
+-- 1970.
 use Rattle.std.specs.Prelude.{ℕ, ◌+◌, Bool, true, false, List, [], ◌∷◌, drop, Option, Some, None}
 use Rattle.gc_catalogue.specs.declared.asked.Asked.{Asked}
 use Rattle.gc_catalogue.specs.declared.asked.Asked.TheVariants.{Table}
@@ -7,6 +8,7 @@ use Rattle.gc_catalogue.specs.declared.call.Call.TheVariants.{SetDate}
 use Rattle.gc_client.specs.OneForOne.{Wanted}
 use Rattle.gc_texts.specs.Stamps.{date_time}
 use Rattle.gc_texts.specs.Tasks.{call_at}
+use Rattle.gc_texts.specs.declared.occasion.Occasion.{Occasion}
 use Rattle.gc_texts.specs.declared.tasks.Task.{Task}
 use Rattle.gc_texts.specs.declared.wish.Wish.{Wish}
 
@@ -29,8 +31,8 @@ requests cycle place (a ∷ others) = record { cycle = cycle; place = place; ask
 abbrev pub of_command : Wish → Wanted Asked
 of_command c = record { target = c.target; call = c.call }
 
--- the call of a command as the text has it: if the command sets the clock (`sets`), the call for the beginning of 1970;
--- otherwise `call` itself
+-- the call of a command as the text has it: if its request is made anew each time (`sets`), as that of one which sets the clock or takes
+-- values of files is, the call for the beginning of 1970; otherwise `call` itself
 abbrev pub untimed : (sets : Bool) → Asked → Asked
 untimed true call = Table (SetDate (date_time 0))
 untimed false call = call
@@ -39,24 +41,25 @@ untimed false call = call
 abbrev pub of_task : Task → Wanted Asked
 of_task task = record { target = task.command.target; call = untimed task.now task.command.call }
 
--- the command of `task` if its request is sent at the moment `utc`, by the clock of time stamps
-abbrev pub command_at : (utc : ℕ) → Task → Wish
-command_at utc task = record { target = task.command.target; call = call_at task utc }
+-- the command of `task` if its request is sent on this occasion
+abbrev pub command_at : Occasion → Task → Wish
+command_at occasion task = record { target = task.command.target; call = call_at task occasion }
 
--- the command of `task` if its request was sent at this moment; if it wasn't sent (`None`), the command as in the text
-abbrev pub command_sent : Option ℕ → Task → Wish
-command_sent None task = task.command
-command_sent (Some utc) task = command_at utc task
+-- the command of `task` if its request was sent at this moment, when files had these values; if it wasn't sent (`None`), the command as in
+-- the text
+abbrev pub command_sent : (values : List (List ℕ)) → Option ℕ → Task → Wish
+command_sent values None task = task.command
+command_sent values (Some utc) task = command_at (record { utc = utc; values = values }) task
 
--- the target and the call of the command of `task` if its request is sent at the moment `utc`
-abbrev pub asked_at : (utc : ℕ) → Task → Wanted Asked
-asked_at utc task = of_command (command_at utc task)
+-- the target and the call of the command of `task` if its request is sent on this occasion
+abbrev pub asked_at : Occasion → Task → Wanted Asked
+asked_at occasion task = of_command (command_at occasion task)
 
--- whether the first of these commands sets the clock; false if there is none
+-- whether the request of the first of these commands is made anew each time; false if there is none
 abbrev pub sets_clock : List Task → Bool
 sets_clock [] = false
 sets_clock (task ∷ others) = task.now
 
--- the request `x` for one of these commands, as the text has it: without its moment if its command sets the clock
+-- the request `x` for one of these commands, as the text has it: without its moment and its values if its command takes any
 abbrev pub in_text : List Task → RunRequest → RunRequest
 in_text commands x = record x { asked = record x.asked { call = untimed (sets_clock (drop x.place commands)) x.asked.call } }

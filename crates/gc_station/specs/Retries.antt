@@ -28,7 +28,7 @@ expected_of commands cycle attempt place =
 -- the return code other than 0 of the reply to `call`, if the command ended as answered and the reply has one, with
 -- communication code 0
 abbrev pub code_of_end : Reads → Asked → End → Option ℕ
-code_of_end reads call (Answered quality answer line) = code_in (reads call line)
+code_of_end reads call (Answered quality answer line) = code_in (reads None call line)
 code_of_end reads call _ = None
 
 -- whether the record `r` is of a command that ended as the rule of its chain names

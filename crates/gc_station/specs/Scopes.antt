@@ -1,14 +1,15 @@
 -- What the laws on a run take beside its plan and its commands, this project's own: how many turns it has, what is watched,
 -- and what each reply says of its call.
-use Rattle.std.specs.Prelude.{◌≡◌, ℕ, List}
+use Rattle.std.specs.Prelude.{◌≡◌, ℕ, List, Option}
 use Rattle.gc_catalogue.specs.declared.answer.Reading.{Reading}
 use Rattle.gc_catalogue.specs.declared.asked.Asked.{Asked}
-use Rattle.gc_catalogue.specs.Asked.{IsAskedReading}
 use Rattle.gc_client.specs.Settlements.{ReadsBy}
+use Rattle.gc_texts.specs.declared.form.Form.{Form}
+use Rattle.gc_station.specs.Saying.{Says, IsSaid}
 
--- what the line of a reply says of a call, for each call and each line
+-- what the line of a reply says of a call, read by a form if there is one, for each of these, each call and each line
 abbrev pub Reads : Type 0
-Reads = Asked → List ℕ → Reading
+Reads = Option Form → Says
 
 -- what a run is given besides its plan and commands
 pub record Scope : Type 0 where
@@ -16,18 +17,19 @@ pub record Scope : Type 0 where
   pub turns : ℕ
   -- what is watched: the places of commands among those of the text's cycle
   pub watched : List ℕ
-  -- what the line of a reply says of a call
+  -- what the line of a reply says of a call, read by a form if there is one
   pub reads : Reads
 
--- `reads` gives the reading of each line for each call, wherever the line has one
+-- `reads` gives the reading of each line for each call, by each form and without one, wherever the line has one
 abbrev pub AreReadings : Reads → Type 0
-AreReadings reads = (call : Asked) (line : List ℕ) (reading : Reading) → ReadsBy IsAskedReading call line reading → reads call line ≡ reading
+AreReadings reads = (form : Option Form) (call : Asked) (line : List ℕ) (reading : Reading) → ReadsBy (IsSaid form) call line reading → reads form call line ≡ reading
 
--- a line has at most one reading for a call
+-- a line has at most one reading for a call, by a form or without one
 abbrev pub OneReadingForALine : Type 0
-OneReadingForALine = (call : Asked) (line : List ℕ) (x y : Reading) → ReadsBy IsAskedReading call line x → ReadsBy IsAskedReading call line y → x ≡ y
+OneReadingForALine =
+    (form : Option Form) (call : Asked) (line : List ℕ) (x y : Reading) → ReadsBy (IsSaid form) call line x → ReadsBy (IsSaid form) call line y → x ≡ y
 
--- some function gives each line's reading for a call, wherever there is one
+-- some function gives each line's reading for a call, by each form and without one, wherever there is one
 abbrev pub SomeReadings : Type 0
 SomeReadings = (reads : Reads) × AreReadings reads
 

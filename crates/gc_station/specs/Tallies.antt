@@ -1,7 +1,7 @@
 -- How many commands ended how, this project's own: the counts are those of the last attempt of each chain. Commands of the setup
 -- aren't counted.
 use Rattle.std.specs.Prelude.{ℕ, ◌+◌, min, List, [], ◌∷◌, if◌then◌else◌, nat_eq, nat_lt}
-use Rattle.gc_texts.specs.Endings.{End, Answered, Unreadable, Elsewhere, Disagree, Unexpected, Late, Lost, Skipped, Missed}
+use Rattle.gc_texts.specs.Endings.{End, Answered, Unreadable, Elsewhere, Disagree, Unexpected, Late, Lost, Skipped, NoValue, Missed}
 use Rattle.gc_texts.specs.Qualities.{is_good}
 use Rattle.gc_texts.specs.declared.quality.Quality.{Quality}
 use Rattle.gc_texts.specs.declared.turn.Turn.{Turn}
@@ -31,6 +31,7 @@ counted (Answered quality answer line) t = counted_answered quality t
 counted Late t = record t { late = one_more t.late }
 counted Lost t = record t { lost = one_more t.lost }
 counted Skipped t = record t { skipped = one_more t.skipped }
+counted NoValue t = record t { skipped = one_more t.skipped }
 counted (Unreadable line fault) t = record t { unreadable = one_more t.unreadable }
 counted (Elsewhere line) t = record t { elsewhere = one_more t.elsewhere }
 counted (Disagree line) t = record t { disagree = one_more t.disagree }

@@ -7,6 +7,7 @@ use Rattle.gc_client.specs.declared.settlement.Settlement.{Settlement}
 use Rattle.gc_lines.specs.Ports.{FailsWith}
 use Rattle.gc_links.specs.declared.link.Moment.{Moment}
 use Rattle.gc_station.specs.Attempts.{listed_after, listed_after_settlements}
+use Rattle.gc_station.specs.Busy.{busy_after, busy_after_settlements}
 use Rattle.gc_station.specs.Counters.{count_noted, counts_after_settlements}
 use Rattle.gc_station.specs.Firsts.{first_noted, firsts_after}
 use Rattle.gc_station.specs.Marks.{records_of, is_well, last_well, unexpected_noted, any_unexpected}
@@ -35,6 +36,7 @@ noted mark now code end r = record {
   firsts = first_noted mark.cycle mark.expected.turn end r.firsts;
   counts = count_noted mark.expected end r.counts;
   unexpected = unexpected_noted end r.unexpected;
+  busy = busy_after r.busy mark.expected code;
 }
 
 -- what is kept of the records, `r`, once `records`, of commands that weren't sent, are written; with `listed` in place of its own
@@ -53,6 +55,7 @@ recorded_after now marks settlements reads r =
       firsts = firsts_after r.firsts news;
       counts = counts_after_settlements reads r.counts marks settlements;
       unexpected = any_unexpected r.unexpected news;
+      busy = busy_after_settlements reads r.busy marks settlements;
     }
 
 -- if the call with this result succeeded, what is kept of the records is `new`: what `recorded_after` makes of `old`, for each

@@ -28,6 +28,7 @@
 //! | | else | `Read(Limit)` | discards what comes | `Ready`, once nothing came for the quiet time |
 //! | `Ready`: the station synchronizes | no command is unsent, and no cycle is left | `Close(Done)` | closes the connection | `Over(Done)` |
 //! | | the cycle is done, and the next isn't due | `Read(Due)` | hears what comes | `Ready` |
+//! | | a busy answer has the station wait (`hold`) | `Read(Limit)` | hears what comes | `Ready` |
 //! | | the null procedure that was sent last hasn't timed out | `Read(Limit)` | hears what comes | `Ready`; the station has synchronized once the eighth is answered |
 //! | | the line is dead | `Close(Dead)` | closes the connection | as below |
 //! | | else | `Ask` | sends the null procedure of the first id that isn't answered, for the first time or again at its deadline | `Ready` |
@@ -40,10 +41,10 @@
 //! | | the setup isn't done, commands are outstanding, and something hasn't timed out | as if the station waits | | |
 //! | | the setup isn't done, no command is outstanding, and the last one was answered well | as if the next command may be sent, with `Prepare` for `Send` | | |
 //! | | the setup isn't done, no command is outstanding, and the last one wasn't answered well | `Close(SetUp)` | closes the connection | as below |
-//! | | the setup is done, a command is unsent, and the next one isn't chained and begins no further attempt | as if the next command may be sent | | |
+//! | | the setup is done, a command is unsent, and the next one isn't chained, begins no further attempt, and has the values of files that it takes | as if the next command may be sent | | |
 //! | | commands are outstanding, and all outstanding requests have timed out | with room, unless the line is dead, `Flush`, else as if the station waits | sends a null procedure after them | `Ready` |
 //! | | commands are outstanding, and something hasn't timed out | as if the station waits | | |
-//! | | no command is outstanding, the next one begins a further attempt of its chain, and a command of the attempt before ended as its rule names | as if the next command may be sent | | |
+//! | | no command is outstanding, the next one begins a further attempt of its chain, and a command of the attempt before ended as its rule names | as if the next command may be sent, or if a value of a file isn't there that it takes, `Skip` | | |
 //! | | no command is outstanding, and the next one begins a further attempt otherwise, or in a missed cycle | `Pass` | reads the clock, and leaves out this attempt and those after it | `Ready` |
 //! | | no command is outstanding, one is unsent, and may be sent | as if the next command may be sent | | |
 //! | | no command is outstanding, one is unsent, and may not be sent | `Skip` | reads the clock, and records the command as skipped | `Ready` |
@@ -67,7 +68,7 @@
 //! follows, and without a connection `Over`.
 
 ghost use Rattle.std.specs.Prelude.{◌≡◌};
-ghost use Rattle.gc_station.specs.Deciding.{is_silent, is_dead, is_due, goes_on, is_finished, has_room_to_ask, may_go, waits_for_all, action_again, action_of, action_on, action_ready, action_begun, action_beginning, action_to_send, action_room, action_flush, action_held, action_settled, action_done, action_waiting, is_stale, is_between_chains, is_cut, is_resting, is_stopping, is_held_back, action_cycle, action_to_prepare, action_preparing, action_in_setup, is_preparing, action_draining};
+ghost use Rattle.gc_station.specs.Deciding.{is_silent, is_dead, is_due, goes_on, is_finished, has_room_to_ask, lacks_value, may_ask, may_go, waits_for_all, action_again, action_of, action_on, action_ready, action_begun, action_beginning, action_to_send, action_room, action_flush, action_held, action_settled, action_done, action_waiting, is_stale, is_between_chains, is_cut, is_resting, is_stopping, is_held_back, action_cycle, action_to_prepare, action_preparing, action_in_setup, is_preparing, action_draining};
 
 use crate::cause::Cause;
 use crate::plan::Plan;
@@ -239,10 +240,19 @@ impl Progress {
         self.left == 0 && self.unsent == 0 && count == 0
     }
 
-    // The next action while the station synchronizes: to send the null procedure of the first id that isn't answered, for the
-    // first time or again at its deadline, and to read until then. Nothing is sent if no command is left to be sent and none is outstanding
-    // (the connection is closed: the run is done), nor between cycles (it reads until the next is due), nor over a dead line (the
-    // connection is closed, but not before the deadline of the null procedure that was sent last).
+    // Whether the null procedure of the first id that isn't answered may be sent: no busy answer has the station wait (`hold`), and the
+    // deadline of the null procedure that was sent last has come.
+    fn may_ask(&self) -> bool
+        ensures { result ≡ may_ask self.now }
+    {
+        self.hold == 0 && self.again <= self.moment.elapsed
+    }
+
+    // The next action while the station synchronizes: to send the null procedure of the first id that isn't answered, for the first
+    // time or again at its deadline, and to read until then, and until the wait after a busy answer is over. Nothing is sent if no
+    // command is left to be sent and none is outstanding (the connection is closed: the run is done), nor between cycles (it reads
+    // until the next is due), nor over a dead line (the connection is closed, but not before the deadline of the null procedure that
+    // was sent last).
     fn action_beginning(&self, plan: &Plan, waiting: Waiting) -> Action
         ensures { result ≡ action_beginning plan.now self.now waiting }
     {
@@ -250,7 +260,7 @@ impl Progress {
             Action::Close(Cause::Done)
         } else if self.is_idle(plan) {
             Action::Read(Until::Due)
-        } else if self.again > self.moment.elapsed {
+        } else if !self.may_ask() {
             Action::Read(Until::Limit)
         } else if self.is_dead(plan, waiting) {
             Action::Close(Cause::Dead)
@@ -360,7 +370,7 @@ impl Progress {
     }
 
     // The next action if no command may be sent before those that are outstanding are settled: all of the cycle had their turn,
-    // or the next one is chained or begins a further attempt. Where no command is outstanding, it is that of `action_settled`;
+    // or the next one waits for all (`waits_for_all`). Where no command is outstanding, it is that of `action_settled`;
     // otherwise that of `action_flush`.
     fn action_held(&self, plan: &Plan, waiting: Waiting) -> Action
         ensures { result ≡ action_held plan.now self.now waiting }
@@ -388,32 +398,42 @@ impl Progress {
         }
     }
 
-    // Whether the next command is sent only once all that were sent are settled: it is chained, or begins a further attempt.
+    // Whether a value that the next command takes of a file wasn't there at the moment read last.
+    pub(crate) fn lacks_value(&self) -> bool
+        ensures { result ≡ lacks_value self.now }
+    {
+        self.next_needs.lack(&self.moment.values)
+    }
+
+    // Whether the next command is sent, or recorded without being sent, only once all that were sent are settled: it is chained, or begins a
+    // further attempt, or a value that it takes of a file isn't there.
     fn waits_for_all(&self) -> bool
         ensures { result ≡ waits_for_all self.now }
     {
-        self.next_is_chained || self.next_others > 0
+        self.next_is_chained || self.next_others > 0 || self.lacks_value()
     }
 
     // The next action if the next command begins a further attempt of its chain, and all that were sent are settled: it is sent
-    // if a command of the attempt before ended as its rule names. Else, and in a missed cycle, in which each command counts as
-    // chained, this attempt and those after it are left out.
+    // if a command of the attempt before ended as its rule names, and skipped then if a value that it takes of a file isn't there. Else, and
+    // in a missed cycle, in which each command counts as chained, this attempt and those after it are left out.
     fn action_again(&self, plan: &Plan, waiting: Waiting) -> Action
         ensures { result ≡ action_again plan.now self.now waiting }
     {
-        if waiting.listed && !self.next_is_chained {
-            self.action_to_send(plan, waiting, Action::Send)
-        } else {
+        if !waiting.listed || self.next_is_chained {
             Action::Pass
+        } else if self.lacks_value() {
+            Action::Skip
+        } else {
+            self.action_to_send(plan, waiting, Action::Send)
         }
     }
 
-    // Whether the next command of a chain may be sent: the one before it was answered well, and since that was sent no
-    // connection was closed, and the station didn't resynchronize.
+    // Whether the next command of a chain may be sent: the one before it was answered well, since that was sent no connection was closed,
+    // and the station didn't resynchronize; and the values that it takes of files are there.
     fn may_go(&self, waiting: Waiting) -> bool
         ensures { result ≡ may_go self.now waiting }
     {
-        waiting.well && self.chain_unbroken
+        waiting.well && self.chain_unbroken && !self.lacks_value()
     }
 
     // The next action if nothing but a null procedure may be sent: to send one, if all outstanding requests have timed out or
@@ -429,16 +449,18 @@ impl Progress {
     }
 
     // Whether another request may be sent: fewer that haven't timed out are in flight than `width` allows; all that are outstanding,
-    // and those that the last line ended that ended any, are together fewer than the window has places; and no line called for a
-    // synchronization (`doubtful`). So the station holds back: a damaged line that ended several requests has it send no request whose id a
-    // reply that is still in flight might have. And once a stray shows that a line was altered, a sign-on that the instrument was switched
-    // on or off, or an unexpected answer that it isn't as the text takes it to be, nothing is sent before the next synchronization.
+    // and those that the last line ended that ended any, are together fewer than the window has places; no line called for a
+    // synchronization (`doubtful`); and no busy answer has the station wait (`hold`). So the station holds back: a damaged line that
+    // ended several requests has it send no request whose id a reply that is still in flight might have. And once a stray shows that a
+    // line was altered, a sign-on that the instrument was switched on or off, or an unexpected answer that it isn't as the text takes
+    // it to be, nothing is sent before the next synchronization.
     fn has_room_to_ask(&self, plan: &Plan, waiting: Waiting) -> bool
         ensures { result ≡ has_room_to_ask plan.now self.now waiting }
     {
         waiting.current < usize::from(width(plan))
             && waiting.all.saturating_add(self.last_ended) < WINDOW
             && !self.doubtful
+            && self.hold == 0
     }
 
     // `action`, which sends a request, if there is room for one and the line isn't dead; otherwise the action of a station that

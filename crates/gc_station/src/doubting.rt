@@ -1,7 +1,7 @@
 //! Doubts. A stray that can't repeat the reply that settled last shows that a line was altered: the stray, or the line that settled
 //! last. The book is told of it. A sign-on shows that the instrument was switched on or off, and so may an answer whose values the text
-//! didn't expect. After any of the three nothing is sent before the next synchronization (`has_room_to_ask` of `deciding.rt`), after which
-//! the setup comes first.
+//! didn't expect. After any of the three, and after a busy answer (`busy.rt`), nothing is sent before the next synchronization
+//! (`has_room_to_ask` of `deciding.rt`), after which the setup comes first.
 
 ghost use Rattle.std.specs.Prelude.{◌≡◌, false};
 ghost use Rattle.gc_station.specs.Lines.{calls_for_renewal, raises_doubt};
@@ -37,11 +37,11 @@ impl Progress {
 
 impl Station {
     // Notes whether a line that its client is about to hear raises a doubt, of which it tells the book, or has a sign-on in it; and that no
-    // command that the line ends was recorded yet as unexpected.
+    // command that the line ends was recorded yet as unexpected, or by a busy answer.
     pub(crate) fn doubt<B: Book>(&mut self, book: &mut B, line: &[u8])
         ensures notes { self.new ≡ record self.old {
           progress = doubt_noted (calls_for_renewal self.old.client.ids line.now) self.old.progress;
-          recorded = record self.old.recorded { unexpected = false };
+          recorded = record self.old.recorded { unexpected = false; busy = 0 };
         } }
         ensures taken { B.taken book.new ≡ B.taken book.old }
         ensures failed { B.failed book.new ≡ B.failed book.old }
@@ -51,6 +51,7 @@ impl Station {
         let starts = is_sign_on(line);
         self.progress.note_doubt(raised || starts);
         self.recorded.unexpected = false;
+        self.recorded.busy = 0;
         if raised {
             book.doubts(self.progress.last_ended);
         }

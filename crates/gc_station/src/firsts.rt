@@ -1,13 +1,13 @@
 //! The answers of a chain's first sending, with which those of its second are compared. A chain that is sent once has none.
 
 ghost use Rattle.std.specs.Prelude.{◌≡◌, [], None, slice_get, unwrap_or};
-ghost use Rattle.gc_station.specs.Firsts.{answer_of, answer_first, put, first_noted};
+ghost use Rattle.gc_station.specs.Firsts.{answer_of, answer_first, compares, first_for, put, first_noted};
 ghost use Rattle.gc_texts.specs.Endings.{ending_seen};
 
 use crate::mark::Mark;
 use arrayvec::ArrayVec;
 use gc_catalogue::Answer;
-use gc_texts::{Ending, Expected, Quality, Turn, Twice};
+use gc_texts::{Ending, Expected, Form, Quality, Turn, Twice};
 use std::marker::Model;
 
 /// How many answers of a first sending are kept. A command of a second sending that is further behind in its chain ends as
@@ -23,6 +23,16 @@ pub(crate) struct FirstAnswer {
     pub turn: Turn,
     /// Its answer. `None`: with an accepted return code, and values that don't read.
     pub answer: Option<Answer>,
+}
+
+// Whether the answers of a command are compared in all that they have in columns, by the form by which they are read, if there is one.
+fn compares(form: &Option<Form>) -> bool
+    ensures { result ≡ compares form.now }
+{
+    match form {
+        Some(form) => form.is_compared(),
+        None => true,
+    }
 }
 
 impl FirstAnswer {
@@ -91,8 +101,19 @@ impl Firsts {
     }
 
     // The answer of the first sending with which that of a command in this cycle, of which this is expected, is compared. `None`: none
-    // is kept, or the command isn't of a second sending.
+    // is kept, or the command isn't of a second sending, or its answers aren't compared in all that they have in columns.
     pub(crate) fn answer_for(&self, cycle: u64, expected: &Expected) -> Option<Option<Answer>>
+        ensures { result ≡ first_for self.now cycle expected.now }
+    {
+        if compares(&expected.form) {
+            self.answer_first(cycle, expected)
+        } else {
+            None
+        }
+    }
+
+    // The answer of the first sending, as `answer_for`, of a command whose answers are compared in all that they have in columns.
+    fn answer_first(&self, cycle: u64, expected: &Expected) -> Option<Option<Answer>>
         ensures { result ≡ answer_first self.now cycle expected.now.turn expected.now.twice }
     {
         match expected.twice {

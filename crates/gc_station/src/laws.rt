@@ -5,8 +5,8 @@
 //! cycle by cycle. It resynchronizes where all outstanding requests have timed out and there is no room for another, or
 //! commands are outstanding and the cycle is overdue: two periods have passed since its due moment, and all that is outstanding has timed
 //! out. There is room if the outstanding requests, and those that the last line ended that ended any, are together fewer than seven,
-//! and since the synchronization neither a stray came that can't repeat the reply that settled last, nor a sign-on, nor an answer whose
-//! values aren't as the text expects them. A request is sent
+//! since the synchronization neither a stray came that can't repeat the reply that settled last, nor a sign-on, nor an answer whose values
+//! aren't as the text expects them, nor a busy one; and the deadline of the command of the last busy answer has passed. A request is sent
 //! where its bytes are written, all of them or some. It is outstanding until it is settled, also once it has timed out at its deadline.
 //! A chain is a row of commands for one target, each sent only once the one before it was answered well.
 
@@ -50,6 +50,7 @@ ghost use Rattle.gc_station.specs.BoundRuns.{OutageIsRecorded, CallsAreNeeded, R
 ghost use Rattle.gc_station.specs.NoPeriodRun.{DueMomentsAreNeeded};
 ghost use Rattle.gc_station.specs.RealTime.{RecordsByBound, LastsByBound, ReadsEndInTime};
 ghost use Rattle.gc_station.specs.Model.{action_at};
+ghost use Rattle.gc_station.specs.WhileBusy.{NothingIsSentWhileBusy};
 ghost use Rattle.gc_station.specs.Tries.{StopsOnlyAfterAllTries};
 
 /// The commands of cycles that had their turn, sent or not, cycle by cycle and in order, are the records of cycles followed by
@@ -82,13 +83,14 @@ pub fn attempts_of_the_set_up_go_on()
     ensures { SetUpsGoOn }
 {}
 
-/// A line has at most one reading for a call. So all functions that give each reply's reading, of which the theorems speak,
-/// agree wherever a line reads.
+/// A line has at most one reading for a call, by the form of a described procedure or without one. So all functions that give each
+/// reply's reading, of which the theorems speak, agree wherever a line reads.
 pub fn each_line_says_one_thing()
     ensures { OneReadingForALine }
 {}
 
-/// Some function gives each line's reading for a call, wherever there is one: the catalogue's reader computes it.
+/// Some function gives each line's reading for a call, by each form and without one, wherever there is one: the reader of the catalogue, or
+/// that of the form, computes it.
 pub fn some_function_says_what_each_reply_says()
     ensures { SomeReadings }
 {}
@@ -289,6 +291,16 @@ pub fn the_set_up_is_done_anew_after_an_unexpected_answer()
     ensures { RenewsAfterAnUnexpectedAnswer }
 {}
 
+/// Once a busy answer came, one with a return code that the text lists as busy (the instrument is still at work on the command):
+/// - `waits`: no request is sent, nor is a null procedure of a synchronization, before a moment was read at which the command's whole
+///   deadline had passed since the moment at which that answer came. Nothing is asked of the clock for this.
+/// - `renews`: no command is sent, nor is a null procedure of the client, before the next synchronization, whatever connections are closed and
+///   made meanwhile.
+/// - `set_up`: no command of a cycle is sent before each command of the setup was sent anew, and answered well.
+pub fn nothing_is_sent_while_busy()
+    ensures { NothingIsSentWhileBusy }
+{}
+
 /// If the plan's `every` is above 0 and the clock doesn't go back, each cycle begins at or after it is due: the first is due
 /// when it begins, but at the latest `every` milliseconds after the start of the clock, and each further one `every` milliseconds
 /// after the one before it was due.
@@ -368,9 +380,10 @@ pub fn what_the_bound_asks_is_needed()
 {}
 
 /// A station doesn't wait needlessly:
-/// - `awaits`: it reads only in a pause; while it discards input until the line is quiet; while a null procedure of the synchronization
-///   hasn't timed out; while something is in flight that hasn't timed out, and no command may be sent; or until the next cycle is due,
-///   but not in the middle of a setup. One more reason is of a setup that isn't done though the plan has none.
+/// - `awaits`: it reads only in a pause; while it discards input until the line is quiet; while it synchronizes, and a null procedure hasn't
+///   timed out or a busy answer has it wait (`hold`, whose length isn't said here); while something is in flight that hasn't timed out, and
+///   no command may be sent; or until the next cycle is due, but not in the middle of a setup. One more reason is of a setup that isn't done
+///   though the plan has none.
 /// - `sends`: where the next command of a cycle may be sent, and neither the cycle is out of time nor the end of the run was asked
 ///   for, it doesn't read.
 /// - `prepares`: without a setup none is to be done. So that one more reason never holds.
@@ -378,10 +391,11 @@ pub fn a_read_awaits_something()
     ensures { ReadsAwaitSomething }
 {}
 
-/// If the plan's `every` is above 0 and the clock doesn't go back, each record of a missed or skipped command is justified, and
-/// has no time of sending. Missed: its cycle began when the next one was due, or later, and the record has the time at which
+/// If the plan's `every` is above 0 and the clock doesn't go back, each record of a command that was missed, skipped or without a value is
+/// justified, and has no time of sending. Missed: its cycle began when the next one was due, or later, and the record has the time at which
 /// its cycle was due. Skipped: its cycle wasn't missed, and was overdue; or it isn't the first of its chain, and the command before
-/// it wasn't answered well, or after that command was sent a connection was closed or the station resynchronized.
+/// it wasn't answered well, or after that command was sent a connection was closed or the station resynchronized. Without a value: a value that
+/// it takes of a file wasn't there at the moment read last.
 pub fn unsent_ones_are_so_for_a_cause()
     ensures { UnsentForACause }
 {}

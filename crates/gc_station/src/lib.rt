@@ -2,9 +2,11 @@
 #![tactic(auto)]
 
 mod book;
+mod busy;
 mod cause;
 mod counters;
 mod deciding;
+mod described;
 mod doubting;
 mod firsts;
 mod kept;

@@ -16,8 +16,8 @@ pub(crate) struct Mark {
     pub sent: u64,
     /// The id of its request, 0 to 7; 0 as long as it isn't sent.
     pub id: u8,
-    /// What the text says of the answer: where the target is, which return codes are accepted, which values are expected, and which
-    /// endings send the chain again; and which command of the text was sent, in which attempt.
+    /// What the text says of the answer: where the target is, which return codes are accepted, which say that the instrument is busy,
+    /// which values are expected, and which endings send the chain again; and which command of the text was sent, in which attempt.
     pub expected: Expected,
 }
 

@@ -60,9 +60,10 @@ impl Progress {
         }
     }
 
-    // The moment at which a read in this phase ends if nothing comes, leaving out the deadlines of the outstanding requests: at
-    // the next attempt to connect (`retry_at`), at the end of a drain, or, while the station synchronizes, at the deadline of its
-    // null procedure; otherwise `u64::MAX`, since only the deadlines of requests matter.
+    // The moment at which a read in this phase ends if nothing comes, leaving out the deadlines of the outstanding requests: at the
+    // next attempt to connect (`retry_at`), at the end of a drain, or, while the station synchronizes, at the deadline of its null
+    // procedure, or the end of the wait after a busy answer if that is later; otherwise `u64::MAX`, since only the deadlines of
+    // requests matter.
     fn read_end_in_phase(&self, plan: &Plan) -> u64
         ensures { result ≡ read_end_in self.now.phase plan.now self.now }
     {
@@ -73,7 +74,7 @@ impl Progress {
                 if self.has_begun() {
                     u64::MAX
                 } else {
-                    self.again
+                    self.again.max(self.hold)
                 }
             }
         }

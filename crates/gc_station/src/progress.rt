@@ -11,6 +11,8 @@ use crate::plan::Plan;
 use crate::progressing::later;
 use gc_client::{Beginning, WINDOW};
 use gc_links::Moment;
+use gc_texts::Needs;
+use gc_values::no_values;
 
 /// The phase of a station: whether it has a connection, and what it may do with that.
 #[derive(Clone, Copy)]
@@ -50,7 +52,8 @@ pub(crate) enum Action {
     Prepare,
     /// To send the next command of the cycle.
     Send,
-    /// To read the clock, and to write the next command down without sending it.
+    /// To read the clock, and to write the next command down without sending it: it may not be sent, or a value that it takes of a file
+    /// isn't there.
     Skip,
     /// To read the clock, and to leave out the further attempt that the next command begins, and those of its chain after it.
     Pass,
@@ -68,8 +71,8 @@ pub(crate) enum Action {
 /// When a read that brings nothing ends. It ends earlier if the run becomes stale, or the longest time-out of a read is over.
 #[derive(Clone, Copy)]
 pub(crate) enum Until {
-    /// Until something may have to be done: a deadline is reached, a pause or a drain is over, or the null procedure of a
-    /// synchronization times out.
+    /// Until something may have to be done: a deadline is reached, a pause or a drain is over, the null procedure of a
+    /// synchronization times out, or the wait after a busy answer is over (`hold`).
     Limit,
     /// Until the next cycle is due, or a null procedure times out: no command of this cycle is left, and none is outstanding.
     Due,
@@ -100,6 +103,8 @@ pub(crate) struct Upcoming {
     /// If it begins a further attempt of its chain: how many commands this attempt and those after it have. Else 0, also if there
     /// is no such command.
     pub others: usize,
+    /// Which values of files its request takes; none if there is no such command.
+    pub needs: Needs,
 }
 
 /// How far a station is: its phase, the last moment read, and where it is in its synchronization, its setup, its cycles and its
@@ -113,6 +118,9 @@ pub(crate) struct Progress {
     /// The deadline of the null procedure of the first id that isn't answered, if that was sent on this connection: then it is
     /// sent again. Else 0.
     pub again: u64,
+    /// The moment until which the station asks for nothing, because the instrument said that it is busy: of several the latest. 0: there
+    /// is none, or a moment was read at which it was reached.
+    pub hold: u64,
     /// Whether the clock is to be read next: something was sent, or a connection was closed or couldn't be made, since `moment`
     /// was read.
     pub clock_due: bool,
@@ -146,6 +154,8 @@ pub(crate) struct Progress {
     pub next_is_chained: bool,
     /// If it begins a further attempt of its chain: how many commands this attempt and those after it have. Else 0.
     pub next_others: usize,
+    /// Which values of files its request takes.
+    pub next_needs: Needs,
     /// Whether the command before the next one was sent, and since then no connection was closed and the station didn't
     /// resynchronize; `false` at the beginning of a cycle.
     pub chain_unbroken: bool,
@@ -163,7 +173,8 @@ pub(crate) struct Progress {
     pub last_ended: usize,
     /// Whether since the station synchronized a line came that calls for another synchronization: a stray that can't repeat the reply that
     /// settled last, so that a line was altered; one with a sign-on in it, so that the instrument was switched on or off; or a reply whose
-    /// values aren't as the text expects them, so that the instrument isn't as the text takes it to be. Then nothing is sent before that.
+    /// values aren't as the text expects them, so that the instrument isn't as the text takes it to be; or a busy answer, so that the reply
+    /// may still come. Then nothing is sent before that.
     pub doubtful: bool,
     /// Whether there is a setup, and since the connection was made and the station synchronized no command of a cycle was sent, and, once
     /// something of the setup was sent, no cycle began, and no command of one was recorded without being sent, or left out.
@@ -280,11 +291,13 @@ impl Progress {
             phase: Phase::Down,
             word: Beginning::new(),
             again: 0,
+            hold: 0,
             clock_due: false,
             moment: Moment {
                 elapsed: 0,
                 utc: 0,
                 stops: false,
+                values: no_values(),
             },
             since: 0,
             alive: 0,
@@ -297,6 +310,7 @@ impl Progress {
             unsent: 0,
             next_is_chained: false,
             next_others: 0,
+            next_needs: Needs::none(),
             chain_unbroken: false,
             tries: plan.retries,
             pause: 0,

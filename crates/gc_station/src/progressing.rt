@@ -1,5 +1,4 @@
-//! What each act does to how far a station is. Moments are by the clock for deadlines, and times in milliseconds, unless a comment
-//! says otherwise.
+//! What each act does to how far a station is. Moments are by the clock for deadlines, and times in milliseconds, unless said otherwise.
 
 ghost use Rattle.std.specs.Prelude.{◌≡◌, ◌≤◌, ℕ, List, length};
 ghost use Rattle.gc_catalogue.specs.declared.asked.Asked.{Asked};
@@ -10,12 +9,14 @@ ghost use Rattle.gc_station.specs.Deciding.{later};
 ghost use Rattle.gc_station.specs.Progressing.{still_prepares, turned, moment_noted, moment_noted_meanwhile, cycle_start, lateness, is_missed_at, due_of, cycle_begun, advanced, unsent_at, failing, opened, is_finished, is_idle, is_spared, phase_again, pause_again, after_failure, cleared, request_noted, null_sent, resynchronized, line_synchronizing, sent, behind_noted, ended_noted, doubt_noted, line_noted, early_after, bytes_noted, pause_ended, drained, quieted, time_passed, silent, early_noted, ended_for, closed, is_over, loses_all, next_attempt, setup_restarted, setup_sent, gives_back};
 ghost use Rattle.gc_station.specs.Lines.{is_reply};
 
+use crate::busy::hold_left;
 use crate::cause::Cause;
 use crate::plan::Plan;
 use crate::progress::{Phase, Progress, Until, Upcoming, Waiting};
 use gc_client::{Beginning, Hearing, WINDOW};
 use gc_lines::read_reply;
 use gc_links::Moment;
+use gc_texts::Needs;
 
 // The moment `wait` milliseconds after `moment`, or the greatest `u64` if there is none.
 pub(crate) fn later(moment: u64, wait: u64) -> u64
@@ -63,8 +64,8 @@ impl Progress {
 
     // Notes a moment read on the link: a pause and the quiet time count from now. (After a read that gave nothing they go on, as
     // `pass_time` notes.) Where the clock went back, the cycle is taken to have begun now at the latest, so that the next one
-    // isn't put off, and the line to have been alive now at the latest. If the moment asks for the end of the run, that stays
-    // asked for.
+    // isn't put off, and the line to have been alive now at the latest. A hold that is reached is over. If the moment asks for the
+    // end of the run, that stays asked for.
     pub(crate) fn note_moment(&mut self, moment: Moment)
         ensures { self.new ≡ moment_noted moment self.old }
     {
@@ -72,6 +73,7 @@ impl Progress {
         self.since = moment.elapsed;
         self.alive = self.alive.min(moment.elapsed);
         self.began = self.began.min(moment.elapsed);
+        self.hold = hold_left(self.hold, moment.elapsed);
         self.clock_due = false;
         self.stops = self.stops || moment.stops;
     }
@@ -125,9 +127,10 @@ impl Progress {
         moment.utc.saturating_sub(self.lateness(plan, moment))
     }
 
-    // Begins a cycle of `count` commands at this moment. If the cycle is missed, none of them is sent.
-    pub(crate) fn begin_cycle(&mut self, plan: &Plan, count: usize, moment: Moment)
-        ensures { self.new ≡ cycle_begun plan.now count moment self.old }
+    // Begins a cycle of `count` commands at this moment, of which the first takes these values of files. If the cycle is missed, none of
+    // them is sent.
+    pub(crate) fn begin_cycle(&mut self, plan: &Plan, count: usize, needs: Needs, moment: Moment)
+        ensures { self.new ≡ cycle_begun plan.now count needs moment self.old }
     {
         let began = self.cycle_start(plan, moment);
         let missed = self.is_missed_at(plan, moment);
@@ -141,6 +144,7 @@ impl Progress {
         self.unsent = count;
         self.next_is_chained = missed;
         self.next_others = 0;
+        self.next_needs = needs;
         self.chain_unbroken = false;
         self.preparing = self.still_prepares(false);
     }
@@ -169,6 +173,7 @@ impl Progress {
         self.unsent = self.unsent.saturating_sub(count);
         self.next_is_chained = next.is_chained;
         self.next_others = next.others;
+        self.next_needs = next.needs;
         self.chain_unbroken = were_sent;
         self.preparing = self.still_prepares(were_sent);
     }

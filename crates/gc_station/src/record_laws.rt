@@ -4,6 +4,7 @@
 ghost use Rattle.gc_station.specs.Agreeing.{AgreedRowsAgree};
 ghost use Rattle.gc_station.specs.Codes.{WellIsAnAcceptedCode};
 ghost use Rattle.gc_station.specs.Counting.{TalliesCountRecords};
+ghost use Rattle.gc_station.specs.Described.{DescribedAnswersAreReadByTheirKinds};
 ghost use Rattle.gc_station.specs.Expecting.{AnswersAreAsExpected};
 ghost use Rattle.gc_station.specs.Moments.{AnswersHaveTheirMoments, EachRecordHasItsMoment, UnreadableAsTheyRead};
 ghost use Rattle.gc_station.specs.Nearness.{AnswersAreAtTheirTargets};
@@ -11,10 +12,12 @@ ghost use Rattle.gc_station.specs.Qualities.{QualitiesAreAsListed, GoodIsAnAnswe
 ghost use Rattle.gc_station.specs.Requested.{EachRecordIsOfItsRequest};
 ghost use Rattle.gc_station.specs.Retries.{EachRecordHasItsTurn};
 ghost use Rattle.gc_station.specs.Tasked.{EachRecordIsOfItsTask};
+ghost use Rattle.gc_station.specs.Values.{EachRequestHasItsValues};
 
 /// Each record is of the task at its place, and has a time of sending exactly if its request was sent. Its command is what the
-/// task asks at that time: if the task sets the clock, the time cut to seconds, UTC, and otherwise what the text says. The
-/// command of a record that was never sent is as in the text.
+/// task asks at that time: if the task sets the clock, the time cut to seconds, UTC; if it takes values of files, what the text says with some
+/// such values (`each_request_has_its_values` says with which); and otherwise what the text says. The command of a record that was never
+/// sent is as in the text.
 pub fn each_record_is_of_its_task()
     ensures { EachRecordIsOfItsTask }
 {}
@@ -27,6 +30,12 @@ pub fn each_record_is_of_its_task()
 /// - The id is a digit from 0 to 7.
 pub fn each_record_is_of_its_request()
     ensures { EachRecordIsOfItsRequest }
+{}
+
+/// Each request of a command was made of its task with the time and the values of files of the last moment that was read before it was sent; and
+/// of a command of a cycle each value that it takes was there then.
+pub fn each_request_has_its_values()
+    ensures { EachRequestHasItsValues }
 {}
 
 /// Each record has the moment of the act by which its command ended, by the clock of time stamps: an answered one that of the read that
@@ -45,15 +54,15 @@ pub fn each_record_has_its_turn()
     ensures { EachRecordHasItsTurn }
 {}
 
-/// A record of a run is unreadable only if the line of its reply doesn't read as an answer to its call, and for the very fault for which it
-/// doesn't.
+/// A record of a run is unreadable only if the line of its reply doesn't read as an answer to its call, by the form of its command if it has
+/// one, and for the very fault for which it doesn't.
 pub fn unreadable_ones_do_not_read()
     ensures { UnreadableAsTheyRead }
 {}
 
 /// A command was answered well only if the communication code of its reply is 0, and the return code is 0 or one that the text
-/// accepts. With both codes 0 it was answered well exactly if the parameters read as an answer of its call that wasn't measured
-/// elsewhere, the line's values are as the text expects them, and in a second sending the answer agrees with that of the first. With an
+/// accepts. With both codes 0 it was answered well exactly if the parameters read as an answer of its call, or by its form, that wasn't
+/// measured elsewhere, the line's values are as the text expects them, and in a second sending the answer agrees with that of the first. With an
 /// accepted code it was, unless they read as an answer that was measured elsewhere, or the values aren't as the text expects them, or in a
 /// second sending the answer, if there is one, doesn't agree with that of the first. A command that is late, lost, skipped or missed never
 /// was answered well.
@@ -86,6 +95,8 @@ pub fn answers_are_at_their_targets()
 /// - `second`: if a record is of a second sending, and is answered and not refused, then before it is one of the first sending of the same
 ///   command of the text, in the same cycle and in the attempt before, which is answered and unconfirmed. The answers of the two agree: each
 ///   value of the second is within the text's tolerance of that of the first.
+/// - `compared`: if the procedure of such a record is one that the text describes, its answers have nothing else in columns than both angles,
+///   or these and the distance, or nothing. So each value in a column of it was compared.
 /// - `first`: a record of a first sending that is answered and not refused is unconfirmed, so it never counts as a measurement.
 /// - `disagree`: only a record of a second sending ends as `disagree`.
 ///
@@ -93,6 +104,18 @@ pub fn answers_are_at_their_targets()
 /// sent. That isn't proved here: these runs know nothing of an instrument.
 pub fn agreed_rows_agree()
     ensures { AgreedRowsAgree }
+{}
+
+/// An answer of a command whose procedure the text describes is read by that description, whatever the line, the instrument or its operator
+/// did:
+/// - `answered`: if its record is answered, with an answer, the values of its reply's line are of the described kinds, and the direction and
+///   the distance that the answer has are those in the columns `hz_rad`, `v_rad` and `distance_m`. That holds with an accepted return code,
+///   too.
+/// - `unreadable`, `faulty`: it is unreadable exactly if both codes are 0 and the values aren't of the described kinds, and for the very fault
+///   for which they aren't. If both codes are 0 and the values are of the kinds, it is answered, elsewhere, unexpected or disagreeing, as
+///   `answered_well_is_an_accepted_code` says.
+pub fn described_answers_are_read_by_their_kinds()
+    ensures { DescribedAnswersAreReadByTheirKinds }
 {}
 
 /// If a record is answered well, the values of its reply's line are as the text expects them of its command, and if it ended as unexpected,

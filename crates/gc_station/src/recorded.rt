@@ -7,6 +7,7 @@ ghost use Rattle.gc_station.specs.Watching.{unanswered, places_of};
 ghost use Rattle.gc_station.specs.Writing.{noted};
 ghost use Rattle.gc_texts.specs.Endings.{ending_seen};
 
+use crate::busy::busy_after;
 use crate::counters::Counters;
 use crate::firsts::Firsts;
 use crate::mark::Mark;
@@ -35,12 +36,14 @@ pub(crate) struct Recorded {
     pub(crate) counts: Counters,
     // Whether a command was recorded that ended as unexpected, since `Station::doubt` made it `false` before the last line.
     pub(crate) unexpected: bool,
+    // The longest wait that the busy answers call for that were recorded since `Station::doubt` made it 0 before the last line; 0 if none was.
+    pub(crate) busy: u64,
 }
 
 impl Recorded {
     // Nothing was recorded yet, of these watched commands either.
     pub(crate) fn new(mut watches: Watches) -> Recorded
-        ensures { result ≡ record { tally = empty_counts; well = false; listed = false; fresh = map unanswered (places_of watches); firsts = []; counts = no_counts; unexpected = false } }
+        ensures { result ≡ record { tally = empty_counts; well = false; listed = false; fresh = map unanswered (places_of watches); firsts = []; counts = no_counts; unexpected = false; busy = 0 } }
     {
         watches.begin();
         Recorded {
@@ -51,6 +54,7 @@ impl Recorded {
             firsts: Firsts::new(),
             counts: Counters::new(),
             unexpected: false,
+            busy: 0,
         }
     }
 
@@ -66,5 +70,6 @@ impl Recorded {
         self.firsts.note(mark, ending);
         self.counts.note(&mark.expected, ending);
         self.unexpected = is_unexpected_after(self.unexpected, ending);
+        self.busy = busy_after(self.busy, &mark.expected, code);
     }
 }

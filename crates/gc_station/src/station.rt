@@ -7,11 +7,11 @@ ghost use Rattle.gc_station.specs.Deciding.{action_of};
 ghost use Rattle.gc_station.specs.Counters.{with_before};
 ghost use Rattle.gc_station.specs.Firsts.{with_first};
 ghost use Rattle.gc_station.specs.Keeping.{reads_clock_alone};
-ghost use Rattle.gc_station.specs.Marks.{commands_in, with_id};
+ghost use Rattle.gc_station.specs.Marks.{commands_in, with_id, with_values};
 ghost use Rattle.gc_station.specs.Scopes.{AreReadings, scoped, Reads};
 ghost use Rattle.gc_station.specs.Records.{WritesNews};
 ghost use Rattle.gc_station.specs.Model.{Model, opening, action_at, with_losses};
-ghost use Rattle.gc_station.specs.NextCommand.{place_next, expected_first, mark_next, commands_before, first_is_chained, others_in, is_chained_after, others_after, upcoming_after, mark_setup};
+ghost use Rattle.gc_station.specs.NextCommand.{place_next, expected_first, mark_next, commands_before, first_is_chained, others_in, needs_first, is_chained_after, others_after, upcoming_after, mark_setup};
 ghost use Rattle.gc_station.specs.Stations.{waiting_of_station, CanPerform, Refines, MakesMoveAlone, Moves, Steps, as_seen, OnCall, KeepsToModel, DropsMarks, SuitsAction, ReadsMoment, station_expiring};
 ghost use Rattle.gc_station.specs.Watching.{fresh_of, places_of};
 ghost use Rattle.gc_station.specs.Writing.{KeepsBook, news_settled, NotesSettled};
@@ -35,7 +35,8 @@ use gc_catalogue::Asked;
 use gc_client::{Client, Settlement, SlotsOf, WINDOW};
 use gc_lines::{Assembler, PortFailed};
 use gc_links::{Link, Moment};
-use gc_texts::{Again, Codes, Expected, Task, Turn, Twice};
+use gc_texts::{Again, Codes, Expected, Needs, Task, Turn, Twice};
+use gc_values::no_values;
 
 // Whether a command at this place is sent only once the one before it was answered well; `false` if there is no such command.
 fn is_chained_at(commands: &[Task], place: usize) -> bool
@@ -47,16 +48,20 @@ fn is_chained_at(commands: &[Task], place: usize) -> bool
     }
 }
 
-// What is expected of the answer of the command at this place. If there is none, nothing is: no place of a target, no accepted
-// codes, no values, no endings that send it again; its turn is place 0, attempt 1 and link 0; and its chain is sent once. With which
-// answer of a first sending its own is compared, and which number its counter had, is known once it is sent (`mark_sent`).
+// What is expected of the answer of the command at this place. If there is none, nothing is: no place of a target, no accepted codes, none
+// that says busy, no values, no endings that send it again; its turn is place 0, attempt 1 and link 0; and its chain is sent once. With which
+// answer of a first sending its own is compared, which number its counter had, and which values files had, is known once it is sent
+// (`mark_sent`).
 fn expected_at(commands: &[Task], place: usize) -> Expected
     ensures { result ≡ expected_first (drop place commands.now) }
 {
     match commands.get(place) {
         Some(task) => Expected {
             near: task.near,
+            form: task.form,
             accepted: task.accepted,
+            busy: task.busy,
+            wait: task.deadline,
             expects: task.expects,
             counter: task.counter,
             before: None,
@@ -64,10 +69,14 @@ fn expected_at(commands: &[Task], place: usize) -> Expected
             turn: task.turn,
             twice: task.twice,
             first: None,
+            values: no_values(),
         },
         None => Expected {
             near: None,
+            form: None,
             accepted: Codes::none(),
+            busy: Codes::none(),
+            wait: 0,
             expects: None,
             counter: None,
             before: None,
@@ -79,7 +88,18 @@ fn expected_at(commands: &[Task], place: usize) -> Expected
             },
             twice: Twice::Once,
             first: None,
+            values: no_values(),
         },
+    }
+}
+
+// Which values of files the request of the command at this place takes; none if there is no such command.
+fn needs_at(commands: &[Task], place: usize) -> Needs
+    ensures { result ≡ needs_first (drop place commands.now) }
+{
+    match commands.get(place) {
+        Some(task) => task.needs,
+        None => Needs::none(),
     }
 }
 
@@ -188,14 +208,17 @@ impl Station {
     }
 
     // The mark with which the cycle's next command is sent: that of `mark`, with the client's next id, with the answer of the first
-    // sending with which its own is compared, and with the number that is kept of its counter.
+    // sending with which its own is compared, with the number that is kept of its counter, and with the values of files by the moment read
+    // last.
     fn mark_sent(&self, plan: &Plan, commands: &[Task]) -> Mark
-        ensures { result ≡ with_id self.now.client.ids.next (with_before self.now.recorded.counts (with_first self.now.recorded.firsts (mark_next plan.now commands.now self.now.progress))) }
+        ensures { result ≡ with_values self.now.progress.moment.values (with_id self.now.client.ids.next (with_before self.now.recorded.counts
+            (with_first self.now.recorded.firsts (mark_next plan.now commands.now self.now.progress)))) }
     {
         let mut mark = self.mark(plan, commands);
         mark.id = self.client.next_id();
         mark.expected.first = self.recorded.firsts.answer_for(mark.cycle, &mark.expected);
         mark.expected.before = self.recorded.counts.at(mark.expected.counter);
+        mark.expected.values = self.progress.moment.values;
         mark
     }
 
@@ -240,6 +263,7 @@ impl Station {
         Upcoming {
             is_chained: self.is_chained_after(count, commands),
             others: self.others_after(count, commands),
+            needs: needs_at(commands, self.place(commands).saturating_add(count)),
         }
     }
 
@@ -310,7 +334,8 @@ impl Station {
     {
         if let Some(moment) = self.read_moment(link) {
             let count = commands.len().saturating_sub(plan.setup);
-            self.progress.begin_cycle(plan, count, moment);
+            let needs = needs_at(commands, plan.setup);
+            self.progress.begin_cycle(plan, count, needs, moment);
         }
     }
 

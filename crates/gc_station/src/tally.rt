@@ -69,7 +69,7 @@ impl Tally {
             Ending::Unexpected(_) => self.unexpected = self.unexpected.saturating_add(1),
             Ending::Late => self.late = self.late.saturating_add(1),
             Ending::Lost => self.lost = self.lost.saturating_add(1),
-            Ending::Skipped => self.skipped = self.skipped.saturating_add(1),
+            Ending::Skipped | Ending::NoValue => self.skipped = self.skipped.saturating_add(1),
             Ending::Missed => self.missed = self.missed.saturating_add(1),
         }
     }

@@ -1,21 +1,25 @@
 //! Writing settlements into a book, and counting them.
 
-ghost use Rattle.std.specs.Prelude.{◌≡◌, [], ◌∷◌, length, drop, map, option_map, OnOk};
+ghost use Rattle.std.specs.Prelude.{◌≡◌, [], ◌∷◌, length, drop, map, option_map, unwrap_or, OnOk};
 ghost use Rattle.gc_catalogue.specs.declared.asked.Asked.{Asked};
 ghost use Rattle.gc_catalogue.specs.Asked.{IsAskedReading};
-ghost use Rattle.gc_client.specs.Settlements.{settlement_seen, outcome_seen, IsReadBy, AreReadBy};
-ghost use Rattle.gc_station.specs.Attempts.{code_of, listed_after};
-ghost use Rattle.gc_station.specs.Marks.{first_mark, agrees_in, quality_in, agreed_as, answered_as, value_as, refused_as, end_of, is_well, ended_confirmed, unexpected_noted};
+ghost use Rattle.gc_client.specs.Settlements.{settlement_seen, outcome_seen, IsReadBy, AreReadBy, ReadsBy};
+ghost use Rattle.gc_lines.specs.Replies.{ReplyFields, IsReply};
+ghost use Rattle.gc_station.specs.Attempts.{code_in, code_of, listed_after};
+ghost use Rattle.gc_station.specs.Marks.{first_mark, agrees_in, quality_in, agreed_as, answer_as, answered_as, value_as, refused_as, end_of, is_well, ended_confirmed, unexpected_noted};
 ghost use Rattle.gc_station.specs.Model.{ends_with_table};
-ghost use Rattle.gc_station.specs.Zeros.{IsZeroOf};
+ghost use Rattle.gc_station.specs.Zeros.{IsByForm, IsZeroOf};
+ghost use Rattle.gc_station.specs.Saying.{IsSaid};
 ghost use Rattle.gc_station.specs.Scopes.{AreReadings, Reads};
 ghost use Rattle.gc_texts.specs.Codes.{lists_code};
 ghost use Rattle.gc_texts.specs.Endings.{ending_seen};
 ghost use Rattle.gc_texts.specs.Nears.{is_elsewhere};
+ghost use Rattle.gc_texts.specs.Zeroed.{as_zero};
 ghost use Rattle.gc_station.specs.Records.{WritesNews};
 ghost use Rattle.gc_station.specs.Writing.{KeepsBook, news_of, NotesNews};
 
 use crate::book::Book;
+use crate::described::{line_reading, line_reading_as_zero};
 use crate::mark::Mark;
 use crate::recorded::Recorded;
 use arrayvec::ArrayVec;
@@ -24,7 +28,8 @@ use gc_client::{Outcome, Settlement, WINDOW};
 use gc_lines::{Line, PortFailed};
 use gc_links::Moment;
 use gc_texts::{
-    Ending, Expected, Quality, Stamp, Twice, Wish, agrees, is_elsewhere, meets, reading_as_zero,
+    Ending, Expected, Form, Quality, Stamp, Twice, Wish, agrees, is_elsewhere, meets,
+    reading_as_zero,
 };
 
 // Removes the mark of the oldest outstanding request, and returns it. `None`: that request is a null procedure, or none is
@@ -135,32 +140,80 @@ fn refused_ending<'a>(
     }
 }
 
-// What the line of a reply with a return code other than 0 would say with return code 0. For any other outcome: `Refused(0)`.
-fn zero_of(call: &Asked, outcome: &Outcome) -> Reading
-    ensures { IsZeroOf call.now outcome.now result }
+// What the line of a reply with a return code other than 0 would say with return code 0, by this form if there is one.
+fn line_as_zero(form: &Option<Form>, call: &Asked, line: &Line) -> Reading
+    ensures { (r : ReplyFields) → IsReply line.now.items r → ReadsBy (IsSaid form.now) call.now (as_zero line.now.items) result }
+{
+    match form {
+        Some(form) => line_reading_as_zero(form, line),
+        None => reading_as_zero(call, line),
+    }
+}
+
+// What the line of a reply with a return code other than 0 would say with return code 0, by this form if there is one. For any other
+// outcome: `Refused(0)`.
+fn zero_of(form: &Option<Form>, call: &Asked, outcome: &Outcome) -> Reading
+    ensures { IsZeroOf form.now call.now outcome.now result }
 {
     match outcome {
-        Outcome::Answered(Reading::Refused(_), line) => reading_as_zero(call, line),
+        Outcome::Answered(Reading::Refused(_), line) => line_as_zero(form, call, line),
         _ => Reading::Refused(0),
     }
 }
 
-// The ending of a command whose request had this outcome. `expected` is what the text says of its answer, and `zero` what the line
-// of its reply would say with return code 0, as `zero_of` returns it.
-fn ending_of<'a>(expected: &Expected, zero: &'a Reading, outcome: &'a Outcome) -> Ending<'a>
+// What the line of a reply says by this form. `None`: there is no form, or the request had another outcome.
+fn read_by(form: &Option<Form>, outcome: &Outcome) -> Option<Reading>
+    ensures { IsByForm form.now outcome.now result }
+{
+    match (form, outcome) {
+        (Some(form), Outcome::Answered(_, line)) => Some(line_reading(form, line)),
+        _ => None,
+    }
+}
+
+// What a reply says: by a form, if it was read by one, and otherwise as it was read of its call.
+fn said_by<'a>(by_form: &'a Option<Reading>, reading: &'a Reading) -> &'a Reading
+    ensures { result.now ≡ unwrap_or by_form.now reading.now }
+{
+    match by_form {
+        Some(said) => said,
+        None => reading,
+    }
+}
+
+// The ending of a command whose reply, this line, says `said`, and would say `zero` with return code 0, which only matters if it says a
+// return code.
+fn answer_ending<'a>(
+    expected: &Expected,
+    said: &'a Reading,
+    zero: &'a Reading,
+    line: &'a Line,
+) -> Ending<'a>
+    ensures { ending_seen result ≡ answer_as expected.now said.now zero.now line.now.items }
+{
+    match said {
+        Reading::Unreadable(fault) => Ending::Unreadable(line, *fault),
+        Reading::Value(answer) => value_ending(expected, Quality::Fine, answer, line),
+        Reading::Refused(code) => refused_ending(expected, *code, zero, line),
+        Reading::ComFault(_) => Ending::Answered(Quality::Refused, None, line),
+    }
+}
+
+// The ending of a command whose request had this outcome. `expected` is what the text says of its answer, `by_form` what the line of its
+// reply says by its form, as `read_by` returns it, and `zero` what the line would say with return code 0, as `zero_of` returns it.
+fn ending_of<'a>(
+    expected: &Expected,
+    by_form: &'a Option<Reading>,
+    zero: &'a Reading,
+    outcome: &'a Outcome,
+) -> Ending<'a>
     ensures { (reads : Reads) (call : Asked) → AreReadings reads → IsReadBy IsAskedReading call outcome.now
-        → IsZeroOf call outcome.now zero.now → ending_seen result ≡ end_of reads expected.now call (outcome_seen outcome.now) }
+        → IsByForm expected.now.form outcome.now by_form.now → IsZeroOf expected.now.form call outcome.now zero.now
+        → ending_seen result ≡ end_of reads expected.now call (outcome_seen outcome.now) }
 {
     match outcome {
-        Outcome::Answered(Reading::Unreadable(fault), line) => Ending::Unreadable(line, *fault),
-        Outcome::Answered(Reading::Value(answer), line) => {
-            value_ending(expected, Quality::Fine, answer, line)
-        }
-        Outcome::Answered(Reading::Refused(code), line) => {
-            refused_ending(expected, *code, zero, line)
-        }
-        Outcome::Answered(Reading::ComFault(_), line) => {
-            Ending::Answered(Quality::Refused, None, line)
+        Outcome::Answered(reading, line) => {
+            answer_ending(expected, said_by(by_form, reading), zero, line)
         }
         Outcome::Late => Ending::Late,
         Outcome::Lost => Ending::Lost,
@@ -198,6 +251,16 @@ pub(crate) fn is_unexpected_after(was: bool, ending: Ending<'_>) -> bool
     }
 }
 
+// The return code other than 0 that a reading has. `None`: it isn't `Refused`.
+fn code_in(reading: &Reading) -> Option<u16>
+    ensures { result ≡ code_in reading.now }
+{
+    match reading {
+        Reading::Refused(code) => Some(*code),
+        _ => None,
+    }
+}
+
 // The return code other than 0 of the reply that ended a request in time. `None`: no such reply came, or its return code is 0, or
 // its communication code isn't.
 fn code_of(outcome: &Outcome) -> Option<u16>
@@ -205,10 +268,8 @@ fn code_of(outcome: &Outcome) -> Option<u16>
         → result ≡ code_of reads call (outcome_seen outcome.now) }
 {
     match outcome {
-        Outcome::Answered(Reading::Refused(code), _) => Some(*code),
-        Outcome::Answered(..) => None,
-        Outcome::Late => None,
-        Outcome::Lost => None,
+        Outcome::Answered(reading, _) => code_in(reading),
+        Outcome::Late | Outcome::Lost => None,
     }
 }
 
@@ -255,8 +316,10 @@ fn write_settlement<B: Book>(
         target: settlement.target,
         call: settlement.call,
     };
-    let zero = zero_of(&settlement.call, &settlement.outcome);
-    let ending = ending_of(&mark.expected, &zero, &settlement.outcome);
+    let form = &mark.expected.form;
+    let by_form = read_by(form, &settlement.outcome);
+    let zero = zero_of(form, &settlement.call, &settlement.outcome);
+    let ending = ending_of(&mark.expected, &by_form, &zero, &settlement.outcome);
     if let Err(failed) = book.write(stamp, &command, ending) {
         return Err(failed);
     }

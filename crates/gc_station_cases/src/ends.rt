@@ -115,6 +115,7 @@ impl Book for WordBook {
             Ending::Late => note(&mut self.text, b"l"),
             Ending::Lost => note(&mut self.text, b"x"),
             Ending::Skipped => note(&mut self.text, b"s"),
+            Ending::NoValue => note(&mut self.text, b"v"),
             Ending::Missed => note(&mut self.text, b"m"),
         }
         self.note_sent(stamp.sent);

@@ -7,6 +7,7 @@ use crate::setting::Setting;
 use arrayvec::ArrayVec;
 use gc_lines::PortFailed;
 use gc_links::{Came, Link, Moment};
+use gc_values::{FileValues, filled_up, no_values};
 
 /// What a read comes to, this many milliseconds after it began.
 #[derive(Clone, Copy)]
@@ -191,6 +192,18 @@ impl<'a> Script<'a> {
         attempt < self.setting.failing_opens
     }
 
+    // The values of files now.
+    fn values(&self) -> FileValues {
+        let mut values = no_values();
+        let are_gone = self.setting.gone <= self.clock && self.clock < self.setting.back;
+        for (k, value) in values.iter_mut().enumerate() {
+            if k < self.setting.values && !are_gone {
+                *value = filled_up(b"20.5");
+            }
+        }
+        values
+    }
+
     // Lets `later` milliseconds pass, and returns the moment then.
     fn moment_after(&mut self, later: u64) -> Moment {
         self.clock = self.clock.saturating_add(later);
@@ -201,6 +214,7 @@ impl<'a> Script<'a> {
                 .saturating_add(TIME_AT_START)
                 .saturating_add(self.setting.ahead),
             stops: self.setting.until <= self.clock,
+            values: self.values(),
         }
     }
 

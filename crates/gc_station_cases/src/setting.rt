@@ -40,6 +40,12 @@ pub struct Setting {
     pub stamped: bool,
     /// Whether the counts of a run are reported, if it ends without a fault, and over a link without a log.
     pub counted: bool,
+    /// How many of the text's values of files are there: each is 20.5. The ones after these never are.
+    pub values: usize,
+    /// From when on none of them is there, in milliseconds since the start.
+    pub gone: u64,
+    /// From when on all are there again, in milliseconds since the start.
+    pub back: u64,
 }
 
 impl Setting {
@@ -74,6 +80,9 @@ impl Setting {
             timed: false,
             stamped: false,
             counted: false,
+            values: 0,
+            gone: u64::MAX,
+            back: u64::MAX,
         }
     }
 
@@ -137,6 +146,9 @@ impl Setting {
             "blind" => self.blind = value > 0,
             "timed" => self.timed = value > 0,
             "counted" => self.counted = value > 0,
+            "values" => self.values = value as usize,
+            "gone" => self.gone = value,
+            "back" => self.back = value,
             _ => return false,
         }
         true

@@ -12,7 +12,7 @@
 //!     ends 10a 11w[0:1283]2.25    the last digits of cycle and place and a letter for each record: answered, a warning,
 //!                                 answered in a first sending and unconfirmed (f), unreadable, elsewhere, disagree and unexpected (n;
 //!                                 each with what its reply says after it: the communication code and the return code in brackets,
-//!                                 unless both are 0, and the values), late, lost (x), skipped or
+//!                                 unless both are 0, and the values), late, lost (x), skipped, without a value of a file (v) or
 //!                                 missed; where `with` says `stamped`, `@` and the moment at which its request was sent, in
 //!                                 milliseconds since 1970, if it was; the last digit of a cycle that overran, with `!`; and that of the
 //!                                 place of the command by which the run is stale, with `?`; and for each stray that can't repeat

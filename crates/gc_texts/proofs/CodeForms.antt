@@ -1,13 +1,13 @@
 -- Which texts are lists of return codes, and of which. A listed code is a word, a number from 1 to 65535, and codes have one
--- space (byte 32) between two. A line `accept` with no code after it sets none; a line `accept ` with a list after it sets
+-- space (byte 32) between two. A line `accept` or `busy` with no code after it sets none; one with a list after it sets
 -- those. While a list is read, `left` is what is unread of the text (`None` at its end), `read` the codes so far, and
 -- `count` how many they are; `rest` is what is left after the next word.
-use Rattle.std.proofs.Common.{◌≡◌, ◌<◌, ◌≤◌, ◌+◌, ◌-◌, inl, inr, ℕ, suc, replicate, slice_set, List, [], ◌∷◌, ◌++◌, length, get_or, Option, Some, None, arith, ap, subst, sym, ◌∙◌, append_assoc, append-nil, codes}
+use Rattle.std.proofs.Common.{◌≡◌, ◌⊎◌, ◌<◌, ◌≤◌, ◌+◌, ◌-◌, inl, inr, ℕ, suc, replicate, slice_set, List, [], ◌∷◌, ◌++◌, length, get_or, Option, Some, None, arith, ap, subst, sym, ◌∙◌, append_assoc, append-nil, codes}
 use Rattle.std.proofs.Math.Seq.{set-append_seam}
 use Rattle.std.proofs.lemmas.List.{length_push}
-use Rattle.gc_texts.specs.Codes.{IsCodeList, IsCode, padded_codes}
+use Rattle.gc_texts.specs.Codes.{IsCodeList, IsCode, no_codes, padded_codes}
 use Rattle.gc_texts.specs.Cuts.{Cuts, Lacks}
-use Rattle.gc_texts.specs.TaskLines.{SetsAccepted}
+use Rattle.gc_texts.specs.TaskLines.{IsWordAnd, SetsAccepted, SetsBusy}
 use Rattle.gc_texts.specs.declared.codes.Codes.{Codes}
 use Rattle.gc_texts.specs.LineForms.{IsReadAs}
 use Rattle.gc_texts.specs.Words.{AreWords}
@@ -32,29 +32,53 @@ one_code_list : (text : List ℕ) (a b : Codes) → IsCodeList text a → IsCode
 one_code_list text a b x y =
     ap (λ cs. record { codes = cs }) (x.filled_are ∙ ap padded_codes (one_word_list IsCode code_form x.listed y.listed text x.are y.are) ∙ sym y.filled_are)
 
--- a line isn't both the word `accept` alone and `accept ` with a text after it
-accept_alone_has_no_rest : (line rest : List ℕ) → line ≡ codes "accept" → line ≡ codes "accept " ++ rest → ⊥
-accept_alone_has_no_rest line rest e f =
-    let seventh : ◌≡◌ {A = ℕ} 0 32 = ap (λ bs. get_or bs 6 0) (sym e ∙ f) in
-    omega (arith, seventh)
+-- a line that sets codes has a word alone (`alone`), which sets none, or that word and a space (`spaced`) and a list of the codes. No line
+-- has both
+module _ (alone spaced : List ℕ) (differ : (rest : List ℕ) → alone ≡ spaced ++ rest → ⊥) where
+  -- a line sets these codes
+  abbrev Sets : List ℕ → Codes → Type 0
+  Sets line cs = ((line ≡ alone) × (cs ≡ no_codes)) ⊎ IsWordAnd spaced (λ rest. IsCodeList rest cs) line
+
+  -- a line sets codes in one way at most
+  one_setting : (line : List ℕ) (a b : Codes) → Sets line a → Sets line b → a ≡ b
+  one_setting line a b (inl x) (inl y) = x.1 ∙ sym y.1
+  one_setting line a b (inl x) (inr y) = absurd (differ y.rest (sym x.0 ∙ y.line_is))
+  one_setting line a b (inr x) (inl y) = absurd (differ x.rest (sym y.0 ∙ x.line_is))
+  one_setting line a b (inr x) (inr y) = one_code_list y.rest a b (holds_of_rest spaced (λ r. IsCodeList r a) line y.rest y.line_is x) y.is
+
+  -- if a line is `spaced` and `rest`, but not `alone`, the codes that are read of `rest`, or `None`, are also read of the line (`IsReadAs`)
+  setting_of_rest : (line rest : List ℕ) (r : Option Codes) → (line ≡ alone → ⊥) → line ≡ spaced ++ rest → IsReadAs (IsCodeList rest) r → IsReadAs (Sets line) r
+  setting_of_rest line rest r other e = read_alike (IsCodeList rest) (Sets line) r (λ found are. inr (record { rest = rest; line_is = e; is = are })) rest_lists where
+    -- `rest` lists the codes that the line sets, because the line isn't `alone`
+    rest_lists : (found : Codes) → Sets line found → IsCodeList rest found
+    rest_lists found (inl none) = absurd (other none.0)
+    rest_lists found (inr is) = holds_of_rest spaced (λ t. IsCodeList t found) line rest e is
+
+-- `accept` isn't `accept ` with a text after it
+accept_has_no_rest : (rest : List ℕ) → codes "accept" ≡ codes "accept " ++ rest → ⊥
+accept_has_no_rest rest e = let seventh : ◌≡◌ {A = ℕ} 0 32 = ap (λ bs. get_or bs 6 0) e in omega (arith, seventh)
+
+-- `busy` isn't `busy ` with a text after it
+busy_has_no_rest : (rest : List ℕ) → codes "busy" ≡ codes "busy " ++ rest → ⊥
+busy_has_no_rest rest e = let fifth : ◌≡◌ {A = ℕ} 0 32 = ap (λ bs. get_or bs 4 0) e in omega (arith, fifth)
 
 -- a line sets the accepted codes in one way at most
 pub one_accepting : (line : List ℕ) (a b : Codes) → SetsAccepted line a → SetsAccepted line b → a ≡ b
-one_accepting line a b (inl x) (inl y) = x.1 ∙ sym y.1
-one_accepting line a b (inl x) (inr y) = absurd (accept_alone_has_no_rest line y.rest x.0 y.line_is)
-one_accepting line a b (inr x) (inl y) = absurd (accept_alone_has_no_rest line x.rest y.0 x.line_is)
-one_accepting line a b (inr x) (inr y) =
-    one_code_list y.rest a b (holds_of_rest (codes "accept ") (λ r. IsCodeList r a) line y.rest y.line_is x) y.is
+one_accepting = one_setting (codes "accept") (codes "accept ") accept_has_no_rest
 
--- if a line is `accept ` and `rest`, but not `accept` alone, the codes that are read of `rest`, or `None`, are also read of the
--- line (`IsReadAs`)
+-- a line sets the codes that say busy in one way at most
+pub one_busy : (line : List ℕ) (a b : Codes) → SetsBusy line a → SetsBusy line b → a ≡ b
+one_busy = one_setting (codes "busy") (codes "busy ") busy_has_no_rest
+
+-- if a line is `accept ` and `rest`, but not `accept` alone, the codes that are read of `rest`, or `None`, are also read of the line
 pub codes_of_rest : (line rest : List ℕ) (r : Option Codes) → (line ≡ codes "accept" → ⊥) → line ≡ codes "accept " ++ rest
     → IsReadAs (IsCodeList rest) r → IsReadAs (SetsAccepted line) r
-codes_of_rest line rest r other e = read_alike (IsCodeList rest) (SetsAccepted line) r (λ found are. inr (record { rest = rest; line_is = e; is = are })) rest_lists where
-  -- `rest` lists the codes that the line sets, because the line isn't `accept` alone
-  rest_lists : (found : Codes) → SetsAccepted line found → IsCodeList rest found
-  rest_lists found (inl alone) = absurd (other alone.0)
-  rest_lists found (inr is) = holds_of_rest (codes "accept ") (λ t. IsCodeList t found) line rest e is
+codes_of_rest = setting_of_rest (codes "accept") (codes "accept ") accept_has_no_rest
+
+-- if a line is `busy ` and `rest`, but not `busy` alone, the codes that are read of `rest`, or `None`, are also read of the line
+pub busy_of_rest : (line rest : List ℕ) (r : Option Codes) → (line ≡ codes "busy" → ⊥) → line ≡ codes "busy " ++ rest
+    → IsReadAs (IsCodeList rest) r → IsReadAs (SetsBusy line) r
+busy_of_rest = setting_of_rest (codes "busy") (codes "busy ") busy_has_no_rest
 
 -- How far the reading has come.
 

@@ -1,5 +1,5 @@
 -- Descriptions read back, and parameters of described procedures are checked as those of the table's.
-use Rattle.std.proofs.Common.{◌≡◌, ℕ, Bool, true, false, ◌&&◌, nat_lt, List, [], ◌∷◌, ◌++◌, length, arith, refl, ap, subst, sym, ◌∙◌, codes}
+use Rattle.std.proofs.Common.{◌≡◌, ℕ, Bool, true, false, ◌&&◌, nat_lt, List, [], ◌∷◌, ◌++◌, length, map, arith, refl, ap, subst, sym, ◌∙◌, codes}
 use Rattle.std.specs.List.{AllByRecursion, list_all}
 use Rattle.std.proofs.lemmas.Bool.{and_parts}
 use Rattle.gc_values.specs.Lists.{AreItems, AreParams, IsListFault, kinds_of}
@@ -10,12 +10,15 @@ use Rattle.gc_values.specs.declared.value.Kind.TheVariants as kind
 use Rattle.gc_values.specs.declared.value.Value.{Value}
 use Rattle.gc_texts.specs.Cuts.{Lacks}
 use Rattle.gc_texts.specs.DescribedLaws.{AreCheckedAsTheTables, ColumnExamples, DescriptionsReadBack, OneDescription, closed_kinds, spaced}
-use Rattle.gc_texts.specs.Descriptions.{DescriptionSeen, last_word}
-use Rattle.gc_texts.specs.Fields.{FieldSeen, HaveNames, field_words, is_field_name, is_name_byte, is_small_letter, kind_word}
+use Rattle.gc_lines.proofs.Lists.{cons_head, cons_tail}
+use Rattle.gc_texts.specs.Descriptions.{DescriptionSeen, description_seen, last_word}
+use Rattle.gc_texts.specs.Fields.{FieldSeen, HaveNames, field_seen, field_words, is_field_name, is_name_byte, is_small_letter, kind_word}
 use Rattle.gc_texts.specs.KindLists.{AreOfKinds, BeginAs, IsKindsFault}
 use Rattle.gc_texts.specs.KindLists as lists_of_kinds
 use Rattle.gc_texts.specs.Procedures.{IsRpc}
 use Rattle.gc_texts.specs.WordLists.{words_of}
+use Rattle.gc_texts.specs.declared.description.Description.{Description}
+use Rattle.gc_texts.specs.declared.field.Field.{Field}
 use Rattle.gc_texts.specs.declared.field.Stop.TheVariants.{Arrow}
 use Rattle.gc_texts.proofs.Cutting.{digits_lack_spaces, lacks_by_test}
 use Rattle.gc_texts.proofs.DescriptionForms.{end_of, end_words}
@@ -137,6 +140,30 @@ one_description text a b x y =
     let mores : a.more ≡ b.more = one_last_word a.more b.more (sym (end_words a.more) ∙ values.1 ∙ end_words b.more) in
     let rpcs : a.rpc ≡ b.rpc = one_number y.number a.rpc b.rpc 65535 (subst (λ (w : List ℕ). IsRpc w a.rpc) numbers x.number_is) y.number_is in
     same_description a b rpcs params.0 values.0 mores
+
+-- what is seen of a description shows all of it
+same_field : (f g : Field) → field_seen f ≡ field_seen g → f ≡ g
+same_field f g e =
+    let names : f.name.items ≡ g.name.items = ap (λ (s : FieldSeen). s.name) e in
+    let kinds : f.kind ≡ g.kind = ap (λ (s : FieldSeen). s.kind) e in
+    λ i. record { name = record { items = names i }; kind = kinds i }
+
+same_field_lists : (fs gs : List Field) → map field_seen fs ≡ map field_seen gs → fs ≡ gs
+same_field_lists [] [] e = refl
+same_field_lists [] (g ∷ gs) e = absurd (cc)
+same_field_lists (f ∷ fs) [] e = absurd (cc)
+same_field_lists (f ∷ fs) (g ∷ gs) e =
+    let first = same_field f g (cons_head (field_seen f) (field_seen g) (map field_seen fs) (map field_seen gs) e) in
+    let others = same_field_lists fs gs (cons_tail (field_seen f) (field_seen g) (map field_seen fs) (map field_seen gs) e) in
+    ap (λ h. h ∷ fs) first ∙ ap (λ hs. g ∷ hs) others
+
+pub same_described : (d e : Description) → description_seen d ≡ description_seen e → d ≡ e
+same_described d e same =
+    let rpcs : d.rpc ≡ e.rpc = ap (λ (s : DescriptionSeen). s.rpc) same in
+    let params : d.params.items ≡ e.params.items = same_field_lists d.params.items e.params.items (ap (λ (s : DescriptionSeen). s.params) same) in
+    let values : d.values.items ≡ e.values.items = same_field_lists d.values.items e.values.items (ap (λ (s : DescriptionSeen). s.values) same) in
+    let mores : d.more ≡ e.more = ap (λ (s : DescriptionSeen). s.more) same in
+    λ i. record { rpc = rpcs i; params = record { items = params i }; values = record { items = values i }; more = mores i }
 
 -- Worked examples.
 

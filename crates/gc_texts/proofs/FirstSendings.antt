@@ -10,6 +10,7 @@ use Rattle.gc_texts.specs.Retries.{no_retry}
 use Rattle.gc_texts.specs.Sendings.{sent_as, sent_from, sendings}
 use Rattle.gc_texts.specs.SentTwice.{FollowsInChain, AreBothSendings, HasFirstSending, SecondsFollowTheirFirsts}
 use Rattle.gc_texts.specs.Tasks.{first_mode, mode_after, task_at, setup_of, planned_of, placed}
+use Rattle.gc_texts.specs.declared.description.Description.{Description}
 use Rattle.gc_texts.specs.declared.again.Again.{Again}
 use Rattle.gc_texts.specs.declared.agree.Agree.{Agree}
 use Rattle.gc_texts.specs.declared.agree.Twice.{Twice}
@@ -104,10 +105,10 @@ behind_each n nth [] below all = tt
 behind_each n nth (t ∷ tasks) below all = let far = all.0.behind in (record { chained = all.0.chained; behind = omega (arith, below, far) }, behind_each n nth tasks below all.1)
 
 -- tasks with the places of their targets, in attempt number `attempt` of a chain of n commands, whose number isn't 0
-module _ (nears : List Near) (unwatched : List ℕ) (attempt : ℕ) (again : Again) (commands n : ℕ) (agree : Agree) (some : 0 < attempt) where
+module _ (nears : List Near) (unwatched : List ℕ) (described : List Description) (attempt : ℕ) (again : Again) (commands n : ℕ) (agree : Agree) (some : 0 < attempt) where
   -- the task of a command
   abbrev made : Task → Task
-  made t = placed nears unwatched (in_attempt attempt again commands t)
+  made t = placed nears unwatched described (in_attempt attempt again commands t)
 
   -- the tasks of the first sending from place `nth` on
   abbrev firsts : (nth : ℕ) → List Task → List Task
@@ -180,64 +181,64 @@ abbrev AreOnce : List Task → Type 0
 AreOnce tasks = AllByRecursion (λ task. task.twice ≡ twice.Once) tasks
 
 -- tasks with the places `nears` of their targets
-module _ (nears : List Near) (unwatched : List ℕ) where
+module _ (nears : List Near) (unwatched : List ℕ) (described : List Description) where
   -- none of the tasks of one attempt of commands that are sent once is in a second sending
   once_no_seconds : (attempt : ℕ) (again : Again) (commands : ℕ) (tasks : List Task) → AreOnce tasks
-      → AllByRecursion IsNoSecond (map (placed nears unwatched) (map (in_attempt attempt again commands) tasks))
+      → AllByRecursion IsNoSecond (map (placed nears unwatched described) (map (in_attempt attempt again commands) tasks))
   once_no_seconds attempt again commands [] all = tt
   once_no_seconds attempt again commands (t ∷ tasks) all =
       ((λ a k is. let bad : twice.Once ≡ twice.Second a k = sym all.0 ∙ is in cc), once_no_seconds attempt again commands tasks all.1)
 
   -- none of these commands, which are sent once, is in a second sending
-  once_are_no_seconds : (tasks : List Task) → AreOnce tasks → AllByRecursion IsNoSecond (map (placed nears unwatched) tasks)
+  once_are_no_seconds : (tasks : List Task) → AreOnce tasks → AllByRecursion IsNoSecond (map (placed nears unwatched described) tasks)
   once_are_no_seconds [] all = tt
   once_are_no_seconds (t ∷ tasks) all = ((λ a k is. let bad : twice.Once ≡ twice.Second a k = sym all.0 ∙ is in cc), once_are_no_seconds tasks all.1)
 
   -- the tasks of one attempt of a chain
   attempt_follows : (attempt : ℕ) (again : Again) (commands : ℕ) (agree : Option Agree) (first : Task) (chain : List Task) → 0 < attempt
       → AllByRecursion (λ task. task.chained ≡ true) chain → AreOnce (first ∷ chain)
-      → Follow [] (map (placed nears unwatched) (map (in_attempt attempt again commands) (sendings agree (first ∷ chain))))
+      → Follow [] (map (placed nears unwatched described) (map (in_attempt attempt again commands) (sendings agree (first ∷ chain))))
   attempt_follows attempt again commands None first chain some chained once =
-      follow_without [] (map (placed nears unwatched) (map (in_attempt attempt again commands) (first ∷ chain))) (once_no_seconds attempt again commands (first ∷ chain) once)
+      follow_without [] (map (placed nears unwatched described) (map (in_attempt attempt again commands) (first ∷ chain))) (once_no_seconds attempt again commands (first ∷ chain) once)
   attempt_follows attempt again commands (Some agree) first chain some chained once =
       let n = length (first ∷ chain) in
       let one = sent_from First n 0 (first ∷ chain) in
       let other = sent_from (Second agree) n 0 (first ∷ chain) in
       subst (Follow [])
-      (sym (ap (map (placed nears unwatched)) (map-append (in_attempt attempt again commands) one other)
-      ∙ map-append (placed nears unwatched) (map (in_attempt attempt again commands) one) (map (in_attempt attempt again commands) other)
+      (sym (ap (map (placed nears unwatched described)) (map-append (in_attempt attempt again commands) one other)
+      ∙ map-append (placed nears unwatched described) (map (in_attempt attempt again commands) one) (map (in_attempt attempt again commands) other)
       ∙ twice_mapped one other))
-      (both_follow nears unwatched attempt again commands n agree some (first ∷ chain) refl chained) where
+      (both_follow nears unwatched described attempt again commands n agree some (first ∷ chain) refl chained) where
         -- to make the task of each command in an attempt, and to place it, is to do both at once
-        mapped : (tasks : List Task) → map (placed nears unwatched) (map (in_attempt attempt again commands) tasks) ≡ map (λ t. placed nears unwatched (in_attempt attempt again commands t)) tasks
+        mapped : (tasks : List Task) → map (placed nears unwatched described) (map (in_attempt attempt again commands) tasks) ≡ map (λ t. placed nears unwatched described (in_attempt attempt again commands t)) tasks
         mapped [] = refl
-        mapped (t ∷ tasks) = ap (λ ts. placed nears unwatched (in_attempt attempt again commands t) ∷ ts) (mapped tasks)
+        mapped (t ∷ tasks) = ap (λ ts. placed nears unwatched described (in_attempt attempt again commands t) ∷ ts) (mapped tasks)
 
         -- the same of two lists
         twice_mapped : (one other : List Task)
-            → map (placed nears unwatched) (map (in_attempt attempt again commands) one) ++ map (placed nears unwatched) (map (in_attempt attempt again commands) other)
-            ≡ map (λ t. placed nears unwatched (in_attempt attempt again commands t)) one ++ map (λ t. placed nears unwatched (in_attempt attempt again commands t)) other
+            → map (placed nears unwatched described) (map (in_attempt attempt again commands) one) ++ map (placed nears unwatched described) (map (in_attempt attempt again commands) other)
+            ≡ map (λ t. placed nears unwatched described (in_attempt attempt again commands t)) one ++ map (λ t. placed nears unwatched described (in_attempt attempt again commands t)) other
         twice_mapped one other =
-            ap (λ ts. ts ++ map (placed nears unwatched) (map (in_attempt attempt again commands) other)) (mapped one)
-            ∙ ap (λ ts. map (λ t. placed nears unwatched (in_attempt attempt again commands t)) one ++ ts) (mapped other)
+            ap (λ ts. ts ++ map (placed nears unwatched described) (map (in_attempt attempt again commands) other)) (mapped one)
+            ∙ ap (λ ts. map (λ t. placed nears unwatched described (in_attempt attempt again commands t)) one ++ ts) (mapped other)
 
   -- the tasks of a chain's attempts from number `attempt` on
   attempts_follow : (attempt left : ℕ) (again : Again) (agree : Option Agree) (first : Task) (chain : List Task) → 0 < attempt
       → AllByRecursion (λ task. task.chained ≡ true) chain → AreOnce (first ∷ chain)
-      → Follow [] (map (placed nears unwatched) (attempts_from attempt left again (sendings agree (first ∷ chain))))
+      → Follow [] (map (placed nears unwatched described) (attempts_from attempt left again (sendings agree (first ∷ chain))))
   attempts_follow attempt zero again agree first chain some chained once =
       attempt_follows attempt no_again (length (sendings agree (first ∷ chain))) agree first chain some chained once
   attempts_follow attempt (suc left) again agree first chain some chained once =
       let sent = sendings agree (first ∷ chain) in
       let commands = length sent * suc (suc left) in
-      subst (Follow []) (sym (map-append (placed nears unwatched) (map (in_attempt attempt again commands) sent) (attempts_from (attempt + 1) left again sent)))
-      (follow_apart (map (placed nears unwatched) (map (in_attempt attempt again commands) sent)) (map (placed nears unwatched) (attempts_from (attempt + 1) left again sent))
+      subst (Follow []) (sym (map-append (placed nears unwatched described) (map (in_attempt attempt again commands) sent) (attempts_from (attempt + 1) left again sent)))
+      (follow_apart (map (placed nears unwatched described) (map (in_attempt attempt again commands) sent)) (map (placed nears unwatched described) (attempts_from (attempt + 1) left again sent))
       (attempt_follows attempt again commands agree first chain some chained once) (attempts_follow (attempt + 1) left again agree first chain (omega arith) chained once))
 
   -- the tasks of a chain that was begun, and of the chains after it
   laid_follow : (retry : Retry) (agree : Option Agree) (first : Planned) (chain later : List Planned)
       → AllByRecursion (λ task. task.chained ≡ true) (tasks_planned chain) → AreOnce (tasks_planned (first ∷ chain)) → AreOnce (tasks_planned later)
-      → Follow [] (map (placed nears unwatched) (laid_from retry agree (first ∷ chain) later))
+      → Follow [] (map (placed nears unwatched described) (laid_from retry agree (first ∷ chain) later))
   laid_follow retry agree first chain [] chained once rest =
       attempts_follow 1 retry.times retry.again agree first.task (tasks_planned chain) (omega arith) chained once
   laid_follow retry agree first chain (p ∷ later) chained once rest =
@@ -253,35 +254,35 @@ module _ (nears : List Near) (unwatched : List ℕ) where
 
         -- the lemma above for `p ∷ later`, by whether `p` goes on with the chain (`b`)
         by_chained : (b : Bool) → p.task.chained ≡ b
-            → (p.task.chained ≡ true → Follow [] (map (placed nears unwatched) (laid_from retry agree (first ∷ (chain ++ p ∷ [])) later)))
-            → Follow [] (map (placed nears unwatched) (laid_from p.retry p.agree (p ∷ []) later))
-            → Follow [] (map (placed nears unwatched) (if b then laid_from retry agree ((first ∷ chain) ++ p ∷ []) later
+            → (p.task.chained ≡ true → Follow [] (map (placed nears unwatched described) (laid_from retry agree (first ∷ (chain ++ p ∷ [])) later)))
+            → Follow [] (map (placed nears unwatched described) (laid_from p.retry p.agree (p ∷ []) later))
+            → Follow [] (map (placed nears unwatched described) (if b then laid_from retry agree ((first ∷ chain) ++ p ∷ []) later
             else attempts retry agree (first ∷ chain) ++ laid_from p.retry p.agree (p ∷ []) later))
         by_chained true e on anew = on e
         by_chained false e on anew =
-            subst (Follow []) (sym (map-append (placed nears unwatched) (attempts retry agree (first ∷ chain)) (laid_from p.retry p.agree (p ∷ []) later)))
-            (follow_apart (map (placed nears unwatched) (attempts retry agree (first ∷ chain))) (map (placed nears unwatched) (laid_from p.retry p.agree (p ∷ []) later))
+            subst (Follow []) (sym (map-append (placed nears unwatched described) (attempts retry agree (first ∷ chain)) (laid_from p.retry p.agree (p ∷ []) later)))
+            (follow_apart (map (placed nears unwatched described) (attempts retry agree (first ∷ chain))) (map (placed nears unwatched described) (laid_from p.retry p.agree (p ∷ []) later))
             (attempts_follow 1 retry.times retry.again agree first.task (tasks_planned chain) (omega arith) chained once) anew)
 
   -- the tasks of all attempts of the chains of these commands
-  all_follow : (planned : List Planned) → AreOnce (tasks_planned planned) → Follow [] (map (placed nears unwatched) (laid_out planned))
+  all_follow : (planned : List Planned) → AreOnce (tasks_planned planned) → Follow [] (map (placed nears unwatched described) (laid_out planned))
   all_follow [] once = tt
   all_follow (p ∷ later) once = by_chained p.task.chained (laid_follow no_retry None p [] later tt (once.0, tt) once.1) (laid_follow p.retry p.agree p [] later tt (once.0, tt) once.1) where
     -- the lemma above for `p ∷ later`, by whether `p` is chained (`b`)
-    by_chained : (b : Bool) → Follow [] (map (placed nears unwatched) (laid_from no_retry None (p ∷ []) later))
-        → Follow [] (map (placed nears unwatched) (laid_from p.retry p.agree (p ∷ []) later))
-        → Follow [] (map (placed nears unwatched) (if b then laid_from no_retry None ([] ++ p ∷ []) later else attempts no_retry None [] ++ laid_from p.retry p.agree (p ∷ []) later))
+    by_chained : (b : Bool) → Follow [] (map (placed nears unwatched described) (laid_from no_retry None (p ∷ []) later))
+        → Follow [] (map (placed nears unwatched described) (laid_from p.retry p.agree (p ∷ []) later))
+        → Follow [] (map (placed nears unwatched described) (if b then laid_from no_retry None ([] ++ p ∷ []) later else attempts no_retry None [] ++ laid_from p.retry p.agree (p ∷ []) later))
     by_chained true on anew = on
     by_chained false on anew = anew
 
 -- the cycle's commands, as their lines give them, are no sendings of two
 cycle_once : (mode : Mode) (lines : List TaskLine) → AreOnce (tasks_planned (planned_of mode lines))
 cycle_once mode [] = tt
-cycle_once mode (says.Command c now x ∷ later) = by_setup mode.setup (cycle_once (mode_after mode (says.Command c now x)) later) where
+cycle_once mode (says.Command c w x ∷ later) = by_setup mode.setup (cycle_once (mode_after mode (says.Command c w x)) later) where
   -- the lemma above for a command and the lines after it, by whether the mode is that of the setup (`b`)
-  by_setup : (b : Bool) → AreOnce (tasks_planned (planned_of (mode_after mode (says.Command c now x)) later))
+  by_setup : (b : Bool) → AreOnce (tasks_planned (planned_of (mode_after mode (says.Command c w x)) later))
       → AreOnce (tasks_planned
-      ((if b then [] else record { task = task_at mode c now x; retry = mode.retry; agree = mode.agree } ∷ []) ++ planned_of (mode_after mode (says.Command c now x)) later))
+      ((if b then [] else record { task = task_at mode c w x; retry = mode.retry; agree = mode.agree } ∷ []) ++ planned_of (mode_after mode (says.Command c w x)) later))
   by_setup true more = more
   by_setup false more = (refl, more)
 cycle_once mode (line ∷ later) = cycle_once (mode_after mode line) later
@@ -289,10 +290,10 @@ cycle_once mode (line ∷ later) = cycle_once (mode_after mode line) later
 -- the setup's commands are no sendings of two
 setup_once : (mode : Mode) (lines : List TaskLine) → AreOnce (setup_of mode lines)
 setup_once mode [] = tt
-setup_once mode (says.Command c now x ∷ later) = by_setup mode.setup (setup_once (mode_after mode (says.Command c now x)) later) where
+setup_once mode (says.Command c w x ∷ later) = by_setup mode.setup (setup_once (mode_after mode (says.Command c w x)) later) where
   -- the lemma above for a command and the lines after it, by whether the mode is that of the setup (`b`)
-  by_setup : (b : Bool) → AreOnce (setup_of (mode_after mode (says.Command c now x)) later)
-      → AreOnce ((if b then task_at mode c now x ∷ [] else []) ++ setup_of (mode_after mode (says.Command c now x)) later)
+  by_setup : (b : Bool) → AreOnce (setup_of (mode_after mode (says.Command c w x)) later)
+      → AreOnce ((if b then task_at mode c w x ∷ [] else []) ++ setup_of (mode_after mode (says.Command c w x)) later)
   by_setup true more = (refl, more)
   by_setup false more = more
 setup_once mode (line ∷ later) = setup_once (mode_after mode line) later
@@ -301,11 +302,11 @@ setup_once mode (line ∷ later) = setup_once (mode_after mode line) later
 pub seconds_follow_their_firsts : SecondsFollowTheirFirsts
 seconds_follow_their_firsts text deadline chained all is =
     let first = first_mode deadline chained in
-    let place = placed all.nears all.unwatched in
+    let place = placed all.nears all.unwatched all.described in
     let setup = map place (setup_of first is.said) in
     let cycle = map place (laid_out (planned_of first is.said)) in
     let follow : Follow [] (setup ++ cycle) =
-    follow_apart setup cycle (follow_without [] setup (once_are_no_seconds all.nears all.unwatched (setup_of first is.said) (setup_once first is.said)))
-    (all_follow all.nears all.unwatched (planned_of first is.said) (cycle_once first is.said)) in
+    follow_apart setup cycle (follow_without [] setup (once_are_no_seconds all.nears all.unwatched all.described (setup_of first is.said) (setup_once first is.said)))
+    (all_follow all.nears all.unwatched all.described (planned_of first is.said) (cycle_once first is.said)) in
     let same : all.tasks ≡ setup ++ cycle = is.tasks_are ∙ map-append place (setup_of first is.said) (laid_out (planned_of first is.said)) in
     λ earlier others second agree nth at is_second. follow_at [] (setup ++ cycle) earlier others second agree nth follow (sym same ∙ at) is_second

@@ -10,6 +10,7 @@ mod RawForms
 mod RawTroubles
 mod NearTroubles
 mod AgreeTroubles
+mod DescribingTroubles
 mod WishForms
 mod WordForms
 mod CodeForms
@@ -17,6 +18,7 @@ mod AgreeForms
 mod RequestForms
 mod Numerals
 mod Items
+mod DescribedForms
 mod ExpectForms
 mod TaskForms
 mod TaskReading
@@ -44,9 +46,16 @@ mod Laying
 mod Repeating
 mod FirstSendings
 mod WordLists
+mod ValueForms
 mod FieldForms
 mod KindSteps
+mod KindReadings
+mod KindPlaces
+mod FormReadings
+mod Fitting
+mod FilesOf
 mod ColumnSteps
 mod DescriptionForms
 mod DescribedLaws
+pub mod DescribedTexts
 mod MeasuredSteps

@@ -13,10 +13,12 @@ use Rattle.gc_values.proofs.WithinLemmas.{is_within_exactly}
 use Rattle.gc_lines.proofs.Lists.{cons_head, cons_tail}
 use Rattle.gc_texts.specs.Chained.{PlacesHoldForAll, UnwatchedHoldForAll}
 use Rattle.gc_texts.specs.Nears.{has_near, near_of, direction_of, distance_of, is_away, is_out_of_range, is_elsewhere, IsThere, IsInAnotherDirection, IsAtAnotherDistance, IsAway}
-use Rattle.gc_texts.specs.Tasks.{counters_at, first_mode, tasks_of, name_at, near_at, nears_of, unwatched_at, unwatched_of, placed, MayFollow}
+use Rattle.gc_texts.specs.Tasks.{described_at, no_standing, standing_by, first_mode, tasks_of, name_at, near_at, nears_of, unwatched_at, unwatched_of, placed, MayFollow}
 use Rattle.gc_texts.specs.Watching.{is_unwatched}
+use Rattle.gc_texts.specs.declared.description.Description.{Description}
 use Rattle.gc_texts.specs.declared.name.Name.{Name}
 use Rattle.gc_texts.specs.declared.near.Near.{Near}
+use Rattle.gc_texts.specs.declared.mode.Standing.{Standing}
 use Rattle.gc_texts.specs.declared.near.Range.{Range}
 use Rattle.gc_texts.specs.declared.task_line.TaskLine.{TaskLine}
 use Rattle.gc_texts.specs.declared.task_line.TaskLine.TheVariants as says
@@ -24,13 +26,13 @@ use Rattle.gc_texts.specs.declared.tasks.Task.{Task}
 
 -- where lines may follow these names and places, and one of them says where a target is, neither `nears` nor a line before it
 -- says where that target is
-no_place_before : (names : List Name) (nears : List Near) (unwatched : List ℕ) (counters : ℕ) (front later : List TaskLine) (near : Near)
-    → MayFollow names nears unwatched counters (front ++ says.Locating near ∷ later)
+no_place_before : (names : List Name) (nears : List Near) (unwatched : List ℕ) (described : List Description) (s : Standing) (front later : List TaskLine) (near : Near)
+    → MayFollow names nears unwatched described s (front ++ says.Locating near ∷ later)
     → has_near near.target (nears ++ nears_of front) ≡ false
-no_place_before names nears unwatched counters [] later near follow =
-    ap (has_near near.target) (append-nil nears) ∙ not-true (has_near near.target nears) (and_parts (nat_lt (length nears) 64) (not (has_near near.target nears)) follow.0).1
-no_place_before names nears unwatched counters (line ∷ front) later near follow =
-    ap (has_near near.target) (sym (append_assoc nears (near_at line) (nears_of front))) ∙ no_place_before (names ++ name_at line) (nears ++ near_at line) (unwatched ++ unwatched_at line) (counters + counters_at line) front later near follow.1
+no_place_before names nears unwatched described s [] later near follow =
+    ap (has_near near.target) (append-nil nears) ∙ not-true (has_near near.target nears) (and_parts (nat_lt (length nears) 64) (not (has_near near.target nears)) follow.0.follows).1
+no_place_before names nears unwatched described s (line ∷ front) later near follow =
+    ap (has_near near.target) (sym (append_assoc nears (near_at line) (nears_of front))) ∙ no_place_before (names ++ name_at line) (nears ++ near_at line) (unwatched ++ unwatched_at line) (described ++ described_at line) (standing_by s line) front later near follow.1
 
 -- where none of `nears` is of the target of `near`, the place that is found of this target in `nears`, then
 -- `near`, then others, is `near`
@@ -41,34 +43,34 @@ found_near (n ∷ nears) others near none =
     ap (λ b. cond b (Some n) (near_of near.target (nears ++ near ∷ others))) apart.0 ∙ found_near nears others near apart.1
 
 -- once all tasks were given their places, each has the place of its target, if there is one
-each_has_its_place : (nears : List Near) (unwatched : List ℕ) (tasks earlier others : List Task) (task : Task)
-    → map (placed nears unwatched) tasks ≡ earlier ++ task ∷ others → task.near ≡ near_of task.command.target nears
-each_has_its_place nears unwatched [] [] others task e = cc
-each_has_its_place nears unwatched [] (t ∷ ts) others task e = cc
-each_has_its_place nears unwatched (t ∷ tasks) [] others task e =
-    let same = cons_head (placed nears unwatched t) task (map (placed nears unwatched) tasks) others e in
+each_has_its_place : (nears : List Near) (unwatched : List ℕ) (described : List Description) (tasks earlier others : List Task) (task : Task)
+    → map (placed nears unwatched described) tasks ≡ earlier ++ task ∷ others → task.near ≡ near_of task.command.target nears
+each_has_its_place nears unwatched described [] [] others task e = cc
+each_has_its_place nears unwatched described [] (t ∷ ts) others task e = cc
+each_has_its_place nears unwatched described (t ∷ tasks) [] others task e =
+    let same = cons_head (placed nears unwatched described t) task (map (placed nears unwatched described) tasks) others e in
     ap (λ (u : Task). u.near) (sym same) ∙ ap (λ (u : Task). near_of u.command.target nears) same
-each_has_its_place nears unwatched (t ∷ tasks) (u ∷ earlier) others task e =
-    each_has_its_place nears unwatched tasks earlier others task (cons_tail (placed nears unwatched t) u (map (placed nears unwatched) tasks) (earlier ++ task ∷ others) e)
+each_has_its_place nears unwatched described (t ∷ tasks) (u ∷ earlier) others task e =
+    each_has_its_place nears unwatched described tasks earlier others task (cons_tail (placed nears unwatched described t) u (map (placed nears unwatched described) tasks) (earlier ++ task ∷ others) e)
 
 -- the law: a place holds for all commands of its target
 pub places_hold : PlacesHoldForAll
 places_hold text deadline chained all is front later near at earlier others task among same =
-    let follow : MayFollow [] [] [] 0 (front ++ says.Locating near ∷ later) = subst (λ said. MayFollow [] [] [] 0 said) at is.lines.follow in
+    let follow : MayFollow [] [] [] [] no_standing (front ++ says.Locating near ∷ later) = subst (λ said. MayFollow [] [] [] [] no_standing said) at is.lines.follow in
     let places : all.nears ≡ nears_of front ++ near ∷ nears_of later = is.nears_are ∙ ap nears_of at ∙ flat_map-append near_at front (says.Locating near ∷ later) in
-    each_has_its_place all.nears all.unwatched (tasks_of (first_mode deadline chained) is.said) earlier others task (sym is.tasks_are ∙ among)
-    ∙ ap (λ t. near_of t all.nears) same ∙ ap (near_of near.target) places ∙ found_near (nears_of front) (nears_of later) near (no_place_before [] [] [] 0 front later near follow)
+    each_has_its_place all.nears all.unwatched all.described (tasks_of (first_mode deadline chained) is.said) earlier others task (sym is.tasks_are ∙ among)
+    ∙ ap (λ t. near_of t all.nears) same ∙ ap (near_of near.target) places ∙ found_near (nears_of front) (nears_of later) near (no_place_before [] [] [] [] no_standing front later near follow)
 
 -- where a text gives these tasks their places (`placed`), each of them is watched unless its target is one of `unwatched`
-each_is_watched : (nears : List Near) (unwatched : List ℕ) (tasks earlier others : List Task) (task : Task)
-    → map (placed nears unwatched) tasks ≡ earlier ++ task ∷ others → task.watched ≡ not (is_unwatched task.command.target unwatched)
-each_is_watched nears unwatched [] [] others task e = cc
-each_is_watched nears unwatched [] (t ∷ ts) others task e = cc
-each_is_watched nears unwatched (t ∷ tasks) [] others task e =
-    let same = cons_head (placed nears unwatched t) task (map (placed nears unwatched) tasks) others e in
+each_is_watched : (nears : List Near) (unwatched : List ℕ) (described : List Description) (tasks earlier others : List Task) (task : Task)
+    → map (placed nears unwatched described) tasks ≡ earlier ++ task ∷ others → task.watched ≡ not (is_unwatched task.command.target unwatched)
+each_is_watched nears unwatched described [] [] others task e = cc
+each_is_watched nears unwatched described [] (t ∷ ts) others task e = cc
+each_is_watched nears unwatched described (t ∷ tasks) [] others task e =
+    let same = cons_head (placed nears unwatched described t) task (map (placed nears unwatched described) tasks) others e in
     ap (λ (u : Task). u.watched) (sym same) ∙ ap (λ (u : Task). not (is_unwatched u.command.target unwatched)) same
-each_is_watched nears unwatched (t ∷ tasks) (u ∷ earlier) others task e =
-    each_is_watched nears unwatched tasks earlier others task (cons_tail (placed nears unwatched t) u (map (placed nears unwatched) tasks) (earlier ++ task ∷ others) e)
+each_is_watched nears unwatched described (t ∷ tasks) (u ∷ earlier) others task e =
+    each_is_watched nears unwatched described tasks earlier others task (cons_tail (placed nears unwatched described t) u (map (placed nears unwatched described) tasks) (earlier ++ task ∷ others) e)
 
 -- a target that is among others is one of them
 is_among : (front later : List ℕ) (target : ℕ) → is_unwatched target (front ++ target ∷ later) ≡ true
@@ -92,7 +94,7 @@ unwatched_by_line (line ∷ said) target is = let among = unwatched_by_line said
 -- the law: a target's tasks are unwatched exactly where a line says so, before them or after them
 pub unwatched_hold : UnwatchedHoldForAll
 unwatched_hold text deadline chained all is earlier others task among =
-    let watched = each_is_watched all.nears all.unwatched (tasks_of (first_mode deadline chained) is.said) earlier others task (sym is.tasks_are ∙ among) in (
+    let watched = each_is_watched all.nears all.unwatched all.described (tasks_of (first_mode deadline chained) is.said) earlier others task (sym is.tasks_are ∙ among) in (
       λ front later at.
           let apart : all.unwatched ≡ unwatched_of front ++ task.command.target ∷ unwatched_of later =
           is.unwatched_are ∙ ap unwatched_of at ∙ flat_map-append unwatched_at front (says.Unwatching task.command.target ∷ later) in
@@ -121,25 +123,25 @@ there_unless_elsewhere near answer isnt =
     }
 
 -- the tasks, when the loop has given the first i of them their places, and the others none yet
-abbrev pub first_placed : List Near → (unwatched : List ℕ) → (i : ℕ) → List Task → List Task
-first_placed nears unwatched i tasks = map (placed nears unwatched) (take i tasks) ++ drop i tasks
+abbrev pub first_placed : List Near → (unwatched : List ℕ) → List Description → (i : ℕ) → List Task → List Task
+first_placed nears unwatched described i tasks = map (placed nears unwatched described) (take i tasks) ++ drop i tasks
 
 -- where the first i tasks have their places, and task i is given its own, the first i + 1 have theirs
-first_placed_grows : (nears : List Near) (unwatched : List ℕ) (tasks : List Task) (i : ℕ) (d : Task) → i < length tasks
-    → slice_set (first_placed nears unwatched i tasks) i (placed nears unwatched (get_or (first_placed nears unwatched i tasks) i d)) ≡ first_placed nears unwatched (suc i) tasks
-first_placed_grows nears unwatched [] zero d below = absurd (omega (arith, below))
-first_placed_grows nears unwatched [] (suc i) d below = absurd (omega (arith, below))
-first_placed_grows nears unwatched (x ∷ tasks) zero d below = refl
-first_placed_grows nears unwatched (x ∷ tasks) (suc i) d below = let low : i < length tasks = omega (arith, below) in ap (λ ts. placed nears unwatched x ∷ ts) (first_placed_grows nears unwatched tasks i d low)
+first_placed_grows : (nears : List Near) (unwatched : List ℕ) (described : List Description) (tasks : List Task) (i : ℕ) (d : Task) → i < length tasks
+    → slice_set (first_placed nears unwatched described i tasks) i (placed nears unwatched described (get_or (first_placed nears unwatched described i tasks) i d)) ≡ first_placed nears unwatched described (suc i) tasks
+first_placed_grows nears unwatched described [] zero d below = absurd (omega (arith, below))
+first_placed_grows nears unwatched described [] (suc i) d below = absurd (omega (arith, below))
+first_placed_grows nears unwatched described (x ∷ tasks) zero d below = refl
+first_placed_grows nears unwatched described (x ∷ tasks) (suc i) d below = let low : i < length tasks = omega (arith, below) in ap (λ ts. placed nears unwatched described x ∷ ts) (first_placed_grows nears unwatched described tasks i d low)
 
 -- where `now` is the tasks with the first i given their places, and task i of `now` is replaced by itself with its place, the
 -- first i + 1 have theirs
-pub next_is_placed : (nears : List Near) (unwatched : List ℕ) (tasks now : List Task) (i : ℕ) (d new : Task)
-    → now ≡ first_placed nears unwatched i tasks → i < length tasks → new ≡ placed nears unwatched (get_or now i d)
-    → slice_set now i new ≡ first_placed nears unwatched (i + 1) tasks
-next_is_placed nears unwatched tasks now i d new is below e =
+pub next_is_placed : (nears : List Near) (unwatched : List ℕ) (described : List Description) (tasks now : List Task) (i : ℕ) (d new : Task)
+    → now ≡ first_placed nears unwatched described i tasks → i < length tasks → new ≡ placed nears unwatched described (get_or now i d)
+    → slice_set now i new ≡ first_placed nears unwatched described (i + 1) tasks
+next_is_placed nears unwatched described tasks now i d new is below e =
     let one : suc i ≡ i + 1 = omega arith in
-    ap (slice_set now i) e ∙ ap (λ ts. slice_set ts i (placed nears unwatched (get_or ts i d))) is ∙ first_placed_grows nears unwatched tasks i d below ∙ ap (λ n. first_placed nears unwatched n tasks) one
+    ap (slice_set now i) e ∙ ap (λ ts. slice_set ts i (placed nears unwatched described (get_or ts i d))) is ∙ first_placed_grows nears unwatched described tasks i d below ∙ ap (λ n. first_placed nears unwatched described n tasks) one
 
 -- a direction that isn't near the place of the target
 away_by_direction : (near : Near) (answer : Answer) (o : Option Direction) → direction_of answer ≡ o → is_away near o ≡ true → IsInAnotherDirection near answer

@@ -21,19 +21,19 @@ before_params digits None are = ap (before 32) (append-nil digits) ∙ before_no
 before_params digits (Some params) are = before_mark 32 digits params (digits_lack_spaces digits are)
 
 -- the second word of a command's line is its procedure's number
-number_word : (line : List ℕ) (command : Command) → (is : IsCommand line command) → second_word line ≡ is.procedure_is.rpc_text
+pub number_word : (line : List ℕ) (command : Command) → (is : IsCommand line command) → second_word line ≡ is.procedure_is.rpc_text
 number_word line command is =
     ap second_word is.line_is
     ∙ ap (before 32) (behind_mark 32 is.target_text is.procedure (digits_lack_spaces is.target_text is.target_is.names.digits) ∙ is.procedure_is.text_is)
     ∙ before_params is.procedure_is.rpc_text is.procedure_is.params is.procedure_is.number.names.digits
 
 -- the word `raw` is no digits
-raw_is_no_digits : (word : List ℕ) → AreDigits word → word ≡ codes "raw" → ⊥
+pub raw_is_no_digits : (word : List ℕ) → AreDigits word → word ≡ codes "raw" → ⊥
 raw_is_no_digits [] are e = let first : ◌≡◌ {A = ℕ} 0 114 = ap (λ bs. get_or bs 0 0) e in omega (arith, first)
 raw_is_no_digits (d ∷ ds) are e = let first : d ≡ 114 = ap (λ bs. get_or bs 0 0) e in omega (arith, first, are.0.1)
 
 -- nor is the word `expect`
-expect_is_no_digits : (word : List ℕ) → AreDigits word → word ≡ codes "expect" → ⊥
+pub expect_is_no_digits : (word : List ℕ) → AreDigits word → word ≡ codes "expect" → ⊥
 expect_is_no_digits [] are e = let first : ◌≡◌ {A = ℕ} 0 101 = ap (λ bs. get_or bs 0 0) e in omega (arith, first)
 expect_is_no_digits (d ∷ ds) are e = let first : d ≡ 101 = ap (λ bs. get_or bs 0 0) e in omega (arith, first, are.0.1)
 

@@ -11,7 +11,7 @@ use Rattle.gc_catalogue.specs.declared.raw.RawFault.TheVariants.{InTable, NotPla
 use Rattle.gc_texts.specs.Laws.{NamesAreTheCatalogues}
 use Rattle.gc_texts.specs.ProcedureNames.{name_among}
 use Rattle.gc_texts.specs.Procedures.{IsRpc}
-use Rattle.gc_texts.specs.Troubles.{raw_trouble, IsRaw, IsRawWordsTrouble, IsRequestTrouble, IsAskingTrouble}
+use Rattle.gc_texts.specs.Troubles.{raw_trouble, IsRaw, IsRawWordsTrouble, IsRequestTrouble, IsAskingTrouble, IsProcedureTrouble}
 use Rattle.gc_texts.specs.Cuts.{behind}
 use Rattle.gc_texts.specs.Words.{second_word, after_two_words}
 use Rattle.gc_texts.specs.declared.trouble.Trouble.{Trouble}
@@ -45,13 +45,22 @@ module _ (request : List ℕ) (word : IsRaw request) where
   raw_words_trouble_is_requests t (inl none) = subst (IsRequestTrouble request) (sym none.0) (inl (word, none.1))
   raw_words_trouble_is_requests t (inr (rpc, number, inl (fault, is, told))) = subst (IsRequestTrouble request) (sym told) (refusal_is_trouble rpc fault number is)
   raw_words_trouble_is_requests t (inr (rpc, number, inr (may, told))) =
-      subst (IsRequestTrouble request) (sym told) (inr (inr (record { word = word; rpc = rpc; number = number; is = inr (may, refl) })))
+      subst (IsRequestTrouble request) (sym told) (inr (record { word = word; rpc = rpc; number = number; is = inr (may, refl) }))
+
+-- neither a procedure's number nor its parameters have these troubles
+not_now : (rpc : ℕ) (params : List ℕ) → IsProcedureTrouble rpc params trouble.Now → ⊥
+not_now rpc params (inl is) = is
+not_now rpc params (inr is) = is.1
+
+not_target : (rpc : ℕ) (params : List ℕ) → IsProcedureTrouble rpc params trouble.Target → ⊥
+not_target rpc params (inl is) = is
+not_target rpc params (inr is) = is.1
 
 -- a trouble of what follows the first word of a line that is taken for a command is one of the line
 pub request_is_asking : (line : List ℕ) (t : Trouble) → IsRequestTrouble (behind 32 line) t → IsAskingTrouble line t
-request_is_asking line trouble.Now is = absurd is.is
-request_is_asking line trouble.Target is = absurd is.is
-request_is_asking line trouble.NoForm is = is
+request_is_asking line trouble.Now is = absurd (not_now is.rpc (behind 32 (behind 32 line)) is.is)
+request_is_asking line trouble.Target is = absurd (not_target is.rpc (behind 32 (behind 32 line)) is.is)
+request_is_asking line trouble.NoForm is = inr is
 request_is_asking line t is = is
 
 -- where `t` is what is at fault in a word after `raw` and the parameters after it, it is at fault in an equal word and equal

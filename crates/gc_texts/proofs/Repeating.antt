@@ -11,7 +11,8 @@ use Rattle.gc_texts.specs.Watching.{is_unwatched}
 use Rattle.gc_texts.specs.Repeats.{as_planned, IsAttempt, AreAttempts, Chain, planned_in, placed_planned, AreLaidOut, ChainsGoOutAgain}
 use Rattle.gc_texts.specs.Retries.{no_retry}
 use Rattle.gc_texts.specs.Sendings.{sent_as, sendings}
-use Rattle.gc_texts.specs.Tasks.{first_mode, mode_after, task_at, setup_of, planned_of, placed}
+use Rattle.gc_texts.specs.Tasks.{first_mode, mode_after, task_at, setup_of, planned_of, form_of_asked, placed}
+use Rattle.gc_texts.specs.declared.description.Description.{Description}
 use Rattle.gc_texts.specs.declared.again.Again.{Again}
 use Rattle.gc_texts.specs.declared.agree.Agree.{Agree}
 use Rattle.gc_texts.specs.declared.near.Near.{Near}
@@ -30,25 +31,25 @@ use Rattle.gc_texts.proofs.TaskLaws.{IsAsPlanned, AreAsPlanned, CommandsKeepTarg
 -- the cycle's commands, as their lines give them, are as planned (`AreAsPlanned`)
 cycle_as_planned : (mode : Mode) (lines : List TaskLine) → AreAsPlanned (planned_of mode lines)
 cycle_as_planned mode [] = tt
-cycle_as_planned mode (says.Command c now x ∷ later) = by_setup mode.setup (cycle_as_planned (mode_after mode (says.Command c now x)) later) where
+cycle_as_planned mode (says.Command c w x ∷ later) = by_setup mode.setup (cycle_as_planned (mode_after mode (says.Command c w x)) later) where
   -- the lemma above for a command and the lines after it, by whether the mode is that of the setup (`b`)
-  by_setup : (b : Bool) → AreAsPlanned (planned_of (mode_after mode (says.Command c now x)) later)
+  by_setup : (b : Bool) → AreAsPlanned (planned_of (mode_after mode (says.Command c w x)) later)
       → AreAsPlanned
-      ((if b then [] else record { task = task_at mode c now x; retry = mode.retry; agree = mode.agree } ∷ []) ++ planned_of (mode_after mode (says.Command c now x)) later)
+      ((if b then [] else record { task = task_at mode c w x; retry = mode.retry; agree = mode.agree } ∷ []) ++ planned_of (mode_after mode (says.Command c w x)) later)
   by_setup true more = more
   by_setup false more = (record { near = refl; again = refl; attempt = refl; others = refl }, more)
 cycle_as_planned mode (line ∷ later) = cycle_as_planned (mode_after mode line) later
 
 -- tasks with the places `nears` of their targets
-module _ (nears : List Near) (unwatched : List ℕ) where
+module _ (nears : List Near) (unwatched : List ℕ) (described : List Description) where
   -- the task of a command, with the place of its target
   abbrev placed_task : Planned → Task
-  placed_task p = placed nears unwatched p.task
+  placed_task p = placed nears unwatched described p.task
 
   -- the tasks of an attempt of these commands, with their places; `n` is how many commands it and the later attempts have
   -- together
   abbrev attempt_tasks : (attempt : ℕ) → Again → (n : ℕ) → List Task → List Task
-  attempt_tasks attempt again n ts = map (placed nears unwatched) (map (in_attempt attempt again n) ts)
+  attempt_tasks attempt again n ts = map (placed nears unwatched described) (map (in_attempt attempt again n) ts)
 
   -- each of these tasks is as planned (`IsAsPlanned`)
   abbrev ArePlanned : List Task → Type 0
@@ -56,31 +57,32 @@ module _ (nears : List Near) (unwatched : List ℕ) where
 
   -- if a command is as planned (`IsAsPlanned`), the task of an attempt of it, with its place, is the command with its place, but for the
   -- fields that distinguish attempts (`as_planned`)
-  one_as_planned : (attempt : ℕ) (again : Again) (n : ℕ) (t : Task) → IsAsPlanned t → as_planned (placed nears unwatched (in_attempt attempt again n t)) ≡ placed nears unwatched t
+  one_as_planned : (attempt : ℕ) (again : Again) (n : ℕ) (t : Task) → IsAsPlanned t → as_planned (placed nears unwatched described (in_attempt attempt again n t)) ≡ placed nears unwatched described t
   one_as_planned attempt again n t h =
       let near = near_of t.command.target nears in
       let watched = not (is_unwatched t.command.target unwatched) in
-      ap (λ a. record t { near = near; watched = watched; again = a; turn = record { place = t.turn.place; attempt = 1; link = t.turn.link }; others = 0 }) (sym h.again)
-      ∙ ap (λ k. record t { near = near; watched = watched; turn = record { place = t.turn.place; attempt = k; link = t.turn.link }; others = 0 }) (sym h.attempt)
-      ∙ ap (λ k. record t { near = near; watched = watched; others = k }) (sym h.others)
+      let form = form_of_asked described t.command.call in
+      ap (λ a. record t { near = near; watched = watched; form = form; again = a; turn = record { place = t.turn.place; attempt = 1; link = t.turn.link }; others = 0 }) (sym h.again)
+      ∙ ap (λ k. record t { near = near; watched = watched; form = form; turn = record { place = t.turn.place; attempt = k; link = t.turn.link }; others = 0 }) (sym h.attempt)
+      ∙ ap (λ k. record t { near = near; watched = watched; form = form; others = k }) (sym h.others)
 
   -- if commands are as planned, the tasks of an attempt of them, with their places (`attempt_tasks`), are the commands with their
   -- places, but for the fields that distinguish attempts (`as_planned`)
   all_as_planned : (attempt : ℕ) (again : Again) (n : ℕ) (ts : List Task)
-      → ArePlanned ts → map as_planned (attempt_tasks attempt again n ts) ≡ map (placed nears unwatched) ts
+      → ArePlanned ts → map as_planned (attempt_tasks attempt again n ts) ≡ map (placed nears unwatched described) ts
   all_as_planned attempt again n [] all = refl
   all_as_planned attempt again n (t ∷ ts) all = ap (λ u. u ∷ map as_planned (attempt_tasks attempt again n ts)) (one_as_planned attempt again n t all.0)
-      ∙ ap (λ us. placed nears unwatched t ∷ us) (all_as_planned attempt again n ts all.1)
+      ∙ ap (λ us. placed nears unwatched described t ∷ us) (all_as_planned attempt again n ts all.1)
 
   -- what holds of the task, with its place, of whatever command in this attempt holds of all tasks of the attempt (`attempt_tasks`)
-  each_in_attempt : (Holds : Task → Type 0) (attempt : ℕ) (again : Again) (n : ℕ) → ((t : Task) → Holds (placed nears unwatched (in_attempt attempt again n t)))
+  each_in_attempt : (Holds : Task → Type 0) (attempt : ℕ) (again : Again) (n : ℕ) → ((t : Task) → Holds (placed nears unwatched described (in_attempt attempt again n t)))
       → (ts : List Task) → AllByRecursion Holds (attempt_tasks attempt again n ts)
   each_in_attempt Holds attempt again n each [] = tt
   each_in_attempt Holds attempt again n each (t ∷ ts) = (each t, each_in_attempt Holds attempt again n each ts)
 
   -- where commands are as planned, the tasks of an attempt of them are an attempt of the commands (`IsAttempt`)
   attempt_is : (attempt : ℕ) (again : Again) (n : ℕ) (ts : List Task)
-      → ArePlanned ts → IsAttempt attempt again (map (placed nears unwatched) ts) (attempt_tasks attempt again n ts)
+      → ArePlanned ts → IsAttempt attempt again (map (placed nears unwatched described) ts) (attempt_tasks attempt again n ts)
   attempt_is attempt again n ts all = record {
     same = all_as_planned attempt again n ts all;
     numbered = each_in_attempt (λ task. task.turn.attempt ≡ attempt_number attempt task.twice) attempt again n (λ t. refl) ts;
@@ -90,18 +92,18 @@ module _ (nears : List Near) (unwatched : List ℕ) where
   -- where commands are as planned, the tasks of attempts of them from number `attempt` on, with `left` more after that one, are attempts
   -- of the commands (`AreAttempts`)
   attempts_are : (attempt left : ℕ) (again : Again) (ts : List Task) → ArePlanned ts
-      → AreAttempts attempt left again (map (placed nears unwatched) ts) (map (placed nears unwatched) (attempts_from attempt left again ts))
+      → AreAttempts attempt left again (map (placed nears unwatched described) ts) (map (placed nears unwatched described) (attempts_from attempt left again ts))
   attempts_are attempt zero again ts all = attempt_is attempt no_again (length ts) ts all
   attempts_are attempt (suc left) again ts all = (
     attempt_tasks attempt again (length ts * suc (suc left)) ts,
-    map (placed nears unwatched) (attempts_from (attempt + 1) left again ts),
-    map-append (placed nears unwatched) (map (in_attempt attempt again (length ts * suc (suc left))) ts) (attempts_from (attempt + 1) left again ts),
+    map (placed nears unwatched described) (attempts_from (attempt + 1) left again ts),
+    map-append (placed nears unwatched described) (map (in_attempt attempt again (length ts * suc (suc left))) ts) (attempts_from (attempt + 1) left again ts),
     attempt_is attempt again (length ts * suc (suc left)) ts all,
     attempts_are (attempt + 1) left again ts all,
   )
 
   -- the tasks of commands, with their places
-  placed_tasks : (ps : List Planned) → map (placed nears unwatched) (tasks_planned ps) ≡ map placed_task ps
+  placed_tasks : (ps : List Planned) → map (placed nears unwatched described) (tasks_planned ps) ≡ map placed_task ps
   placed_tasks [] = refl
   placed_tasks (p ∷ ps) = ap (λ ts. placed_task p ∷ ts) (placed_tasks ps)
 
@@ -118,10 +120,10 @@ module _ (nears : List Near) (unwatched : List ℕ) where
 
   -- where the tasks of a chain's commands are as planned, the tasks of its attempts, with their places, are attempts of its sendings
   chain_attempts_are : (retry : Retry) (agree : Option Agree) (ps : List Planned) → AreAsPlanned ps
-      → AreAttempts 1 retry.times retry.again (sendings agree (map placed_task ps)) (map (placed nears unwatched) (attempts retry agree ps))
+      → AreAttempts 1 retry.times retry.again (sendings agree (map placed_task ps)) (map (placed nears unwatched described) (attempts retry agree ps))
   chain_attempts_are retry agree ps all =
-      subst (λ commands. AreAttempts 1 retry.times retry.again commands (map (placed nears unwatched) (attempts retry agree ps)))
-      (placed_sendings nears unwatched agree (tasks_planned ps) ∙ ap (sendings agree) (placed_tasks ps))
+      subst (λ commands. AreAttempts 1 retry.times retry.again commands (map (placed nears unwatched described) (attempts retry agree ps)))
+      (placed_sendings nears unwatched described agree (tasks_planned ps) ∙ ap (sendings agree) (placed_tasks ps))
       (attempts_are 1 retry.times retry.again (sendings agree (tasks_planned ps))
       (all_sendings IsAsPlanned (λ count nth t h. sent_as_planned First count nth t h) (λ a count nth t h. sent_as_planned (Second a) count nth t h) agree (tasks_planned ps) (all_planned ps all)))
 
@@ -140,7 +142,7 @@ module _ (nears : List Near) (unwatched : List ℕ) where
   abbrev AreLaidOutOf : List Task → List Planned → Type 0
   AreLaidOutOf tasks planned =
       (chains : List Chain) × AreLaidOut chains tasks
-      × (flat_map planned_in chains ≡ map (placed_planned nears unwatched) planned)
+      × (flat_map planned_in chains ≡ map (placed_planned nears unwatched described) planned)
 
   -- each of these commands has these rules
   abbrev HaveRules : Retry → Option Agree → List Planned → Type 0
@@ -149,24 +151,24 @@ module _ (nears : List Near) (unwatched : List ℕ) where
   -- where commands have the same rules, their tasks (`placed_task`) with these rules are the commands with the places of their targets
   -- (`placed_planned`)
   rules_are : (retry : Retry) (agree : Option Agree) (ps : List Planned) → HaveRules retry agree ps
-      → map (with_rules retry agree) (map placed_task ps) ≡ map (placed_planned nears unwatched) ps
+      → map (with_rules retry agree) (map placed_task ps) ≡ map (placed_planned nears unwatched described) ps
   rules_are retry agree [] have = refl
   rules_are retry agree (p ∷ ps) have =
       ap (λ r. record { task = placed_task p; retry = r; agree = agree } ∷ map (with_rules retry agree) (map placed_task ps)) (sym have.0.retry_is)
       ∙ ap (λ a. record { task = placed_task p; retry = p.retry; agree = a } ∷ map (with_rules retry agree) (map placed_task ps)) (sym have.0.agree_is)
-      ∙ ap (λ l. placed_planned nears unwatched p ∷ l) (rules_are retry agree ps have.1)
+      ∙ ap (λ l. placed_planned nears unwatched described p ∷ l) (rules_are retry agree ps have.1)
 
   -- if tasks are the attempts of the chains of the commands `later` (`AreLaidOutOf`), and `chain` is one chain of commands that
   -- have these rules and tasks as planned (`AreAsPlanned`), the attempts of that chain and then those tasks are the attempts of the
   -- chains of all these commands
   laid_one_more : (retry : Retry) (agree : Option Agree) (chain later : List Planned) (tasks : List Task)
       → IsOneChain (map placed_task chain) → AreAsPlanned chain → HaveRules retry agree chain → AreLaidOutOf tasks later
-      → AreLaidOutOf (map (placed nears unwatched) (attempts retry agree chain) ++ tasks) (chain ++ later)
+      → AreLaidOutOf (map (placed nears unwatched described) (attempts retry agree chain) ++ tasks) (chain ++ later)
   laid_one_more retry agree chain later tasks one all have (chains, laid, are) = (
     record { retry = retry; agree = agree; commands = map placed_task chain } ∷ chains,
-    (one, (map (placed nears unwatched) (attempts retry agree chain), tasks, refl, chain_attempts_are retry agree chain all, laid)),
-    ap (λ ps. map (with_rules retry agree) (map placed_task chain) ++ ps) are ∙ ap (λ ps. ps ++ map (placed_planned nears unwatched) later) (rules_are retry agree chain have)
-        ∙ sym (map-append (placed_planned nears unwatched) chain later),
+    (one, (map (placed nears unwatched described) (attempts retry agree chain), tasks, refl, chain_attempts_are retry agree chain all, laid)),
+    ap (λ ps. map (with_rules retry agree) (map placed_task chain) ++ ps) are ∙ ap (λ ps. ps ++ map (placed_planned nears unwatched described) later) (rules_are retry agree chain have)
+        ∙ sym (map-append (placed_planned nears unwatched described) chain later),
   )
 
   -- `AreLaidOutOf` holds of the empty list of tasks and the empty list of commands
@@ -179,9 +181,9 @@ module _ (nears : List Near) (unwatched : List ℕ) where
   laid_are : (retry : Retry) (agree : Option Agree) (first : Planned) (chain later : List Planned)
       (one : IsOneChain (map placed_task (first ∷ chain))) (all : AreAsPlanned (first ∷ chain)) (rest : AreAsPlanned later)
       (have : HaveRules retry agree (first ∷ chain)) (follow : SameRules retry agree later)
-      → AreLaidOutOf (map (placed nears unwatched) (laid_from retry agree (first ∷ chain) later)) ((first ∷ chain) ++ later)
+      → AreLaidOutOf (map (placed nears unwatched described) (laid_from retry agree (first ∷ chain) later)) ((first ∷ chain) ++ later)
   laid_are retry agree first chain [] one all rest have follow =
-      subst (λ ts. AreLaidOutOf ts ((first ∷ chain) ++ [])) (append-nil (map (placed nears unwatched) (attempts retry agree (first ∷ chain))))
+      subst (λ ts. AreLaidOutOf ts ((first ∷ chain) ++ [])) (append-nil (map (placed nears unwatched described) (attempts retry agree (first ∷ chain))))
       (laid_one_more retry agree (first ∷ chain) [] [] one all have none_laid)
   laid_are retry agree first chain (p ∷ later) one all rest have follow =
       by_chained p.task.chained refl
@@ -191,27 +193,27 @@ module _ (nears : List Near) (unwatched : List ℕ) where
       (λ e. laid_are p.retry p.agree p [] later (e, tt) (rest.0, tt) rest.1 (record { retry_is = refl; agree_is = refl }, tt) follow.1) where
         -- the lemma above for `p ∷ later`, by whether `p` goes on with the chain (`b`)
         by_chained : (b : Bool) → p.task.chained ≡ b
-            → (p.task.chained ≡ true → AreLaidOutOf (map (placed nears unwatched) (laid_from retry agree (first ∷ (chain ++ p ∷ [])) later)) ((first ∷ (chain ++ p ∷ [])) ++ later))
-            → (p.task.chained ≡ false → AreLaidOutOf (map (placed nears unwatched) (laid_from p.retry p.agree (p ∷ []) later)) (p ∷ later))
-            → AreLaidOutOf (map (placed nears unwatched) (if b then laid_from retry agree ((first ∷ chain) ++ p ∷ []) later
+            → (p.task.chained ≡ true → AreLaidOutOf (map (placed nears unwatched described) (laid_from retry agree (first ∷ (chain ++ p ∷ [])) later)) ((first ∷ (chain ++ p ∷ [])) ++ later))
+            → (p.task.chained ≡ false → AreLaidOutOf (map (placed nears unwatched described) (laid_from p.retry p.agree (p ∷ []) later)) (p ∷ later))
+            → AreLaidOutOf (map (placed nears unwatched described) (if b then laid_from retry agree ((first ∷ chain) ++ p ∷ []) later
             else attempts retry agree (first ∷ chain) ++ laid_from p.retry p.agree (p ∷ []) later)) ((first ∷ chain) ++ p ∷ later)
         by_chained true e on anew =
-            subst (λ ps. AreLaidOutOf (map (placed nears unwatched) (laid_from retry agree ((first ∷ chain) ++ p ∷ []) later)) ps) (append_assoc (first ∷ chain) (p ∷ []) later) (on e)
+            subst (λ ps. AreLaidOutOf (map (placed nears unwatched described) (laid_from retry agree ((first ∷ chain) ++ p ∷ []) later)) ps) (append_assoc (first ∷ chain) (p ∷ []) later) (on e)
         by_chained false e on anew =
-            subst (λ ts. AreLaidOutOf ts ((first ∷ chain) ++ p ∷ later)) (sym (map-append (placed nears unwatched) (attempts retry agree (first ∷ chain)) (laid_from p.retry p.agree (p ∷ []) later)))
-            (laid_one_more retry agree (first ∷ chain) (p ∷ later) (map (placed nears unwatched) (laid_from p.retry p.agree (p ∷ []) later)) one all have (anew e))
+            subst (λ ts. AreLaidOutOf ts ((first ∷ chain) ++ p ∷ later)) (sym (map-append (placed nears unwatched described) (attempts retry agree (first ∷ chain)) (laid_from p.retry p.agree (p ∷ []) later)))
+            (laid_one_more retry agree (first ∷ chain) (p ∷ later) (map (placed nears unwatched described) (laid_from p.retry p.agree (p ∷ []) later)) one all have (anew e))
 
   -- where these commands keep targets with none before them (`CommandsKeepTargets None`), so that the first isn't chained, each chained
   -- one has the rules of the one before it, and the tasks of all are as planned, the attempts that are laid out of them are the
   -- attempts of their chains (`AreLaidOutOf`)
   all_laid : (planned : List Planned)
       → CommandsKeepTargets None planned → AreAsPlanned planned → SameRules no_retry None planned
-      → AreLaidOutOf (map (placed nears unwatched) (laid_out planned)) planned
+      → AreLaidOutOf (map (placed nears unwatched described) (laid_out planned)) planned
   all_laid [] are all follow = none_laid
   all_laid (p ∷ later) are all follow = by_chained p.task.chained refl (λ e. laid_are p.retry p.agree p [] later (e, tt) (all.0, tt) all.1 (record { retry_is = refl; agree_is = refl }, tt) follow.1) where
     -- the lemma above for `p ∷ later`: `p` isn't chained, because no command is before it
-    by_chained : (b : Bool) → p.task.chained ≡ b → (p.task.chained ≡ false → AreLaidOutOf (map (placed nears unwatched) (laid_from p.retry p.agree (p ∷ []) later)) (p ∷ later))
-        → AreLaidOutOf (map (placed nears unwatched) (if b then laid_from no_retry None ([] ++ p ∷ []) later
+    by_chained : (b : Bool) → p.task.chained ≡ b → (p.task.chained ≡ false → AreLaidOutOf (map (placed nears unwatched described) (laid_from p.retry p.agree (p ∷ []) later)) (p ∷ later))
+        → AreLaidOutOf (map (placed nears unwatched described) (if b then laid_from no_retry None ([] ++ p ∷ []) later
         else attempts no_retry None [] ++ laid_from p.retry p.agree (p ∷ []) later)) (p ∷ later)
     by_chained true e anew = let bad : None ≡ Some p.task.command.target = are.0 e in cc
     by_chained false e anew = anew e
@@ -222,12 +224,12 @@ pub chains_go_out_again : ChainsGoOutAgain
 chains_go_out_again text deadline chained all is =
     let first = first_mode deadline chained in
     let planned = planned_of first is.said in
-    let laid = all_laid all.nears all.unwatched planned (commands_keep_targets first None is.said (inr (inl refl))) (cycle_as_planned first is.said) (same_rules first no_retry None is.said (inr (inl refl))) in (
+    let laid = all_laid all.nears all.unwatched all.described planned (commands_keep_targets first None is.said (inr (inl refl))) (cycle_as_planned first is.said) (same_rules first no_retry None is.said (inr (inl refl))) in (
       laid.0,
-      map (placed all.nears all.unwatched) (setup_of first is.said),
-      map (placed all.nears all.unwatched) (laid_out planned),
-      is.tasks_are ∙ map-append (placed all.nears all.unwatched) (setup_of first is.said) (laid_out planned),
-      is.setup_is ∙ sym (length-map (setup_of first is.said) (placed all.nears all.unwatched)),
+      map (placed all.nears all.unwatched all.described) (setup_of first is.said),
+      map (placed all.nears all.unwatched all.described) (laid_out planned),
+      is.tasks_are ∙ map-append (placed all.nears all.unwatched all.described) (setup_of first is.said) (laid_out planned),
+      is.setup_is ∙ sym (length-map (setup_of first is.said) (placed all.nears all.unwatched all.described)),
       laid.1,
       laid.2,
     )

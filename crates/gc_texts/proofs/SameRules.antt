@@ -30,15 +30,15 @@ ModeHasRules retry agree mode = (mode.retry ≡ retry) × (mode.agree ≡ agree)
 pub same_rules : (mode : Mode) (retry : Retry) (agree : Option Agree) (lines : List TaskLine)
     → (mode.setup ≡ true) ⊎ ((mode.group ≡ None) ⊎ ModeHasRules retry agree mode) → SameRules retry agree (planned_of mode lines)
 same_rules mode retry agree [] h = tt
-same_rules mode retry agree (says.Command c now x ∷ later) h =
-    by_setup mode.setup refl h (λ e. same_rules (mode_after mode (says.Command c now x)) retry agree later (inl e))
-    (same_rules (mode_after mode (says.Command c now x)) mode.retry mode.agree later (inr (inr (refl, refl)))) where
+same_rules mode retry agree (says.Command c w x ∷ later) h =
+    by_setup mode.setup refl h (λ e. same_rules (mode_after mode (says.Command c w x)) retry agree later (inl e))
+    (same_rules (mode_after mode (says.Command c w x)) mode.retry mode.agree later (inr (inr (refl, refl)))) where
       -- the lemma above for a command and the lines after it, by whether the mode is that of the setup (`b`)
       by_setup : (b : Bool) → mode.setup ≡ b → (mode.setup ≡ true) ⊎ ((mode.group ≡ None) ⊎ ModeHasRules retry agree mode)
-          → (mode.setup ≡ true → SameRules retry agree (planned_of (mode_after mode (says.Command c now x)) later))
-          → SameRules mode.retry mode.agree (planned_of (mode_after mode (says.Command c now x)) later)
+          → (mode.setup ≡ true → SameRules retry agree (planned_of (mode_after mode (says.Command c w x)) later))
+          → SameRules mode.retry mode.agree (planned_of (mode_after mode (says.Command c w x)) later)
           → SameRules retry agree
-          ((if b then [] else record { task = task_at mode c now x; retry = mode.retry; agree = mode.agree } ∷ []) ++ planned_of (mode_after mode (says.Command c now x)) later)
+          ((if b then [] else record { task = task_at mode c w x; retry = mode.retry; agree = mode.agree } ∷ []) ++ planned_of (mode_after mode (says.Command c w x)) later)
       by_setup true e h at_start in_cycle = at_start e
       by_setup false e (inl is) at_start in_cycle = let bad : true ≡ false = sym is ∙ e in cc
       by_setup false e (inr (inr is)) at_start in_cycle = ((λ on. record { retry_is = is.0; agree_is = is.1 }), in_cycle)

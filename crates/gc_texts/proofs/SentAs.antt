@@ -4,6 +4,7 @@ use Rattle.std.specs.List.{AllByRecursion}
 use Rattle.std.proofs.lemmas.List.{length-map, length-append, map-append}
 use Rattle.gc_texts.specs.Attempts.{tasks_planned}
 use Rattle.gc_texts.specs.Sendings.{sent_as, sent_from, sendings}
+use Rattle.gc_texts.specs.declared.description.Description.{Description}
 use Rattle.gc_texts.specs.declared.agree.Agree.{Agree}
 use Rattle.gc_texts.specs.declared.attempts.Planned.{Planned}
 use Rattle.gc_texts.specs.declared.near.Near.{Near}
@@ -62,30 +63,30 @@ all_sendings Holds first second (Some agree) chain all =
     (all_sent Holds Holds First (length chain) (first (length chain)) 0 chain all) (all_sent Holds Holds (Second agree) (length chain) (second agree (length chain)) 0 chain all)
 
 -- a command with the place of its target, as it is in a sending, is that of the sending with this place
-placed_sent : (nears : List Near) (unwatched : List ℕ) (sending : Sending) (count nth : ℕ) (task : Task)
-    → placed nears unwatched (sent_as sending count nth task) ≡ sent_as sending count nth (placed nears unwatched task)
-placed_sent nears unwatched Once count nth task = refl
-placed_sent nears unwatched First count nth task = refl
-placed_sent nears unwatched (Second agree) count nth task = refl
+placed_sent : (nears : List Near) (unwatched : List ℕ) (described : List Description) (sending : Sending) (count nth : ℕ) (task : Task)
+    → placed nears unwatched described (sent_as sending count nth task) ≡ sent_as sending count nth (placed nears unwatched described task)
+placed_sent nears unwatched described Once count nth task = refl
+placed_sent nears unwatched described First count nth task = refl
+placed_sent nears unwatched described (Second agree) count nth task = refl
 
 -- the commands of a sending, with the places of their targets, are the sending of the commands with these places
-placed_all_sent : (nears : List Near) (unwatched : List ℕ) (sending : Sending) (count nth : ℕ) (chain : List Task)
-    → map (placed nears unwatched) (sent_from sending count nth chain) ≡ sent_from sending count nth (map (placed nears unwatched) chain)
-placed_all_sent nears unwatched sending count nth [] = refl
-placed_all_sent nears unwatched sending count nth (task ∷ later) =
-    ap (λ t. t ∷ map (placed nears unwatched) (sent_from sending count (nth + 1) later)) (placed_sent nears unwatched sending count nth task)
-    ∙ ap (λ ts. sent_as sending count nth (placed nears unwatched task) ∷ ts) (placed_all_sent nears unwatched sending count (nth + 1) later)
+placed_all_sent : (nears : List Near) (unwatched : List ℕ) (described : List Description) (sending : Sending) (count nth : ℕ) (chain : List Task)
+    → map (placed nears unwatched described) (sent_from sending count nth chain) ≡ sent_from sending count nth (map (placed nears unwatched described) chain)
+placed_all_sent nears unwatched described sending count nth [] = refl
+placed_all_sent nears unwatched described sending count nth (task ∷ later) =
+    ap (λ t. t ∷ map (placed nears unwatched described) (sent_from sending count (nth + 1) later)) (placed_sent nears unwatched described sending count nth task)
+    ∙ ap (λ ts. sent_as sending count nth (placed nears unwatched described task) ∷ ts) (placed_all_sent nears unwatched described sending count (nth + 1) later)
 
 -- the commands of an attempt, with the places of their targets, are those of an attempt of the commands with these places
-pub placed_sendings : (nears : List Near) (unwatched : List ℕ) (agree : Option Agree) (chain : List Task)
-    → map (placed nears unwatched) (sendings agree chain) ≡ sendings agree (map (placed nears unwatched) chain)
-placed_sendings nears unwatched None chain = refl
-placed_sendings nears unwatched (Some agree) chain =
-    let place = placed nears unwatched in
+pub placed_sendings : (nears : List Near) (unwatched : List ℕ) (described : List Description) (agree : Option Agree) (chain : List Task)
+    → map (placed nears unwatched described) (sendings agree chain) ≡ sendings agree (map (placed nears unwatched described) chain)
+placed_sendings nears unwatched described None chain = refl
+placed_sendings nears unwatched described (Some agree) chain =
+    let place = placed nears unwatched described in
     let n = length chain in
     map-append place (sent_from First n 0 chain) (sent_from (Second agree) n 0 chain)
-    ∙ ap (λ ts. ts ++ map place (sent_from (Second agree) n 0 chain)) (placed_all_sent nears unwatched First n 0 chain)
-    ∙ ap (λ ts. sent_from First n 0 (map place chain) ++ ts) (placed_all_sent nears unwatched (Second agree) n 0 chain)
+    ∙ ap (λ ts. ts ++ map place (sent_from (Second agree) n 0 chain)) (placed_all_sent nears unwatched described First n 0 chain)
+    ∙ ap (λ ts. sent_from First n 0 (map place chain) ++ ts) (placed_all_sent nears unwatched described (Second agree) n 0 chain)
     ∙ ap (λ k. sent_from First k 0 (map place chain) ++ sent_from (Second agree) k 0 (map place chain)) (sym (length-map chain place))
 
 -- where `old` and the tasks of a sending of the first `nth` commands of a chain are `now`, with that of the next command they are those of

@@ -1,5 +1,5 @@
 -- Which lines have the forms of a station's text.
-use Rattle.std.proofs.Common.{◌≡◌, ◌<◌, ◌≤◌, ◌==◌, inl, inr, ℕ, List, [], ◌∷◌, ◌++◌, get_or, Bool, true, false, Option, Some, None, arith, refl, ap, subst, sym, ◌∙◌, codes, ne_eqb, if◌then◌else◌}
+use Rattle.std.proofs.Common.{◌≡◌, ◌<◌, ◌≤◌, ◌==◌, inl, inr, ℕ, List, [], ◌∷◌, ◌++◌, get_or, true, false, Option, Some, None, arith, refl, ap, subst, sym, ◌∙◌, codes, ne_eqb, if◌then◌else◌}
 use Rattle.std.proofs.lemmas.List.{append_cancel_left}
 use Rattle.gc_catalogue.specs.declared.asked.Asked.{Asked}
 use Rattle.gc_catalogue.specs.declared.asked.Asked.TheVariants.{Table, Raw}
@@ -10,11 +10,15 @@ use Rattle.gc_texts.specs.Names.{is_name}
 use Rattle.gc_texts.specs.Procedures.{IsNumber, IsTarget}
 use Rattle.gc_texts.specs.Troubles.{NoTarget}
 use Rattle.gc_texts.specs.Nears.{AreRangeWords, IsRangeOf, AreNearWords, IsNearText}
-use Rattle.gc_texts.specs.TaskLines.{IsDeadlineLine, IsNameLine, IsNearLine, IsUnwatchedLine, SetsAccepted, IsCommandLine, IsTaskLine}
-use Rattle.gc_texts.specs.Wishes.{AsksFor}
+use Rattle.gc_texts.specs.TaskLines.{IsDeadlineLine, IsDescribingLine, IsExpectLine, SetsClock, IsNameLine, IsNearLine, IsUnwatchedLine, SetsAccepted, IsCommandLine, IsTaskLine}
+use Rattle.gc_texts.specs.Descriptions.{IsDescription, description_seen}
+use Rattle.gc_texts.specs.Wishes.{AsksFor, IsWorded}
 use Rattle.gc_texts.specs.Words.{first_word, second_word, third_word, after_three_words}
 use Rattle.gc_texts.specs.declared.codes.Codes.{Codes}
+use Rattle.gc_texts.specs.declared.description.Description.{Description}
 use Rattle.gc_texts.specs.declared.wish.Wish.{Wish}
+use Rattle.gc_texts.specs.declared.wording.Wording.{Wording}
+use Rattle.gc_texts.specs.declared.wording.Wording.TheVariants.{Plain, Described, Now}
 use Rattle.gc_texts.specs.declared.expectation.Expectation.{Expectation}
 use Rattle.gc_texts.specs.declared.name.Name.{Name}
 use Rattle.gc_texts.specs.declared.near.Near.{Near}
@@ -25,11 +29,12 @@ use Rattle.gc_texts.specs.LineForms.{IsReadAs}
 use Rattle.gc_texts.proofs.Cutting.{read_alike, holds_of_rest, cut_once, cut_found, one_front, digits_lack_spaces}
 use Rattle.gc_texts.proofs.AgreeForms.{one_agreeing, accept_is_no_agree, agree_is_no_start}
 use Rattle.gc_texts.proofs.ClockForms.{one_clock, wish_is_no_clock}
-use Rattle.gc_texts.proofs.CodeForms.{one_accepting}
+use Rattle.gc_texts.proofs.CodeForms.{one_accepting, one_busy}
+use Rattle.gc_texts.proofs.DescribedForms.{described_is_no_clock, one_worded}
+use Rattle.gc_texts.proofs.DescribedLaws.{one_description, same_described}
 use Rattle.gc_texts.proofs.ReasonForms.{one_retrying}
 use Rattle.gc_texts.proofs.ExpectForms.{clock_is_no_expect, expects_of_target, one_expectation, wish_is_no_expect}
 use Rattle.gc_texts.proofs.RawForms.{digits_begin_low}
-use Rattle.gc_texts.proofs.WishForms.{one_wish}
 use Rattle.gc_texts.proofs.Procedures.{one_number}
 
 -- the digits of a deadline's line are what follows `deadline `
@@ -63,22 +68,25 @@ module _ (line rest : List ℕ) (name : Name) (e : line ≡ codes "name " ++ res
       cc
 
 -- the kinds of lines, distinguished by the first byte: 0 a command, 1 `deadline`, 2 `chained`, 3 `unchained` or `unwatched`, which
--- begin alike, 4 `name` or `near`, which begin alike, too, 5 `accept`, `agree` or `at start`, which begin alike, too, 6 `retry`, 7 `each cycle`
+-- begin alike, 4 `name` or `near`, which begin alike, too, 5 `accept`, `agree` or `at start`, which begin alike, too, 6 `retry`, 7 `each
+-- cycle`, 8 `busy`, 9 `procedure`
 abbrev said_kind : TaskLine → ℕ
-said_kind (says.Command command now expects) = 0
+said_kind (says.Command command wording expects) = 0
 said_kind (says.Deadline deadline) = 1
 said_kind says.Chained = 2
 said_kind says.Unchained = 3
 said_kind (says.Naming name) = 4
 said_kind (says.Locating near) = 4
 said_kind (says.Unwatching target) = 3
+said_kind (says.Describing description) = 9
 said_kind (says.Accepting accepted) = 5
+said_kind (says.Busy busy) = 8
 said_kind (says.Retrying retry) = 6
 said_kind (says.Agreeing agree) = 5
 said_kind says.AtStart = 5
 said_kind says.EachCycle = 7
 
--- the kind of a line with this first byte: 100 is d, 99 c, 117 u, 110 n, 97 a, 114 r and 101 e; any other byte
+-- the kind of a line with this first byte: 100 is d, 99 c, 117 u, 110 n, 97 a, 114 r, 101 e, 98 b and 112 p; any other byte
 -- is of the kind of a command (0)
 abbrev kind_by_first_byte : ℕ → ℕ
 kind_by_first_byte b =
@@ -89,6 +97,8 @@ kind_by_first_byte b =
     else if b == 97 then 5
     else if b == 114 then 6
     else if b == 101 then 7
+    else if b == 98 then 8
+    else if b == 112 then 9
     else 0
 
 -- the kind of a line, by its first byte
@@ -107,6 +117,8 @@ low_byte_is_of_command b low =
       other 97 (omega arith),
       other 114 (omega arith),
       other 101 (omega arith),
+      other 98 (omega arith),
+      other 112 (omega arith),
     ) refl
 
 -- a line that begins with digits and a space is of the kind of a command (0)
@@ -119,21 +131,30 @@ asking_line_kind : (line : List ℕ) (target : ℕ) (asked : Asked) → AsksFor 
 asking_line_kind line target (Table call) is = ap line_kind is.line_is ∙ digits_are_of_command is.target_text is.procedure is.target_is.names.digits
 asking_line_kind line target (Raw raw) is = low_byte_is_of_command (get_or line 0 0) (digits_begin_low line is.target_is.names.digits is.target_is.names.some)
 
+-- a line that expects something is of the kind of a command
+expecting_line_kind : (line : List ℕ) (wish : Wish) (m : Wording) (e : Expectation) → IsExpectLine line wish m e → line_kind line ≡ 0
+expecting_line_kind line wish m e is =
+    let target = expects_of_target line wish m e is in low_byte_is_of_command (get_or line 0 0) (digits_begin_low line target.names.digits target.names.some)
+
 -- the first byte of a line shows the kind of what the line says
 first_byte_shows_kind : (line : List ℕ) (said : TaskLine) → IsTaskLine line said → line_kind line ≡ said_kind said
-first_byte_shows_kind line (says.Command wish false None) is = asking_line_kind line wish.target wish.call is
-first_byte_shows_kind line (says.Command wish false (Some e)) is =
-    let target = expects_of_target line wish e is in low_byte_is_of_command (get_or line 0 0) (digits_begin_low line target.names.digits target.names.some)
-first_byte_shows_kind line (says.Command wish true None) is = low_byte_is_of_command (get_or line 0 0) (digits_begin_low line is.target_is.names.digits is.target_is.names.some)
-first_byte_shows_kind line (says.Command wish true (Some e)) is = absurd is
+first_byte_shows_kind line (says.Command wish Plain None) is = asking_line_kind line wish.target wish.call is
+first_byte_shows_kind line (says.Command wish Described None) is = low_byte_is_of_command (get_or line 0 0) (digits_begin_low line is.target_is.names.digits is.target_is.names.some)
+first_byte_shows_kind line (says.Command wish Plain (Some e)) is = expecting_line_kind line wish Plain e is
+first_byte_shows_kind line (says.Command wish Described (Some e)) is = expecting_line_kind line wish Described e is
+first_byte_shows_kind line (says.Command wish Now None) is = low_byte_is_of_command (get_or line 0 0) (digits_begin_low line is.target_is.names.digits is.target_is.names.some)
+first_byte_shows_kind line (says.Command wish Now (Some e)) is = absurd is
 first_byte_shows_kind line (says.Deadline deadline) is = ap line_kind is.line_is
 first_byte_shows_kind line says.Chained is = ap line_kind is
 first_byte_shows_kind line says.Unchained is = ap line_kind is
 first_byte_shows_kind line (says.Naming name) is = ap line_kind is.line_is
 first_byte_shows_kind line (says.Locating near) is = ap line_kind is.line_is
 first_byte_shows_kind line (says.Unwatching target) is = ap line_kind is.line_is
+first_byte_shows_kind line (says.Describing description) is = ap line_kind is.line_is
 first_byte_shows_kind line (says.Accepting accepted) (inl alone) = ap line_kind alone.0
 first_byte_shows_kind line (says.Accepting accepted) (inr is) = ap line_kind is.line_is
+first_byte_shows_kind line (says.Busy busy) (inl alone) = ap line_kind alone.0
+first_byte_shows_kind line (says.Busy busy) (inr is) = ap line_kind is.line_is
 first_byte_shows_kind line (says.Retrying retry) (inl alone) = ap line_kind alone.0
 first_byte_shows_kind line (says.Retrying retry) (inr is) = ap line_kind is.line_is
 first_byte_shows_kind line (says.Agreeing None) is = ap line_kind is
@@ -230,6 +251,20 @@ name_is_no_near line name near x y =
     let second : ◌≡◌ {A = ℕ} 97 101 = ap (λ bs. get_or bs 1 0) (sym x.line_is ∙ y.line_is) in
     omega (arith, second)
 
+-- a line describes one procedure at most, in one way
+one_describing : (line : List ℕ) (m n : Description) → IsDescribingLine line m → IsDescribingLine line n → m ≡ n
+one_describing line m n x y =
+    same_described m n
+    (one_description y.rest (description_seen m) (description_seen n)
+    (holds_of_rest (codes "procedure ") (λ r. IsDescription r (description_seen m)) line y.rest y.line_is x) y.is)
+
+-- if a line is `procedure ` and `rest`, the description that is read of `rest`, or `None`, is also read of the line (`IsReadAs`)
+pub description_of_rest : (line rest : List ℕ) (r : Option Description) → line ≡ codes "procedure " ++ rest
+    → IsReadAs (λ d. IsDescription rest (description_seen d)) r → IsReadAs (IsDescribingLine line) r
+description_of_rest line rest r e =
+    read_alike (λ d. IsDescription rest (description_seen d)) (IsDescribingLine line) r (λ d is. record { rest = rest; line_is = e; is = is })
+    (λ d is. holds_of_rest (codes "procedure ") (λ t. IsDescription t (description_seen d)) line rest e is)
+
 -- a line leaves one target unwatched at most
 one_unwatching : (line : List ℕ) (m n : ℕ) → IsUnwatchedLine line m → IsUnwatchedLine line n → m ≡ n
 one_unwatching line m n x y =
@@ -251,23 +286,52 @@ accept_is_no_start : (line : List ℕ) (accepted : Codes) → SetsAccepted line 
 accept_is_no_start line accepted (inl alone) e = let second : ◌≡◌ {A = ℕ} 99 116 = ap (λ bs. get_or bs 1 0) (sym alone.0 ∙ e) in omega (arith, second)
 accept_is_no_start line accepted (inr is) e = let second : ◌≡◌ {A = ℕ} 99 116 = ap (λ bs. get_or bs 1 0) (sym is.line_is ∙ e) in omega (arith, second)
 
--- a line asks for one thing at most, and not both with the moment at which it is sent and without it, and expects one thing at most of the
--- answer
-one_asked_for : (line : List ℕ) (v w : Wish) (m n : Bool) (d e : Option Expectation)
+-- a line has the form of this wish in this wording, and expects this of the answer
+abbrev IsSaidAs : List ℕ → Wish → Wording → Option Expectation → Type 0
+IsSaidAs line wish wording None = IsWorded wording line wish
+IsSaidAs line wish wording (Some expectation) = IsExpectLine line wish wording expectation
+
+-- so has the line of a command that doesn't set the clock to its moment
+said_plainly : (line : List ℕ) (wish : Wish) (expects : Option Expectation) → IsCommandLine line wish Plain expects → IsSaidAs line wish Plain expects
+said_plainly line wish None is = is
+said_plainly line wish (Some e) is = is
+
+said_of_described : (line : List ℕ) (wish : Wish) (expects : Option Expectation) → IsCommandLine line wish Described expects → IsSaidAs line wish Described expects
+said_of_described line wish None is = is
+said_of_described line wish (Some e) is = is
+
+-- of one line these are the same
+one_said_as : (line : List ℕ) (v w : Wish) (m n : Wording) (d e : Option Expectation)
+    → IsSaidAs line v m d → IsSaidAs line w n e → says.Command v m d ≡ says.Command w n e
+one_said_as line v w m n None None x y =
+    let same = one_worded line v w m n x y in ap (λ u. says.Command u m None) same.0 ∙ ap (λ k. says.Command w k None) same.1
+one_said_as line v w m n (Some d) (Some e) x y =
+    let same = one_expectation line v w m n d e x y in
+    ap (λ u. says.Command u m (Some d)) same.0 ∙ ap (λ k. says.Command w k (Some d)) same.1 ∙ ap (λ z. says.Command w n (Some z)) same.2
+one_said_as line v w m n None (Some e) x y = absurd (wish_is_no_expect line v m x y.word)
+one_said_as line v w m n (Some d) None x y = absurd (wish_is_no_expect line w n y x.word)
+
+-- a line that sets the clock to its moment is no other command's
+clock_is_not_said : (line : List ℕ) (v w : Wish) (n : Wording) (e : Option Expectation) → SetsClock line v → IsSaidAs line w n e → ⊥
+clock_is_not_said line v w n (Some e) x y = clock_is_no_expect line v x y.word
+clock_is_not_said line v w Plain None x y = wish_is_no_clock line w v y x
+clock_is_not_said line v w Described None x y = described_is_no_clock line w v y x
+clock_is_not_said line v w Now None x y = y
+
+-- a line asks for one thing at most, in one wording, and expects one thing at most of the answer
+one_asked_for : (line : List ℕ) (v w : Wish) (m n : Wording) (d e : Option Expectation)
     → IsCommandLine line v m d → IsCommandLine line w n e → says.Command v m d ≡ says.Command w n e
-one_asked_for line v w true true None None x y = ap (λ u. says.Command u true None) (one_clock line v w x y)
-one_asked_for line v w false false None None x y = ap (λ u. says.Command u false None) (one_wish line v w x y)
-one_asked_for line v w false false (Some d) (Some e) x y =
-    let same = one_expectation line v w d e x y in
-    ap (λ u. says.Command u false (Some d)) same.0 ∙ ap (λ z. says.Command w false (Some z)) same.1
-one_asked_for line v w true false None None x y = absurd (wish_is_no_clock line w v y x)
-one_asked_for line v w false true None None x y = absurd (wish_is_no_clock line v w x y)
-one_asked_for line v w false false None (Some e) x y = absurd (wish_is_no_expect line v x y.word)
-one_asked_for line v w false false (Some d) None x y = absurd (wish_is_no_expect line w y x.word)
-one_asked_for line v w true false None (Some e) x y = absurd (clock_is_no_expect line v x y.word)
-one_asked_for line v w false true (Some d) None x y = absurd (clock_is_no_expect line w y x.word)
-one_asked_for line v w true n (Some d) e x y = absurd x
-one_asked_for line v w m true d (Some e) x y = absurd y
+one_asked_for line v w Now Now None None x y = ap (λ u. says.Command u Now None) (one_clock line v w x y)
+one_asked_for line v w Now n (Some d) e x y = absurd x
+one_asked_for line v w m Now d (Some e) x y = absurd y
+one_asked_for line v w Now Plain None e x y = absurd (clock_is_not_said line v w Plain e x (said_plainly line w e y))
+one_asked_for line v w Now Described None e x y = absurd (clock_is_not_said line v w Described e x (said_of_described line w e y))
+one_asked_for line v w Plain Now d None x y = absurd (clock_is_not_said line w v Plain d y (said_plainly line v d x))
+one_asked_for line v w Described Now d None x y = absurd (clock_is_not_said line w v Described d y (said_of_described line v d x))
+one_asked_for line v w Plain Plain d e x y = one_said_as line v w Plain Plain d e (said_plainly line v d x) (said_plainly line w e y)
+one_asked_for line v w Plain Described d e x y = one_said_as line v w Plain Described d e (said_plainly line v d x) (said_of_described line w e y)
+one_asked_for line v w Described Plain d e x y = one_said_as line v w Described Plain d e (said_of_described line v d x) (said_plainly line w e y)
+one_asked_for line v w Described Described d e x y = one_said_as line v w Described Described d e (said_of_described line v d x) (said_of_described line w e y)
 
 -- where a line says `a` and says `b`, and both are of one kind, they are the same
 same_said : (line : List ℕ) (a b : TaskLine) → IsTaskLine line a → IsTaskLine line b → said_kind a ≡ said_kind b → a ≡ b
@@ -278,7 +342,9 @@ same_said line says.Unchained says.Unchained x y h = refl
 same_said line (says.Naming m) (says.Naming n) x y h = ap says.Naming (one_naming line m n x y)
 same_said line (says.Locating m) (says.Locating n) x y h = ap says.Locating (one_locating line m n x y)
 same_said line (says.Unwatching m) (says.Unwatching n) x y h = ap says.Unwatching (one_unwatching line m n x y)
+same_said line (says.Describing m) (says.Describing n) x y h = ap says.Describing (one_describing line m n x y)
 same_said line (says.Accepting a) (says.Accepting b) x y h = ap says.Accepting (one_accepting line a b x y)
+same_said line (says.Busy a) (says.Busy b) x y h = ap says.Busy (one_busy line a b x y)
 same_said line (says.Retrying a) (says.Retrying b) x y h = ap says.Retrying (one_retrying line a b x y)
 same_said line (says.Agreeing a) (says.Agreeing b) x y h = ap says.Agreeing (one_agreeing line a b x y)
 same_said line says.AtStart says.AtStart x y h = refl

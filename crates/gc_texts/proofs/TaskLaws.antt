@@ -1,11 +1,11 @@
 -- Laws of a station's text: it has one reading; a command text (lines of commands alone) is one; and chains keep their targets.
 -- The mode at a line is what the lines before it make hold there, and a group a run of commands for one target (`specs/Tasks`).
-use Rattle.std.proofs.Common.{arith, subst, length, ◌+◌, ◌*◌, zero, suc, nat_lt, if◌then◌else◌, append_assoc, append-nil, ◌≡◌, ℕ, List, [], ◌∷◌, ◌++◌, map, Option, Some, None, Bool, true, false, ◌&&◌, ◌⊎◌, inl, inr, refl, ap, sym, ◌∙◌}
+use Rattle.std.proofs.Common.{arith, subst, length, ◌||◌, ◌+◌, ◌*◌, zero, suc, nat_lt, if◌then◌else◌, append_assoc, append-nil, ◌≡◌, ℕ, List, [], ◌∷◌, ◌++◌, map, Option, Some, None, Bool, true, false, ◌&&◌, ◌⊎◌, inl, inr, refl, ap, sym, ◌∙◌}
 use Rattle.std.specs.Prelude.{filter}
 use Rattle.std.specs.List.{AllByRecursion, flat_map}
 use Rattle.std.proofs.lemmas.List.{length-map, map-append}
 use Rattle.std.proofs.SliceLists.{all_by_recursion_push}
-use Rattle.std.proofs.lemmas.Bool.{eqb-true, and_parts, both_ways}
+use Rattle.std.proofs.lemmas.Bool.{eqb-true, and_from, and_parts, both_ways}
 use Rattle.std.proofs.Math.Bool.{or-true}
 use Rattle.std.proofs.lemmas.Bool.Decides.{nat_tests}
 use Rattle.std.proofs.lemmas.Option.{same_Some}
@@ -16,6 +16,7 @@ use Rattle.gc_texts.specs.Laws.{OneTaskList, CommandsAreTasks, plain_tasks, Comm
 use Rattle.gc_texts.specs.Attempts.{attempt_number, in_attempt, attempts_from, tasks_planned, attempts, laid_from, laid_out}
 use Rattle.gc_texts.specs.Sendings.{sendings}
 use Rattle.gc_texts.specs.Retries.{no_retry}
+use Rattle.gc_texts.specs.declared.description.Description.{Description}
 use Rattle.gc_texts.specs.declared.again.Again.{Again}
 use Rattle.gc_texts.specs.declared.agree.Agree.{Agree}
 use Rattle.gc_texts.specs.declared.agree.Twice.TheVariants.{Once}
@@ -23,11 +24,17 @@ use Rattle.gc_texts.specs.declared.retry.Retry.{Retry}
 use Rattle.gc_texts.specs.declared.attempts.Planned.{Planned}
 use Rattle.gc_texts.specs.LineForms.{is_kept, text_lines, AreLinesOf}
 use Rattle.gc_texts.specs.TaskLines.{IsTaskLine}
-use Rattle.gc_texts.specs.Tasks.{TasksSeen, first_mode, mode_after, continues_group, task_at, setup_of, planned_of, tasks_of, name_at, names_of, near_at, nears_of, unwatched_at, unwatched_of, placed, MayFollow}
+use Rattle.gc_texts.specs.Tasks.{TasksSeen, first_mode, mode_after, continues_group, task_at, setup_of, planned_of, tasks_of, name_at, names_of, near_at, nears_of, unwatched_at, unwatched_of, described_at, described_of, form_of_asked, placed, no_standing, standing_by, MayFollow}
+use Rattle.gc_texts.specs.NewColumns.{new_columns}
+use Rattle.gc_texts.specs.ValueItems.{no_needs}
 use Rattle.gc_texts.specs.Wishes.{wish_of}
+use Rattle.gc_catalogue.specs.declared.asked.Asked.{Asked}
+use Rattle.gc_catalogue.specs.declared.asked.Asked.TheVariants.{Table, Raw}
+use Rattle.gc_texts.specs.declared.wording.Wording.TheVariants.{Plain}
 use Rattle.gc_texts.specs.declared.commands.Command.{Command}
 use Rattle.gc_texts.specs.declared.name.Name.{Name}
 use Rattle.gc_texts.specs.declared.near.Near.{Near}
+use Rattle.gc_texts.specs.declared.mode.Standing.{Standing}
 use Rattle.gc_texts.specs.declared.task_line.TaskLine.{TaskLine}
 use Rattle.gc_texts.specs.declared.task_line.TaskLine.TheVariants as says
 use Rattle.gc_texts.specs.declared.mode.Mode.{Mode}
@@ -36,31 +43,37 @@ use Rattle.gc_texts.proofs.OneReading.{one_list}
 use Rattle.gc_texts.proofs.SentAs.{all_sendings}
 use Rattle.gc_texts.proofs.TaskForms.{one_said}
 
--- what two texts give is the same if the numbers of setup tasks are, the tasks, the names, the places and the unwatched targets
-same_tasks : (a b : TasksSeen) → a.setup ≡ b.setup → a.tasks ≡ b.tasks → a.names ≡ b.names → a.nears ≡ b.nears → a.unwatched ≡ b.unwatched → a ≡ b
-same_tasks a b e f g h i =
+-- what two texts give is the same if the numbers of setup tasks are, the tasks, the names, the places, the unwatched targets, the
+-- descriptions and the columns that these add
+same_tasks : (a b : TasksSeen) → a.setup ≡ b.setup → a.tasks ≡ b.tasks → a.names ≡ b.names → a.nears ≡ b.nears → a.unwatched ≡ b.unwatched
+    → a.described ≡ b.described → a.columns ≡ b.columns → a ≡ b
+same_tasks a b e f g h i j k =
     ap (λ n. record a { setup = n }) e
     ∙ ap (λ ts. record a { setup = b.setup; tasks = ts }) f
     ∙ ap (λ ns. record a { setup = b.setup; tasks = b.tasks; names = ns }) g
     ∙ ap (λ ns. record a { setup = b.setup; tasks = b.tasks; names = b.names; nears = ns }) h
-    ∙ ap (λ us. record b { unwatched = us }) i
+    ∙ ap (λ us. record b { unwatched = us; described = a.described; columns = a.columns }) i
+    ∙ ap (λ ds. record b { described = ds; columns = a.columns }) j
+    ∙ ap (λ cs. record b { columns = cs }) k
 
 -- the law: with a caller's deadline and chaining, a text gives one number of setup tasks at most, one list of tasks, one of
--- names, one of places, and one of unwatched targets
+-- names, one of places, one of unwatched targets, one of descriptions, and one of the columns that these add
 pub one_task_list : OneTaskList
 one_task_list text deadline chained one other h k =
     let same : h.said ≡ k.said = one_list IsTaskLine one_said (filter is_kept (text_lines text)) h.said k.said h.lines.forms k.lines.forms in
     let places : one.nears ≡ other.nears = h.nears_are ∙ ap nears_of same ∙ sym k.nears_are in
     let apart : one.unwatched ≡ other.unwatched = h.unwatched_are ∙ ap unwatched_of same ∙ sym k.unwatched_are in
+    let procedures : one.described ≡ other.described = h.described_are ∙ ap described_of same ∙ sym k.described_are in
     same_tasks one other (h.setup_is ∙ ap (λ said. length (setup_of (first_mode deadline chained) said)) same ∙ sym k.setup_is)
-    (h.tasks_are ∙ ap (λ ns. map (placed ns one.unwatched) (tasks_of (first_mode deadline chained) h.said)) places
-    ∙ ap (λ us. map (placed other.nears us) (tasks_of (first_mode deadline chained) h.said)) apart
-    ∙ ap (λ said. map (placed other.nears other.unwatched) (tasks_of (first_mode deadline chained) said)) same ∙ sym k.tasks_are)
-    (h.names_are ∙ ap names_of same ∙ sym k.names_are) places apart
+    (h.tasks_are ∙ ap (λ ns. map (placed ns one.unwatched one.described) (tasks_of (first_mode deadline chained) h.said)) places
+    ∙ ap (λ us. map (placed other.nears us one.described) (tasks_of (first_mode deadline chained) h.said)) apart
+    ∙ ap (λ ds. map (placed other.nears other.unwatched ds) (tasks_of (first_mode deadline chained) h.said)) procedures
+    ∙ ap (λ said. map (placed other.nears other.unwatched other.described) (tasks_of (first_mode deadline chained) said)) same ∙ sym k.tasks_are)
+    (h.names_are ∙ ap names_of same ∙ sym k.names_are) places apart procedures (h.columns_are ∙ ap new_columns procedures ∙ sym k.columns_are)
 
 -- what the lines of a command text say as lines of a station's text: these commands, none of which sets a clock to its moment
 abbrev lines_of : List Command → List TaskLine
-lines_of commands = map (λ command. says.Command (wish_of command) false None) commands
+lines_of commands = map (λ command. says.Command (wish_of command) Plain None) commands
 
 -- lines that have the forms of commands say these commands as lines of a station's text (`lines_of`)
 lines_have_forms : (lines : List (List ℕ)) (commands : List Command) → AreLinesOf IsCommand lines commands → AreLinesOf IsTaskLine lines (lines_of commands)
@@ -69,13 +82,14 @@ lines_have_forms [] (c ∷ cs) are = absurd are
 lines_have_forms (line ∷ lines) [] are = absurd are
 lines_have_forms (line ∷ lines) (c ∷ cs) are = (are.0, lines_have_forms lines cs are.1)
 
--- lines of commands may follow any names, places and unwatched targets
-lines_follow : (names : List Name) (nears : List Near) (unwatched : List ℕ) (counters : ℕ) (commands : List Command) → MayFollow names nears unwatched counters (lines_of commands)
-lines_follow names nears unwatched counters [] = tt
-lines_follow names nears unwatched counters (c ∷ cs) = (or-true (nat_lt counters 16), lines_follow (names ++ []) (nears ++ []) (unwatched ++ []) (counters + 0) cs)
+-- lines of commands may follow any names, places, unwatched targets and descriptions
+lines_follow : (names : List Name) (nears : List Near) (unwatched : List ℕ) (described : List Description) (s : Standing) (commands : List Command) → MayFollow names nears unwatched described s (lines_of commands)
+lines_follow names nears unwatched described s [] = tt
+lines_follow names nears unwatched described s (c ∷ cs) =
+    (record { follows = and_from (nat_lt s.counters 16 || true) true (or-true (nat_lt s.counters 16)) refl; fits = tt }, lines_follow (names ++ []) (nears ++ []) (unwatched ++ []) (described ++ []) (standing_by s (says.Command (wish_of c) Plain None)) cs)
 
 -- where the line of a command gives nothing, as it gives no name and no place, the lines of commands give nothing
-lines_give_none : {Item : Type 0} (given_at : TaskLine → List Item) → ((c : Command) → given_at (says.Command (wish_of c) false None) ≡ [])
+lines_give_none : {Item : Type 0} (given_at : TaskLine → List Item) → ((c : Command) → given_at (says.Command (wish_of c) Plain None) ≡ [])
     → (commands : List Command) → [] ≡ flat_map given_at (lines_of commands)
 lines_give_none given_at none [] = refl
 lines_give_none given_at none (c ∷ cs) = lines_give_none given_at none cs ∙ ap (λ items. items ++ flat_map given_at (lines_of cs)) (sym (none c))
@@ -138,16 +152,24 @@ laid_once retry agree chain (p ∷ later) none once all rest =
           ap (λ ts. ts ++ laid_from p.retry p.agree (p ∷ []) later) (attempts_are_tasks retry agree chain none once all)
           ∙ ap (λ ts. tasks_planned chain ++ ts) anew
 
--- this task has no place of its target, and is watched
+-- this task has no place of its target, is watched, and has no form of its answers
 record IsUnplaced (task : Task) : Type 0 where
   near : task.near ≡ None
   watched : task.watched ≡ true
+  form : task.form ≡ None
 
--- tasks without places that are watched stay as they are where the text says no place and leaves no target unwatched
-unplaced_stay : (tasks : List Task) → AllByRecursion IsUnplaced tasks → map (placed [] []) tasks ≡ tasks
+-- without descriptions no answer has a form
+formless : (asked : Asked) → form_of_asked [] asked ≡ None
+formless (Table call) = refl
+formless (Raw raw) = refl
+
+-- tasks without places and forms that are watched stay as they are where the text says no place, leaves no target unwatched, and describes
+-- no procedure
+unplaced_stay : (tasks : List Task) → AllByRecursion IsUnplaced tasks → map (placed [] [] []) tasks ≡ tasks
 unplaced_stay [] all = refl
 unplaced_stay (t ∷ ts) all =
-    ap (λ n. record t { near = n; watched = true } ∷ map (placed [] []) ts) (sym all.0.near) ∙ ap (λ w. record t { watched = w } ∷ map (placed [] []) ts) (sym all.0.watched)
+    ap (λ f. record t { near = None; watched = true; form = f } ∷ map (placed [] [] []) ts) (formless t.command.call ∙ sym all.0.form)
+    ∙ ap (λ n. record t { near = n; watched = true } ∷ map (placed [] [] []) ts) (sym all.0.near) ∙ ap (λ w. record t { watched = w } ∷ map (placed [] [] []) ts) (sym all.0.watched)
     ∙ ap (λ us. t ∷ us) (unplaced_stay ts all.1)
 
 -- commands alone, read in a mode of the cycle without accepted codes and without retries, which counts `place` commands before
@@ -161,6 +183,7 @@ module _ (deadline : ℕ) (chained : Bool) where
         chained = chained;
         group = group;
         accepted = no_codes;
+        busy = no_codes;
         retry = no_retry;
         agree = None;
         setup = false;
@@ -168,6 +191,7 @@ module _ (deadline : ℕ) (chained : Bool) where
         place = place;
         link = link;
         counters = 0;
+        values = 0;
       }
 
   -- how many commands the chain has after a command for this target, where it has `link` before it
@@ -190,7 +214,7 @@ module _ (deadline : ℕ) (chained : Bool) where
   none_placed : (group : Option ℕ) (place link : ℕ) (commands : List Command)
       → AllByRecursion IsUnplaced (map (λ p. p.task) (planned_of (mode_in_cycle group place link) (lines_of commands)))
   none_placed group place link [] = tt
-  none_placed group place link (c ∷ cs) = (record { near = refl; watched = refl }, none_placed (Some c.target) (place + 1) (next_link group link c.target) cs)
+  none_placed group place link (c ∷ cs) = (record { near = refl; watched = refl; form = refl }, none_placed (Some c.target) (place + 1) (next_link group link c.target) cs)
 
   -- the tasks of commands that are read in such a mode (`mode_in_cycle`) ask for these commands, in order
   asked_tasks : (group : Option ℕ) (place link : ℕ) (commands : List Command)
@@ -200,12 +224,12 @@ module _ (deadline : ℕ) (chained : Bool) where
 
   -- the tasks of the commands, read in the first mode, are the tasks that lines of these commands alone give
   tasks_are_asked : (commands : List Command)
-      → map (λ p. p.task) (planned_of (first_mode deadline chained) (lines_of commands)) ≡ map (placed [] []) (tasks_of (first_mode deadline chained) (lines_of commands))
+      → map (λ p. p.task) (planned_of (first_mode deadline chained) (lines_of commands)) ≡ map (placed [] [] []) (tasks_of (first_mode deadline chained) (lines_of commands))
   tasks_are_asked commands =
       let planned = planned_of (first_mode deadline chained) (lines_of commands) in
       let laid : laid_out planned ≡ map (λ p. p.task) planned = laid_once no_retry None [] planned refl refl tt (each_is_sent_once None 0 0 commands) in
-      sym (unplaced_stay (map (λ p. p.task) planned) (none_placed None 0 0 commands)) ∙ ap (map (placed [] [])) (sym laid)
-      ∙ ap (λ ts. map (placed [] []) (ts ++ laid_out planned)) (sym (no_setup None 0 0 commands))
+      sym (unplaced_stay (map (λ p. p.task) planned) (none_placed None 0 0 commands)) ∙ ap (map (placed [] [] [])) (sym laid)
+      ∙ ap (λ ts. map (placed [] [] []) (ts ++ laid_out planned)) (sym (no_setup None 0 0 commands))
 
 -- the law: each command text is a station's text, of the same commands in the same order, and without setup, names and places
 pub commands_are_tasks : CommandsAreTasks
@@ -213,12 +237,14 @@ commands_are_tasks text commands deadline chained are = (
   map (λ p. p.task) (planned_of (first_mode deadline chained) (lines_of commands)),
   record {
     said = lines_of commands;
-    lines = record { forms = lines_have_forms (filter is_kept (text_lines text)) commands are; follow = lines_follow [] [] [] 0 commands };
+    lines = record { forms = lines_have_forms (filter is_kept (text_lines text)) commands are; follow = lines_follow [] [] [] [] no_standing commands };
     tasks_are = tasks_are_asked deadline chained commands;
     setup_is = ap length (sym (no_setup deadline chained None 0 0 commands));
     names_are = lines_give_none name_at (λ c. refl) commands;
     nears_are = lines_give_none near_at (λ c. refl) commands;
     unwatched_are = lines_give_none unwatched_at (λ c. refl) commands;
+    described_are = lines_give_none described_at (λ c. refl) commands;
+    columns_are = refl;
   },
   asked_tasks deadline chained None 0 0 commands,
 )
@@ -235,29 +261,34 @@ unchained_are_plain deadline group place link (c ∷ cs) =
       chained = false;
       near = None;
       watched = true;
+      form = None;
       accepted = no_codes;
+      busy = no_codes;
       expects = None;
       counter = None;
       again = no_again;
       turn = record { place = place; attempt = 1; link = 0 };
       others = 0;
       now = false;
+      needs = no_needs;
       twice = Once;
     } ∷ l)
     (unchained_are_plain deadline (Some c.target) (place + 1) 1 cs)
 
 -- the law: a command text, read as a station's text without chains, gives one task for each command, in order, not chained and
--- with the caller's deadline (`plain_tasks`), and neither setup nor names nor places nor unwatched targets
+-- with the caller's deadline (`plain_tasks`), and neither setup nor names nor places nor unwatched targets nor descriptions
 pub commands_are_plain : CommandsArePlain
 commands_are_plain text commands deadline are =
     record {
       said = lines_of commands;
-      lines = record { forms = lines_have_forms (filter is_kept (text_lines text)) commands are; follow = lines_follow [] [] [] 0 commands };
+      lines = record { forms = lines_have_forms (filter is_kept (text_lines text)) commands are; follow = lines_follow [] [] [] [] no_standing commands };
       tasks_are = unchained_are_plain deadline None 0 0 commands ∙ tasks_are_asked deadline false commands;
       setup_is = ap length (sym (no_setup deadline false None 0 0 commands));
       names_are = lines_give_none name_at (λ c. refl) commands;
       nears_are = lines_give_none near_at (λ c. refl) commands;
       unwatched_are = lines_give_none unwatched_at (λ c. refl) commands;
+      described_are = lines_give_none described_at (λ c. refl) commands;
+      columns_are = refl;
     }
 
 -- a group that a command for a target continues is the group of that target
@@ -280,15 +311,15 @@ CommandsKeepTargets before planned = KeepTargets before (tasks_planned planned)
 pub commands_keep_targets : (mode : Mode) (before : Option ℕ) (said : List TaskLine)
     → (mode.setup ≡ true) ⊎ ((mode.group ≡ None) ⊎ (mode.group ≡ before)) → CommandsKeepTargets before (planned_of mode said)
 commands_keep_targets mode before [] h = tt
-commands_keep_targets mode before (says.Command c now x ∷ later) h =
-    by_setup mode.setup refl h (λ e. commands_keep_targets (mode_after mode (says.Command c now x)) before later (inl e))
-    (commands_keep_targets (mode_after mode (says.Command c now x)) (Some c.target) later (inr (inr refl))) where
+commands_keep_targets mode before (says.Command c w x ∷ later) h =
+    by_setup mode.setup refl h (λ e. commands_keep_targets (mode_after mode (says.Command c w x)) before later (inl e))
+    (commands_keep_targets (mode_after mode (says.Command c w x)) (Some c.target) later (inr (inr refl))) where
       -- the lemma above for a command and the lines after it, by whether the mode is that of the setup (`b`)
       by_setup : (b : Bool) → mode.setup ≡ b → (mode.setup ≡ true) ⊎ ((mode.group ≡ None) ⊎ (mode.group ≡ before))
-          → (mode.setup ≡ true → CommandsKeepTargets before (planned_of (mode_after mode (says.Command c now x)) later))
-          → CommandsKeepTargets (Some c.target) (planned_of (mode_after mode (says.Command c now x)) later)
+          → (mode.setup ≡ true → CommandsKeepTargets before (planned_of (mode_after mode (says.Command c w x)) later))
+          → CommandsKeepTargets (Some c.target) (planned_of (mode_after mode (says.Command c w x)) later)
           → CommandsKeepTargets before
-          ((if b then [] else record { task = task_at mode c now x; retry = mode.retry; agree = mode.agree } ∷ []) ++ planned_of (mode_after mode (says.Command c now x)) later)
+          ((if b then [] else record { task = task_at mode c w x; retry = mode.retry; agree = mode.agree } ∷ []) ++ planned_of (mode_after mode (says.Command c w x)) later)
       by_setup true e h at_start in_cycle = at_start e
       by_setup false e (inl is) at_start in_cycle = let bad : true ≡ false = sym is ∙ e in cc
       by_setup false e (inr is) at_start in_cycle = (
@@ -404,9 +435,9 @@ laid_out_keeps_targets (p ∷ later) are = by_chained p.task.chained refl (λ e.
 
 -- tasks that keep targets do so, too, once they have their places, which change neither which are chained nor for which target
 -- they are
-placed_keep_targets : (nears : List Near) (unwatched : List ℕ) (before : Option ℕ) (tasks : List Task) → KeepTargets before tasks → KeepTargets before (map (placed nears unwatched) tasks)
-placed_keep_targets nears unwatched before [] are = tt
-placed_keep_targets nears unwatched before (task ∷ later) are = (are.0, placed_keep_targets nears unwatched (Some task.command.target) later are.1)
+placed_keep_targets : (nears : List Near) (unwatched : List ℕ) (described : List Description) (before : Option ℕ) (tasks : List Task) → KeepTargets before tasks → KeepTargets before (map (placed nears unwatched described) tasks)
+placed_keep_targets nears unwatched described before [] are = tt
+placed_keep_targets nears unwatched described before (task ∷ later) are = (are.0, placed_keep_targets nears unwatched described (Some task.command.target) later are.1)
 
 -- these tasks, after n others of a chain, are the rest of that chain: all are chained, but for the first where n is 0
 abbrev ContinueChain : ℕ → List Task → Type 0
@@ -428,37 +459,37 @@ chain_continued (suc n) task later is more = (is ∙ suc_above_zero n, subst (λ
 
 -- the setup tasks of these lines, with their places, continue as one chain (`ContinueChain`) the tasks that the mode before the
 -- lines has counted (`begun`)
-setup_chain : (nears : List Near) (unwatched : List ℕ) (mode : Mode) (said : List TaskLine) → ContinueChain mode.begun (map (placed nears unwatched) (setup_of mode said))
-setup_chain nears unwatched mode [] = none_continues mode.begun where
+setup_chain : (nears : List Near) (unwatched : List ℕ) (described : List Description) (mode : Mode) (said : List TaskLine) → ContinueChain mode.begun (map (placed nears unwatched described) (setup_of mode said))
+setup_chain nears unwatched described mode [] = none_continues mode.begun where
   -- the empty list of tasks continues a chain of whatever number of tasks (`ContinueChain`)
   none_continues : (n : ℕ) → ContinueChain n []
   none_continues zero = tt
   none_continues (suc n) = tt
-setup_chain nears unwatched mode (says.Command c now x ∷ later) = by_setup mode.setup refl (setup_chain nears unwatched (mode_after mode (says.Command c now x)) later) where
+setup_chain nears unwatched described mode (says.Command c w x ∷ later) = by_setup mode.setup refl (setup_chain nears unwatched described (mode_after mode (says.Command c w x)) later) where
   -- the lemma above for a command and the lines after it, by whether the mode is that of the setup (`b`)
   by_setup : (b : Bool) → mode.setup ≡ b
-      → ContinueChain (mode_after mode (says.Command c now x)).begun (map (placed nears unwatched) (setup_of (mode_after mode (says.Command c now x)) later))
+      → ContinueChain (mode_after mode (says.Command c w x)).begun (map (placed nears unwatched described) (setup_of (mode_after mode (says.Command c w x)) later))
       → ContinueChain mode.begun
-      (map (placed nears unwatched) ((if b then task_at mode c now x ∷ [] else []) ++ setup_of (mode_after mode (says.Command c now x)) later))
+      (map (placed nears unwatched described) ((if b then task_at mode c w x ∷ [] else []) ++ setup_of (mode_after mode (says.Command c w x)) later))
   by_setup true e more =
-      chain_continued mode.begun (placed nears unwatched (task_at mode c now x)) (map (placed nears unwatched) (setup_of (mode_after mode (says.Command c now x)) later))
+      chain_continued mode.begun (placed nears unwatched described (task_at mode c w x)) (map (placed nears unwatched described) (setup_of (mode_after mode (says.Command c w x)) later))
       (ap (λ b. if b then nat_lt 0 mode.begun else mode.chained && continues_group mode.group c.target) e)
-      (subst (λ n. ContinueChain n (map (placed nears unwatched) (setup_of (mode_after mode (says.Command c now x)) later))) (ap (λ b. if b then mode.begun + 1 else mode.begun) e) more)
-  by_setup false e more = subst (λ n. ContinueChain n (map (placed nears unwatched) (setup_of (mode_after mode (says.Command c now x)) later))) (ap (λ b. if b then mode.begun + 1 else mode.begun) e) more
-setup_chain nears unwatched mode (line ∷ later) = setup_chain nears unwatched (mode_after mode line) later
+      (subst (λ n. ContinueChain n (map (placed nears unwatched described) (setup_of (mode_after mode (says.Command c w x)) later))) (ap (λ b. if b then mode.begun + 1 else mode.begun) e) more)
+  by_setup false e more = subst (λ n. ContinueChain n (map (placed nears unwatched described) (setup_of (mode_after mode (says.Command c w x)) later))) (ap (λ b. if b then mode.begun + 1 else mode.begun) e) more
+setup_chain nears unwatched described mode (line ∷ later) = setup_chain nears unwatched described (mode_after mode line) later
 
 -- the law: the setup is one chain, and of the tasks after it the first isn't chained, and each chained one follows one for the
 -- same target
 pub chains_keep_targets : ChainsKeepTargets
 chains_keep_targets text deadline chained all is =
     let first = first_mode deadline chained in
-    let front = map (placed all.nears all.unwatched) (setup_of first is.said) in
-    let cycle = map (placed all.nears all.unwatched) (laid_out (planned_of first is.said)) in (
+    let front = map (placed all.nears all.unwatched all.described) (setup_of first is.said) in
+    let cycle = map (placed all.nears all.unwatched all.described) (laid_out (planned_of first is.said)) in (
       front,
       cycle,
-      is.tasks_are ∙ map-append (placed all.nears all.unwatched) (setup_of first is.said) (laid_out (planned_of first is.said)),
-      is.setup_is ∙ sym (length-map (setup_of first is.said) (placed all.nears all.unwatched)),
-      setup_chain all.nears all.unwatched first is.said,
-      placed_keep_targets all.nears all.unwatched None (laid_out (planned_of first is.said))
+      is.tasks_are ∙ map-append (placed all.nears all.unwatched all.described) (setup_of first is.said) (laid_out (planned_of first is.said)),
+      is.setup_is ∙ sym (length-map (setup_of first is.said) (placed all.nears all.unwatched all.described)),
+      setup_chain all.nears all.unwatched all.described first is.said,
+      placed_keep_targets all.nears all.unwatched all.described None (laid_out (planned_of first is.said))
           (laid_out_keeps_targets (planned_of first is.said) (commands_keep_targets first None is.said (inr (inl refl)))),
     )

@@ -1,17 +1,30 @@
 -- What a task asks for, whenever it is sent.
-use Rattle.std.proofs.Common.{ℕ, Bool, true, false, if◌then◌else◌}
+use Rattle.std.proofs.Common.{◌≡◌, Bool, true, false, drop, if◌then◌else◌, refl, ap, sym, ◌∙◌}
 use Rattle.gc_catalogue.specs.declared.asked.Asked.{Asked}
-use Rattle.gc_catalogue.specs.declared.asked.Asked.TheVariants.{Table}
+use Rattle.gc_catalogue.specs.declared.asked.Asked.TheVariants.{Table, Raw}
 use Rattle.gc_catalogue.specs.declared.call.Call.TheVariants.{SetDate}
+use Rattle.gc_catalogue.specs.declared.raw.RawCall.{RawCall}
 use Rattle.gc_texts.specs.Stamps.{date_time}
-use Rattle.gc_texts.specs.Tasks.{call_at}
+use Rattle.gc_texts.specs.Tasks.{call_at, made_at}
+use Rattle.gc_texts.specs.ValueItems.{filled_call}
+use Rattle.gc_texts.specs.declared.occasion.Occasion.{Occasion}
 use Rattle.gc_texts.specs.declared.tasks.Task.{Task}
+use Rattle.gc_texts.proofs.ValueForms.{filled_keeps_number}
 
--- what holds of the call of a task's text, and of the call that sets the clock to this moment, holds of what the task asks for at
--- this moment
-pub at_any_moment : (P : Asked → Type 0) (task : Task) (utc : ℕ) → P (Table (SetDate (date_time utc))) → P task.command.call → P (call_at task utc)
-at_any_moment P task utc clock own = by_clock task.now where
-  -- the lemma above, by whether the task sets the clock
-  by_clock : (sets_clock : Bool) → P (if sets_clock then Table (SetDate (date_time utc)) else task.command.call)
-  by_clock true = clock
-  by_clock false = own
+-- what holds of the call of a task's text, of the call that sets the clock to this moment, and, if the text's call is a request of a
+-- procedure outside the table, of any request of the same procedure, holds of what the task asks for on this occasion
+pub at_any_moment : (P : Asked → Type 0) (task : Task) (occasion : Occasion) → P (Table (SetDate (date_time occasion.utc)))
+    → ((raw other : RawCall) → task.command.call ≡ Raw raw → other.rpc ≡ raw.rpc → P (Raw other)) → P task.command.call → P (call_at task occasion)
+at_any_moment P task occasion clock others own = by_now task.now task.command.call refl own where
+  -- the lemma above, by whether the request is made anew
+  by_now : (b : Bool) (call : Asked) → task.command.call ≡ call → P call → P (if b then made_at task.needs.first occasion call else call)
+  by_now true (Table call) e own = clock
+  by_now true (Raw raw) e own =
+      others raw (filled_call raw (drop task.needs.first occasion.values)) e (filled_keeps_number raw (drop task.needs.first occasion.values))
+  by_now false call e own = own
+
+-- a task that takes values of files asks for its request with these values
+pub call_with_values : (task : Task) (occasion : Occasion) (raw : RawCall) → task.now ≡ true → task.command.call ≡ Raw raw
+    → ◌≡◌ {A = Asked} (Raw (filled_call raw (drop task.needs.first occasion.values))) (call_at task occasion)
+call_with_values task occasion raw now is =
+    sym (ap (λ b. if b then made_at task.needs.first occasion task.command.call else task.command.call) now ∙ ap (made_at task.needs.first occasion) is)

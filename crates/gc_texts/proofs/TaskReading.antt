@@ -9,13 +9,24 @@ use Rattle.std.specs.List.{flat_map}
 use Rattle.std.specs.Prelude.{filter}
 use Rattle.gc_texts.specs.LineForms.{is_skipped, is_kept}
 use Rattle.gc_texts.specs.TaskLines.{IsTaskLine}
-use Rattle.gc_texts.specs.Tasks.{LinesGave, Grows, CountsAtMost, counters_at, counters_of, counters_with, first_mode, mode_after, chained_at, place_in_chain, task_at, given_by, setup_at, setup_of, planned_at, planned_of, name_at, names_of, near_at, nears_of, unwatched_at, unwatched_of, may_follow, MayFollow, FirstFaultyTaskLine, ReachesASoundTaskLine}
+use Rattle.gc_texts.specs.Tasks.{LinesGave, Grows, CountsAtMost, counters_with, no_standing, standing_after, standing_by, standing_in, standing_of, first_mode, mode_after, chained_at, place_in_chain, task_at, given_by, setup_at, setup_of, planned_at, planned_of, name_at, names_of, near_at, nears_of, unwatched_at, unwatched_of, described_at, described_of, columns_at, IsInPlace, MayFollow, FirstFaultyTaskLine, ReachesASoundTaskLine}
+use Rattle.arrayvec.specs.ArrayVec.{ArrayVec}
 use Rattle.gc_texts.specs.Expectations.{counts}
+use Rattle.gc_texts.specs.NewColumns.{fresh_names, new_columns, with_columns}
 use Rattle.gc_texts.specs.declared.expectation.Expectation.{Expectation}
+use Rattle.gc_texts.specs.declared.description.Description.{Description}
 use Rattle.gc_texts.specs.declared.name.Name.{Name}
 use Rattle.gc_texts.specs.declared.near.Near.{Near}
 use Rattle.gc_texts.specs.declared.task_line.TaskLine.{TaskLine}
 use Rattle.gc_texts.specs.declared.mode.Mode.{Mode}
+use Rattle.gc_texts.specs.declared.mode.Standing.{Standing}
+use Rattle.gc_texts.specs.ValueItems.{values_asked}
+use Rattle.gc_texts.specs.declared.wording.Wording.{Wording}
+use Rattle.gc_texts.specs.declared.wording.Wording.TheVariants.{Plain, Now, Described}
+use Rattle.gc_catalogue.specs.RawTexts.{raw_bytes}
+use Rattle.gc_catalogue.specs.declared.asked.Asked.{Asked}
+use Rattle.gc_catalogue.specs.declared.asked.Asked.TheVariants.{Table, Raw}
+use Rattle.gc_texts.proofs.ValueForms.{few_raw, few_value_items}
 use Rattle.gc_texts.specs.declared.task_line.TaskLine.TheVariants as says
 use Rattle.gc_texts.specs.declared.tasks.Given.{Given}
 use Rattle.gc_texts.proofs.TaskForms.{one_said}
@@ -46,20 +57,25 @@ given_with_one_more : {Item : Type 0} (given_at : Mode → TaskLine → List Ite
 given_with_one_more given_at mode lines next =
     given_both given_at mode lines (next ∷ []) ∙ ap (λ items. given_by given_at mode lines ++ items) (append-nil (given_at (mode_after_lines mode lines) next))
 
--- one more command counts as one with an item `>`, or as none, wherever the count begins
-counts_alike : (counters : ℕ) (expects : Option Expectation) → counters_with counters expects ≡ counters + counters_with 0 expects
-counts_alike counters expects = cond_both (counts expects) 1 0 (λ k. counters_with counters expects ≡ counters + k)
-    (λ e. ap (λ b. if b then counters + 1 else counters) e) (λ e. ap (λ b. if b then counters + 1 else counters) e ∙ omega arith)
+-- what decides whether a command may have an item `>` and take values of files, after one more line, by the mode after it
+standing_of_one_more : (mode : Mode) (line : TaskLine) → standing_in (mode_after mode line) ≡ standing_by (standing_in mode) line
+standing_of_one_more mode (says.Command c w x) = refl
+standing_of_one_more mode says.AtStart = refl
+standing_of_one_more mode says.EachCycle = refl
+standing_of_one_more mode line = refl
 
--- after one more line the mode's count of items `>` is greater by those that the line has
-counter_counted : (mode : Mode) (line : TaskLine) → (mode_after mode line).counters ≡ mode.counters + counters_at line
-counter_counted mode (says.Command c now x) = counts_alike mode.counters x
-counter_counted mode line = omega arith
+-- and after lines
+pub standing_after_lines : (mode : Mode) (lines : List TaskLine) → standing_in (mode_after_lines mode lines) ≡ standing_after (standing_in mode) lines
+standing_after_lines mode [] = refl
+standing_after_lines mode (line ∷ later) =
+    standing_after_lines (mode_after mode line) later ∙ ap (λ s. standing_after s later) (standing_of_one_more mode line)
 
--- after lines, the mode's count of items `>` is greater by as many of them as these lines have
-pub counters_after : (mode : Mode) (lines : List TaskLine) → (mode_after_lines mode lines).counters ≡ mode.counters + counters_of lines
-counters_after mode [] = omega arith
-counters_after mode (line ∷ later) = let more = counters_after (mode_after mode line) later in let one = counter_counted mode line in omega (arith, more, one)
+-- a command takes at most 504 values of files
+pub few_values : (wording : Wording) (call : Asked) → values_asked wording call ≤ 504
+few_values Plain call = omega arith
+few_values Now call = omega arith
+few_values Described (Table call) = omega arith
+few_values Described (Raw raw) = few_value_items (raw_bytes raw.params) (few_raw raw)
 
 -- with one more command there is one with an item `>` more at most
 one_counter_more : (counters n : ℕ) (expects : Option Expectation) → counters ≤ n → counters_with counters expects ≤ n + 1
@@ -67,7 +83,7 @@ one_counter_more counters n expects few = cond_both (counts expects) (counters +
 
 -- where each count of a mode is at most n, each count of the mode after one more line is at most n + 1
 counts_after_one_more : (mode : Mode) (line : TaskLine) (n : ℕ) → CountsAtMost mode n → CountsAtMost (mode_after mode line) (n + 1)
-counts_after_one_more mode (says.Command c now x) n h = record {
+counts_after_one_more mode (says.Command c w x) n h = record {
   begun = cond_both mode.setup (mode.begun + 1) mode.begun (λ k. k ≤ n + 1) (λ _. omega (arith, h.begun)) (λ _. omega (arith, h.begun));
   place = cond_both mode.setup mode.place (mode.place + 1) (λ k. k ≤ n + 1) (λ _. omega (arith, h.place)) (λ _. omega (arith, h.place));
   link =
@@ -76,20 +92,21 @@ counts_after_one_more mode (says.Command c now x) n h = record {
       cond_both mode.setup mode.begun (if chained_at mode c.target then mode.link else 0) (λ k. k ≤ n) (λ _. h.begun) (λ _. inner) in
       omega (arith, low);
   counters = one_counter_more mode.counters n x h.counters;
+  values = let few = few_values w c.call in omega (arith, few, h.values);
 }
-counts_after_one_more mode line n h = record { begun = omega (arith, h.begun); place = omega (arith, h.place); link = omega (arith, h.link); counters = omega (arith, h.counters) }
+counts_after_one_more mode line n h = record { begun = omega (arith, h.begun); place = omega (arith, h.place); link = omega (arith, h.link); counters = omega (arith, h.counters); values = omega (arith, h.values) }
 
 -- where each count of a mode is at most n, each count of the mode after lines is at most n plus the number of the lines
 counts_after_lines : (mode : Mode) (lines : List TaskLine) (n : ℕ) → CountsAtMost mode n → CountsAtMost (mode_after_lines mode lines) (n + length lines)
-counts_after_lines mode [] n h = record { begun = omega (arith, h.begun); place = omega (arith, h.place); link = omega (arith, h.link); counters = omega (arith, h.counters) }
+counts_after_lines mode [] n h = record { begun = omega (arith, h.begun); place = omega (arith, h.place); link = omega (arith, h.link); counters = omega (arith, h.counters); values = omega (arith, h.values) }
 counts_after_lines mode (line ∷ lines) n h =
     let more = counts_after_lines (mode_after mode line) lines (n + 1) (counts_after_one_more mode line n h) in
-    record { begun = omega (arith, more.begun); place = omega (arith, more.place); link = omega (arith, more.link); counters = omega (arith, more.counters) }
+    record { begun = omega (arith, more.begun); place = omega (arith, more.place); link = omega (arith, more.link); counters = omega (arith, more.counters); values = omega (arith, more.values) }
 
 -- a line gives one command of the cycle at most
 one_planned_at_most : (mode : Mode) (line : TaskLine) → length (planned_at mode line) ≤ 1
-one_planned_at_most mode (says.Command c now x) =
-    cond_both mode.setup [] (record { task = task_at mode c now x; retry = mode.retry; agree = mode.agree } ∷ []) (λ ps. length ps ≤ 1) (λ _. omega arith) (λ _. omega arith)
+one_planned_at_most mode (says.Command c w x) =
+    cond_both mode.setup [] (record { task = task_at mode c w x; retry = mode.retry; agree = mode.agree } ∷ []) (λ ps. length ps ≤ 1) (λ _. omega arith) (λ _. omega arith)
 one_planned_at_most mode line = omega arith
 
 -- there are at most as many commands of the cycle as lines
@@ -115,27 +132,51 @@ flat_map_one_more : {Item : Type 0} (given_at : TaskLine → List Item) (lines :
 flat_map_one_more given_at lines next =
     flat_map-append given_at lines (next ∷ []) ∙ ap (λ items. flat_map given_at lines ++ items) (append-nil (given_at next))
 
--- where lines may follow these names, places, unwatched targets and commands with an item `>`, and one more line may follow these together
--- with those of the lines, all of these lines may follow these
-follow_one_more : (names : List Name) (nears : List Near) (unwatched : List ℕ) (counters : ℕ) (lines : List TaskLine) (next : TaskLine)
-    → MayFollow names nears unwatched counters lines
-    → may_follow (names ++ names_of lines) (nears ++ nears_of lines) (unwatched ++ unwatched_of lines) (counters + counters_of lines) next ≡ true
-    → MayFollow names nears unwatched counters (lines ++ next ∷ [])
-follow_one_more names nears unwatched counters [] next follow allowed = (
-  ap (λ ns. may_follow ns nears unwatched counters next) (sym (append-nil names)) ∙ ap (λ ps. may_follow (names ++ []) ps unwatched counters next) (sym (append-nil nears))
-      ∙ ap (λ us. may_follow (names ++ []) (nears ++ []) us counters next) (sym (append-nil unwatched))
-      ∙ ap (λ n. may_follow (names ++ []) (nears ++ []) (unwatched ++ []) n next) (omega arith) ∙ allowed,
+-- a line in its place behind lists and lines of which this holds is in its place behind equal ones
+pub placed_alike : (names ns : List Name) (nears ps : List Near) (unwatched us : List ℕ) (described ds : List Description) (s t : Standing) (line : TaskLine)
+    → names ≡ ns → nears ≡ ps → unwatched ≡ us → described ≡ ds → s ≡ t
+    → IsInPlace names nears unwatched described s line → IsInPlace ns ps us ds t line
+placed_alike names ns nears ps unwatched us described ds s t line a b c d e is =
+    subst (λ (k : Standing). IsInPlace ns ps us ds k line) e
+    (subst (λ (l : List Description). IsInPlace ns ps us l s line) d
+    (subst (λ (l : List ℕ). IsInPlace ns ps l described s line) c
+    (subst (λ (l : List Near). IsInPlace ns l unwatched described s line) b
+    (subst (λ (l : List Name). IsInPlace l nears unwatched described s line) a is))))
+
+-- where lines may follow these names, places, unwatched targets, descriptions and lines of which `s` holds, and one more line may follow
+-- these together with those of the lines, all of these lines may follow these
+follow_one_more : (names : List Name) (nears : List Near) (unwatched : List ℕ) (described : List Description) (s : Standing) (lines : List TaskLine) (next : TaskLine)
+    → MayFollow names nears unwatched described s lines
+    → IsInPlace (names ++ names_of lines) (nears ++ nears_of lines) (unwatched ++ unwatched_of lines) (described ++ described_of lines) (standing_after s lines) next
+    → MayFollow names nears unwatched described s (lines ++ next ∷ [])
+follow_one_more names nears unwatched described s [] next follow allowed = (
+  placed_alike (names ++ []) names (nears ++ []) nears (unwatched ++ []) unwatched (described ++ []) described s s next
+      (append-nil names) (append-nil nears) (append-nil unwatched) (append-nil described) refl allowed,
   tt,
 )
-follow_one_more names nears unwatched counters (line ∷ lines) next follow allowed = (
+follow_one_more names nears unwatched described s (line ∷ lines) next follow allowed = (
   follow.0,
-  follow_one_more (names ++ name_at line) (nears ++ near_at line) (unwatched ++ unwatched_at line) (counters + counters_at line) lines next follow.1
-      (ap (λ ns. may_follow ns ((nears ++ near_at line) ++ nears_of lines) ((unwatched ++ unwatched_at line) ++ unwatched_of lines) ((counters + counters_at line) + counters_of lines) next) (append_assoc names (name_at line) (names_of lines))
-      ∙ ap (λ ps. may_follow (names ++ (name_at line ++ names_of lines)) ps ((unwatched ++ unwatched_at line) ++ unwatched_of lines) ((counters + counters_at line) + counters_of lines) next) (append_assoc nears (near_at line) (nears_of lines))
-      ∙ ap (λ us. may_follow (names ++ (name_at line ++ names_of lines)) (nears ++ (near_at line ++ nears_of lines)) us ((counters + counters_at line) + counters_of lines) next) (append_assoc unwatched (unwatched_at line) (unwatched_of lines))
-      ∙ ap (λ n. may_follow (names ++ (name_at line ++ names_of lines)) (nears ++ (near_at line ++ nears_of lines)) (unwatched ++ (unwatched_at line ++ unwatched_of lines)) n next) (omega arith)
-      ∙ allowed),
+  follow_one_more (names ++ name_at line) (nears ++ near_at line) (unwatched ++ unwatched_at line) (described ++ described_at line) (standing_by s line) lines next follow.1
+      (placed_alike (names ++ (name_at line ++ names_of lines)) ((names ++ name_at line) ++ names_of lines)
+      (nears ++ (near_at line ++ nears_of lines)) ((nears ++ near_at line) ++ nears_of lines)
+      (unwatched ++ (unwatched_at line ++ unwatched_of lines)) ((unwatched ++ unwatched_at line) ++ unwatched_of lines)
+      (described ++ (described_at line ++ described_of lines)) ((described ++ described_at line) ++ described_of lines)
+      (standing_after s (line ∷ lines)) (standing_after (standing_by s line) lines) next
+      (sym (append_assoc names (name_at line) (names_of lines))) (sym (append_assoc nears (near_at line) (nears_of lines)))
+      (sym (append_assoc unwatched (unwatched_at line) (unwatched_of lines))) (sym (append_assoc described (described_at line) (described_of lines)))
+      refl allowed),
 )
+
+-- the columns of descriptions and of further ones are the columns of these behind those of the former
+pub columns_of_both : (columns : List (ArrayVec ℕ)) (xs ys : List Description) → with_columns columns (xs ++ ys) ≡ with_columns (with_columns columns xs) ys
+columns_of_both columns [] ys = refl
+columns_of_both columns (x ∷ xs) ys = columns_of_both (columns ++ fresh_names columns x.values.items) xs ys
+
+-- the columns of descriptions and of one more line are the former, and then those that the line adds to them
+columns_with_one_more : (described : List Description) (line : TaskLine)
+    → new_columns (described ++ described_at line) ≡ new_columns described ++ columns_at (new_columns described) line
+columns_with_one_more described (says.Describing d) = columns_of_both [] described (d ∷ [])
+columns_with_one_more described line = ap new_columns (append-nil described) ∙ sym (append-nil (new_columns described))
 
 -- where lines gave `old`, and this grew to `new` by what `next` gives by the mode after them, the lines and then `next` gave
 -- `new`
@@ -149,6 +190,9 @@ gave_with_one_more first mode lines next old new gave is grows =
       names_are = grows.names_more ∙ ap (λ ns. ns ++ name_at next) gave.names_are ∙ sym (flat_map_one_more name_at lines next);
       nears_are = grows.nears_more ∙ ap (λ ns. ns ++ near_at next) gave.nears_are ∙ sym (flat_map_one_more near_at lines next);
       unwatched_are = grows.unwatched_more ∙ ap (λ us. us ++ unwatched_at next) gave.unwatched_are ∙ sym (flat_map_one_more unwatched_at lines next);
+      described_are = grows.described_more ∙ ap (λ ds. ds ++ described_at next) gave.described_are ∙ sym (flat_map_one_more described_at lines next);
+      columns_are = grows.columns_more ∙ ap (λ cs. cs ++ columns_at cs next) gave.columns_are ∙ sym (columns_with_one_more old.described.items next)
+          ∙ ap new_columns (sym grows.described_more);
     }
 
 -- how far the reading has come, which began in the mode `first`: `left` of the text is unread, `number` lines were read, `given`
@@ -157,7 +201,7 @@ gave_with_one_more first mode lines next old new gave is grows =
 pub record ReadsTasks (text : List ℕ) (first : Mode) (left : Option (List ℕ)) (number : ℕ) (given : Given) (mode : Mode) : Type 0 where
   pub said : List TaskLine
   pub reads : ReadsSoFar IsTaskLine text left number said
-  pub follow : MayFollow [] [] [] 0 said
+  pub follow : MayFollow [] [] [] [] no_standing said
   pub gave : LinesGave first said given
   pub mode_is : mode ≡ mode_after_lines first said
   pub reached : (said ≡ []) ⊎ ReachesASoundTaskLine text
@@ -180,9 +224,9 @@ module _
   -- each count of the mode is at most 65,537
   pub counted : CountsAtMost mode 65537
   counted =
-      let all = counts_after_lines (first_mode deadline chained) r.said 0 (record { begun = omega arith; place = omega arith; link = omega arith; counters = omega arith }) in
+      let all = counts_after_lines (first_mode deadline chained) r.said 0 (record { begun = omega arith; place = omega arith; link = omega arith; counters = omega arith; values = omega arith }) in
       let few = said_few in
-      subst (λ m. CountsAtMost m 65537) (sym r.mode_is) (record { begun = omega (arith, few, all.begun); place = omega (arith, few, all.place); link = omega (arith, few, all.link); counters = omega (arith, few, all.counters) })
+      subst (λ m. CountsAtMost m 65537) (sym r.mode_is) (record { begun = omega (arith, few, all.begun); place = omega (arith, few, all.place); link = omega (arith, few, all.link); counters = omega (arith, few, all.counters); values = omega (arith, few, all.values) })
 
   -- the cycle's commands are at most 65,537
   pub cycle_few : length given.cycle.items ≤ 65537
@@ -190,23 +234,32 @@ module _
 
 -- what becomes of the next line of a text that is being read
 module _
-    (text : List ℕ) (first : Mode) (left : Option (List ℕ)) (number : ℕ) (given : Given) (mode : Mode) (uncounted : first.counters ≡ 0)
+    (text : List ℕ) (first : Mode) (left : Option (List ℕ)) (number : ℕ) (given : Given) (mode : Mode) (begins : standing_in first ≡ no_standing)
     (r : ReadsTasks text first left number given mode) (line : List ℕ) (rest : Option (List ℕ)) (at : HasRead IsTaskLine text (line ∷ lines_left rest) number r.said) where
-  -- the mode counts the items `>` of the lines that were read
-  counters_so_far : mode.counters ≡ counters_of r.said
-  counters_so_far =
-      let same = ap (λ (m : Mode). m.counters) r.mode_is in
-      let all = counters_after first r.said in
-      omega (arith, same, all, uncounted)
+  -- the mode says of the lines that were read what decides whether a line may follow them
+  standing_so_far : standing_in mode ≡ standing_of r.said
+  standing_so_far = ap standing_in r.mode_is ∙ standing_after_lines first r.said ∙ ap (λ s. standing_after s r.said) begins
 
-  -- a line may follow the lines that were read exactly where it may follow the names and places so far
-  may_follow_so_far : (said : TaskLine) → may_follow (names_of r.said) (nears_of r.said) (unwatched_of r.said) (counters_of r.said) said
-      ≡ may_follow given.names.items given.nears.items given.unwatched.items mode.counters said
-  may_follow_so_far said =
-      ap (λ ns. may_follow ns (nears_of r.said) (unwatched_of r.said) (counters_of r.said) said) (sym r.gave.names_are)
-      ∙ ap (λ ps. may_follow given.names.items ps (unwatched_of r.said) (counters_of r.said) said) (sym r.gave.nears_are)
-      ∙ ap (λ us. may_follow given.names.items given.nears.items us (counters_of r.said) said) (sym r.gave.unwatched_are)
-      ∙ ap (λ n. may_follow given.names.items given.nears.items given.unwatched.items n said) (sym counters_so_far)
+  -- a line is in its place behind the lines that were read
+  abbrev IsPlacedBehind : TaskLine → Type 0
+  IsPlacedBehind said = IsInPlace (names_of r.said) (nears_of r.said) (unwatched_of r.said) (described_of r.said) (standing_of r.said) said
+
+  -- a line is in its place behind what the lines so far gave
+  abbrev IsPlacedNow : TaskLine → Type 0
+  IsPlacedNow said = IsInPlace given.names.items given.nears.items given.unwatched.items given.described.items (standing_in mode) said
+
+  -- these are the same
+  placed_so_far : (said : TaskLine) → IsPlacedNow said → IsPlacedBehind said
+  placed_so_far said =
+      placed_alike given.names.items (names_of r.said) given.nears.items (nears_of r.said) given.unwatched.items (unwatched_of r.said)
+      given.described.items (described_of r.said) (standing_in mode) (standing_of r.said) said
+      r.gave.names_are r.gave.nears_are r.gave.unwatched_are r.gave.described_are standing_so_far
+
+  placed_behind : (said : TaskLine) → IsPlacedBehind said → IsPlacedNow said
+  placed_behind said =
+      placed_alike (names_of r.said) given.names.items (nears_of r.said) given.nears.items (unwatched_of r.said) given.unwatched.items
+      (described_of r.said) given.described.items (standing_of r.said) (standing_in mode) said
+      (sym r.gave.names_are) (sym r.gave.nears_are) (sym r.gave.unwatched_are) (sym r.gave.described_are) (sym standing_so_far)
 
   -- if the line is skipped, it is read, and changes nothing but the number of lines
   pub task_skips : is_skipped line ≡ true → ReadsTasks text first rest (number + 1) given mode
@@ -221,7 +274,7 @@ module _
       }
 
   -- if the line isn't skipped, and says nothing that may follow the lines before it, it is the first faulty one
-  is_first_faulty : is_skipped line ≡ false → ((said : TaskLine) → IsTaskLine line said → may_follow given.names.items given.nears.items given.unwatched.items mode.counters said ≡ false)
+  is_first_faulty : is_skipped line ≡ false → ((said : TaskLine) → IsTaskLine line said → IsPlacedNow said → ⊥)
       → FirstFaultyTaskLine text (number + 1)
   is_first_faulty isnt none =
       record {
@@ -231,23 +284,22 @@ module _
         place = ap (λ n. n + 1) at.count;
         before = r.said;
         lines = record { forms = at.items_are; follow = r.follow };
-        faulty = λ said is. may_follow_so_far said ∙ none said is;
+        faulty = λ said is placed. none said is (placed_behind said placed);
       }
 
   -- if the line isn't skipped and has no form, it is the first faulty one
   pub task_fails : is_skipped line ≡ false → ((said : TaskLine) → IsTaskLine line said → ⊥) → FirstFaultyTaskLine text (number + 1)
   task_fails isnt none = is_first_faulty isnt (λ said is. absurd (none said is))
 
-  -- if the line isn't skipped, has a form, and may not follow the names and places so far (`may_follow`), it is the first faulty one
-  pub task_refused : (said : TaskLine) (allowed : Bool) → is_skipped line ≡ false → IsTaskLine line said
-      → allowed ≡ may_follow given.names.items given.nears.items given.unwatched.items mode.counters said → allowed ≡ false → FirstFaultyTaskLine text (number + 1)
-  task_refused said allowed isnt is asked no_more = is_first_faulty isnt (λ other form. ap (may_follow given.names.items given.nears.items given.unwatched.items mode.counters) (one_said line other said form is) ∙ sym asked ∙ no_more)
+  -- if the line isn't skipped, has a form, and isn't in its place behind what the lines so far gave (`IsInPlace`), it is the first faulty
+  -- one
+  pub task_refused : (said : TaskLine) → is_skipped line ≡ false → IsTaskLine line said → (IsPlacedNow said → ⊥) → FirstFaultyTaskLine text (number + 1)
+  task_refused said isnt is no_more = is_first_faulty isnt (λ other form placed. no_more (subst IsPlacedNow (one_said line other said form is) placed))
 
-  -- if the line isn't skipped, has a form and may follow the names and places so far (`may_follow`), the text has a line that isn't
-  -- faulty, with no faulty line before it (`ReachesASoundTaskLine`): this is needed where memory is refused at the line
-  pub task_wants : (said : TaskLine) (allowed : Bool) → is_skipped line ≡ false → IsTaskLine line said
-      → allowed ≡ may_follow given.names.items given.nears.items given.unwatched.items mode.counters said → allowed ≡ true → ReachesASoundTaskLine text
-  task_wants said allowed isnt is asked did =
+  -- if the line isn't skipped, has a form and is in its place behind what the lines so far gave (`IsInPlace`), the text has a line that
+  -- isn't faulty, with no faulty line before it (`ReachesASoundTaskLine`): this is needed where memory is refused at the line
+  pub task_wants : (said : TaskLine) → is_skipped line ≡ false → IsTaskLine line said → IsPlacedNow said → ReachesASoundTaskLine text
+  task_wants said isnt is did =
       record {
         front = at.read;
         line = line;
@@ -256,22 +308,22 @@ module _
         lines = record { forms = at.items_are; follow = r.follow };
         said = said;
         form = is;
-        allowed = may_follow_so_far said ∙ sym asked ∙ did;
+        allowed = placed_so_far said did;
       }
 
-  -- if the line isn't skipped, has a form and may follow the names and places so far (`may_follow`), it is read: what the lines gave
-  -- grows by what it gives, and the mode is the one after it
+  -- if the line isn't skipped, has a form and is in its place behind what the lines so far gave (`IsInPlace`), it is read: what the lines
+  -- gave grows by what it gives, and the mode is the one after it
   pub task_reads :
-      (said : TaskLine) (new : Given) (next : Mode) (allowed : Bool)
-      (isnt : is_skipped line ≡ false) (is : IsTaskLine line said) (asked : allowed ≡ may_follow given.names.items given.nears.items given.unwatched.items mode.counters said) (did : allowed ≡ true)
+      (said : TaskLine) (new : Given) (next : Mode)
+      (isnt : is_skipped line ≡ false) (is : IsTaskLine line said) (did : IsPlacedNow said)
       (grows : Grows mode said given new) (more : next ≡ mode_after mode said)
       → ReadsTasks text first rest (number + 1) new next
-  task_reads said new next allowed isnt is asked did grows more =
+  task_reads said new next isnt is did grows more =
       record {
         said = r.said ++ said ∷ [];
         reads = line_reads IsTaskLine text line rest number r.said at said (r.said ++ said ∷ []) isnt is refl;
-        follow = follow_one_more [] [] [] 0 r.said said r.follow (ap (λ n. may_follow (names_of r.said) (nears_of r.said) (unwatched_of r.said) n said) (omega arith) ∙ may_follow_so_far said ∙ sym asked ∙ did);
+        follow = follow_one_more [] [] [] [] no_standing r.said said r.follow (placed_so_far said did);
         gave = gave_with_one_more first mode r.said said given new r.gave r.mode_is grows;
         mode_is = more ∙ ap (λ m. mode_after m said) r.mode_is ∙ sym (mode_after_both first r.said (said ∷ []));
-        reached = inr (task_wants said allowed isnt is asked did);
+        reached = inr (task_wants said isnt is did);
       }

@@ -1,7 +1,7 @@
 -- After which endings of its commands a chain is repeated: this project's own.
 use Rattle.std.specs.Prelude.{ℕ, Bool, false, Option, Some, None}
 use Rattle.gc_texts.specs.Codes.{no_codes, lists_code}
-use Rattle.gc_texts.specs.Endings.{End, Answered, Unreadable, Elsewhere, Disagree, Unexpected, Late, Lost, Skipped, Missed}
+use Rattle.gc_texts.specs.Endings.{End, Answered, Unreadable, Elsewhere, Disagree, Unexpected, Late, Lost, Skipped, NoValue, Missed}
 use Rattle.gc_texts.specs.declared.again.Again.{Again}
 use Rattle.gc_texts.specs.declared.codes.Codes.{Codes}
 
@@ -26,4 +26,5 @@ repeats_after again code (Unexpected line) = again.unexpected
 repeats_after again code Late = again.late
 repeats_after again code Lost = again.lost
 repeats_after again code Skipped = again.skipped
+repeats_after again code NoValue = again.skipped
 repeats_after again code Missed = false

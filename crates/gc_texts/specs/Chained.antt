@@ -1,11 +1,12 @@
 -- What holds of a command in a station's text, by the lines before it: this project's own.
-use Rattle.std.specs.Prelude.{◌≡◌, ◌⊎◌, ℕ, ◌+◌, ◌≤◌, nat_lt, if◌then◌else◌, Bool, not, true, false, List, [], ◌∷◌, ◌++◌, length, Option, None, Some}
+use Rattle.std.specs.Prelude.{◌≡◌, ◌⊎◌, ℕ, ◌+◌, ◌≤◌, nat_lt, ◌||◌, if◌then◌else◌, Bool, not, true, false, List, [], ◌∷◌, ◌++◌, length, Option, None, Some}
 use Rattle.std.specs.List.{AllByRecursion}
 use Rattle.gc_texts.specs.Codes.{no_codes}
 use Rattle.gc_texts.specs.Expectations.{counts}
 use Rattle.gc_texts.specs.Nears.{near_of}
-use Rattle.gc_texts.specs.Tasks.{TasksSeen, IsTasks, counters_of}
+use Rattle.gc_texts.specs.Tasks.{TasksSeen, IsTasks, form_of_asked, needs_from, standing_of}
 use Rattle.gc_texts.specs.Retries.{no_retry}
+use Rattle.gc_texts.specs.ValueItems.{values_asked}
 use Rattle.gc_texts.specs.Watching.{is_unwatched}
 use Rattle.gc_texts.specs.declared.agree.Agree.{Agree}
 use Rattle.gc_texts.specs.declared.agree.Twice.{Twice}
@@ -13,7 +14,9 @@ use Rattle.gc_texts.specs.declared.agree.Twice.TheVariants.{Once, First}
 use Rattle.gc_texts.specs.declared.codes.Codes.{Codes}
 use Rattle.gc_texts.specs.declared.expectation.Expectation.{Expectation}
 use Rattle.gc_texts.specs.declared.retry.Retry.{Retry}
+use Rattle.gc_texts.specs.Wordings.{sets_clock}
 use Rattle.gc_texts.specs.declared.wish.Wish.{Wish}
+use Rattle.gc_texts.specs.declared.wording.Wording.{Wording}
 use Rattle.gc_texts.specs.declared.near.Near.{Near}
 use Rattle.gc_texts.specs.declared.task_line.TaskLine.{TaskLine}
 use Rattle.gc_texts.specs.declared.task_line.TaskLine.TheVariants as says
@@ -35,7 +38,7 @@ section_after setup (line ∷ later) = section_after (section_by setup line) lat
 -- whether the setup holds before the lines
 abbrev pub commands_counted : (of_setup of_cycle : ℕ) (setup : Bool) → List TaskLine → ℕ
 commands_counted of_setup of_cycle setup [] = 0
-commands_counted of_setup of_cycle setup (says.Command command now expects ∷ later) =
+commands_counted of_setup of_cycle setup (says.Command command wording expects ∷ later) =
     (if setup then of_setup else of_cycle) + commands_counted of_setup of_cycle setup later
 commands_counted of_setup of_cycle setup (line ∷ later) = commands_counted of_setup of_cycle (section_by setup line) later
 
@@ -88,6 +91,15 @@ SaysNoCodes _ = Unit {0}
 abbrev pub AreAcceptedAfter : List TaskLine → Codes → Type 0
 AreAcceptedAfter lines accepted = IsSetAfter SaysNoCodes says.Accepting no_codes lines accepted
 
+-- a line doesn't set the codes that say busy
+abbrev pub SaysNoBusy : TaskLine → Type 0
+SaysNoBusy (says.Busy busy) = ⊥
+SaysNoBusy _ = Unit {0}
+
+-- the codes that say busy after these lines: as the last line `busy` says, and none where there is no such line
+abbrev pub AreBusyAfter : List TaskLine → Codes → Type 0
+AreBusyAfter lines busy = IsSetAfter SaysNoBusy says.Busy no_codes lines busy
+
 -- a line doesn't set how often chains are repeated
 abbrev pub SaysNoRetry : TaskLine → Type 0
 SaysNoRetry (says.Retrying retry) = ⊥
@@ -109,20 +121,23 @@ abbrev pub IsAgreeAfter : List TaskLine → Option Agree → Type 0
 IsAgreeAfter lines agree = IsSetAfter SaysNoAgree says.Agreeing None lines agree
 
 -- a line that may come between two commands of a group, which is a run of commands for one target, without ending it: a deadline, a
--- name, where a target is, that a target isn't watched, or accepted codes
+-- name, where a target is, that a target isn't watched, what a procedure outside the table is, accepted codes, or those that say busy
 abbrev pub KeepsGroup : TaskLine → Type 0
 KeepsGroup (says.Deadline deadline) = Unit {0}
 KeepsGroup (says.Naming name) = Unit {0}
 KeepsGroup (says.Locating near) = Unit {0}
 KeepsGroup (says.Unwatching target) = Unit {0}
+KeepsGroup (says.Describing description) = Unit {0}
 KeepsGroup (says.Accepting accepted) = Unit {0}
+KeepsGroup (says.Busy busy) = Unit {0}
 KeepsGroup _ = ⊥
 
--- the last command of these lines is for this target, and only deadlines, names, places, unwatched targets and codes follow it
+-- the last command of these lines is for this target, and only deadlines, names, places, unwatched targets, descriptions and codes follow
+-- it
 abbrev pub EndsInGroupOf : List TaskLine → ℕ → Type 0
 EndsInGroupOf lines target =
-    (before : List TaskLine) × (command : Wish) × (now : Bool) × (expects : Option Expectation) × (between : List TaskLine)
-    × (lines ≡ before ++ says.Command command now expects ∷ between) × AllByRecursion KeepsGroup between × (command.target ≡ target)
+    (before : List TaskLine) × (command : Wish) × (wording : Wording) × (expects : Option Expectation) × (between : List TaskLine)
+    × (lines ≡ before ++ says.Command command wording expects ∷ between) × AllByRecursion KeepsGroup between × (command.target ≡ target)
 
 -- the sending of a command of the cycle that follows the lines `front`, in its first task: the first of two where the last line `agree`
 -- says that chains are sent twice, and else the only one
@@ -147,30 +162,34 @@ pub record IsTaskOfSetUp (front : List TaskLine) (task : Task) : Type 0 where
   pub once : task.twice ≡ Once
 
 -- the task of a command that follows the lines `front`, in the first attempt of its chain, by what holds there. `deadline` and
--- `chained` hold where no line says otherwise; `now` says whether the command sets the clock to the moment at which it is sent, and
--- `expects` what is expected of its answer. An item `>` there is numbered by the commands with one among those lines
-pub record IsTaskOf (deadline : ℕ) (chained : Bool) (front : List TaskLine) (command : Wish) (now : Bool) (expects : Option Expectation) (task : Task) : Type 0 where
+-- `chained` hold where no line says otherwise; `wording` is how its line says what to ask for, and
+-- `expects` what is expected of its answer. An item `>` there is numbered by the commands with one among those lines, and the values of files
+-- that it takes by those that the commands among them take
+pub record IsTaskOf (deadline : ℕ) (chained : Bool) (front : List TaskLine) (command : Wish) (wording : Wording) (expects : Option Expectation) (task : Task) : Type 0 where
   pub asks : task.command ≡ command
-  pub moment : task.now ≡ now
+  pub moment : task.now ≡ (sets_clock wording || nat_lt 0 (values_asked wording command.call))
+  pub needs : task.needs ≡ needs_from (standing_of front).values (values_asked wording command.call)
   pub expects_is : task.expects ≡ expects
-  pub counter : task.counter ≡ (if counts expects then Some (counters_of front) else None)
+  pub counter : task.counter ≡ (if counts expects then Some (standing_of front).counters else None)
   pub first : task.turn.attempt ≡ 1
   pub deadline_is : IsDeadlineAfter deadline front task.deadline
   pub accepted_are : AreAcceptedAfter front task.accepted
+  pub busy_are : AreBusyAfter front task.busy
   pub at_start : section_after false front ≡ true → IsTaskOfSetUp front task
   pub in_cycle : section_after false front ≡ false → IsTaskInCycle chained front command task
 
 -- each command of a text is sent as the lines before it say, and its task has the place that the text gives its target, if
--- any, and is watched unless the text leaves its target unwatched. Before the task of a command of the setup there are as many tasks as the text has commands of the setup before that
--- command, and before the task of one of the cycle there are at least all those of the setup
+-- any, is watched unless the text leaves its target unwatched, and has the form of answers that the text's description of its procedure
+-- says, if there is one. Before the task of a command of the setup there are as many tasks as the text has commands of the setup before
+-- that command, and before the task of one of the cycle there are at least all those of the setup
 abbrev pub TasksFollowTheirLines : Type 0
 TasksFollowTheirLines =
     (text : List ℕ) (deadline : ℕ) (chained : Bool) (all : TasksSeen) (is : IsTasks text deadline chained all)
-    (front later : List TaskLine) (command : Wish) (now : Bool) (expects : Option Expectation) → is.said ≡ front ++ says.Command command now expects ∷ later
+    (front later : List TaskLine) (command : Wish) (wording : Wording) (expects : Option Expectation) → is.said ≡ front ++ says.Command command wording expects ∷ later
     → (earlier : List Task) × (task : Task) × (others : List Task) × (all.tasks ≡ earlier ++ task ∷ others)
     × (section_after false front ≡ true → length earlier ≡ setup_commands false front) × (section_after false front ≡ false → all.setup ≤ length earlier)
-    × IsTaskOf deadline chained front command now expects task × (task.near ≡ near_of command.target all.nears)
-    × (task.watched ≡ not (is_unwatched command.target all.unwatched))
+    × IsTaskOf deadline chained front command wording expects task × (task.near ≡ near_of command.target all.nears)
+    × (task.watched ≡ not (is_unwatched command.target all.unwatched)) × (task.form ≡ form_of_asked all.described command.call)
 
 -- where a line says where a target is, it says so of each command of that target, before it and after it
 abbrev pub PlacesHoldForAll : Type 0

@@ -1,8 +1,10 @@
 -- Descriptions of procedures that aren't in the table: this project's own.
-use Rattle.std.specs.Prelude.{◌≡◌, ◌≤◌, ℕ, Bool, true, false, List, [], ◌∷◌, ◌++◌, length, map, codes}
+use Rattle.std.specs.Prelude.{◌≡◌, ◌≤◌, ◌==◌, ℕ, Bool, true, false, List, [], ◌∷◌, ◌++◌, length, map, find, Option, codes}
+use Rattle.std.specs.List.{list_any}
 use Rattle.gc_catalogue.specs.Calls.{IsNoProcedure}
 use Rattle.gc_texts.specs.ColumnNames.{are_columns}
 use Rattle.gc_texts.specs.Fields.{FieldSeen, HaveNames, field_seen, field_words, words_from}
+use Rattle.gc_texts.specs.KindLists.{KindsSeen, kinds_of_fields}
 use Rattle.gc_texts.specs.Procedures.{IsRpc}
 use Rattle.gc_texts.specs.WordLists.{words_of}
 use Rattle.gc_texts.specs.declared.description.Description.{Description}
@@ -72,3 +74,15 @@ pub record IsDescription (text : List ℕ) (d : DescriptionSeen) : Type 0 where
   pub params_are : AreFields d.params
   pub values_are : AreFields d.values
   pub columns : are_columns d.values ≡ true
+
+-- the kinds of the parameters of a described procedure: a request has just as many
+abbrev pub kinds_asked : Description → KindsSeen
+kinds_asked d = record { kinds = kinds_of_fields (map field_seen d.params.items); more = false }
+
+-- the description of the procedure with this number among these, if there is one: the first
+abbrev pub described_as : (rpc : ℕ) → List Description → Option Description
+described_as rpc described = find (λ d. d.rpc == rpc) described
+
+-- whether one of these describes the procedure with this number
+abbrev pub is_described : (rpc : ℕ) → List Description → Bool
+is_described rpc described = list_any (λ d. d.rpc == rpc) described

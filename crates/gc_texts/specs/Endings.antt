@@ -29,6 +29,8 @@ pub data End : Type 0 where
   -- it wasn't sent, because the command before it in its chain wasn't answered well, or because after that command was sent a
   -- connection was closed or the station resynchronized
   Skipped : End
+  -- it wasn't sent, because a value that its request takes of a file wasn't there
+  NoValue : End
   -- it wasn't sent, because its cycle couldn't begin before the next was due
   Missed : End
 
@@ -42,6 +44,7 @@ ending_seen (ending.Unexpected line) = Unexpected line.now.items
 ending_seen ending.Late = Late
 ending_seen ending.Lost = Lost
 ending_seen ending.Skipped = Skipped
+ending_seen ending.NoValue = NoValue
 ending_seen ending.Missed = Missed
 
 -- the word of an ending in records
@@ -54,6 +57,7 @@ word_of (Unexpected line) = codes "unexpected"
 word_of Late = codes "late"
 word_of Lost = codes "lost"
 word_of Skipped = codes "skipped"
+word_of NoValue = codes "no_value"
 word_of Missed = codes "missed"
 
 -- the fault of the reply's values, if the ending is `Unreadable`

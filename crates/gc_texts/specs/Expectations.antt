@@ -105,9 +105,13 @@ abbrev pub is_space : Option ℕ → Bool
 is_space (Some b) = b == 32
 is_space None = false
 
+-- whether a text ends in a space
+abbrev pub ends_in_space : List ℕ → Bool
+ends_in_space text = is_space (slice_get text (length text - 1))
+
 -- whether an item has a space at one of its ends
 abbrev pub has_outer_space : List ℕ → Bool
-has_outer_space item = is_space (slice_get item 0) || is_space (slice_get item (length item - 1))
+has_outer_space item = is_space (slice_get item 0) || ends_in_space item
 
 -- whether an item may be what it is: a range only if it has two numbers, and the first isn't greater than the second
 abbrev pub is_sound : Item → Bool

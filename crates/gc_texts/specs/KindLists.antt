@@ -1,14 +1,16 @@
 -- Lists of kinds, and which lists of parameters have values of these kinds: the order of the faults is that of the table's
 -- procedures. That more items may follow is this project's own.
-use Rattle.std.specs.Prelude.{◌≡◌, ◌≤◌, ℕ, Bool, true, false, List, [], ◌∷◌, length, map, take}
+use Rattle.std.specs.Prelude.{◌≡◌, ◌≤◌, ◌-◌, ℕ, Bool, true, false, List, [], ◌∷◌, ◌++◌, length, map, take, replicate}
 use Rattle.gc_values.specs.Item.{kind_of, IsItem}
 use Rattle.gc_values.specs.Lists.{FirstFault}
 use Rattle.gc_values.specs.Params.{AreTooMany, HasOpenQuote, IsParams}
 use Rattle.gc_values.specs.declared.fault.ValueFault.{ValueFault}
 use Rattle.gc_values.specs.declared.fault.ValueFault.TheVariants.{OpenQuote, TooMany, Count}
 use Rattle.gc_values.specs.declared.value.Kind.{Kind}
+use Rattle.gc_values.specs.declared.value.Kind.TheVariants.{Bool as Boolean}
 use Rattle.gc_values.specs.declared.value.Value.{Value}
 use Rattle.gc_texts.specs.Fields.{FieldSeen}
+use Rattle.gc_texts.specs.KindFacts.{few_kinds, sixteen_places}
 use Rattle.gc_texts.specs.declared.kinds.Kinds.{Kinds}
 
 -- kinds, and whether a list may have more items
@@ -23,6 +25,20 @@ kinds_seen k = record { kinds = take k.len k.kinds; more = k.more }
 -- the kinds of fields, in order
 abbrev pub kinds_of_fields : List FieldSeen → List Kind
 kinds_of_fields fields = map (λ f. f.kind) fields
+
+-- 16 places with these kinds, at most 16, in the first, and the one of a Boolean in the others
+abbrev pub padded_kinds : List Kind → List Kind
+padded_kinds kinds = kinds ++ replicate (16 - length kinds) Boolean
+
+-- the kinds of these fields, of which there are at most 16; `more` says whether a list may have more items
+abbrev pub kinds_of : List FieldSeen → (more : Bool) → Kinds
+kinds_of fields more = record {
+  kinds = padded_kinds (kinds_of_fields (take 16 fields));
+  len = length (take 16 fields);
+  more = more;
+  few = few_kinds fields;
+  long = sixteen_places fields;
+}
 
 -- a list of so many items may have values of so many kinds: it has as many items, or, where more may follow, at least as many
 abbrev pub SuitsCount : (more : Bool) → (items kinds : ℕ) → Type 0

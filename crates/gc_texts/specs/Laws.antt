@@ -6,6 +6,7 @@ use Rattle.std.specs.List.{AllByRecursion}
 use Rattle.gc_texts.specs.Again.{no_again}
 use Rattle.gc_texts.specs.Tasks.{TasksSeen, IsTasks}
 use Rattle.gc_texts.specs.ProcedureNames.{name_in_table}
+use Rattle.gc_texts.specs.ValueItems.{no_needs}
 use Rattle.gc_texts.specs.Wishes.{wish_of}
 use Rattle.gc_catalogue.specs.Calls.{call_fields}
 use Rattle.gc_catalogue.specs.Names.{call_name}
@@ -22,26 +23,26 @@ abbrev pub OneCommandList : Type 0
 OneCommandList = (text : List ℕ) (xs ys : List Command) → IsCommands text xs → IsCommands text ys → xs ≡ ys
 
 -- with a caller's deadline and chaining, a station's text gives one number of setup tasks at most, one list of tasks, one of names,
--- one of places, and one of unwatched targets
+-- one of places, one of unwatched targets, one of descriptions, and one of the columns that these add
 abbrev pub OneTaskList : Type 0
 OneTaskList =
     (text : List ℕ) (deadline : ℕ) (chained : Bool) (one other : TasksSeen)
     → IsTasks text deadline chained one → IsTasks text deadline chained other → one ≡ other
 
--- these tasks, without setup, names, places and unwatched targets
+-- these tasks, without setup, names, places, unwatched targets and descriptions
 abbrev pub tasks_alone : List Task → TasksSeen
-tasks_alone tasks = record { setup = 0; tasks = tasks; names = []; nears = []; unwatched = [] }
+tasks_alone tasks = record { setup = 0; tasks = tasks; names = []; nears = []; unwatched = []; described = []; columns = [] }
 
 -- each command text is a station's text: of the same commands in the same order, and without setup, names,
--- places and unwatched targets
+-- places, unwatched targets and descriptions
 abbrev pub CommandsAreTasks : Type 0
 CommandsAreTasks =
     (text : List ℕ) (commands : List Command) (deadline : ℕ) (chained : Bool) → IsCommands text commands →
     (tasks : List Task) × IsTasks text deadline chained (tasks_alone tasks) × (map (λ task. task.command) tasks ≡ map wish_of commands)
 
 -- the tasks of these commands, numbered from `place` on: each is in its first attempt, is sent once in it, has this deadline, isn't chained,
--- doesn't set the clock to the moment at which it is sent, is watched, and has no place of its target, no accepted code, no expectation
--- and no rule of repetition
+-- neither sets the clock to the moment at which it is sent nor takes values of files, is watched, and has no place of its target, no form of its answers, no accepted
+-- code, none that says busy, no expectation and no rule of repetition
 abbrev pub plain_tasks : (deadline place : ℕ) → List Command → List Task
 plain_tasks deadline place [] = []
 plain_tasks deadline place (command ∷ others) =
@@ -51,13 +52,16 @@ plain_tasks deadline place (command ∷ others) =
       chained = false;
       near = None;
       watched = true;
+      form = None;
       accepted = no_codes;
+      busy = no_codes;
       expects = None;
       counter = None;
       again = no_again;
       turn = record { place = place; attempt = 1; link = 0 };
       others = 0;
       now = false;
+      needs = no_needs;
       twice = Once;
     } ∷ plain_tasks deadline (place + 1) others
 

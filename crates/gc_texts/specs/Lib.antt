@@ -5,6 +5,8 @@ pub mod Words
 pub mod Procedures
 pub mod Commands
 pub mod Watching
+pub mod Wordings
+pub mod ValueItems
 pub mod Wishes
 pub mod Names
 pub mod Nears
@@ -16,6 +18,7 @@ pub mod Numerals
 pub mod Expectations
 pub mod TaskLines
 pub mod Tasks
+pub mod ValueFiles
 pub mod Sendings
 pub mod Attempts
 pub mod Texts
@@ -44,3 +47,7 @@ pub mod ColumnNames
 pub mod Descriptions
 pub mod DescribedLaws
 pub mod Measured
+pub mod KindFacts
+pub mod Forms
+pub mod NewColumns
+pub mod DescribedTexts

@@ -10,11 +10,13 @@ use Rattle.gc_texts.specs.Tasks.{TasksSeen, IsTasks, first_mode, planned_of, pla
 use Rattle.gc_texts.specs.declared.again.Again.{Again}
 use Rattle.gc_texts.specs.declared.agree.Agree.{Agree}
 use Rattle.gc_texts.specs.declared.expectation.Expectation.{Expectation}
+use Rattle.gc_texts.specs.declared.description.Description.{Description}
 use Rattle.gc_texts.specs.declared.near.Near.{Near}
 use Rattle.gc_texts.specs.declared.retry.Retry.{Retry}
 use Rattle.gc_texts.specs.declared.task_line.TaskLine.{TaskLine}
 use Rattle.gc_texts.specs.declared.task_line.TaskLine.TheVariants as says
 use Rattle.gc_texts.specs.declared.wish.Wish.{Wish}
+use Rattle.gc_texts.specs.declared.wording.Wording.{Wording}
 use Rattle.gc_texts.specs.declared.attempts.Planned.{Planned}
 use Rattle.gc_texts.specs.declared.tasks.Task.{Task}
 
@@ -48,8 +50,8 @@ abbrev pub planned_in : Chain → List Planned
 planned_in chain = map (λ task. record { task = task; retry = chain.retry; agree = chain.agree }) chain.commands
 
 -- a command with the place of its target (`placed`)
-abbrev pub placed_planned : List Near → (unwatched : List ℕ) → Planned → Planned
-placed_planned nears unwatched planned = record { task = placed nears unwatched planned.task; retry = planned.retry; agree = planned.agree }
+abbrev pub placed_planned : List Near → (unwatched : List ℕ) → List Description → Planned → Planned
+placed_planned nears unwatched described planned = record { task = placed nears unwatched described planned.task; retry = planned.retry; agree = planned.agree }
 
 -- the commands of each of these chains are one chain (`IsOneChain`), and these tasks are the attempts of the chains, in order: of each
 -- chain the first, and as many more as its line `retry` says; each has the chain's commands, or, where the chain has an `agree`, its
@@ -69,13 +71,13 @@ ChainsGoOutAgain =
     (text : List ℕ) (deadline : ℕ) (chained : Bool) (all : TasksSeen) (is : IsTasks text deadline chained all)
     → (chains : List Chain) × (front : List Task) × (cycle : List Task)
     × (all.tasks ≡ front ++ cycle) × (all.setup ≡ length front) × AreLaidOut chains cycle
-    × (flat_map planned_in chains ≡ map (placed_planned all.nears all.unwatched) (planned_of (first_mode deadline chained) is.said))
+    × (flat_map planned_in chains ≡ map (placed_planned all.nears all.unwatched all.described) (planned_of (first_mode deadline chained) is.said))
 
 -- a command of the cycle has the retry that the last line `retry` before it says, and what the last line `agree` says; without such lines
 -- its chain isn't repeated, and is sent once in an attempt
 abbrev pub RetriesHold : Type 0
 RetriesHold =
-    (deadline : ℕ) (chained : Bool) (front later : List TaskLine) (command : Wish) (now : Bool) (expects : Option Expectation) → section_after false front ≡ false
-    → (planned : Planned) × (others : List Planned) × (planned_of (first_mode deadline chained) (front ++ says.Command command now expects ∷ later)
+    (deadline : ℕ) (chained : Bool) (front later : List TaskLine) (command : Wish) (wording : Wording) (expects : Option Expectation) → section_after false front ≡ false
+    → (planned : Planned) × (others : List Planned) × (planned_of (first_mode deadline chained) (front ++ says.Command command wording expects ∷ later)
     ≡ planned_of (first_mode deadline chained) front ++ planned ∷ others)
     × (planned.task.command ≡ command) × IsRetryAfter front planned.retry × IsAgreeAfter front planned.agree

@@ -1,15 +1,16 @@
 -- The lines of a station's text, and what each says: this project's own.
-use Rattle.std.specs.Prelude.{◌≡◌, ◌⊎◌, ℕ, ◌≤◌, Bool, true, false, List, ◌∷◌, ◌++◌, Option, None, Some, codes}
+use Rattle.std.specs.Prelude.{◌≡◌, ◌⊎◌, ℕ, ◌≤◌, true, false, List, ◌∷◌, ◌++◌, Option, None, Some, codes}
 use Rattle.gc_catalogue.specs.declared.asked.Asked.TheVariants.{Table}
 use Rattle.gc_catalogue.specs.declared.call.Call.TheVariants.{SetDate}
 use Rattle.gc_texts.specs.Agrees.{IsAgreeText}
 use Rattle.gc_texts.specs.Codes.{IsCodeList, no_codes}
-use Rattle.gc_texts.specs.Wishes.{IsWish}
+use Rattle.gc_texts.specs.Descriptions.{IsDescription, description_seen}
+use Rattle.gc_texts.specs.Wishes.{IsWorded}
 use Rattle.gc_texts.specs.Names.{is_name}
 use Rattle.gc_texts.specs.Nears.{IsNearText}
 use Rattle.gc_texts.specs.Procedures.{IsNumber, IsTarget}
 use Rattle.gc_texts.specs.Cuts.{Lacks, behind}
-use Rattle.gc_texts.specs.Expectations.{expectation_of, items_trouble}
+use Rattle.gc_texts.specs.Expectations.{ends_in_space, expectation_of, items_trouble}
 use Rattle.gc_texts.specs.Retries.{IsRetryRule, no_retry}
 use Rattle.gc_texts.specs.Words.{first_word, second_word, after_two_words}
 use Rattle.gc_texts.specs.declared.agree.Agree.{Agree}
@@ -18,8 +19,11 @@ use Rattle.gc_texts.specs.declared.stamp.TheConstants.{FIRST_MOMENT}
 use Rattle.gc_texts.specs.declared.retry.Retry.{Retry}
 use Rattle.gc_texts.specs.declared.wish.Wish.{Wish}
 use Rattle.gc_texts.specs.declared.codes.Codes.{Codes}
+use Rattle.gc_texts.specs.declared.description.Description.{Description}
 use Rattle.gc_texts.specs.declared.name.Name.{Name}
 use Rattle.gc_texts.specs.declared.near.Near.{Near}
+use Rattle.gc_texts.specs.declared.wording.Wording.{Wording}
+use Rattle.gc_texts.specs.declared.wording.Wording.TheVariants.{Now}
 use Rattle.gc_texts.specs.declared.task_line.TaskLine.{TaskLine}
 use Rattle.gc_texts.specs.declared.task_line.TaskLine.TheVariants as says
 
@@ -56,6 +60,11 @@ IsUnwatchedLine line target = IsWordAnd (codes "unwatched ") (λ rest. IsTarget 
 abbrev pub SetsAccepted : List ℕ → Codes → Type 0
 SetsAccepted line accepted = ((line ≡ codes "accept") × (accepted ≡ no_codes)) ⊎ IsWordAnd (codes "accept ") (λ rest. IsCodeList rest accepted) line
 
+-- `busy C C ..`, with at least one return code and at most 16, or `busy` alone: by which return codes the instrument says that it is
+-- busy, or that it does so by none
+abbrev pub SetsBusy : List ℕ → Codes → Type 0
+SetsBusy line busy = ((line ≡ codes "busy") × (busy ≡ no_codes)) ⊎ IsWordAnd (codes "busy ") (λ rest. IsCodeList rest busy) line
+
 -- `retry N WORD WORD ..`: how often the chains after it are repeated, and after what; or `retry 0`, which says that they aren't
 abbrev pub SetsRetry : List ℕ → Retry → Type 0
 SetsRetry line retry = ((line ≡ codes "retry 0") × (retry ≡ no_retry)) ⊎ IsWordAnd (codes "retry ") (λ rest. IsRetryRule rest retry) line
@@ -73,41 +82,48 @@ pub record SetsClock (line : List ℕ) (wish : Wish) : Type 0 where
   pub rest_is : behind 32 line ≡ codes "5007 now"
   pub call_is : wish.call ≡ Table (SetDate FIRST_MOMENT)
 
--- a text is a request without `=`, and its items: `REQUEST = ITEMS`
+-- a text is a request without `=`, and its items: `REQUEST = ITEMS`, with one space before the `=`
 pub record AreRequestAndItems (text request items : List ℕ) : Type 0 where
   pub are : text ≡ request ++ (codes " = " ++ items)
   pub plain : Lacks 61 request
+  pub one_space : ends_in_space request ≡ false
 
--- `T expect REQUEST = ITEMS`: a command for target T with this request, and what is expected of the values of its answer
-pub record IsExpectLine (line : List ℕ) (wish : Wish) (expectation : Expectation) : Type 0 where
+-- `procedure RPC NAME KIND .. -> COLUMN KIND ..`: what is said of a procedure that isn't in the table
+abbrev pub IsDescribingLine : List ℕ → Description → Type 0
+IsDescribingLine line description = IsWordAnd (codes "procedure ") (λ rest. IsDescription rest (description_seen description)) line
+
+-- `T expect REQUEST = ITEMS`: a command for target T with this request in this wording, and what is expected of the values of its answer
+pub record IsExpectLine (line : List ℕ) (wish : Wish) (wording : Wording) (expectation : Expectation) : Type 0 where
   pub request : List ℕ
   pub items : List ℕ
   pub word : second_word line ≡ codes "expect"
   pub parts : AreRequestAndItems (after_two_words line) request items
-  pub asks : IsWish (first_word line ++ 32 ∷ request) wish
+  pub asks : IsWorded wording (first_word line ++ 32 ∷ request) wish
   pub sound : items_trouble items ≡ None
   pub expects : expectation ≡ expectation_of items
 
--- the line of a command with this wish, of whose answer this is expected; `now` says whether the wish sets the clock to the moment at which
--- it is sent, and nothing is expected of the answer to such a one
-abbrev pub IsCommandLine : (line : List ℕ) → Wish → (now : Bool) → Option Expectation → Type 0
-IsCommandLine line wish true None = SetsClock line wish
-IsCommandLine line wish true (Some expectation) = ⊥
-IsCommandLine line wish false None = IsWish line wish
-IsCommandLine line wish false (Some expectation) = IsExpectLine line wish expectation
+-- the line of a command with this wish in this wording, of whose answer this is expected; nothing is expected of the answer to one that
+-- sets the clock to the moment at which it is sent
+abbrev pub IsCommandLine : (line : List ℕ) → Wish → Wording → Option Expectation → Type 0
+IsCommandLine line wish Now None = SetsClock line wish
+IsCommandLine line wish Now (Some expectation) = ⊥
+IsCommandLine line wish wording None = IsWorded wording line wish
+IsCommandLine line wish wording (Some expectation) = IsExpectLine line wish wording expectation
 
 -- what a line says: a command, a deadline, that commands are chained or that they aren't, a name, where a target is, that a
--- target isn't watched, which return codes are accepted, how often chains are repeated, whether they are sent twice, or that
--- the commands after it are setup or those of each cycle
+-- target isn't watched, what a procedure outside the table is, which return codes are accepted, which say that the instrument is busy,
+-- how often chains are repeated, whether they are sent twice, or that the commands after it are setup or those of each cycle
 abbrev pub IsTaskLine : List ℕ → TaskLine → Type 0
-IsTaskLine line (says.Command wish now expects) = IsCommandLine line wish now expects
+IsTaskLine line (says.Command wish wording expects) = IsCommandLine line wish wording expects
 IsTaskLine line (says.Deadline deadline) = IsDeadlineLine line deadline
 IsTaskLine line says.Chained = line ≡ codes "chained"
 IsTaskLine line says.Unchained = line ≡ codes "unchained"
 IsTaskLine line (says.Naming name) = IsNameLine line name
 IsTaskLine line (says.Locating near) = IsNearLine line near
 IsTaskLine line (says.Unwatching target) = IsUnwatchedLine line target
+IsTaskLine line (says.Describing description) = IsDescribingLine line description
 IsTaskLine line (says.Accepting accepted) = SetsAccepted line accepted
+IsTaskLine line (says.Busy busy) = SetsBusy line busy
 IsTaskLine line (says.Retrying retry) = SetsRetry line retry
 IsTaskLine line (says.Agreeing agree) = SetsAgree line agree
 IsTaskLine line says.AtStart = line ≡ codes "at start"

@@ -24,7 +24,7 @@ pub struct Again {
     pub late: bool,
     /// Whether the chain is repeated after a command that was sent and got no reply.
     pub lost: bool,
-    /// Whether the chain is repeated after a command that was skipped.
+    /// Whether the chain is repeated after a command that was skipped, or for which a value of a file wasn't there.
     pub skipped: bool,
 }
 
@@ -70,7 +70,7 @@ impl Again {
             Ending::Unexpected(_) => self.unexpected,
             Ending::Late => self.late,
             Ending::Lost => self.lost,
-            Ending::Skipped => self.skipped,
+            Ending::Skipped | Ending::NoValue => self.skipped,
             Ending::Missed => false,
         }
     }

@@ -1,4 +1,5 @@
-//! Lists of return codes in a station's text: those that are accepted of an answer beside 0, and those after which a chain is repeated.
+//! Lists of return codes in a station's text: those that are accepted of an answer beside 0, those by which the instrument says that it is
+//! busy, and those after which a chain is repeated.
 
 ghost use Rattle.std.specs.Prelude.{◌≡◌, ◌==◌, ◌<◌, slice_set};
 ghost use Rattle.std.specs.List.{list_any};

@@ -77,7 +77,7 @@ fn is_name_of_row(name: &[u8]) -> bool
 }
 
 // Whether this is the name of a quantity of the table that is a decimal.
-fn is_name_of_decimal(name: &[u8]) -> bool
+pub(crate) fn is_name_of_decimal(name: &[u8]) -> bool
     ensures { result ≡ is_name_of_decimal name.now }
 {
     let names: [&[u8]; 9] = NAMES_OF_DECIMALS;
@@ -85,7 +85,7 @@ fn is_name_of_decimal(name: &[u8]) -> bool
 }
 
 // Whether this is the name of a quantity of the table that is a whole number.
-fn is_name_of_whole(name: &[u8]) -> bool
+pub(crate) fn is_name_of_whole(name: &[u8]) -> bool
     ensures { result ≡ is_name_of_whole name.now }
 {
     let names: [&[u8]; 14] = NAMES_OF_WHOLES;
@@ -93,7 +93,7 @@ fn is_name_of_whole(name: &[u8]) -> bool
 }
 
 // Whether this is the name of the quantity of the table that is a text.
-fn is_name_of_text(name: &[u8]) -> bool
+pub(crate) fn is_name_of_text(name: &[u8]) -> bool
     ensures { result ≡ is_name_of_text name.now }
 {
     name == b"instrument".as_slice()
@@ -107,21 +107,21 @@ fn ends_as_text(name: &[u8]) -> bool
 }
 
 // Whether values of a kind are decimals.
-fn is_decimal(kind: Kind) -> bool
+pub(crate) fn is_decimal(kind: Kind) -> bool
     ensures { result ≡ is_decimal kind }
 {
     matches!(kind, Kind::Double)
 }
 
 // Whether values of a kind are whole numbers.
-fn is_whole(kind: Kind) -> bool
+pub(crate) fn is_whole(kind: Kind) -> bool
     ensures { result ≡ is_whole kind }
 {
     matches!(kind, Kind::Long | Kind::Short | Kind::Byte | Kind::Bool)
 }
 
 // Whether values of a kind are texts.
-fn is_text(kind: Kind) -> bool
+pub(crate) fn is_text(kind: Kind) -> bool
     ensures { result ≡ is_text kind }
 {
     matches!(kind, Kind::Text)

@@ -1,9 +1,11 @@
 //! Descriptions of procedures that aren't in the table: their parameters, and the columns that have their answers' values.
 
-ghost use Rattle.std.specs.Prelude.{◌≡◌, [], map, false, IsTrue, IsFalse, IfSome, IfNone};
-ghost use Rattle.gc_texts.specs.Descriptions.{EndsColumns, EndsParameters, IsDescription, IsEnd, IsNoColumns, IsNoEnd, IsNoParameters, description_seen, is_arrow};
+ghost use Rattle.std.specs.Prelude.{◌≡◌, List, [], map, false, IsTrue, IsFalse, IfSome, IfNone};
+ghost use Rattle.std.specs.Option.{option_map};
+ghost use Rattle.gc_values.specs.declared.value.Value.{Value};
+ghost use Rattle.gc_texts.specs.Descriptions.{EndsColumns, EndsParameters, IsDescription, IsEnd, IsNoColumns, IsNoEnd, IsNoParameters, described_as, description_seen, is_arrow, is_described, kinds_asked};
 ghost use Rattle.gc_texts.specs.Fields.{field_seen};
-ghost use Rattle.gc_texts.specs.KindLists.{kinds_of_fields, kinds_seen};
+ghost use Rattle.gc_texts.specs.KindLists.{AreOfKinds, kinds_of, kinds_of_fields, kinds_seen};
 ghost use Rattle.gc_texts.specs.LineForms.{IsReadAs};
 
 use crate::column_name::are_columns;
@@ -116,11 +118,37 @@ impl Description {
         Kinds::of(self.params.as_slice(), false)
     }
 
+    /// Whether these are parameters of the procedure: as many as it has, each of its kind.
+    pub fn takes(&self, params: &[u8]) -> bool
+        ensures found { IsTrue result → (values : List Value) × AreOfKinds (kinds_asked self.now) params.now values }
+        ensures none { IsFalse result → (values : List Value) → AreOfKinds (kinds_asked self.now) params.now values → ⊥ }
+    {
+        match self.asks().read(params) {
+            Ok(_) => true,
+            Err(_) => false,
+        }
+    }
+
     /// The kinds of an answer's values.
     pub fn answers(&self) -> Kinds
         ensures kinds { (kinds_seen result).kinds ≡ kinds_of_fields (map field_seen self.now.values.items) }
         ensures also { (kinds_seen result).more ≡ self.now.more }
+        ensures is { result ≡ kinds_of (map field_seen self.now.values.items) self.now.more }
     {
         Kinds::of(self.values.as_slice(), self.more)
     }
+}
+
+/// The description of the procedure with this number among these: the first one. `None`: none is of it.
+pub fn described_as(rpc: u16, described: &[Description]) -> Option<&Description>
+    ensures { option_map (λ d. d.now) result ≡ described_as rpc described.now }
+{
+    described.iter().find(|d| d.rpc == rpc)
+}
+
+/// Whether one of these describes the procedure with this number.
+pub(crate) fn is_described(rpc: u16, described: &[Description]) -> bool
+    ensures { result ≡ is_described rpc described.now }
+{
+    described.iter().any(|d| d.rpc == rpc)
 }

@@ -33,6 +33,8 @@ pub enum Ending<'a> {
     /// It wasn't sent: the command before it in its chain wasn't answered well, or after that command was sent a connection was
     /// closed or the station resynchronized.
     Skipped,
+    /// It wasn't sent: a value that its request takes of a file wasn't there, because the file was too old or couldn't be read.
+    NoValue,
     /// It wasn't sent: its cycle couldn't begin before the next was due.
     Missed,
 }
@@ -52,6 +54,7 @@ impl<'a> Ending<'a> {
             Ending::Late => b"late",
             Ending::Lost => b"lost",
             Ending::Skipped => b"skipped",
+            Ending::NoValue => b"no_value",
             Ending::Missed => b"missed",
         }
     }
@@ -97,7 +100,8 @@ impl<'a> Ending<'a> {
             Ending::Elsewhere(line) | Ending::Disagree(line) | Ending::Unexpected(line) => {
                 Some(line)
             }
-            Ending::Late | Ending::Lost | Ending::Skipped | Ending::Missed => None,
+            Ending::Late | Ending::Lost | Ending::Skipped | Ending::NoValue | Ending::Missed =>
+                None,
         }
     }
 }

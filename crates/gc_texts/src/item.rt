@@ -3,7 +3,7 @@
 ghost use Rattle.std.specs.Prelude.{◌≡◌, ◌+◌, ◌≤◌, length, IfSome};
 ghost use Rattle.std.specs.List.{list_any};
 ghost use Rattle.std.specs.Option.{option_copied};
-ghost use Rattle.gc_texts.specs.Expectations.{are_same, counters_in, dots_in, has_outer_space, is_as, is_counter, is_from_to, is_greater, is_item, is_sound, is_space, is_unprintable, item_is_met, item_of, items_in, items_trouble, no_item_in, range_of};
+ghost use Rattle.gc_texts.specs.Expectations.{are_same, counters_in, dots_in, ends_in_space, has_outer_space, is_as, is_counter, is_from_to, is_greater, is_item, is_sound, is_space, is_unprintable, item_is_met, item_of, items_in, items_trouble, no_item_in, range_of};
 ghost use Rattle.gc_texts.specs.Numerals.{decimal_in};
 
 use crate::near::read_double;
@@ -140,11 +140,18 @@ fn is_space(byte: Option<&u8>) -> bool
     }
 }
 
+// Whether a text ends in a space.
+pub(crate) fn ends_in_space(text: &[u8]) -> bool
+    ensures { result ≡ ends_in_space text.now }
+{
+    is_space(text.last())
+}
+
 // Whether an item has a space at one of its ends.
 fn has_outer_space(item: &[u8]) -> bool
     ensures { result ≡ has_outer_space item.now }
 {
-    is_space(item.first()) || is_space(item.last())
+    is_space(item.first()) || ends_in_space(item)
 }
 
 // Whether a text has a byte that isn't printable ASCII.

@@ -9,7 +9,7 @@ use gc_values::{Items, Kind, MOST_ITEMS, Value, ValueFault, split};
 /// The kinds of a described procedure's parameters, or of its answer's values: at most 16.
 #[derive(Clone, Copy)]
 pub struct Kinds {
-    // The kinds, and any kind in the places after them.
+    // The kinds, and the one of a Boolean in the places after them.
     kinds: [Kind; MOST_ITEMS],
     // How many there are.
     len: usize,
@@ -22,7 +22,7 @@ pub struct Kinds {
 impl Kinds {
     ghost use Rattle.std.specs.Prelude.{◌↔◌, List, map, IfOk, IfErr, IfSome, IfNone, IsTrue};
     ghost use Rattle.gc_texts.specs.Fields.{field_seen};
-    ghost use Rattle.gc_texts.specs.KindLists.{AreOfKinds, HaveValues, IsItemsMisfit, IsKindsFault, SuitsCount, kinds_of_fields, kinds_seen};
+    ghost use Rattle.gc_texts.specs.KindLists.{AreOfKinds, HaveValues, IsItemsMisfit, IsKindsFault, SuitsCount, kinds_of, kinds_of_fields, kinds_seen};
     ghost use Rattle.gc_values.specs.declared.value.Value.{Value};
 
     // Whether a list of so many items may have values of so many kinds.
@@ -37,6 +37,7 @@ impl Kinds {
         requires { length fields.now ≤ 16 }
         ensures kinds { (kinds_seen result).kinds ≡ kinds_of_fields (map field_seen fields.now) }
         ensures also { (kinds_seen result).more ≡ more }
+        ensures is { result ≡ kinds_of (map field_seen fields.now) more }
     {
         let mut kinds = [Kind::Bool; MOST_ITEMS];
         for (k, field) in fields.iter().enumerate() {
@@ -47,6 +48,13 @@ impl Kinds {
             len: fields.len(),
             more,
         }
+    }
+
+    /// How many kinds there are.
+    pub(crate) fn count(&self) -> usize
+        ensures { result ≡ self.now.len }
+    {
+        self.len
     }
 
     // As `read`, of a list's items.

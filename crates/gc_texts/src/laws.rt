@@ -3,6 +3,7 @@
 ghost use Rattle.std.specs.Prelude.{◌≡◌};
 ghost use Rattle.gc_texts.specs.FaultNumbers.{FaultsHaveTheirNumbers};
 ghost use Rattle.gc_texts.specs.DescribedLaws.{AreCheckedAsTheTables, ColumnExamples, DescriptionsReadBack, OneDescription};
+ghost use Rattle.gc_texts.specs.DescribedTexts.{DescribedCommandsFit, FormsAreDescribed, FormsHoldForAll, MeasuredAsColumns, OneFormReading, TextsAddColumns};
 ghost use Rattle.gc_texts.specs.Chained.{TasksFollowTheirLines, PlacesHoldForAll, UnwatchedHoldForAll};
 ghost use Rattle.gc_texts.specs.Repeats.{ChainsGoOutAgain, RetriesHold};
 ghost use Rattle.gc_texts.specs.SentTwice.{SecondsFollowTheirFirsts};
@@ -23,13 +24,13 @@ pub fn commands_have_one_reading()
 {}
 
 /// For each deadline, and each `chained`, that its caller gives, a station's text gives at most one list of tasks, one count of those that
-/// are setup, one list of names, one of places, and one of unwatched targets.
+/// are setup, one list of names, one of places, one of unwatched targets, one of descriptions, and one of the columns that these add.
 pub fn tasks_have_one_reading()
     ensures { OneTaskList }
 {}
 
 /// A command text is a station's text, too, and gives the same commands. Where `chained` isn't asked for, each of them is
-/// unchained, has the caller's deadline, no place of its target, and no return code accepted beside 0.
+/// unchained, has the caller's deadline, no place of its target, no return code accepted beside 0, and none that says busy.
 pub fn commands_are_tasks()
     ensures same { CommandsAreTasks }
     ensures plain { CommandsArePlain }
@@ -43,7 +44,7 @@ pub fn chains_keep_targets()
 
 /// The tasks after the setup are the attempts of the chains of the cycle, in order. A chain has one attempt, and as many further
 /// ones as the last line `retry` before it says, or none without such a line. Each attempt begins with the chain's first command,
-/// and has the chain's commands, in order, with the same deadlines, places and accepted codes; if a line `agree` holds for the chain, it
+/// and has the chain's commands, in order, with the same deadlines, places and codes; if a line `agree` holds for the chain, it
 /// has all of them twice, the second time chained to the first, and the two are numbered as two attempts. Each attempt but the last has the
 /// rule of the line, and the last has none. The commands of these chains are the text's commands of the cycle, in order, each
 /// once.
@@ -85,12 +86,13 @@ pub fn faults_have_their_numbers()
 {}
 
 /// Each command of a station's text has the deadline of the last line `deadline` before it, or else the caller's, the codes of the
-/// last line `accept` before it, or else none, and the expectation of its own line `expect`, or else none; an item `>` there has the number
+/// last line `accept` before it, or else none, those of the last line `busy` before it, or else none, and the expectation of its own line `expect`, or else none; an item `>` there has the number
 /// of commands with such an item before it. One of the cycle is chained exactly if two things hold: the last line `chained` or
 /// `unchained` before it says `chained`, or there is none and the caller says so; and the command before it is for the same target, with no
 /// line `chained`, `unchained`, `retry`, `at start` or `each cycle` between the two. One of the setup is chained exactly if another is
 /// before it, and all of the setup is sent before the cycle, once. The task of one of the cycle is the only sending of the command in the
-/// first attempt of its chain, or the first of two, as the last line `agree` before it says.
+/// first attempt of its chain, or the first of two, as the last line `agree` before it says. Its answers have the form that the text's
+/// description of its procedure says, if there is one.
 pub fn commands_go_out_as_their_lines_say()
     ensures { TasksFollowTheirLines }
 {}
@@ -144,4 +146,35 @@ pub fn described_parameters_are_the_tables()
 /// Worked examples of the names and columns of described procedures.
 pub fn columns_of_examples()
     ensures { ColumnExamples }
+{}
+
+/// Each command that asks for a procedure outside the table by its number alone follows a line that describes this procedure; its request
+/// has the described number, and as many parameters as the line says, each of its kind, a value of a file being a number; and its answers are
+/// read by the form that the line says.
+pub fn described_commands_are_as_described()
+    ensures { DescribedCommandsFit }
+{}
+
+/// A line `procedure` holds for each command of its procedure, before the line and after it, also after the word `raw`: the answers are
+/// read by the form that the line says. The answers of no other command have a form.
+pub fn descriptions_hold_for_all_commands_of_a_procedure()
+    ensures hold { FormsHoldForAll }
+    ensures only { FormsAreDescribed }
+{}
+
+/// The parameters of a reply have one reading by a form at most: values of its kinds, or one fault.
+pub fn forms_have_one_reading()
+    ensures { OneFormReading }
+{}
+
+/// What is read of a described answer says where it was measured as its columns do: its direction is that of the columns `hz_rad` and
+/// `v_rad`, and with it its distance that of the column `distance_m`; without a direction it says nothing.
+pub fn described_answers_are_measured_as_their_columns()
+    ensures { MeasuredAsColumns }
+{}
+
+/// The columns that a text's descriptions add are at most 64; none of them is one of the table's quantities; and each described value that
+/// isn't one of these has its column.
+pub fn texts_add_their_columns()
+    ensures { TextsAddColumns }
 {}

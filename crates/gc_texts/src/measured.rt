@@ -10,7 +10,7 @@ use gc_values::{Decimal, Direction, Value};
 
 // The value at a place, counted from 0. `None`: there are fewer.
 #[tactic(auto, using(crate::proofs::MeasuredSteps::value_there, crate::proofs::MeasuredSteps::value_past))]
-fn value_at(values: &[Value], place: usize) -> Option<Value>
+pub(crate) fn value_at(values: &[Value], place: usize) -> Option<Value>
     ensures { result ≡ first_value (drop place values.now) }
 {
     if place < values.len() {
@@ -21,7 +21,7 @@ fn value_at(values: &[Value], place: usize) -> Option<Value>
 }
 
 // Whether a field has this name.
-fn has_name(field: &Field, name: &[u8]) -> bool
+pub(crate) fn has_name(field: &Field, name: &[u8]) -> bool
     ensures { result ≡ bytes_eq field.now.name.items name.now }
 {
     field.name.as_slice() == name
@@ -41,7 +41,7 @@ pub fn value_under(name: &[u8], fields: &[Field], values: &[Value]) -> Option<Va
 }
 
 // The decimal that a value is. `None`: there is no value, or it is none.
-fn decimal_in(value: Option<Value>) -> Option<Decimal>
+pub(crate) fn decimal_in(value: Option<Value>) -> Option<Decimal>
     ensures { result ≡ decimal_in value }
 {
     match value {

@@ -5,7 +5,8 @@
 //! commands of the setup are one chain.
 
 ghost use Rattle.std.specs.Prelude.{◌≡◌, ◌≤◌};
-ghost use Rattle.gc_texts.specs.Tasks.{CountsAtMost, first_mode, mode_after, mode_after_command, continues_group, chained_at, counter_at, counters_with, place_in_chain, task_at};
+ghost use Rattle.gc_texts.specs.Tasks.{CountsAtMost, first_mode, mode_after, mode_after_command, continues_group, chained_at, counter_at, counters_with, needs_from, place_in_chain, standing_in, task_at};
+ghost use Rattle.gc_texts.specs.ValueItems.{values_asked};
 
 use crate::again::Again;
 use crate::agree::{Agree, Twice};
@@ -15,7 +16,10 @@ use crate::retry::Retry;
 use crate::task_line::TaskLine;
 use crate::tasks::Task;
 use crate::turn::Turn;
+use crate::value_item::{Needs, count_values};
 use crate::wish::Wish;
+use crate::wording::Wording;
+use gc_catalogue::Asked;
 
 // The settings for the next command that the lines before it make, and how many commands these lines have.
 #[derive(Clone, Copy)]
@@ -28,6 +32,8 @@ pub(crate) struct Mode {
     pub(crate) group: Option<u32>,
     // The return codes that are accepted of commands, beside 0.
     pub(crate) accepted: Codes,
+    // The return codes of commands by which the instrument says that it is busy.
+    pub(crate) busy: Codes,
     // How often a chain is repeated, and after what.
     pub(crate) retry: Retry,
     // How far apart the answers of a chain may be, which is sent twice then. `None`: a chain is sent once.
@@ -42,6 +48,32 @@ pub(crate) struct Mode {
     pub(crate) link: usize,
     // How many commands before the line have an item `>`.
     pub(crate) counters: usize,
+    // How many values of files the commands before the line take.
+    pub(crate) values: usize,
+}
+
+// What decides, of the lines before a command, whether it may have an item `>`, and take values of files.
+#[derive(Clone, Copy)]
+pub(crate) struct Standing {
+    // How many commands before it have an item `>`.
+    pub(crate) counters: usize,
+    // How many values of files the commands before it take.
+    pub(crate) values: usize,
+    // Whether it is one of the setup.
+    pub(crate) setup: bool,
+}
+
+impl Mode {
+    // What decides whether the next command may have an item `>`, and take values of files.
+    pub(crate) fn standing(self) -> Standing
+        ensures { result ≡ standing_in self }
+    {
+        Standing {
+            counters: self.counters,
+            values: self.values,
+            setup: self.setup,
+        }
+    }
 }
 
 // The mode before the first line of a text: the caller's deadline, and whether the caller has commands chained.
@@ -53,6 +85,7 @@ pub(crate) fn first_mode(deadline: u64, chained: bool) -> Mode
         chained,
         group: None,
         accepted: Codes::none(),
+        busy: Codes::none(),
         retry: Retry::none(),
         agree: None,
         setup: false,
@@ -60,6 +93,7 @@ pub(crate) fn first_mode(deadline: u64, chained: bool) -> Mode
         place: 0,
         link: 0,
         counters: 0,
+        values: 0,
     }
 }
 
@@ -101,6 +135,17 @@ fn counters_with(counters: usize, expects: &Option<Expectation>) -> usize
     }
 }
 
+// The values of files that a command takes which takes so many of them, `first` of the text's being before it.
+fn needs_from(first: usize, count: usize) -> Needs
+    ensures { result ≡ needs_from first count }
+{
+    if count == 0 {
+        Needs::none()
+    } else {
+        Needs { first, count }
+    }
+}
+
 // Which of the text's items `>` is in what is expected of a command; `mode` is the mode before it. `None`: none is.
 fn counter_at(mode: Mode, expects: &Option<Expectation>) -> Option<usize>
     ensures { result ≡ counter_at mode expects.now }
@@ -112,11 +157,25 @@ fn counter_at(mode: Mode, expects: &Option<Expectation>) -> Option<usize>
     }
 }
 
-// The mode after a command for this target, of whose answer this is expected: the command is counted, and its target is that of the group.
-fn mode_after_command(mode: Mode, target: u32, expects: &Option<Expectation>) -> Mode
-    requires { CountsAtMost mode 4294967295 }
-    ensures { result ≡ mode_after_command mode target expects.now }
+// How many values of files a command in this wording takes: only one of a described procedure takes any.
+pub(crate) fn values_asked(wording: Wording, asked: &Asked) -> usize
+    ensures is { result ≡ values_asked wording asked.now }
+    ensures few { result ≤ 504 }
 {
+    match (wording, asked) {
+        (Wording::Described, Asked::Raw(raw)) => count_values(raw.params()),
+        _ => 0,
+    }
+}
+
+// The mode after a command for this target that takes so many values of files, and of whose answer this is expected: the command is counted,
+// and its target is that of the group.
+fn mode_after_command(mode: Mode, target: u32, taken: usize, expects: &Option<Expectation>) -> Mode
+    requires counts { CountsAtMost mode 4294967295 }
+    requires taken { taken ≤ 504 }
+    ensures { result ≡ mode_after_command mode target taken expects.now }
+{
+    let values = mode.values + taken;
     let link = place_in_chain(mode, chained_at(mode, target)) + 1;
     let counters = counters_with(mode.counters, expects);
     if mode.setup {
@@ -125,6 +184,7 @@ fn mode_after_command(mode: Mode, target: u32, expects: &Option<Expectation>) ->
             begun: mode.begun + 1,
             link,
             counters,
+            values,
             ..mode
         }
     } else {
@@ -133,23 +193,25 @@ fn mode_after_command(mode: Mode, target: u32, expects: &Option<Expectation>) ->
             place: mode.place + 1,
             link,
             counters,
+            values,
             ..mode
         }
     }
 }
 
 // The mode after a line, if `mode` holds before it. After a command the group is of its target, and the command is counted. A line
-// `deadline` sets the deadline, and `accept` the return codes that are accepted. `chained` and `unchained` set whether commands
-// are chained, `retry` how often chains are repeated, `agree` whether they are sent twice, and `at start` and `each cycle` the section;
-// these lines also end the group.
-// A name, a place or a target that isn't watched changes nothing.
+// `deadline` sets the deadline, `accept` the return codes that are accepted, and `busy` those that say that the instrument is busy.
+// `chained` and `unchained` set whether commands are chained, `retry` how often chains are repeated, `agree` whether they are sent twice,
+// and `at start` and `each cycle` the section; these lines also end the group. A name, a place, a target that isn't watched or a
+// description of a procedure changes nothing.
 pub(crate) fn mode_after(mode: Mode, said: &TaskLine) -> Mode
     requires { CountsAtMost mode 4294967295 }
     ensures { result ≡ mode_after mode said.now }
 {
     match said {
-        TaskLine::Command(command, _, expects) => {
-            mode_after_command(mode, command.target, expects)
+        TaskLine::Command(command, wording, expects) => {
+            let taken = values_asked(*wording, &command.call);
+            mode_after_command(mode, command.target, taken, expects)
         }
         TaskLine::Deadline(deadline) => Mode {
             deadline: *deadline,
@@ -165,9 +227,16 @@ pub(crate) fn mode_after(mode: Mode, said: &TaskLine) -> Mode
             group: None,
             ..mode
         },
-        TaskLine::Naming(_) | TaskLine::Locating(_) | TaskLine::Unwatching(_) => mode,
+        TaskLine::Naming(_)
+        | TaskLine::Locating(_)
+        | TaskLine::Unwatching(_)
+        | TaskLine::Describing(_) => mode,
         TaskLine::Accepting(accepted) => Mode {
             accepted: *accepted,
+            ..mode
+        },
+        TaskLine::Busy(busy) => Mode {
+            busy: *busy,
             ..mode
         },
         TaskLine::Retrying(retry) => Mode {
@@ -204,20 +273,28 @@ fn continues_group(group: Option<u32>, target: u32) -> bool
     }
 }
 
-// The task of a command in the first attempt of its chain; `now` says whether the command sets the clock to the moment at which
-// it is sent, and `expects` what is expected of its answer. It has no place of its target yet, and is watched (`place_tasks` sets both), and it has no rule of its chain
-// nor is sent twice (`lay_out` sets both in the cycle).
-pub(crate) fn task_at(mode: Mode, command: Wish, now: bool, expects: Option<Expectation>) -> Task
-    ensures { result ≡ task_at mode command now expects }
+// The task of a command in the first attempt of its chain; `wording` says how its line says what to ask for, and `expects` what is expected
+// of its answer. It has no place of its target yet, is watched, and its answers have no form (`place_tasks` sets these), and it has no rule
+// of its chain nor is sent twice (`lay_out` sets both in the cycle).
+pub(crate) fn task_at(
+    mode: Mode,
+    command: Wish,
+    wording: Wording,
+    expects: Option<Expectation>,
+) -> Task
+    ensures { result ≡ task_at mode command wording expects }
 {
     let chained = chained_at(mode, command.target);
+    let count = values_asked(wording, &command.call);
     Task {
         command,
         deadline: mode.deadline,
         chained,
         near: None,
         watched: true,
+        form: None,
         accepted: mode.accepted,
+        busy: mode.busy,
         expects,
         counter: counter_at(mode, &expects),
         again: Again::none(),
@@ -227,7 +304,8 @@ pub(crate) fn task_at(mode: Mode, command: Wish, now: bool, expects: Option<Expe
             link: place_in_chain(mode, chained),
         },
         others: 0,
-        now,
+        now: wording.sets_clock() || count > 0,
+        needs: needs_from(mode.values, count),
         twice: Twice::Once,
     }
 }

@@ -11,10 +11,11 @@ use crate::agree::Twice;
 use crate::codes::Codes;
 use crate::cuts::{before, behind, cut_at};
 use crate::expectation::Expectation;
+use crate::form::Form;
 use crate::procedure::target_of;
 use crate::turn::Turn;
 use gc_catalogue::{Answer, Asked, Call};
-use gc_values::{Decimal, Direction, is_tolerance};
+use gc_values::{Decimal, Direction, FileValues, is_tolerance};
 
 /// How far away a target is, as a line `near` gives it. Both numbers are in metres, from 0 to 100,000.
 #[derive(Clone, Copy)]
@@ -42,13 +43,19 @@ pub struct Near {
 const LONGEST: i128 = 100_000_000_000_000_000_000_000_000_000;
 
 /// What a station's text says of a command beside its request and its deadline: what is expected of the answer, after what its chain is
-/// repeated, and which command of the text it is.
+/// repeated, and which command of the text it is; and what was known when it was sent.
 #[derive(Clone, Copy)]
 pub struct Expected {
     /// Where the command's target is, if the text says so.
     pub near: Option<Near>,
+    /// How the answer is read, if its procedure isn't in the table and the text describes it.
+    pub form: Option<Form>,
     /// The return codes that are accepted, beside 0.
     pub accepted: Codes,
+    /// The return codes by which the instrument says that it is busy. One that is accepted, too, doesn't.
+    pub busy: Codes,
+    /// How long nothing is sent after an answer with such a code, in milliseconds: the command's deadline.
+    pub wait: u64,
     /// What is expected of the values, if the command's line is one `expect`.
     pub expects: Option<Expectation>,
     /// Which of the text's items `>` is among these, counted from 0. `None`: none is.
@@ -64,6 +71,8 @@ pub struct Expected {
     /// In a second sending the answer of the same command in the first, of which `Some(None)` says that it had no values. `None`:
     /// there is no such answer, or it isn't a second sending.
     pub first: Option<Option<Answer>>,
+    /// The values of files by the moment at which it was sent, of which its request took some; none as long as it isn't sent.
+    pub values: FileValues,
 }
 
 /// Reads a number in the forms of `Decimal::read`, which rounds it to 24 places. `None`: the text has none of these forms, or the

@@ -2,21 +2,24 @@
 
 ghost use Rattle.std.specs.Prelude.{ℕ, List, IfSome, IfNone};
 ghost use Rattle.gc_texts.specs.LineForms.{IsReadAs};
-ghost use Rattle.gc_texts.specs.TaskLines.{AreRequestAndItems, IsDeadlineLine, IsExpectLine, IsNameLine, IsNearLine, IsUnwatchedLine, SetsAccepted, SetsRetry, SetsAgree, SetsClock, IsTaskLine};
+ghost use Rattle.gc_texts.specs.TaskLines.{AreRequestAndItems, IsDeadlineLine, IsDescribingLine, IsExpectLine, IsNameLine, IsNearLine, IsUnwatchedLine, SetsAccepted, SetsBusy, SetsRetry, SetsAgree, SetsClock, IsTaskLine};
 ghost use Rattle.gc_texts.specs.declared.expectation.Expectation.{Expectation};
 ghost use Rattle.gc_texts.specs.declared.wish.Wish.{Wish};
+ghost use Rattle.gc_texts.specs.declared.wording.Wording.{Wording};
 
 use crate::agree::{Agree, read_agree};
 use crate::codes::{Codes, read_code_list};
 use crate::cuts::{after_prefix, before, behind, cut_at, is_word};
+use crate::description::{Description, read_description};
 use crate::expectation::Expectation;
-use crate::item::items_trouble;
+use crate::item::{ends_in_space, items_trouble};
 use crate::name::{Name, is_name};
 use crate::near::{Near, read_near};
 use crate::procedure::{number_of, target_of};
 use crate::retry::{Retry, read_retry_rule};
 use crate::stamp::FIRST_MOMENT;
-use crate::wish::{Wish, read_request, read_wish};
+use crate::wish::{Wish, read_wish, read_worded};
+use crate::wording::Wording;
 use gc_catalogue::{Asked, Call};
 
 // The greatest deadline of a line, in milliseconds: a day.
@@ -25,9 +28,8 @@ const DEADLINE_MAX: u64 = 86400000;
 // What a line of a station's text says.
 #[derive(Drop)]
 pub(crate) enum TaskLine {
-    // A command, for every cycle or the setup; `true`: it sets the clock to the moment at which it is sent. `Some`: what is expected
-    // of its answer.
-    Command(Wish, bool, Option<Expectation>),
+    // A command, for every cycle or the setup, and how the line says what to ask for. `Some`: what is expected of its answer.
+    Command(Wish, Wording, Option<Expectation>),
     // The deadline of the commands after it, in milliseconds.
     Deadline(u64),
     // The commands after it are chained.
@@ -40,8 +42,12 @@ pub(crate) enum TaskLine {
     Locating(Near),
     // A target whose commands aren't watched.
     Unwatching(u32),
+    // What a procedure is that isn't in the table.
+    Describing(Description),
     // The return codes that are accepted of the commands after it.
     Accepting(Codes),
+    // The return codes by which the instrument says that it is busy, of the commands after it.
+    Busy(Codes),
     // How often the chains after it are repeated, and after what.
     Retrying(Retry),
     // How far apart the answers of the chains after it may be, each of which is sent twice. `None`: each is sent once.
@@ -95,6 +101,15 @@ fn read_unwatching(line: &[u8]) -> Option<u32>
     target_of(rest)
 }
 
+// Reads `procedure RPC NAME KIND .. -> COLUMN KIND ..`: what a procedure is that isn't in the table. `None`: the line has no such form, or
+// the table has the procedure (`read_description`).
+fn read_describing(line: &[u8]) -> Option<Description>
+    ensures { IsReadAs (IsDescribingLine line.now) result }
+{
+    let rest = after_prefix(b"procedure ", line)?;
+    read_description(rest)
+}
+
 // Reads `accept C C ..`: the return codes that are accepted beside 0; no code where the line is `accept` alone. `None`: the
 // line has no such form, a word isn't a code from 1 to 65535, or there are more than 16.
 fn read_accepting(line: &[u8]) -> Option<Codes>
@@ -104,6 +119,18 @@ fn read_accepting(line: &[u8]) -> Option<Codes>
         return Some(Codes::none());
     }
     let rest = after_prefix(b"accept ", line)?;
+    read_code_list(rest)
+}
+
+// Reads `busy C C ..`: the return codes by which the instrument says that it is busy; no code where the line is `busy` alone. `None`:
+// the line has no such form, a word isn't a code from 1 to 65535, or there are more than 16.
+fn read_busy(line: &[u8]) -> Option<Codes>
+    ensures { IsReadAs (SetsBusy line.now) result }
+{
+    if is_word(b"busy", line) {
+        return Some(Codes::none());
+    }
+    let rest = after_prefix(b"busy ", line)?;
     read_code_list(rest)
 }
 
@@ -147,7 +174,8 @@ fn read_clock_setting(line: &[u8]) -> Option<Wish>
     })
 }
 
-// Cuts `REQUEST = ITEMS` at its first `=`: returns the request and the items. `None`: it has no `=`, or no space before and behind the first.
+// Cuts `REQUEST = ITEMS` at its first `=`: returns the request and the items. `None`: it has no `=`, no space behind the first, or none or
+// more than one before it.
 pub(crate) fn cut_items(text: &[u8]) -> Option<(&[u8], &[u8])>
     ensures found { IfSome result (λ r. AreRequestAndItems text.now r.0.now r.1.now) }
     ensures none { IfNone result ((request items : List ℕ) → AreRequestAndItems text.now request items → ⊥) }
@@ -158,24 +186,27 @@ pub(crate) fn cut_items(text: &[u8]) -> Option<(&[u8], &[u8])>
     if *last != b' ' {
         return None;
     }
+    if ends_in_space(request) {
+        return None;
+    }
     Some((request, items))
 }
 
-// Reads `T expect REQUEST = ITEMS`: a command, and what is expected of the values of its answer. `None`: the line has no such form, the
-// command is refused (`read_request`), or the items are (`items_trouble`).
-fn read_expecting(line: &[u8]) -> Option<(Wish, Expectation)>
-    ensures { IsReadAs (λ (r : Wish × Expectation). IsExpectLine line.now r.0 r.1) result }
+// Reads `T expect REQUEST = ITEMS`: a command, how the line says what to ask for, and what is expected of the values of its answer. `None`:
+// the line has no such form, the command is refused (`read_worded`), or the items are (`items_trouble`).
+fn read_expecting(line: &[u8]) -> Option<(Wish, Wording, Expectation)>
+    ensures { IsReadAs (λ (r : Wish × Wording × Expectation). IsExpectLine line.now r.0 r.1 r.2) result }
 {
     let rest = behind(b' ', line);
     if !is_word(b"expect", before(b' ', rest)) {
         return None;
     }
     let (request, items) = cut_items(behind(b' ', rest))?;
-    let wish = read_request(before(b' ', line), request)?;
+    let (wish, wording) = read_worded(before(b' ', line), request)?;
     if items_trouble(items).is_some() {
         return None;
     }
-    Some((wish, Expectation::new(items)))
+    Some((wish, wording, Expectation::new(items)))
 }
 
 // Reads one line of a station's text. `None`: the line has none of the forms.
@@ -200,8 +231,14 @@ pub(crate) fn read_task_line(line: &[u8]) -> Option<TaskLine>
     if let Some(target) = read_unwatching(line) {
         return Some(TaskLine::Unwatching(target));
     }
+    if let Some(description) = read_describing(line) {
+        return Some(TaskLine::Describing(description));
+    }
     if let Some(codes) = read_accepting(line) {
         return Some(TaskLine::Accepting(codes));
+    }
+    if let Some(codes) = read_busy(line) {
+        return Some(TaskLine::Busy(codes));
     }
     if let Some(retry) = read_retrying(line) {
         return Some(TaskLine::Retrying(retry));
@@ -216,13 +253,13 @@ pub(crate) fn read_task_line(line: &[u8]) -> Option<TaskLine>
         return Some(TaskLine::EachCycle);
     }
     if let Some(wish) = read_clock_setting(line) {
-        return Some(TaskLine::Command(wish, true, None));
+        return Some(TaskLine::Command(wish, Wording::Now, None));
     }
-    if let Some((wish, expectation)) = read_expecting(line) {
-        return Some(TaskLine::Command(wish, false, Some(expectation)));
+    if let Some((wish, wording, expectation)) = read_expecting(line) {
+        return Some(TaskLine::Command(wish, wording, Some(expectation)));
     }
     match read_wish(line) {
-        Some(wish) => Some(TaskLine::Command(wish, false, None)),
+        Some((wish, wording)) => Some(TaskLine::Command(wish, wording, None)),
         None => None,
     }
 }

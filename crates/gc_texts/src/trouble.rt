@@ -2,16 +2,19 @@
 
 ghost use Rattle.std.specs.Prelude.{◌≡◌, ◌++◌, IsTrue, IsFalse, MatchOption, codes};
 ghost use Rattle.gc_lines.specs.Ports.{WritesIfOk};
-ghost use Rattle.gc_texts.specs.Troubles.{parameters_trouble, raw_trouble, IsCallTrouble, IsRawTrouble, IsRawWordsTrouble, HasTarget, NoTarget, BeginsNoSetting, BeginsAsCommand, IsWordTrouble, IsSettingTrouble, IsRequestTrouble, IsAskingTrouble, IsMarkTrouble, HasNoMark, IsUnmarkedTrouble, IsTrouble, IsForStation, IsNotForStation, IsUnmarkedCommandTrouble, IsFaultOfCommand, for_command, in_table_text, item_text, trouble_text, trouble_line};
+ghost use Rattle.gc_texts.specs.Troubles.{parameters_trouble, raw_trouble, IsCallTrouble, IsRawTrouble, IsRawWordsTrouble, HasTarget, NoTarget, BeginsNoSetting, BeginsAsCommand, IsWordTrouble, IsSettingTrouble, IsRequestTrouble, IsAskingTrouble, IsMarkTrouble, HasNoMark, IsLineTrouble, IsUnmarkedTrouble, IsTrouble, IsStationLine, IsNoStationLine, IsForStation, IsNotForStation, IsUnmarkedCommandTrouble, IsFaultOfCommand, asks_outside, described_in_table_text, for_command, for_station, in_table_text, item_text, trouble_text, trouble_line, undescribed_text, value_text, HasNoValue, IsValueTrouble, IsProcedureTrouble};
 ghost use Rattle.gc_texts.specs.Words.{second_word, third_word};
 ghost use Rattle.gc_texts.specs.ProcedureNames.{name_in_table};
 
 use crate::agree_numbers::agree_trouble;
 use crate::cuts::{after_prefix, before, behind, is_word};
+use crate::description_trouble::description_trouble;
 use crate::expect_trouble::expect_trouble;
 use crate::near_numbers::near_trouble;
 use crate::procedure::{target_of, u16_of};
-use crate::task_line::read_task_line;
+use crate::task_line::{TaskLine, read_task_line};
+use crate::value_item::{are_sound, has_values};
+use crate::wording::Wording;
 use gc_catalogue::{CallFault, RawFault, decode_call, parameter_count, procedure_name, raw_call};
 use gc_lines::Request;
 use gc_values::ValueFault;
@@ -49,6 +52,18 @@ pub enum Trouble {
     Near,
     /// A line `unwatched` reads, but its target is unwatched already, or 64 targets are.
     Unwatched,
+    /// What follows the word `procedure` doesn't begin with a number from 0 to 65535.
+    ProcedureNumber,
+    /// A line `procedure` describes the procedure with this number, which is in the table.
+    ProcedureInTable(u16),
+    /// A line `procedure` isn't `procedure RPC NAME KIND .. -> COLUMN KIND ..`, with `..` at its end or without; or it has more than 16
+    /// parameters or columns; or a column may not have its name, or is there twice.
+    ProcedureForm,
+    /// A line `procedure` reads, but its procedure is described already, or is a 17th, or one of its columns is a 65th, or of another sort
+    /// than in a description before.
+    Procedure,
+    /// The table hasn't the procedure with this number, and no line `procedure` before this one describes it, or not with such parameters.
+    Undescribed(u16),
     /// The procedure with this number is in the table, so the word `raw` is to be left out.
     RawInTable(u16),
     /// The parameters after `raw` and a number are more than 16, or have a double quote without its end, or a CR.
@@ -57,6 +72,8 @@ pub enum Trouble {
     RawTooLong,
     /// A word after `accept` is no code from 1 to 65535, or there are more than 16.
     Accept,
+    /// A word after `busy` is no code from 1 to 65535, or there are more than 16.
+    Busy,
     /// After the word `retry` there is neither 0 alone nor a number from 1 to 9 with words after it; or one of these words is
     /// neither a code nor an outcome; or more than 16 of them are codes.
     Retry,
@@ -72,7 +89,7 @@ pub enum Trouble {
     AtStart,
     /// The line's first word is `each`, and the line isn't `each cycle`.
     EachCycle,
-    /// A line `T expect ..` isn't `T expect REQUEST = ITEMS`, with a space before and behind its first `=`.
+    /// A line `T expect ..` isn't `T expect REQUEST = ITEMS`, with one space before its first `=` and one behind it.
     ExpectForm,
     /// The items of a line `expect` have more than 128 bytes.
     ExpectLong,
@@ -80,10 +97,16 @@ pub enum Trouble {
     ExpectMany,
     /// More than one item of a line `expect` is `>`.
     ExpectTwo,
-    /// The item with this number, from 1, is none: it is empty, isn't printable ASCII, has a space at an end, or is no range of two numbers.
+    /// The item with this number, from 1, is none: it is empty, isn't printable ASCII, has a space at an end, or is no range of two
+    /// numbers.
     ExpectItem(usize),
     /// A line `expect` reads, but it is a 17th with an item `>`.
     Expect,
+    /// An item of the parameters begins with a brace, and isn't `{FILE SECONDS}`.
+    ValueForm,
+    /// A command for the procedure with this number takes values of files, and may not: no line `procedure` before it describes the procedure,
+    /// or not with a Double in the place of each, or the request may become too long; or it is one of the setup; or the text has a 17th value.
+    Value(u16),
     /// More follows `5007 now`.
     Now,
     /// The line has no form: it is one word, with or without a space after it, or it ends in a space after a procedure's number.
@@ -149,6 +172,7 @@ impl Trouble {
                 "unwatched: the target is unwatched already, or is a 65th"
             ),
             Trouble::Accept => writeln!(messages, "accept"),
+            Trouble::Busy => writeln!(messages, "busy"),
             Trouble::Retry => writeln!(messages, "retry"),
             Trouble::AgreeHz => writeln!(
                 messages,
@@ -171,14 +195,34 @@ impl Trouble {
             Trouble::EachCycle => writeln!(messages, "each cycle"),
             Trouble::ExpectForm => writeln!(
                 messages,
-                "expect: the form is T expect REQUEST = ITEMS, with a space on both sides of ="
+                "expect: the form is T expect REQUEST = ITEMS, with one space on both sides of ="
             ),
             Trouble::ExpectLong => writeln!(messages, "expect: ITEMS has more than 128 bytes"),
             Trouble::ExpectMany => writeln!(messages, "expect: more than 16 items"),
             Trouble::ExpectTwo => writeln!(messages, "expect: more than one item is >"),
             Trouble::ExpectItem(place) => tell_item(place, messages),
             Trouble::Expect => writeln!(messages, "expect: a 17th line with an item >"),
+            Trouble::ValueForm => writeln!(
+                messages,
+                "value: the form is {{FILE SECONDS}}, with a path of 1 to 128 bytes without spaces, commas, quotes and braces, and 1 to 86400 seconds"
+            ),
+            Trouble::Value(rpc) => tell_value(rpc, messages),
             Trouble::Now => writeln!(messages, "5007 now"),
+            Trouble::ProcedureNumber => {
+                writeln!(messages, "procedure: RPC is no number from 0 to 65535")
+            }
+            Trouble::ProcedureInTable(rpc) => {
+                tell_described_in_table(rpc, name_in_table(rpc), messages)
+            }
+            Trouble::ProcedureForm => writeln!(
+                messages,
+                "procedure: the form is RPC NAME KIND .. -> COLUMN KIND .. [..] with kinds Double, Long, Short, Byte, Boolean and String; a COLUMN is there once, isn't one of each row, and has a quantity's kind if it has its name"
+            ),
+            Trouble::Procedure => writeln!(
+                messages,
+                "procedure: a second description of it, a 17th, a 65th new column, or one of another kind than before"
+            ),
+            Trouble::Undescribed(rpc) => tell_undescribed(rpc, messages),
             Trouble::RawInTable(rpc) => tell_in_table(rpc, name_in_table(rpc), messages),
             Trouble::RawParameters => {
                 writeln!(
@@ -206,6 +250,36 @@ fn tell_in_table<E: Write>(rpc: u16, name: &str, messages: &mut E) -> io::Result
     ensures { WritesIfOk E.contents messages.old messages.new result (in_table_text rpc name.now ++ codes "\n") }
 {
     writeln!(messages, "{rpc} is {name}: leave out raw")
+}
+
+// Writes that the procedure with this number and this name, which a line describes, is in the table, and a line feed.
+fn tell_described_in_table<E: Write>(rpc: u16, name: &str, messages: &mut E) -> io::Result<()>
+    ensures { WritesIfOk E.contents messages.old messages.new result (described_in_table_text rpc name.now ++ codes "\n") }
+{
+    writeln!(
+        messages,
+        "procedure: {rpc} is {name}, and needs no description"
+    )
+}
+
+// Writes that the table hasn't the procedure with this number, nor a line a description of it, and a line feed.
+fn tell_undescribed<E: Write>(rpc: u16, messages: &mut E) -> io::Result<()>
+    ensures { WritesIfOk E.contents messages.old messages.new result (undescribed_text rpc ++ codes "\n") }
+{
+    writeln!(
+        messages,
+        "no procedure {rpc} in the table, nor with such parameters in a line procedure before this one"
+    )
+}
+
+// Writes which commands may take values of files, for one of the procedure with this number, which may not, and a line feed.
+fn tell_value<E: Write>(rpc: u16, messages: &mut E) -> io::Result<()>
+    ensures { WritesIfOk E.contents messages.old messages.new result (value_text rpc ++ codes "\n") }
+{
+    writeln!(
+        messages,
+        "value: {rpc} may take values of files in a cycle alone, each in the place of a Double of a line procedure before this one, 16 in a text and 512 bytes in a request"
+    )
 }
 
 // Writes what an item is, for the one with this number, which is none, and a line feed.
@@ -286,8 +360,33 @@ fn raw_words_trouble(number: &[u8], params: &[u8]) -> Trouble
     }
 }
 
-// Which field is at fault of a request, of a procedure of the table, or, if its first word is `raw`, of one that isn't there. `NoForm`: each
-// of its fields reads.
+// What is at fault in parameters with an item that begins with a brace: the form of such an item, or that the command may not be where it is.
+// `None`: there is no such item.
+fn value_trouble(rpc: u16, params: &[u8]) -> Option<Trouble>
+    ensures { MatchOption result (HasNoValue params.now) (λ t. IsValueTrouble rpc params.now t) }
+{
+    if !has_values(params) {
+        return None;
+    }
+    if are_sound(params) {
+        Some(Trouble::Value(rpc))
+    } else {
+        Some(Trouble::ValueForm)
+    }
+}
+
+// What is at fault in a procedure's number and its parameters, which may take values of files. `NoForm`: nothing, because they make a call.
+fn procedure_trouble(rpc: u16, params: &[u8]) -> Trouble
+    ensures { IsProcedureTrouble rpc params.now result }
+{
+    match value_trouble(rpc, params) {
+        Some(trouble) => trouble,
+        None => call_trouble(rpc, params),
+    }
+}
+
+// Which field is at fault of a request, of a procedure of the table, or, if its first word is `raw`, of one that isn't there. `NoForm`:
+// each of its fields reads.
 pub(crate) fn request_trouble(request: &[u8]) -> Trouble
     ensures { IsRequestTrouble request.now result }
 {
@@ -297,7 +396,7 @@ pub(crate) fn request_trouble(request: &[u8]) -> Trouble
         return raw_words_trouble(before(b' ', words), behind(b' ', words));
     }
     match u16_of(word) {
-        Some(rpc) => call_trouble(rpc, words),
+        Some(rpc) => procedure_trouble(rpc, words),
         None => Trouble::Number,
     }
 }
@@ -340,8 +439,8 @@ fn has_target(line: &[u8]) -> bool
     target_of(before(b' ', behind(b' ', line))).is_some()
 }
 
-// Which field is at fault of a line whose first word is `deadline`, `name`, `near`, `unwatched`, `accept`, `retry`, `agree`, `at` or `each`.
-// `None`: the first word is none of these.
+// Which field is at fault of a line whose first word is `deadline`, `name`, `near`, `unwatched`, `accept`, `busy`, `retry`, `agree`, `at`,
+// `each` or `procedure`. `None`: the first word is none of these.
 fn word_trouble(line: &[u8]) -> Option<Trouble>
     ensures { MatchOption result (BeginsNoSetting line.now) (λ t. IsWordTrouble line.now t) }
 {
@@ -373,6 +472,9 @@ fn word_trouble(line: &[u8]) -> Option<Trouble>
     if is_word(b"accept", first) {
         return Some(Trouble::Accept);
     }
+    if is_word(b"busy", first) {
+        return Some(Trouble::Busy);
+    }
     if is_word(b"retry", first) {
         return Some(Trouble::Retry);
     }
@@ -384,6 +486,9 @@ fn word_trouble(line: &[u8]) -> Option<Trouble>
     }
     if is_word(b"each", first) {
         return Some(Trouble::EachCycle);
+    }
+    if is_word(b"procedure", first) {
+        return Some(description_trouble(behind(b' ', line)));
     }
     None
 }
@@ -417,9 +522,9 @@ fn mark_trouble(line: &[u8]) -> Option<Trouble>
     None
 }
 
-// Which field is at fault of a line without a byte order mark, as `trouble_of` says.
-fn unmarked_trouble(line: &[u8]) -> Trouble
-    ensures { IsUnmarkedTrouble line.now result }
+// Which field is at fault of a line without a byte order mark: what it sets, or what it asks for.
+fn line_trouble(line: &[u8]) -> Trouble
+    ensures { IsLineTrouble line.now result }
 {
     match setting_trouble(line) {
         Some(trouble) => trouble,
@@ -427,14 +532,33 @@ fn unmarked_trouble(line: &[u8]) -> Trouble
     }
 }
 
+// What is reported of a line of a station's text with this trouble: of a procedure that isn't in the table, that no line describes it,
+// either.
+fn for_station(trouble: Trouble) -> Trouble
+    ensures { result ≡ for_station trouble }
+{
+    match trouble {
+        Trouble::NoProcedure(rpc) => Trouble::Undescribed(rpc),
+        other => other,
+    }
+}
+
+// Which field is at fault of a line without a byte order mark, as `trouble_of` says.
+fn unmarked_trouble(line: &[u8]) -> Trouble
+    ensures { IsUnmarkedTrouble line.now result }
+{
+    for_station(line_trouble(line))
+}
+
 /// Which field of a line is at fault, if the line is a faulty one of a station's text. A line that begins with a byte order mark has
-/// that as its trouble. A line whose first word is `deadline`, `name`, `near`, `unwatched`, `accept`, `retry`, `agree`, `at` or `each` is
-/// at fault in its target or in what it sets. A line whose second word is `expect` is at fault in its form, in its target, in its request or
-/// in its items. Any other line is taken for a command, or, if its second word is `raw`, for a request of a procedure
-/// that isn't in the table. Of these a line whose first three words are `T 5007 now`, with a target's number T, gives `Now`; one that
-/// is one word, with or without a space after it, or each of whose fields reads, gives `NoForm`; and any other is at fault in its first
-/// field that doesn't read. Of a line that isn't faulty the result says nothing: a command gives `NoForm`, for example, and a line
-/// `retry` gives `Retry`.
+/// that as its trouble. A line whose first word is `deadline`, `name`, `near`, `unwatched`, `accept`, `busy`, `retry`, `agree`, `at`,
+/// `each` or `procedure` is at fault in its target or in what it sets. A line whose second word is `expect` is at fault in its form, in its
+/// target, in its request or in its items. Any other line is taken for a command, or, if its second word is `raw`, for a request of a
+/// procedure that isn't in the table. Of these a line whose first three words are `T 5007 now`, with a target's number T, gives `Now`; one
+/// that is one word, with or without a space after it, or each of whose fields reads, gives `NoForm`; and any other is at fault in its
+/// first field that doesn't read. A procedure that isn't in the table gives `Undescribed`; a command with an item that begins with a brace
+/// gives `ValueForm` or `Value`. Of a line that isn't faulty the result says
+/// nothing: a command gives `NoForm`, for example, and a line `retry` gives `Retry`.
 pub fn trouble_of(line: &[u8]) -> Trouble
     ensures { IsTrouble line.now result }
 {
@@ -444,12 +568,30 @@ pub fn trouble_of(line: &[u8]) -> Trouble
     }
 }
 
+// Whether a line asks for a procedure outside the table by its number alone. In a text of commands such a line is a faulty command.
+fn asks_outside(said: &TaskLine) -> bool
+    ensures { result ≡ asks_outside said.now }
+{
+    matches!(said, TaskLine::Command(_, Wording::Described, _))
+}
+
+// Whether a line is one of a station's text, and asks for no procedure outside the table by its number alone.
+fn is_station_line(line: &[u8]) -> bool
+    ensures station { IsTrue result → IsStationLine line.now }
+    ensures none { IsFalse result → IsNoStationLine line.now }
+{
+    match read_task_line(line) {
+        Some(said) => !asks_outside(&said),
+        None => false,
+    }
+}
+
 // Whether a line is one of a station's text, or begins as one that sets something there.
 fn is_for_station(line: &[u8]) -> bool
     ensures station { IsTrue result → IsForStation line.now }
     ensures none { IsFalse result → IsNotForStation line.now }
 {
-    setting_trouble(line).is_some() || read_task_line(line).is_some()
+    setting_trouble(line).is_some() || is_station_line(line)
 }
 
 // What is reported of a line of a text of commands, if this is the trouble of a command: where it has no form, the form that it

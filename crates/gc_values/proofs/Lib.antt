@@ -7,6 +7,7 @@ pub mod EachDecimal
 pub mod EachItem
 pub mod EachWhole
 pub mod Every
+pub mod FileLemmas
 pub mod FrontDecimals
 pub mod HexPair
 pub mod ItemBytes

@@ -6,6 +6,7 @@ pub mod DecimalOrder
 pub mod Decimals
 pub mod Digits
 pub mod Directions
+pub mod FileValues
 pub mod Fraction
 pub mod Item
 pub mod KeptDigits

@@ -8,6 +8,7 @@ mod decimal;
 pub mod decimal_laws;
 mod direction;
 mod fault;
+mod file_value;
 mod filling;
 mod front;
 mod items;
@@ -28,6 +29,10 @@ pub use byte::{push_byte, read_byte, write_byte};
 pub use decimal::Decimal;
 pub use direction::{Direction, is_tolerance};
 pub use fault::ValueFault;
+pub use file_value::{
+    FILE_VALUES, FileValues, KEPT_BYTES, PATH_BYTES, VALUE_BYTES, ValueFile, no_values, value_in,
+    value_text,
+};
 pub use filling::filled_up;
 pub use items::{Items, MOST_ITEMS, split};
 pub use limits::{BOUND, PLACES};

@@ -24,6 +24,8 @@ One for `serve` may also have:
   delay RPC MS                             sends the reply to a procedure MS milliseconds later, at most 3600000
   fault RPC restart [after COUNT] [for COUNT]   restarts the instrument, which sends a sign-on line and executes nothing
   busy queue, busy drop                    what arrives meanwhile waits in order (default), or gets no reply
+One for `rehearse` may also have:
+  behave busy-then-late RPC MS             answers a procedure at once with 13, busy, and sends its reply MS milliseconds later
 
 Exit status: 0 on success, 1 after a fault, 2 for a command line that doesn't parse.
 
@@ -133,8 +135,14 @@ writes
 pub const STATION: &str =
     "A command is a line `T RPC` or `T RPC PARAMS`: a request for target T and procedure RPC; empty lines and lines that
 begin with # are ignored. `T raw RPC PARAMS` is a request for a procedure that isn't in the table, with its parameters exactly as
-written: at most 16, and the request at most 512 bytes. The other lines say how the commands after them are sent, what a target is
-called, and where it is:
+written: at most 16, and the request at most 512 bytes. The other lines say what a procedure takes, how the commands after them are
+sent, what a target is called, and where it is:
+  procedure RPC NAME KIND .. -> COLUMN KIND ..
+                what a procedure that isn't in the table takes and answers: in the lines after it `T RPC PARAMS` requests it, and its
+                values have these columns. KIND is Double, Long, Short, Byte, Boolean or String; with .. at the end an answer may
+                have more values
+                In place of a Double, {FILE SECONDS} takes the number of a file that another program keeps, read before each
+                sending: where it was changed longer ago, or doesn't parse, neither the command nor its chain is sent
   deadline MS   1 to 86400000: how long each command after it waits for its reply
   T 5007 now    sets the clock of T to the time at which the request is sent: `sent` in its row, UTC, cut to seconds
   T expect RPC [PARAMS] = ITEMS
@@ -153,6 +161,8 @@ called, and where it is:
   unwatched T   target T's commands don't count for --stale
   accept C C .. up to 16 return codes from 1 to 65535: an answer with one of them is a warning, and its chain goes on;
                 accept alone: none
+  busy C C ..   up to 16 return codes that say not yet: after an answer with one of them nothing is sent until its command's
+                deadline has passed since, and the station has resynchronized; busy alone: none
   retry N W W ..
                 where a command of a chain after it ends with one of these return codes or outcomes (unreadable, elsewhere,
                 unexpected, disagree, late, lost, skipped), the whole chain is sent again, at most N times in a cycle, 1 to 9;
@@ -174,6 +184,7 @@ Each command is sent once in each cycle, or in each attempt of its chain, and ge
   late          its reply came after its deadline and was discarded
   lost          no reply came, and none will be taken
   skipped       it wasn't sent: the one before it in its chain wasn't answered well
+  no_value      it wasn't sent: a file with a value that it takes is too old, or couldn't be read; counted as skipped
   missed        it wasn't sent: its cycle couldn't begin before the next was due
   elsewhere     its reply came before its deadline, with both codes 0 or an accepted one, but its direction isn't near where
                 its target is, or its distance isn't the target's
@@ -187,8 +198,9 @@ eight null procedures are answered, one after the other, and then one more, befo
 
 With --append FILE each command gets a row in the file, as --csv writes it, after the file's complete rows. An incomplete last
 line, which a crash may leave, is cut off and reported. A file that begins with something other than the header is refused and not
-changed. With --columns a row also has a column for each quantity of its answer, such as hz_rad or serial. With --json it is a
-JSON object, which has the items of a raw answer as a list; a file of those is recognized by its first one.
+changed. With --columns a row also has a column for each quantity of its answer, such as hz_rad or serial, and for each new name
+that a line `procedure` gives a value. With --json it is a JSON object, which has the items of a raw answer as a list; a file of
+those is recognized by its first one.
 
 At the start it reports on standard error how many commands it has, where, and what it waits for. While it measures it reports
 there, each at most once a minute, since when there is no connection, no answer, or no quiet on the line, that it is connected

@@ -16,7 +16,7 @@ from programs import ended
 RAW_PARAMETERS = "more than 16 parameters, a double quote without its end, or a carriage return"
 # Texts that are refused, with the number of the first faulty line and what is said of it.
 FAULTY = [
-    (b"7 5003\n7 9999\n", 2, "no procedure 9999"),
+    (b"7 5003\n7 9999\n", 2, "no procedure 9999 in the table, nor with such parameters in a line procedure before this one"),
     (b"7 2107\n", 1, "2107 wants 1 parameters"),
     (b"# angles\n\n7 9027 0.5,1.5\n", 3, "9027 wants 5 parameters"),
     (b"7 2012 1,65\n", 1, "2012 wants 1 parameters"),

@@ -5,12 +5,13 @@
 ghost use Rattle.std.specs.Prelude.{◌≤◌, length};
 
 use gc_cases::{Case, Player, Told, bytes_of};
-use gc_catalogue::{Answer, Asked, Asking, Call, Reading};
+use gc_catalogue::{Answer, Asked, Asking, Reading};
 use gc_lines::{Line, ToWriter, read_reply};
 use gc_rows::{EndedCommand, Form, When, write_head, write_record};
-use gc_texts::{Ending, Quality, Stamp, Turn, Wish, read_tasks, reading_as_zero};
+use gc_texts::{
+    Ending, FieldName, Quality, Stamp, Tasks, Turn, Wish, described_as, read_tasks, reading_as_zero,
+};
 use gc_values::ValueFault;
-use std::alloc::Global;
 use std::io;
 
 // When the run of each record began, in milliseconds since 1970.
@@ -46,31 +47,76 @@ fn form_of(word: &str) -> Option<Form> {
     }
 }
 
-// Appends the record of a case to `written`; for a case without a command, the head that is written before all records. If
-// memory runs out for the name or the reply, `written` notes that it lacks a part. Where it runs out for the command,
-// `command_of` says what comes instead.
+// Appends the record of the first command in a case's text to `written`; for a case without a command, the head that is written before all
+// records. If the text doesn't read or has no command, `written` has this in its place.
 fn write_case(case: &Case<'_>, form: Form, written: &mut Told) {
-    if !case.has("command") {
-        let _ = write_head(&mut ToWriter::new(written), form);
-        return;
+    let mut text = Told::new(written.alloc);
+    write_text(case, &mut text);
+    match read_tasks(written.alloc, text.as_bytes(), 0, false) {
+        Ok(all) => write_first(case, form, &all, written),
+        Err(_) => written.text("no such text"),
     }
+}
+
+// Appends the text of a station that a case has: a line `procedure` for each description under `described`, with semicolons between them,
+// and the command; without one, the null procedure, asked of target 0.
+fn write_text(case: &Case<'_>, text: &mut Told) {
+    for description in case.value("described").split(';') {
+        if !description.is_empty() {
+            text.text("procedure ");
+            text.text(description);
+            text.text("\n");
+        }
+    }
+    text.text(if case.has("command") {
+        case.value("command")
+    } else {
+        "0 0"
+    });
+}
+
+// Appends what `write_case` says, of these tasks.
+fn write_first(case: &Case<'_>, form: Form, all: &Tasks, written: &mut Told) {
+    match all.tasks.first() {
+        Some(_) if !case.has("command") => {
+            let _ = write_head(
+                &mut ToWriter::new(written),
+                form,
+                front_columns(&all.columns),
+            );
+        }
+        Some(task) => write_ended(case, form, all, &task.command, written),
+        None => written.text("no command"),
+    }
+}
+
+// Appends the record of this command of a case's text. If memory runs out for the name or the reply, `written` notes that it lacks a part.
+fn write_ended(case: &Case<'_>, form: Form, all: &Tasks, command: &Wish, written: &mut Told) {
     let Ok(name) = bytes_of(written.alloc, case.value("name")) else {
         return written.lack();
     };
     let Ok(reply) = bytes_of(written.alloc, case.value("reply")) else {
         return written.lack();
     };
-    let command = command_of(written.alloc, case.value("command").as_bytes());
     let line = line_of(reply.as_slice());
     let reading = reading_of(&command.call, &line);
     let zeroed = reading_as_zero(&command.call, &line);
     let ended = EndedCommand {
         when: when_of(case),
         name: front_of(name.as_slice()),
-        command: &command,
+        command,
         ending: ending_of(case.value("ending"), &reading, &zeroed, &line),
+        described: described_as(command.call.number(), &all.described),
+        columns: front_columns(&all.columns),
     };
     let _ = write_record(&mut ToWriter::new(written), form, ended);
+}
+
+// The first 64 of these columns, as many as a text adds at most.
+fn front_columns(columns: &[FieldName]) -> &[FieldName]
+    ensures { length result.now ≤ 64 }
+{
+    &columns[..columns.len().min(64)]
 }
 
 // The first 64 bytes of a name, as many as a target's name has at most.
@@ -115,19 +161,6 @@ fn line_of(reply: &[u8]) -> Line {
     line
 }
 
-// The first command of a station's text; the null procedure, asked of target 0, if the text has none or doesn't read, or memory
-// ran out for it.
-fn command_of(alloc: Global, text: &[u8]) -> Wish {
-    let none = Wish {
-        target: 0,
-        call: Asked::Table(Call::NullProc),
-    };
-    match read_tasks(alloc, text, 0, false) {
-        Ok(all) => all.tasks.first().map_or(none, |task| task.command),
-        Err(_) => none,
-    }
-}
-
 // What a reply's line says in answer to what was asked; a refusal with code 0 if the line is no reply.
 fn reading_of(asked: &Asked, line: &Line) -> Reading {
     let mut reading = Reading::Refused(0);
@@ -149,6 +182,7 @@ fn ending_of<'a>(
         "late" => Ending::Late,
         "lost" => Ending::Lost,
         "skipped" => Ending::Skipped,
+        "no_value" => Ending::NoValue,
         "missed" => Ending::Missed,
         "spelling" => Ending::Unreadable(line, ValueFault::Spelling),
         "elsewhere" => Ending::Elsewhere(line),

@@ -8,10 +8,11 @@ use gc_engines::read_schedule;
 use gc_lines::ToWriter;
 use gc_links::place_of;
 use gc_texts::{
-    Codes, Command, LogBytes, LogLine, LogMark, RunFault, Task, Tasks, Trouble, Twice,
+    Codes, Command, LogBytes, LogLine, LogMark, Occasion, RunFault, Task, Tasks, Trouble, Twice,
     command_trouble_of, count_in, line_at, meets, read_commands, read_double, read_log_line,
     read_tasks, trouble_of, write_log_line,
 };
+use gc_values::{FILE_VALUES, filled_up};
 use gc_world::Event;
 use std::alloc::Global;
 use std::io;
@@ -129,7 +130,7 @@ fn append_events(events: &[Event], came: &mut Told) {
     }
 }
 
-// Appends each task in a line, and then how many targets have names. If the case says `turns told`, each line has the task's
+// Appends each task in a line, and then how many targets have names, and the columns that descriptions add. If the case says `turns told`, each line has the task's
 // turn, too, and at the end is how many tasks the setup has.
 fn append_tasks(case: &Case<'_>, all: &Tasks, came: &mut Told) {
     let turns = case.is("turns", "told");
@@ -137,13 +138,19 @@ fn append_tasks(case: &Case<'_>, all: &Tasks, came: &mut Told) {
         append_task(task, came);
         append_near(task, came);
         append_codes(" accepting ", &task.accepted, came);
+        append_codes(" busy ", &task.busy, came);
         append_expectation(task, came);
+        append_form(task, came);
         if turns {
             append_turn(task, came);
         }
         came.text("\n");
     }
     came.counted(&all.names.len(), " names");
+    for column in all.columns.as_slice() {
+        came.text(" column ");
+        came.escaped(column.as_slice());
+    }
     if turns {
         came.titled(" setup ", &all.setup);
     }
@@ -151,7 +158,7 @@ fn append_tasks(case: &Case<'_>, all: &Tasks, came: &mut Told) {
 
 // Appends a task's turn: its place, its attempt and its link; its `others`, which is how many tasks this attempt and those after
 // it have together if the task is the first of an attempt other than the first, and else 0; after which return codes and other
-// outcomes it is asked again; whether it sets the clock; and its sending.
+// outcomes it is asked again; whether its request is made anew each time, and which values of files it takes; and its sending.
 fn append_turn(task: &Task, came: &mut Told) {
     came.titled(" place ", &task.turn.place);
     came.titled(" attempt ", &task.turn.attempt);
@@ -160,7 +167,16 @@ fn append_turn(task: &Task, came: &mut Told) {
     append_codes(" again ", &task.again.codes, came);
     append_outcomes(task, came);
     came.text_if(task.now, " now");
+    append_needs(task, came);
     append_sending(task, came);
+}
+
+// Appends which values of files a task takes, if it takes any: the number of the first, and how many there are.
+fn append_needs(task: &Task, came: &mut Told) {
+    if task.needs.count > 0 {
+        came.titled(" values from ", &task.needs.first);
+        came.titled(" count ", &task.needs.count);
+    }
 }
 
 // Appends which sending of its chain a task is in, if the chain is sent twice; and of the second one which command of the chain it is, and
@@ -189,10 +205,28 @@ fn append_outcomes(task: &Task, came: &mut Told) {
     came.text_if(task.again.skipped, " skipped");
 }
 
-// Appends what the first of these tasks asks for if it is sent at the moment `utc`, in milliseconds since 1970; or `no task`.
+// Appends what is asked for: a call of the table as `Debug` prints it, and the parameters of any other procedure behind its number.
+fn append_asked(asked: &Asked, came: &mut Told) {
+    match asked {
+        Asked::Table(_) => came.debug(asked),
+        Asked::Raw(raw) => {
+            came.counted(&raw.number(), " ");
+            came.bytes(raw.params());
+        }
+    }
+}
+
+// Appends what the first of these tasks asks for if it is sent at the moment `utc`, in milliseconds since 1970, when each file has the value
+// 20.5; or `no task`.
 fn append_call(tasks: &[Task], utc: u64, came: &mut Told) {
     match tasks.first() {
-        Some(task) => came.debug(&task.call_at(utc)),
+        Some(task) => append_asked(
+            &task.call_at(&Occasion {
+                utc,
+                values: [filled_up(b"20.5"); FILE_VALUES],
+            }),
+            came,
+        ),
         None => came.text("no task"),
     }
 }
@@ -221,6 +255,23 @@ fn append_expectation(task: &Task, came: &mut Told) {
     }
     if let Some(counter) = task.counter {
         came.titled(" counter ", &counter);
+    }
+}
+
+// Appends, if a task's answers are read by a description, which of their values are a measurement's.
+fn append_form(task: &Task, came: &mut Told) {
+    if let Some(form) = task.form {
+        came.text(" described");
+        append_place(" hz ", form.hz, came);
+        append_place(" v ", form.v, came);
+        append_place(" distance ", form.distance, came);
+    }
+}
+
+// Appends a place among values, counted from 0, if there is one, with `title` before it.
+fn append_place(title: &str, place: Option<usize>, came: &mut Told) {
+    if let Some(place) = place {
+        came.titled(title, &place);
     }
 }
 

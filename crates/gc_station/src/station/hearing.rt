@@ -18,7 +18,7 @@ use gc_links::{Came, Link, Moment};
 impl Station {
     // Hears the line of a frame; nothing happens if the frame is no line. Once the station has synchronized (`begun`), what the
     // line settles is recorded, after it was noted whether the line raises a doubt (`doubt`), and before it is noted whether it ended a
-    // command as unexpected. Until then a reply with the first id that is left answers its null procedure, and nothing is settled. `Err`:
+    // command as unexpected or by a busy answer. Until then a reply with the first id that is left answers its null procedure, and nothing is settled. `Err`:
     // the book failed at a record.
     fn hear<B: Book>(
         &mut self,
@@ -43,6 +43,7 @@ impl Station {
             return Err(failed);
         }
         self.progress.note_doubt(self.recorded.unexpected);
+        self.progress.note_busy(self.recorded.busy);
         let of_table = ends_with_table(self.settled.as_slice());
         self.progress.note_behind(of_table, self.client.waiting());
         self.progress.note_ended(self.settled.len());

@@ -5,6 +5,7 @@ ghost use Rattle.std.specs.Prelude.{◌≡◌, ◌<◌, ◌≤◌, [], ◌∷◌
 ghost use Rattle.gc_lines.specs.Lines.{with_end};
 ghost use Rattle.gc_links.specs.Acts.{AddsActs, put_act, IsPartIfErr};
 ghost use Rattle.gc_station.specs.Deciding.{has_begun};
+ghost use Rattle.gc_station.specs.Marks.{occasion_of};
 ghost use Rattle.gc_station.specs.Model.{next_request_text, null_text, request_for, null_request, request_of_setup};
 ghost use Rattle.gc_station.specs.Stations.{CanSend, MakesMoveAlone, cut_progress, station_asking};
 ghost use Rattle.gc_station.specs.declared.progress.Action.TheVariants.{Clear, Ask, Prepare, Send, Flush};
@@ -17,7 +18,7 @@ use crate::progressing::later;
 use gc_catalogue::{Asked, Call};
 use gc_lines::{Line, with_end};
 use gc_links::Link;
-use gc_texts::{Task, Wish};
+use gc_texts::{Occasion, Task, Wish};
 
 // A request that is to be sent: its command; for how many milliseconds it waits; and its mark, `None` for a null procedure.
 #[derive(Clone, Copy)]
@@ -27,14 +28,25 @@ pub(crate) struct Outgoing {
     pub(crate) mark: Option<Mark>,
 }
 
-// The request for the command of a task, with this mark. A task that sets the clock asks for the moment of the mark (`call_at`).
+// What a request with this mark takes from the moment at which it is sent: that moment, and the values of files.
+fn occasion_of(mark: &Mark) -> Occasion
+    ensures { result ≡ occasion_of mark.now }
+{
+    Occasion {
+        utc: mark.sent,
+        values: mark.expected.values,
+    }
+}
+
+// The request for the command of a task, with this mark. A task that sets the clock asks for the moment of the mark, and one that takes
+// values of files for those of the mark (`call_at`).
 fn request_for(task: &Task, mark: Mark) -> Outgoing
     ensures { result ≡ request_for mark task.entry.now }
 {
     Outgoing {
         command: Wish {
             target: task.command.target,
-            call: task.call_at(mark.sent),
+            call: task.call_at(&occasion_of(&mark)),
         },
         wait: task.deadline,
         mark: Some(mark),
@@ -152,6 +164,8 @@ impl Station {
         let mut mark = self.mark_setup(commands);
         mark.id = self.client.next_id();
         mark.expected.before = self.recorded.counts.at(mark.expected.counter);
+        let values = self.progress.moment.values;
+        mark.expected.values = values;
         match commands.get(self.progress.prepared) {
             Some(task) => request_for(task, mark),
             None => null_request(plan),

@@ -68,12 +68,15 @@ impl Station {
         self.progress.note_early(plan, waiting);
     }
 
-    // How the next command ends if it isn't sent: as missed if its cycle is missed, otherwise as skipped.
+    // How the next command ends if it isn't sent: as missed if its cycle is missed, as without a value if one that it takes of a file isn't
+    // there, otherwise as skipped.
     fn ending_unsent<'a>(&self) -> Ending<'a>
-        ensures { ending_seen result ≡ end_unsent self.now.progress.missed }
+        ensures { ending_seen result ≡ end_unsent self.now.progress }
     {
         if self.progress.missed {
             Ending::Missed
+        } else if self.progress.lacks_value() {
+            Ending::NoValue
         } else {
             Ending::Skipped
         }

@@ -7,13 +7,13 @@ pub returns-in-Ok-end-clause-measures : goal.returns-in-Ok-end-clause-measures
 returns-in-Ok-end-clause-measures g c =
     let h = rw (sym c.measure-streams.ensures.input) at c.in-Ok.ensures.found in
     let run = rw (c.in-Ok-end.is) at c.measure-streams.ensures.runs in
-    (h.0, h.1, h.2, inr (_, h.3, inr (record { between = _; front = c.in-Ok-write_front.ensures.took.0; end = Ok c.in-Ok-end.tally; is = refl; run = record { ran = run.ran; keeps = run.keeps } })))
+    (h.0, h.1, h.2, inr (_, h.3, inr (record { between = _; front = rw (c.as_slice.ensures.value) at c.in-Ok-write_front.ensures.took.0; end = Ok c.in-Ok-end.tally; is = refl; run = record { ran = run.ran; keeps = run.keeps } })))
 
 pub returns-in-Err-end-clause-measures : goal.returns-in-Err-end-clause-measures
 returns-in-Err-end-clause-measures g c =
     let h = rw (sym c.measure-streams.ensures.input) at c.in-Ok.ensures.found in
     let run = rw (c.in-Err-end.is) at c.measure-streams.ensures.runs in
-    (h.0, h.1, h.2, inr (_, h.3, inr (record { between = _; front = c.in-Ok-write_front.ensures.took.0; end = Err c.in-Err-end.fault; is = refl; run = record { ran = run.ran; keeps = run.keeps } })))
+    (h.0, h.1, h.2, inr (_, h.3, inr (record { between = _; front = rw (c.as_slice.ensures.value) at c.in-Ok-write_front.ensures.took.0; end = Err c.in-Err-end.fault; is = refl; run = record { ran = run.ran; keeps = run.keeps } })))
 
 pub returns-in_default-clause-measures : goal.returns-in_default-clause-measures
 returns-in_default-clause-measures g c =
@@ -21,8 +21,3 @@ returns-in_default-clause-measures g c =
     let some = h.3.some in
     let reached = reaches_a_line h.0 _ _ _ h.3.are (omega (arith, some)) in
     (h.0, h.1, h.2, inl (_, refl, inl (Memory, inr (h.3.read, (h.3.read.within, reached)), refl), record { acts = refl; taken = refl; messages = refl; turns = refl }))
-
-pub returns-in_default-write_front-clause-measures : goal.returns-in_default-write_front-clause-measures
-returns-in_default-write_front-clause-measures g c =
-    let h = c.in-Ok.ensures.found in
-    (h.0, h.1, h.2, inr (_, h.3, inl (record { is = refl; bytes = _; took = c.in_default-write_front.ensures.took.1; acts = refl; messages = refl; turns = refl })))

@@ -1,4 +1,4 @@
-use Rattle.std.proofs.Common.{inl, inr, refl, Some, ap, subst, sym, ◌∙◌}
+use Rattle.std.proofs.Common.{inl, inr, refl, Some, map, ap, subst, sym, ◌∙◌}
 use Rattle.std.proofs.lemmas.Option.{IfSome_then}
 use Rattle.std.proofs.lemmas.Result.{IfOk-weaker}
 use Rattle.std.specs.Prelude.{IfSome}
@@ -65,7 +65,7 @@ returns-in-Ok-clause-begun g c =
         messages = c.with_output-streams.ensures.messages;
       };
       holds = record {
-        begun = subst (IsBegunAt c.args.recording c.args.spot.station) (sym c.with_output-filed.ensures.output) c.in-Ok.ensures.begun;
+        begun = subst (IsBegunAt c.args.recording c.args.spot.station (map (λ n. n.items) c.args.columns.now)) (sym c.with_output-filed.ensures.output) c.in-Ok.ensures.begun;
         told = both.0;
         done = both.1;
       };

@@ -1,4 +1,4 @@
-use Rattle.std.proofs.Common.{inl, inr, refl, Some, ap, ◌∙◌}
+use Rattle.std.proofs.Common.{inl, inr, refl, Some, map, ap, ◌∙◌}
 use Rattle.std.proofs.lemmas.Result.{IfOk-weaker}
 use Rattle.gc_measuring.proofs.Both.{if_ok_both}
 use Rattle.gc_measuring.proofs.station.measure_text_at.Goals as goal
@@ -7,7 +7,8 @@ pub returns-clause-told : goal.returns-clause-told
 returns-clause-told g c =
     IfOk-weaker c.measure_at-left.result.1 _ _
     (λ status both. inr (record {
-      text = c.in-Ok.text.items;
+      text = c.in-Ok.read.text.items;
+      columns = map (λ n. n.items) c.in-Ok.read.columns.items;
       read = c.in-Ok.ensures.read;
       begun = record { input = c.new.result; output = c.text_at.new.streams.output; messages = c.text_at.new.streams.messages };
       ended = c.measure_at-left.result.0;

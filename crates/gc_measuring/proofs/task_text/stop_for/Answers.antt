@@ -1,4 +1,4 @@
-use Rattle.std.proofs.Common.{◌≡◌, ℕ, List, refl, subst, sym}
+use Rattle.std.proofs.Common.{ℕ, List, refl, subst, sym}
 use Rattle.gc_measuring.specs.TaskTexts.{IsStopFor}
 use Rattle.gc_measuring.specs.declared.stop.Stop.TheVariants.{Line}
 use Rattle.gc_texts.specs.Troubles.{IsTrouble}

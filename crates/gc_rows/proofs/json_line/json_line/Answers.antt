@@ -2,7 +2,7 @@ use Rattle.std.proofs.Common.{◌≡◌, ◌++◌, ap, rules, sym, ◌∙◌}
 use Rattle.std.specs.Prelude.{codes}
 use Rattle.gc_texts.specs.Stamps.{stamp_text}
 use Rattle.gc_rows.specs.Cells.{members_in, members_of}
-use Rattle.gc_rows.specs.Columns.{cells_in, end_cells, entry_seen, first_columns, items_content, last_columns}
+use Rattle.gc_rows.specs.Columns.{cells_in, entry_seen, first_columns, item_content, last_columns, quantity_cells}
 use Rattle.gc_rows.specs.JsonLines.{member_text, members_text, string_text}
 use Rattle.gc_rows.proofs.Rows.{three_written}
 use Rattle.gc_rows.proofs.Spreading.{members_apart}
@@ -12,7 +12,7 @@ pub returns : goal.returns
 returns c =
     let r = entry_seen c.args.ended in
     let first = members_of (cells_in first_columns r) in
-    let answer = members_of (end_cells r.command.call r.end) ++ members_in (codes "items") (items_content r.command.call r.end) in
+    let answer = members_of (quantity_cells r) ++ members_in (codes "items") (item_content r) in
     let last = members_of (cells_in last_columns r) in
     let front = codes "{\"run\":" ++ string_text (stamp_text r.when.run) in
     let begun : c.append_string.new.line.items ≡ front = search rules in

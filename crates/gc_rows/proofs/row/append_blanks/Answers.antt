@@ -1,7 +1,7 @@
 use Rattle.std.proofs.Common.{◌++◌, ap, ◌∙◌}
 use Rattle.std.proofs.lemmas.List.{take-replicate}
-use Rattle.gc_rows.specs.declared.quantity.TheConstants.{QUANTITIES}
+use Rattle.gc_rows.specs.declared.row.TheConstants.{MOST_QUANTITIES}
 use Rattle.gc_rows.proofs.row.append_blanks.Goals as goal
 
 pub returns-clause-text : goal.returns-clause-text
-returns-clause-text g c = c.append.ensures ∙ ap (λ l. c.args.row.now.items ++ l) (take-replicate c.args.count QUANTITIES 44 c.requires.few)
+returns-clause-text g c = c.append.ensures ∙ ap (λ l. c.args.row.now.items ++ l) (take-replicate c.args.count MOST_QUANTITIES 44 c.requires.few)

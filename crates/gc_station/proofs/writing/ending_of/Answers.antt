@@ -1,12 +1,19 @@
-use Rattle.std.proofs.Common.{ap, ◌∙◌}
-use Rattle.gc_client.specs.declared.settlement.Outcome.TheVariants as outcomes
-use Rattle.gc_texts.specs.Endings.{ending_seen}
-use Rattle.gc_station.proofs.Qualified.{refused_ends}
+use Rattle.std.proofs.Common.{sym, ap, subst, ◌∙◌}
+use Rattle.gc_catalogue.specs.Asked.{IsAskedReading}
+use Rattle.gc_client.specs.Settlements.{IsReadBy, outcome_seen}
+use Rattle.gc_client.specs.declared.settlement.Outcome.{Outcome}
+use Rattle.gc_station.specs.Marks.{answer_as, end_of}
+use Rattle.gc_station.specs.Zeros.{IsByForm, IsZeroOf}
+use Rattle.gc_station.proofs.Saying.{answer_ends}
 use Rattle.gc_station.proofs.writing.ending_of.Goals as goal
 
-pub returns-in-Answered-Refused-default : goal.returns-in-Answered-Refused-default
-returns-in-Answered-Refused-default c reads call are read zero_is =
-    let said = rw c.in-Answered-Refused-default.is at c.in-Answered-Refused-default.field-0-is in
-    let is = c.in-Answered-Refused-default.is ∙ ap (λ x. outcomes.Answered x c.in-Answered-Refused-default.line) said in
-    refused_ends reads c.args.expected.now call c.args.outcome.now c.in-Answered-Refused-default.code c.in-Answered-Refused-default.line c.args.zero.now
-    (ending_seen c.refused_ending.result) are is read zero_is c.refused_ending.ensures
+pub returns-in-Answered : goal.returns-in-Answered
+returns-in-Answered c reads call are read by zero =
+    let is = c.in-Answered.is in
+    let expected = c.args.expected.now in
+    let line = c.in-Answered.line in
+    c.answer_ending.ensures ∙ ap (λ said. answer_as expected said c.args.zero.now line.items) c.said_by.ensures
+    ∙ answer_ends reads are expected call c.in-Answered.reading line c.args.by_form.now c.args.zero.now (subst (IsReadBy IsAskedReading call) is read)
+    (subst (λ (o : Outcome). IsByForm expected.form o c.args.by_form.now) is by)
+    (subst (λ (o : Outcome). IsZeroOf expected.form call o c.args.zero.now) is zero)
+    ∙ ap (λ (o : Outcome). end_of reads expected call (outcome_seen o)) (sym is)

@@ -8,4 +8,4 @@ pub returns-in-Answered-Refused-default : goal.returns-in-Answered-Refused-defau
 returns-in-Answered-Refused-default c =
     let said = rw c.in-Answered-Refused-default.is at c.in-Answered-Refused-default.field-0-is in
     let is = c.in-Answered-Refused-default.is ∙ ap (λ x. outcomes.Answered x c.in-Answered-Refused-default.line) said in
-    subst (λ (o : Outcome). IsZeroOf c.args.call.now o c.reading_as_zero.result) (sym is) c.reading_as_zero.ensures
+    subst (λ (o : Outcome). IsZeroOf c.args.form.now c.args.call.now o c.line_as_zero.result) (sym is) c.line_as_zero.ensures

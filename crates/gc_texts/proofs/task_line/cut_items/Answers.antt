@@ -1,7 +1,7 @@
 use Rattle.std.proofs.Common.{rules, ◌≡◌, ℕ, List}
 use Rattle.std.specs.Option.{option_copied}
 use Rattle.gc_texts.specs.TaskLines.{AreRequestAndItems}
-use Rattle.gc_texts.proofs.ExpectForms.{are_parts, has_equals, has_space_behind, has_front, has_space_before}
+use Rattle.gc_texts.proofs.ExpectForms.{are_parts, has_equals, has_space_behind, has_front, has_one_space, has_space_before}
 use Rattle.gc_texts.proofs.Items.{no_bytes}
 use Rattle.gc_texts.proofs.task_line.cut_items.Goals as goal
 
@@ -31,7 +31,12 @@ returns-then-last-ne32-clause-none c request items are =
     has_space_before c.args.text.now c.cut_at.result.0.now request items (option_copied c.cut_at.result.1) c.cut_at.ensures are c.in_ok-last.request.now c.in_ok-last.last.now (search rules) in
     search rules
 
+pub returns-then-ends_in_space-clause-none : goal.returns-then-ends_in_space-clause-none
+returns-then-ends_in_space-clause-none c request items are =
+    has_one_space c.args.text.now c.cut_at.result.0.now request items (option_copied c.cut_at.result.1) c.cut_at.ensures are c.in_ok-last.request.now c.in_ok-last.last.now
+    (search rules) (search rules) (search rules)
+
 pub returns-clause-found : goal.returns-clause-found
 returns-clause-found c =
     are_parts c.args.text.now c.cut_at.result.0.now c.in_ok-last.request.now c.in_ok-items.items.now c.in_ok-rest.field-0.now c.in_ok-last.last.now (option_copied c.cut_at.result.1)
-    c.cut_at.ensures (search rules) (search rules) (search rules) (search rules)
+    c.cut_at.ensures (search rules) (search rules) (search rules) (search rules) (search rules)

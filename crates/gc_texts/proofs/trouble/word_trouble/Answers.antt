@@ -1,8 +1,9 @@
 use Rattle.std.proofs.Common.{rules, ◌≡◌, ℕ, List, codes, subst, ap, ◌∙◌}
 use Rattle.gc_texts.specs.Cuts.{behind}
-use Rattle.gc_texts.specs.Troubles.{HasTarget, IsNearTrouble, IsAgreeTrouble}
+use Rattle.gc_texts.specs.Troubles.{HasTarget, IsNearTrouble, IsAgreeTrouble, IsDescriptionTrouble}
 use Rattle.gc_texts.specs.Words.{first_word, second_word}
 use Rattle.gc_texts.proofs.AgreeTroubles.{agree_is_setting}
+use Rattle.gc_texts.proofs.DescribingTroubles.{described_is_setting}
 use Rattle.gc_texts.proofs.NearTroubles.{near_is_setting}
 use Rattle.gc_texts.proofs.trouble.word_trouble.Goals as goal
 
@@ -14,8 +15,14 @@ returns-then-has_target-2 c =
     (subst (λ (numbers : List ℕ). IsNearTrouble numbers c.near_trouble.result)
     (c.behind-then-has_target-2.ensures.is ∙ ap (behind 32) c.behind.ensures.is) c.near_trouble.ensures)
 
-pub returns-then-is_word-7 : goal.returns-then-is_word-7
-returns-then-is_word-7 c =
+pub returns-then-is_word-8 : goal.returns-then-is_word-8
+returns-then-is_word-8 c =
     let first : first_word c.args.line.now ≡ codes "agree" = search rules in
     agree_is_setting c.args.line.now c.agree_trouble.result first
-    (subst (λ (numbers : List ℕ). IsAgreeTrouble numbers c.agree_trouble.result) c.behind-then-is_word-7.ensures.is c.agree_trouble.ensures)
+    (subst (λ (numbers : List ℕ). IsAgreeTrouble numbers c.agree_trouble.result) c.behind-then-is_word-8.ensures.is c.agree_trouble.ensures)
+
+pub returns-then-is_word-11 : goal.returns-then-is_word-11
+returns-then-is_word-11 c =
+    let first : first_word c.args.line.now ≡ codes "procedure" = search rules in
+    described_is_setting c.args.line.now c.description_trouble.result first
+    (subst (λ (text : List ℕ). IsDescriptionTrouble text c.description_trouble.result) c.behind-then-is_word-11.ensures.is c.description_trouble.ensures)

@@ -1,9 +1,7 @@
-use Rattle.std.proofs.Common.{refl}
 use Rattle.std.specs.Time.{instant_nanos}
-use Rattle.gc_links.specs.Acts.{Closed, clock_act, read_act, put_act, open_act}
+use Rattle.gc_links.specs.Acts.{read_act}
 use Rattle.gc_links.specs.Noted.{act_of}
 use Rattle.gc_links.specs.Slots.{hold_of}
-use Rattle.gc_links.proofs.DeviceActs.{clock_on_device, close_on_device}
 use Rattle.gc_links.proofs.DeviceMeaning.{device_then}
 use Rattle.gc_links.proofs.device_link.DeviceLinkLink.read.Goals as goal
 

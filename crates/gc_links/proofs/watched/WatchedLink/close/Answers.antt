@@ -1,9 +1,7 @@
 use Rattle.std.proofs.Common.{refl}
-use Rattle.gc_links.specs.Acts.{Closed, clock_act, read_act, put_act, open_act}
-use Rattle.gc_links.specs.Noted.{act_of}
+use Rattle.gc_links.specs.Acts.{Closed}
 use Rattle.gc_links.specs.Seeing.{path_at}
-use Rattle.gc_links.proofs.Making.{makes_as}
-use Rattle.gc_links.proofs.Seeing.{seen_then, same_then, put_same, open_same}
+use Rattle.gc_links.proofs.Seeing.{same_then}
 use Rattle.gc_links.proofs.watched.WatchedLink.close.Goals as goal
 
 pub invariant_of-self : goal.invariant_of-self
@@ -12,5 +10,5 @@ invariant_of-self g c =
     let until = path_at w.until in
     record {
       seen =
-          same_then until w.began Closed Closed w.seen c.close.ensures (refl, refl) c.then-self.ensures refl;
+          same_then until w.files.items w.began Closed Closed w.seen c.close.ensures (refl, refl) c.then-self.ensures refl;
     }

@@ -1,9 +1,7 @@
-use Rattle.std.proofs.Common.{refl}
-use Rattle.gc_links.specs.Acts.{Closed, clock_act, read_act, put_act, open_act}
+use Rattle.gc_links.specs.Acts.{open_act}
 use Rattle.gc_links.specs.Noted.{act_of}
 use Rattle.gc_links.specs.Seeing.{path_at}
-use Rattle.gc_links.proofs.Making.{makes_as}
-use Rattle.gc_links.proofs.Seeing.{seen_then, same_then, put_same, open_same}
+use Rattle.gc_links.proofs.Seeing.{same_then, open_same}
 use Rattle.gc_links.proofs.watched.WatchedLink.open.Goals as goal
 
 pub invariant_of-self : goal.invariant_of-self
@@ -12,6 +10,6 @@ invariant_of-self g c =
     let until = path_at w.until in
     record {
       seen =
-          same_then until w.began (open_act c.open-opened.result) (act_of c.note_of_open.result) w.seen c.open-opened.ensures
-          (open_same until w.began c.open-opened.result) c.then-self.ensures c.note_of_open.ensures;
+          same_then until w.files.items w.began (open_act c.open-opened.result) (act_of c.note_of_open.result) w.seen c.open-opened.ensures
+          (open_same until w.files.items w.began c.open-opened.result) c.then-self.ensures c.note_of_open.ensures;
     }

@@ -1,9 +1,7 @@
-use Rattle.std.proofs.Common.{refl}
-use Rattle.gc_links.specs.Acts.{Closed, clock_act, read_act, put_act, open_act}
+use Rattle.gc_links.specs.Acts.{put_act}
 use Rattle.gc_links.specs.Noted.{act_of}
 use Rattle.gc_links.specs.Seeing.{path_at}
-use Rattle.gc_links.proofs.Making.{makes_as}
-use Rattle.gc_links.proofs.Seeing.{seen_then, same_then, put_same, open_same}
+use Rattle.gc_links.proofs.Seeing.{same_then, put_same}
 use Rattle.gc_links.proofs.watched.WatchedLink.put.Goals as goal
 
 pub invariant_of-self : goal.invariant_of-self
@@ -12,6 +10,6 @@ invariant_of-self g c =
     let until = path_at w.until in
     record {
       seen =
-          same_then until w.began (put_act c.put-put.result c.args.bytes.now) (act_of c.note_of_put.result) w.seen c.put-put.ensures.tells
-          (put_same until w.began c.put-put.result c.args.bytes.now) c.then-self.ensures c.note_of_put.ensures;
+          same_then until w.files.items w.began (put_act c.put-put.result c.args.bytes.now) (act_of c.note_of_put.result) w.seen c.put-put.ensures.tells
+          (put_same until w.files.items w.began c.put-put.result c.args.bytes.now) c.then-self.ensures c.note_of_put.ensures;
     }

@@ -1,9 +1,8 @@
-use Rattle.std.proofs.Common.{refl}
-use Rattle.gc_links.specs.Acts.{Closed, clock_act, read_act, put_act, open_act}
+use Rattle.std.proofs.Common.{subst}
+use Rattle.gc_links.specs.Acts.{read_act}
 use Rattle.gc_links.specs.Noted.{act_of}
-use Rattle.gc_links.specs.Seeing.{path_at}
-use Rattle.gc_links.proofs.Making.{makes_as}
-use Rattle.gc_links.proofs.Seeing.{seen_then, same_then, put_same, open_same}
+use Rattle.gc_links.specs.Seeing.{path_at, IsSeen}
+use Rattle.gc_links.proofs.Seeing.{seen_then}
 use Rattle.gc_links.proofs.watched.WatchedLink.read.Goals as goal
 
 pub invariant_of-self : goal.invariant_of-self
@@ -12,12 +11,14 @@ invariant_of-self g c =
     let until = path_at w.until in
     record {
       seen =
-          seen_then until w.began (read_act c.read-came.result c.read-came.new.buf) (act_of c.note_of_read.result)
+          seen_then until w.files.items w.began (read_act c.read-came.result c.read-came.new.buf) (act_of c.note_of_read.result)
           (read_act c.see_read-came.result c.read-came.new.buf) w.seen c.read-came.ensures.tells
           (record {
             calls = c.see_read-came.ensures.seen.calls;
             added = c.see_read-came.ensures.seen.added;
-            are = c.see_read-came.ensures.seen.are c.read-came.new.buf;
+            are =
+                subst (λ fs. IsSeen until fs (read_act c.read-came.result c.read-came.new.buf) c.see_read-came.ensures.seen.calls (read_act c.see_read-came.result c.read-came.new.buf))
+                c.as_slice.ensures.value (c.see_read-came.ensures.seen.are c.read-came.new.buf);
           })
           c.then-self.ensures c.note_of_read.ensures;
     }

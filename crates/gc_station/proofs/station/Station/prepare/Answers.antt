@@ -4,7 +4,7 @@ use Rattle.gc_client.specs.Rule.{ById}
 use Rattle.gc_links.specs.Acts.{put_act}
 use Rattle.gc_station.specs.declared.station.sending.Outgoing.{Outgoing}
 use Rattle.gc_station.specs.Progressing.{setup_sent}
-use Rattle.gc_station.specs.Model.{Model, next_request_text, text_or_null, request_of_setup, asks_setup, mark_setup_sent, with_progress}
+use Rattle.gc_station.specs.Model.{Model, next_request_text, occasion_at, text_or_null, request_of_setup, asks_setup, mark_setup_sent, with_progress}
 use Rattle.gc_station.specs.NextCommand.{commands_before}
 use Rattle.gc_station.proofs.Making.{refines_with, asks_refines, put_puts, put_refines, put_took, setup_text}
 use Rattle.gc_station.proofs.station.Station.prepare.Goals as goal
@@ -30,7 +30,7 @@ returns g c text known =
           ∙ ap (request_of_setup plan commands id s.counts) stands.progress in
           let f : Model → Model = λ (x : Model). with_progress (setup_sent plan) (asks_setup plan commands x) in
           let asked = asks_refines old c.ask-put.new.self s asking (request_of_setup plan commands id s.counts s.progress) stands c.requires.1 is c.ask-put.ensures.asks in (
-            put_puts put line (text_or_null s.progress.moment.utc s.client list) (ap (λ (ids : ById Asked). next_request_text ids asking.command.call) stands.ids
+            put_puts put line (text_or_null (occasion_at s.progress.moment) s.client list) (ap (λ (ids : ById Asked). next_request_text ids asking.command.call) stands.ids
                 ∙ ap (λ (a : Outgoing). next_request_text s.client a.command.call) is ∙ setup_text plan s.client mark list) c.ask-put.ensures.part,
             put_refines put line c.commands_before-requests.result (commands_before plan commands s.progress) f s (record c.ask-put.new.self { progress = c.note_setup.new.self }) c.note_cut.new.self
                 (refines_with c.ask-put.new.self c.note_setup.new.self (setup_sent plan) (asks_setup plan commands s) asked c.note_setup.ensures) c.note_cut.ensures

@@ -10,9 +10,9 @@ use Rattle.gc_station.specs.declared.progress.Progress.{Progress}
 use Rattle.gc_station.specs.declared.progress.Upcoming.{Upcoming}
 use Rattle.gc_station.specs.Counters.{with_before}
 use Rattle.gc_station.specs.Firsts.{with_first}
-use Rattle.gc_station.specs.Marks.{with_id}
+use Rattle.gc_station.specs.Marks.{with_id, with_values}
 use Rattle.gc_station.specs.Progressing.{sent}
-use Rattle.gc_station.specs.Model.{Model, next_request_text, first_text, request_for, asks_next, firsts_of, mark_sent, with_progress}
+use Rattle.gc_station.specs.Model.{Model, next_request_text, first_text, occasion_at, request_for, asks_next, firsts_of, mark_sent, with_progress}
 use Rattle.gc_station.specs.NextCommand.{place_next, mark_next, upcoming_after, commands_before}
 use Rattle.gc_station.proofs.Making.{refines_with, asks_refines, put_puts, put_refines, put_took, first_refines, first_took}
 use Rattle.gc_station.proofs.station.Station.send.Goals as goal
@@ -41,17 +41,18 @@ returns g c text known =
           let is : list ≡ task ∷ others = sym (ap (λ n. drop n commands) (at ∙ ap (place_next commands) stands.progress)) ∙ here in
           let f : Model → Model = λ (x : Model). with_progress (sent (upcoming_after 1 commands x.progress)) (asks_next plan commands x) in
           let asked = asks_refines old c.ask-put.new.self s asking (request_for mark task) stands c.requires.ready.1 c.request_for-asking.ensures c.ask-put.ensures.asks in
-          let utc = s.progress.moment.utc in
+          let occasion = occasion_at s.progress.moment in
+          let values = old.progress.moment.values in
           let next : mark ≡ mark_sent plan commands s =
           c.mark_sent-mark.ensures
-          ∙ ap (λ (ids : ById Asked). with_id ids.next (with_before old.recorded.counts (with_first old.recorded.firsts (mark_next plan commands old.progress)))) stands.ids
-          ∙ ap (λ fs. with_id s.client.next (with_before old.recorded.counts (with_first fs (mark_next plan commands old.progress)))) stands.firsts
-          ∙ ap (λ cs. with_id s.client.next (with_before cs (with_first (firsts_of s) (mark_next plan commands old.progress)))) (stands.counts stands.reads)
-          ∙ ap (λ (p : Progress). with_id s.client.next (with_before s.counts (with_first (firsts_of s) (mark_next plan commands p)))) stands.progress in
+          ∙ ap (λ (ids : ById Asked). with_values values (with_id ids.next (with_before old.recorded.counts (with_first old.recorded.firsts (mark_next plan commands old.progress))))) stands.ids
+          ∙ ap (λ fs. with_values values (with_id s.client.next (with_before old.recorded.counts (with_first fs (mark_next plan commands old.progress))))) stands.firsts
+          ∙ ap (λ cs. with_values values (with_id s.client.next (with_before cs (with_first (firsts_of s) (mark_next plan commands old.progress))))) (stands.counts stands.reads)
+          ∙ ap (λ (p : Progress). with_values p.moment.values (with_id s.client.next (with_before s.counts (with_first (firsts_of s) (mark_next plan commands p))))) stands.progress in
           let first = first_refines c.ask-put.new.self s mark (mark_sent plan commands s) list task others is next asked in (
-            put_puts put line (first_text utc s.client list) (ap (λ (ids : ById Asked). next_request_text ids asking.command.call) stands.ids
+            put_puts put line (first_text occasion s.client list) (ap (λ (ids : ById Asked). next_request_text ids asking.command.call) stands.ids
                 ∙ ap (λ (a : Outgoing). next_request_text s.client a.command.call) (c.request_for-asking.ensures ∙ ap (λ (m : Mark). request_for m task) next) ∙ sym
-                (ap (first_text utc s.client) is)) c.ask-put.ensures.part,
+                (ap (first_text occasion s.client) is)) c.ask-put.ensures.part,
             put_refines put line c.commands_before-requests.result (commands_before plan commands s.progress) f s (record c.ask-put.new.self { progress = c.note_sent.new.self }) c.note_cut.new.self
                 (refines_with c.ask-put.new.self c.note_sent.new.self (sent (upcoming_after 1 commands s.progress)) (asks_next plan commands s) first
                 (c.note_sent.ensures ∙ ap (λ (u : Upcoming). sent u c.ask-put.new.self.progress)

@@ -1,7 +1,8 @@
-use Rattle.std.proofs.Common.{◌≡◌, length, map, take}
-use Rattle.gc_texts.specs.Fields.{field_seen}
-use Rattle.gc_texts.specs.KindLists.{kinds_of_fields}
+use Rattle.std.proofs.Common.{◌≡◌}
+use Rattle.gc_texts.specs.KindLists.{padded_kinds}
+use Rattle.gc_texts.proofs.KindPlaces.{kinds_before}
 use Rattle.gc_texts.proofs.kinds.Kinds.of.Given as goal
 
+-- the kinds of the fields before place k are in their places
 abbrev pub invariant-loop-k : goal.invariant-loop-k
-invariant-loop-k l = (take l.k l.kinds ≡ kinds_of_fields (map field_seen (take l.k l.fields))) × (length l.kinds ≡ 16)
+invariant-loop-k l = l.kinds ≡ padded_kinds (kinds_before l.fields l.k)

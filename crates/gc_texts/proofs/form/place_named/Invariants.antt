@@ -1,0 +1,9 @@
+use Rattle.std.proofs.Common.{◌≡◌, ◌+◌, map, drop}
+use Rattle.std.specs.Option.{option_map}
+use Rattle.gc_texts.specs.Fields.{field_seen}
+use Rattle.gc_texts.specs.Forms.{place_named}
+use Rattle.gc_texts.proofs.form.place_named.Given as goal
+
+-- the fields from here on decide
+abbrev pub invariant-loop-k : goal.invariant-loop-k
+invariant-loop-k l = place_named l.name (map field_seen l.fields) ≡ option_map (λ j. l.k + j) (place_named l.name (map field_seen (drop l.k l.fields)))

@@ -1,0 +1,8 @@
+use Rattle.std.specs.Fmt.{decimal}
+use Rattle.std.proofs.lemmas.Result.{IfOk-weaker}
+use Rattle.gc_lines.proofs.Known.{Appends-is}
+use Rattle.gc_texts.proofs.DescribingTroubles.{described_in_table_line}
+use Rattle.gc_texts.proofs.trouble.tell_described_in_table.Goals as goal
+
+pub returns : goal.returns
+returns g c = IfOk-weaker c.writeln.result _ _ (λ _ told. Appends-is _ _ _ _ (described_in_table_line (decimal c.args.rpc) c.args.name.now) told) c.writeln.ensures.bytes

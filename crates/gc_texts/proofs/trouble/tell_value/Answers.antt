@@ -1,0 +1,8 @@
+use Rattle.std.specs.Fmt.{decimal}
+use Rattle.std.proofs.lemmas.Result.{IfOk-weaker}
+use Rattle.gc_lines.proofs.Known.{Appends-is}
+use Rattle.gc_texts.proofs.DescribingTroubles.{value_line}
+use Rattle.gc_texts.proofs.trouble.tell_value.Goals as goal
+
+pub returns : goal.returns
+returns g c = IfOk-weaker c.writeln.result _ _ (λ _ told. Appends-is _ _ _ _ (value_line (decimal c.args.rpc)) told) c.writeln.ensures.bytes
