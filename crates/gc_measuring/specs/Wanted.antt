@@ -1,6 +1,7 @@
 -- Since when a station wants an answer that doesn't come: this project's own. A want (`Wanted`) has the moment since which an
 -- answer is wanted, if one is (`since`); whether an answer came since the last cycle ended, or since the start if none has
--- (`heard`); and whether one has been wanted for so long that a message on that is due, or was written (`overdue`).
+-- (`heard`); whether one has been wanted for so long that a message on that is due, or was written (`overdue`); and whether a
+-- command that was sent since one is wanted had none in time (`lost`).
 use Rattle.std.specs.Prelude.{◌≡◌, ℕ, ◌-◌, Bool, true, false, ◌&&◌, not, nat_lt, List, [], ◌∷◌, Option, None, Some, if◌then◌else◌}
 use Rattle.gc_links.specs.declared.link.Moment.{Moment}
 use Rattle.gc_station.specs.declared.book.LinkHealth.{LinkHealth}
@@ -9,7 +10,16 @@ use Rattle.gc_measuring.specs.declared.wanted.Wanted.{Wanted}
 
 -- the want after an answer: no answer is wanted, and the cycle has one
 abbrev pub after_answer : Wanted
-after_answer = record { since = None; heard = true; overdue = false }
+after_answer = record { since = None; heard = true; overdue = false; lost = false }
+
+-- the want after a command that was sent and had no answer in time
+abbrev pub after_loss : Wanted → Wanted
+after_loss w = record w { lost = true }
+
+-- the want after a command that wasn't sent for want of a value of a file: the station doesn't wait for the instrument then, so that
+-- no answer is wanted, unless a command was sent since one is wanted and had no answer in time
+abbrev pub after_unsent : Wanted → Wanted
+after_unsent w = if w.lost then w else record w { since = None; overdue = false }
 
 -- since when an answer is wanted, given that one is wanted at this moment: an earlier start stays, else it is this moment
 abbrev pub wanted_from : Option Moment → Moment → Option Moment
@@ -20,7 +30,12 @@ wanted_from (Some since) moment = Some since
 -- isn't overdue, no answer is wanted any longer; else the moment since which one is wanted stays. The next cycle has had no
 -- answer yet
 abbrev pub after_cycle : Wanted → Wanted
-after_cycle w = record { since = if w.heard && not w.overdue then None else w.since; heard = false; overdue = w.overdue }
+after_cycle w = record {
+  since = if w.heard && not w.overdue then None else w.since;
+  heard = false;
+  overdue = w.overdue;
+  lost = if w.heard && not w.overdue then false else w.lost;
+}
 
 -- the want with an answer wanted from this moment on, unless one was wanted already
 abbrev pub after_want : Moment → Wanted → Wanted
@@ -49,12 +64,12 @@ pub record Look : Type 0 where
   pub health : LinkHealth
   pub moment : Moment
 
--- the want after these looks, in order, if no answer comes before the last of them
+-- the want after these looks, in order, if no command ends before the last of them
 abbrev pub after_looks : List Look → Wanted → Wanted
 after_looks [] w = w
 after_looks (look ∷ later) w = after_looks later (after_look look.health look.moment w)
 
--- if the cycle has had no answer yet, and as long as none comes, the moment since which one is wanted stays the same, whatever
+-- if the cycle has had no answer yet, and as long as no command ends, the moment since which an answer is wanted stays the same, whatever
 -- becomes of connections and cycles meanwhile
 abbrev pub WantCountsOverConnections : Type 0
 WantCountsOverConnections =

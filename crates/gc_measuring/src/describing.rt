@@ -99,8 +99,8 @@ fn name_of(field: &Field) -> &str {
     text_of(field.name.as_slice())
 }
 
-// These bytes as a text; empty if they aren't UTF-8.
-fn text_of(bytes: &[u8]) -> &str {
+/// These bytes as a text; empty if they aren't UTF-8.
+pub(crate) fn text_of(bytes: &[u8]) -> &str {
     str::from_utf8(bytes).unwrap_or("")
 }
 

@@ -8,8 +8,8 @@ ghost use Rattle.gc_values.specs.Directions.{half_turn};
 ghost use Rattle.gc_values.specs.Nearest.{RoundsHalfUp};
 ghost use Rattle.gc_words.specs.declared.unit.Unit.{Unit};
 
-/// If the cycle has had no answer yet, and as long as none comes, the moment since which one is wanted stays the same, whatever
-/// becomes of connections and cycles meanwhile.
+/// If the cycle has had no answer yet, and as long as none comes and no command has no value of a file, the moment since which an answer is
+/// wanted stays the same, whatever becomes of connections and cycles meanwhile.
 pub fn a_want_counts_over_connections()
     ensures { WantCountsOverConnections }
 {}

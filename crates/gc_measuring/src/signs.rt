@@ -130,7 +130,8 @@ impl Signs {
         self.counts.count(ending);
     }
 
-    // Notes the cycle of a record, whether a command was answered or skipped, and whether the setup isn't done.
+    // Notes the cycle of a record, whether a command was answered, had no answer in time, was skipped or had no value, and whether the
+    // setup isn't done.
     fn note(&mut self, stamp: Stamp, ending: Ending<'_>)
         ensures { self.new.counts ≡ self.old.counts }
     {
@@ -142,7 +143,9 @@ impl Signs {
         }
         match ending {
             Ending::Skipped => self.note_skipped(stamp.utc),
-            Ending::Late | Ending::Lost | Ending::NoValue | Ending::Missed => {}
+            Ending::Late | Ending::Lost => self.wanted.lose(),
+            Ending::NoValue => self.note_unsent(),
+            Ending::Missed => {}
             _ => self.note_answer(),
         }
     }
@@ -155,6 +158,16 @@ impl Signs {
         self.last_answer = Some(self.elapsed);
         self.answers_again = true;
         self.wanted.hear();
+    }
+
+    // Notes that a command wasn't sent for want of a value of a file. If there is a quiet connection, on which no request is without a
+    // reply, the station doesn't wait for the instrument; without one such a command is of a cycle that is abandoned, and says nothing.
+    fn note_unsent(&mut self)
+        ensures { self.new.counts ≡ self.old.counts }
+    {
+        if self.health == LinkHealth::Fine {
+            self.wanted.note_unsent();
+        }
     }
 
     // Counts a command that was skipped at `utc`, in milliseconds since 1970, for the next line on skipped commands.

@@ -1,8 +1,11 @@
 //! What is reported of commands of cycles that weren't answered well, and of cycles that were missed, while a station measures.
 
 use crate::checking::write_target;
+use crate::describing::text_of;
+use gc_catalogue::Asked;
 use gc_lines::{Line, read_reply};
 use gc_texts::{Ending, Name, Quality, Stamp, Wish, name_text};
+use gc_values::split;
 use std::io::{self, Write};
 
 /// A second, in milliseconds: the status line of a terminal is rewritten once a second at most, and gives ages in seconds; and missed
@@ -54,8 +57,8 @@ impl Why {
         }
     }
 
-    // Writes it as the end of a line.
-    fn tell<E: Write>(self, messages: &mut E) -> io::Result<()> {
+    // Writes it as the end of a line on a command that asks this.
+    fn tell<E: Write>(self, asked: &Asked, messages: &mut E) -> io::Result<()> {
         match self {
             Why::Communication(code) => writeln!(messages, "refused, rc_com {code}"),
             Why::Code(code) => writeln!(messages, "refused {code}"),
@@ -63,9 +66,32 @@ impl Why {
             Why::Elsewhere => writeln!(messages, "elsewhere"),
             Why::Unexpected => writeln!(messages, "unexpected"),
             Why::Disagree => writeln!(messages, "disagree"),
-            Why::NoValue => writeln!(messages, "no value of a file"),
+            Why::NoValue => {
+                write!(messages, "no value of ")?;
+                write_files(asked, messages)?;
+                writeln!(messages)
+            }
         }
     }
+}
+
+// Writes the items of a command's parameters that stand for values of files, as they are in its text, with a comma between two.
+fn write_files<E: Write>(asked: &Asked, messages: &mut E) -> io::Result<()> {
+    let Asked::Raw(raw) = asked else {
+        return Ok(());
+    };
+    let Ok(items) = split(raw.params()) else {
+        return Ok(());
+    };
+    let mut comma = "";
+    for k in 0..items.len() {
+        let item = text_of(items.get(k));
+        if item.starts_with('{') {
+            write!(messages, "{comma}{item}")?;
+            comma = ",";
+        }
+    }
+    Ok(())
 }
 
 /// Commands of cycles that have a reply and weren't answered well, or weren't sent for want of a value, and that no line has reported yet.
@@ -75,9 +101,8 @@ pub(crate) struct Unwell {
     count: u64,
     /// When the first of them ended, in milliseconds since 1970.
     pub(crate) since: u64,
-    // The target and the procedure of the last one, and why it wasn't answered well.
-    target: u32,
-    procedure: u16,
+    // The last one, and why it wasn't answered well.
+    last: Wish,
     why: Why,
 }
 
@@ -103,20 +128,21 @@ impl Unwell {
         *unwell = Some(Unwell {
             count,
             since,
-            target: command.target,
-            procedure: command.call.number(),
+            last: *command,
             why,
         });
     }
 
-    /// Writes the end of the line on them: how many there are, and the last one, whose target has its name among `names`.
+    /// Writes the end of the line on them: how many there are, and the last one, whose target has its name among `names`; and of which
+    /// files it takes values, if one of them wasn't there.
     pub(crate) fn tell<E: Write>(self, names: &[Name], messages: &mut E) -> io::Result<()> {
         let count = self.count;
-        let procedure = self.procedure;
+        let Wish { target, call } = self.last;
+        let procedure = call.number();
         write!(messages, ": {count}; the last: ")?;
-        write_target(self.target, name_text(self.target, names), messages)?;
+        write_target(target, name_text(target, names), messages)?;
         write!(messages, ", {procedure}: ")?;
-        self.why.tell(messages)
+        self.why.tell(&call, messages)
     }
 }
 

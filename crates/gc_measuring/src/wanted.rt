@@ -2,7 +2,7 @@
 //! because neither is an answer.
 
 ghost use Rattle.std.specs.Prelude.{◌≡◌};
-ghost use Rattle.gc_measuring.specs.Wanted.{after_answer, after_want, after_look, after_cycle, lasting, has_lasted};
+ghost use Rattle.gc_measuring.specs.Wanted.{after_answer, after_want, after_look, after_cycle, after_unsent, after_loss, lasting, has_lasted};
 
 use gc_links::Moment;
 use gc_station::LinkHealth;
@@ -16,6 +16,8 @@ pub(crate) struct Wanted {
     pub heard: bool,
     // Whether an answer has been wanted for so long that a message on that is due, or was written.
     pub overdue: bool,
+    // Whether a request of a command had no answer in time since an answer has been wanted.
+    pub lost: bool,
 }
 
 impl Wanted {
@@ -25,6 +27,7 @@ impl Wanted {
             since: None,
             heard: false,
             overdue: false,
+            lost: false,
         }
     }
 
@@ -35,6 +38,25 @@ impl Wanted {
         self.since = None;
         self.heard = true;
         self.overdue = false;
+        self.lost = false;
+    }
+
+    /// Notes that a command was sent, and had no answer in time.
+    pub(crate) fn lose(&mut self)
+        ensures { self.new ≡ after_loss self.old }
+    {
+        self.lost = true;
+    }
+
+    /// Notes that a command wasn't sent for want of a value of a file. The station doesn't wait for the instrument then: unless a
+    /// command before was sent and had no answer, no answer is wanted.
+    pub(crate) fn note_unsent(&mut self)
+        ensures { self.new ≡ after_unsent self.old }
+    {
+        if !self.lost {
+            self.since = None;
+            self.overdue = false;
+        }
     }
 
     /// Notes by the health of the link at this moment whether an answer is wanted. If there is no connection, if a new connection
@@ -59,6 +81,7 @@ impl Wanted {
     {
         if self.heard && !self.overdue {
             self.since = None;
+            self.lost = false;
         }
         self.heard = false;
     }

@@ -1,12 +1,14 @@
 """Values of files: what is sent of them, and that nothing is sent where a file is too old, is ahead of the clock, or has no number."""
 
 import os
+import re
 import time
 
 import pytest
 
-from far_end import good, standing
-from measuring import finished, measuring, outcomes_of
+from far_end import LOSES, good, standing
+from measuring import STAMP, finished, measuring, outcomes_of
+from programs import until
 
 SHORT = "--deadline 300 --quiet 150"
 # What a file has, how many seconds ago it was written, and what is sent of it; None: nothing.
@@ -83,3 +85,35 @@ def test_each_cycle(program, tmp_path):
         rows, _ = finished(run)
         params = [request.params for request in far.commands() if request.rpc == 2028]
     assert params == [b"1.5", b"2.5", b"3.5"] and all(row["outcome"] == "answered" for row in rows)
+
+
+@pytest.mark.title("values of files, and which has none")
+def test_which(program, tmp_path):
+    """The line on a command that wasn't sent for want of a value has the items of the text that stand for files."""
+    (tmp_path / "dry").write_bytes(b"12.5\n")
+    items = f"{{{tmp_path / 'pressure'} 60}},{{{tmp_path / 'dry'} 3600}}"
+    text = f"procedure 2028 wavelength Double pressure_mbar Double dry_c Double ->\n7 2028 0.5,{items}\n"
+    with standing(answering) as far, measuring(program, far.port, SHORT, text.encode()) as run:
+        _, messages = finished(run)
+    line = rf"geocom: commands not answered well since {STAMP}: 1; the last: target 7, 2028: no value of {re.escape(items)}"
+    assert len(messages) == 1 and re.fullmatch(line, messages[0]), messages
+
+
+@pytest.mark.title("values of files, and no answer: {what}")
+@pytest.mark.parametrize("what, last, told", [
+    ("nothing is asked", "", False), ("what another chain asks is lost", "8 5003\n", True),
+])
+def test_nothing_asked(program, tmp_path, what, last, told):
+    """Where each chain begins with a command that has no value nothing is asked, so that no answer is missing for more than a minute. One
+    is where another chain's command is lost, also at an instrument that answers null procedures."""
+    item = f"{{{tmp_path / 'none'} 60}}"
+    text = f"procedure 2028 pressure_mbar Double ->\n0 2028 {item}\n0 2011\n7 2028 {item}\n{last}"
+    with standing(lambda request: LOSES if request.rpc else good(request)) as far:
+        with measuring(program, far.port, f"{SHORT} --every 2 --cycles 40 --retries 0", text.encode()) as run:
+            if told:
+                until(lambda: "no answer since" in run.messages(), f"no line within a minute, {what}", 64)
+            else:
+                time.sleep(64)
+            messages = run.messages()
+    assert ("no answer since" in messages) == told, messages
+    assert {request.rpc for request in far.commands()} <= {0, 5003}, what
