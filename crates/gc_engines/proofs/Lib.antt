@@ -9,3 +9,4 @@ mod Shown
 pub mod RuleForms
 mod TimedForms
 mod SceneTroubles
+mod Percents

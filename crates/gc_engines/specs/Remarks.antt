@@ -1,6 +1,7 @@
 -- What a check remarks of a line behind its verdict: this project's own. A line may be no reply, because it is measured data in GSI, has
 -- a sign-on in it, or is replies with another line end; or, of a log, because it is a request of this end that came back.
 use Rattle.std.specs.Prelude.{ℕ, ◌+◌, ◌==◌, ◌&&◌, ◌||◌, Bool, true, false, List, [], get_or, is_ok, if◌then◌else◌, codes}
+use Rattle.std.specs.List.{starts_with}
 use Rattle.gc_lines.specs.Readers.{request_at}
 use Rattle.gc_lines.specs.declared.frame.Frame.{Frame}
 use Rattle.gc_lines.specs.declared.frame.Frame.TheVariants.{Line}
@@ -24,6 +25,10 @@ is_gsi line = if get_or line 0 0 == 42 then is_gsi_word 1 line else is_gsi_word 
 -- whether bytes have a CR behind which the next reply begins, without a line feed
 abbrev pub has_lone_return : List ℕ → Bool
 has_lone_return bytes = has_part (codes "\r%R1P,") bytes
+
+-- whether a line begins with a sign-on
+abbrev pub begins_as_sign_on : List ℕ → Bool
+begins_as_sign_on line = starts_with (λ x y. x == y) line (codes "%N1,")
 
 -- what is remarked of a whole line, whichever way it went: that it has a sign-on in it, or a CR alone, or is measured data in GSI
 abbrev pub line_remark : List ℕ → List ℕ

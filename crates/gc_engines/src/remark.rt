@@ -1,12 +1,13 @@
 //! What a check, of a stream or of a log, remarks of a line behind its verdict.
 
-ghost use Rattle.std.specs.Prelude.{◌≡◌, ◌+◌, ◌<◌, ◌≤◌, ◌^◌, get_or, is_ok, length};
+ghost use Rattle.std.specs.Prelude.{◌≡◌, ◌+◌, ◌<◌, ◌≤◌, ◌^◌, false, get_or, is_ok, length};
 ghost use Rattle.gc_lines.specs.Lent.{lent_seen};
 ghost use Rattle.gc_lines.specs.Readers.{request_at};
-ghost use Rattle.gc_engines.specs.Remarks.{is_gsi_word, is_gsi, has_lone_return, line_remark, frame_remark, came_remark, part_remark, remark_text};
+ghost use Rattle.gc_engines.specs.Remarks.{is_gsi_word, is_gsi, has_lone_return, begins_as_sign_on, line_remark, frame_remark, came_remark, part_remark, remark_text};
+ghost use Rattle.gc_texts.specs.SignOns.{is_sign_on};
 
 use gc_lines::{Lent, read_request};
-use gc_texts::{LogMark, has_part, is_sign_on};
+use gc_texts::{LogMark, cut_at, has_part, is_sign_on};
 
 // The byte at this place of a line; 0 if the line is shorter.
 fn byte_at(line: &[u8], place: usize) -> u8
@@ -58,8 +59,37 @@ fn has_lone_return(bytes: &[u8]) -> bool
     has_part(b"\r%R1P,", bytes)
 }
 
-// What is remarked of a whole line, whichever way it went: it has a sign-on in it, or a CR alone, or is measured data in GSI.
+// Whether a `%` stands behind the first byte of a line. Else a sign-on is at the line's beginning, if it has one, and no reply begins behind
+// a CR.
+fn has_later_percent(line: &[u8]) -> bool
+    ensures sign_on { result ≡ false → is_sign_on line.now ≡ begins_as_sign_on line.now }
+    ensures lone { result ≡ false → has_lone_return line.now ≡ false }
+{
+    match line.split_first() {
+        Some((_, rest)) => cut_at(b'%', rest).1.is_some(),
+        None => false,
+    }
+}
+
+// What is remarked of a whole line, whichever way it went: it has a sign-on in it, or a CR alone, or is measured data in GSI. Few lines have
+// a `%` behind their first byte, and only these are searched.
 fn line_remark(line: &[u8]) -> &'static [u8]
+    ensures is { result.now ≡ line_remark line.now }
+    ensures short { length result.now ≤ 11 }
+{
+    if has_later_percent(line) {
+        searched_remark(line)
+    } else if line.starts_with(b"%N1,") {
+        b" sign-on"
+    } else if is_gsi(line) {
+        b" GSI"
+    } else {
+        b""
+    }
+}
+
+// The same of any line, which is searched for a sign-on and for a CR alone.
+fn searched_remark(line: &[u8]) -> &'static [u8]
     ensures is { result.now ≡ line_remark line.now }
     ensures short { length result.now ≤ 11 }
 {
