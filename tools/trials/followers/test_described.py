@@ -70,11 +70,11 @@ def form(request):
 def test_sinks(servers, folder, form):
     """Databases have each row once, with the quantities in their views, and the broker the last values."""
     path, base = laid(folder, form, Month(cycles=4, noise=2e-6, bad={8: (range(2, 4), "refused")}).table()), folder / "described.db"
-    for follower in followers(servers, base, f"site/{form}"):
+    for follower in followers(servers, base, f"described/{form}"):
         messages_of(follower.command(path, "--once"))
     expect_sqlite(base, path)
     expect_postgres(servers, path)
-    expect_retained(servers.broker_port, path, f"site/{form}")
+    expect_retained(servers.broker_port, path, f"described/{form}")
     # Two targets in two faces and four cycles, and a third in two cycles of them.
     query = f"SELECT count(hz_rad), count(v_rad), count(distance_m) FROM {{}} WHERE procedure = {RPC}"
     with closing(sqlite3.connect(base)) as table:
