@@ -1,6 +1,7 @@
 """Starts programs, waits for what they do, and ends them: geocom, simulators, followers, servers. It knows the ports of this machine."""
 
 import os
+import random
 import signal
 import socket
 import subprocess
@@ -24,11 +25,13 @@ def until(holds, why, patience=PATIENCE):
 
 
 def free_ports(count):
-    """Ports that nothing listens on, each another."""
-    probes = [socket.create_server(("127.0.0.1", 0)) for _ in range(count)]
-    ports = [probe.getsockname()[1] for probe in probes]
-    for probe in probes:
-        probe.close()
+    """Ports that nothing listens on, each another. They lie below those that the system gives to connections and for port 0: so none is
+    given away before it is used. Each is drawn, since other programs may be looking at the same time."""
+    ports = []
+    while len(ports) < count:
+        port = random.SystemRandom().randrange(10_000, 32_000)
+        with suppress(OSError), socket.create_server(("127.0.0.1", port)):
+            ports += [port] * (port not in ports)
     return ports
 
 
