@@ -7,7 +7,7 @@ use Rattle.std.specs.declared.io.ErrorKind.TheVariants.{OutOfMemory}
 use Rattle.std.specs.List.{list_any}
 use Rattle.std.specs.Str.{bytes_eq}
 use Rattle.clap.specs.Takes.{takes}
-use Rattle.gc_messages.specs.Refusals.{Refuses, place_line, range_line, refusal_line, stale_line, unit_line}
+use Rattle.gc_messages.specs.Refusals.{Refuses, at_line, date_line, place_line, range_line, refusal_line, stale_line, unit_line}
 use Rattle.gc_messages.specs.declared.standard.Standard.{Standard}
 use Rattle.gc_subcommands.specs.Program.{IsJobOfWords, program}
 use Rattle.gc_subcommands.specs.declared.words.Job.{Job}
@@ -23,7 +23,7 @@ abbrev pub RefusesJob : (line : List ℕ) → (begun : Opening) → Traces → (
 RefusesJob line begun traces status = Refuses line status begun.told (Some traces.said.bytes)
 
 -- what a job without a client did. Of a rehearsal nothing but a bound of its status is said here (`run_nights` of gc_nights says more). Where
--- words name no place, no unit, or a number that can't be, the job is refused
+-- words name no place, no unit, a number that can't be, or a file with a percent sign that begins no part of a date, the job is refused
 abbrev pub DoesWithoutClient : Standard → (begun : Opening) → Job → Traces → (status : ℕ) → Type 0
 DoesWithoutClient standard begun (asked.Exec scene) traces status = EndsFrom (DoesExec scene) begun traces status
 DoesWithoutClient standard begun (asked.Check log) traces status = EndsFrom (DoesCheck log) begun traces status
@@ -34,6 +34,8 @@ DoesWithoutClient standard begun (asked.Nowhere serves) traces status = RefusesJ
 DoesWithoutClient standard begun asked.NumberMissing traces status = RefusesJob range_line begun traces status
 DoesWithoutClient standard begun asked.NoUnit traces status = RefusesJob unit_line begun traces status
 DoesWithoutClient standard begun asked.StaleTooSoon traces status = RefusesJob stale_line begun traces status
+DoesWithoutClient standard begun asked.AtWithoutMultiple traces status = RefusesJob at_line begun traces status
+DoesWithoutClient standard begun asked.NoDate traces status = RefusesJob date_line begun traces status
 DoesWithoutClient standard begun (asked.Client job) traces status = ⊥
 
 -- the job that the words asked for was done: a client's as `DoesOver` says, and any other as `DoesWithoutClient` says, and then no station

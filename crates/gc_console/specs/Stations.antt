@@ -10,7 +10,7 @@ use Rattle.gc_lines.specs.Answering.{ports_of}
 use Rattle.gc_lines.specs.declared.ports.Sink.{Ghosts as Sink}
 use Rattle.gc_lines.specs.declared.ports.Source.{Ghosts as Source}
 use Rattle.gc_links.specs.Placed.{place_seen}
-use Rattle.gc_links.specs.Seeing.{path_at}
+use Rattle.gc_links.specs.Seeing.{signals_at}
 use Rattle.gc_measuring.specs.Noted.{IsMeantRecord}
 use Rattle.gc_measuring.specs.Recording.{IsBegunAt}
 use Rattle.gc_measuring.specs.TaskTexts.{IsCheckable}
@@ -80,7 +80,7 @@ stage_after streams acted = stage streams (began_noted acted.link) (acts_noted a
 
 -- the acts of the link, if there was one, are what the system's calls did at this site's place, as both were noted (`IsMeantRecord`)
 abbrev pub ActsAt : Site → Acted → Type 0
-ActsAt site acted = IfSome acted.link (λ link. ∥ IsMeantRecord (place_seen site.place) (path_at site.until) link ∥₁)
+ActsAt site acted = IfSome acted.link (λ link. ∥ IsMeantRecord (place_seen site.place) (signals_at site.signals) link ∥₁)
 
 -- a station at this site that writes its records on the output ended with this status: its text was refused, and there was no link; or
 -- the input gave a text, and over exactly its commands the station ran: what its link recorded, its output took and its messages say is

@@ -1,10 +1,11 @@
 //! The subcommands that ask over a connection. None of them begins if a standard stream is closed.
 
-ghost use Rattle.std.specs.Prelude.{◌≡◌, ℕ, true, false, List, Option, None, Some, option_map, IfOk, IfSome};
+ghost use Rattle.std.specs.Prelude.{◌≡◌, true, false, None, Some, option_map, IfOk, IfSome};
 ghost use Rattle.std.specs.Process.{exit_status};
 ghost use Rattle.gc_console.specs.Stations.{AppendsInto, DoesJob, HasNoRun, MeasuresOnto, Records, RecordsLossy, ports_seen, rows_noted, seeing_by};
 ghost use Rattle.gc_console.specs.Subcommands.{DoesAsk, DoesLoop};
 ghost use Rattle.gc_links.specs.LinksMeant.{IsMeantAt};
+ghost use Rattle.gc_links.specs.Seeing.{SignalsSeen};
 ghost use Rattle.gc_links.specs.Placed.{PlaceSeen};
 ghost use Rattle.gc_measuring.specs.Appending.{acts_in, began_in, file_of};
 ghost use Rattle.gc_measuring.specs.Noted.{IsMeantRecord};
@@ -266,8 +267,8 @@ fn end_appending<
 >(appended: Option<Appended<'a, R>>) -> (Option<LinkRecord>, Option<Past>)
     ensures acts { acts_noted result.0 ≡ acts_in appended.entry }
     ensures began { began_noted result.0 ≡ began_in appended.entry }
-    ensures meant { (where_to : PlaceSeen) (until : Option (List ℕ)) → IfSome appended.entry (λ left. IfSome left.link (λ link. ∥ IsMeantAt where_to until link ∥₁))
-        → IfSome result.0 (λ link. ∥ IsMeantRecord where_to until link ∥₁) }
+    ensures meant { (where_to : PlaceSeen) (signals : SignalsSeen) → IfSome appended.entry (λ left. IfSome left.link (λ link. ∥ IsMeantAt where_to signals link ∥₁))
+        → IfSome result.0 (λ link. ∥ IsMeantRecord where_to signals link ∥₁) }
     ensures rows { option_map ⟦<Followed<'a, R> as Sink>⟧.taken (file_of appended.entry) ≡ option_map rows_noted result.1 }
 {
     match appended {

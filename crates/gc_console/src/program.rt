@@ -21,8 +21,8 @@ use clap::Error;
 use clap::error::ErrorKind;
 use gc_lines::{Durable, FromReader, ReadAhead, Sink, Source, ToWriter};
 use gc_messages::{
-    Followed, Heard, Lossy, Noting, Standard, Streams, Told, refuse_numbers, refuse_place,
-    refuse_stale, refuse_unit, report_end,
+    Followed, Heard, Lossy, Noting, Standard, Streams, Told, refuse_at, refuse_date,
+    refuse_numbers, refuse_place, refuse_stale, refuse_unit, report_end,
 };
 use gc_nights::rehearse;
 use gc_subcommands::check::check;
@@ -77,7 +77,8 @@ pub fn run_program<
     //   couldn't be had, and nothing was sent. With `--check`: status 0 only if a station measures the text. Of its messages nothing is said.
     // - `rehearse`: the status is at most 1, and nothing more is said here.
     // - `loop`, `ask` and `station` over a closed stream: that is reported, with status 1, and nothing was read or written else.
-    // - A place, a number, a unit or a `--stale` that is refused: status 2, and the messages took exactly the line that says why.
+    // - A place, a number, a unit, a `--stale`, an `--at` or a file's name that is refused: status 2, and the messages took exactly the line
+    //   that says why.
     // - No job: if a word asks for help or version, status 0 and no message, or status 1 and the line of the fault `Output`; status 2, only
     //   for words that the command line doesn't take; or status 1, and the messages took exactly the line that memory ran out.
     // - Words that couldn't be read: status 2 and the line that one is no text; or status 1 and the line that memory ran out.
@@ -199,6 +200,14 @@ impl<'a, R: Net<Listener = TcpListener, Stream = TcpStream> + Clock + Files<File
             }
             Job::StaleTooSoon => {
                 let ended = refuse_stale(&mut streams.messages);
+                (ended, said_of(streams))
+            }
+            Job::AtWithoutMultiple => {
+                let ended = refuse_at(&mut streams.messages);
+                (ended, said_of(streams))
+            }
+            Job::NoDate => {
+                let ended = refuse_date(&mut streams.messages);
                 (ended, said_of(streams))
             }
         }

@@ -29,6 +29,7 @@ plain_task target call deadline chained =
       again = no_again;
       turn = no_turn;
       others = 0;
+      every = 1;
       now = false;
       needs = no_needs;
       twice = Once;

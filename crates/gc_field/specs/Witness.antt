@@ -1,7 +1,7 @@
 -- There is a run in the field, this project's own: the station synchronizes over a line with an older request and an older
 -- reply in flight: eight null procedures are answered, and then that of the client. A command is asked and answered. So what is
 -- said of all such runs is said of some.
-use Rattle.std.specs.Prelude.{◌≡◌, ℕ, ◌+◌, false, List, [], ◌∷◌, codes, drop, pos, Some}
+use Rattle.std.specs.Prelude.{◌≡◌, ℕ, ◌+◌, false, List, [], ◌∷◌, codes, drop, pos, Some, None}
 use Rattle.gc_lines.specs.Lines.{with_end}
 use Rattle.gc_values.specs.FileValues.{no_values}
 use Rattle.gc_catalogue.specs.declared.answer.Answer.{Answer}
@@ -31,7 +31,7 @@ use Rattle.gc_field.specs.Runs.{IsInField, NoActFollows, Program, program_record
 
 -- a plan with requests in flight up to this width, deadlines of 100 ms, one cycle, a quiet time of 10 ms, and one retry
 abbrev pub plan_of_width : ℕ → Plan
-plan_of_width width = record { width = width; deadline = 100; every = 0; cycles = 1; quiet = 10; retries = 1; setup = 0; stale = 0; watched = false }
+plan_of_width width = record { width = width; deadline = 100; every = 0; first = 1000; at = None; cycles = 1; quiet = 10; retries = 1; setup = 0; stale = 0; watched = false }
 
 -- the plan of this run: one request at a time
 abbrev pub plan : Plan
@@ -51,7 +51,7 @@ scope = scope_saying (Long (pos 123456))
 
 -- the moment at which both clocks show this number
 abbrev pub at : ℕ → Moment
-at now = record { elapsed = now; utc = now; stops = false; values = no_values }
+at now = record { elapsed = now; utc = now; stops = false; touched = 0; values = no_values }
 
 -- the lines of a synchronization's null procedures, in order
 abbrev pub null_lines : List (List ℕ)

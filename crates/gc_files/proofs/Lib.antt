@@ -8,3 +8,6 @@ pub mod Killing
 pub mod Failing
 pub mod Needing
 pub mod Feeds
+pub mod Pieces
+pub mod Staying
+pub mod InTurn

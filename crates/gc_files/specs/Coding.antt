@@ -27,3 +27,7 @@ from_parts-to_parts Sync = refl
 -- the coding of a list of steps, for the field `steps` of `past.rt`
 abbrev pub steps_code : Coded (List Step)
 steps_code = coded_list (code_by StepParts (coded× coded_ℕ (coded× (coded_list coded_ℕ) coded_ℕ)) to_parts from_parts from_parts-to_parts)
+
+-- the coding of the steps of several files, for the field `files` of `past.rt`
+abbrev pub files_code : Coded (List (List Step))
+files_code = coded_list steps_code

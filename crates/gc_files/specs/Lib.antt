@@ -7,3 +7,5 @@ pub mod Sinks
 pub mod Failing
 pub mod Coding
 pub mod Noted
+pub mod InTurn
+pub mod Left

@@ -36,6 +36,10 @@ has_failed sink = sink.broken
 abbrev pub asks_sync : {F : Type 0} {D : Ghosts F} → RowsFile F D → Bool
 asks_sync sink = sink.options.sync
 
+-- whether the last byte that the sink took since its opening ended a row, or it took none
+abbrev pub ends_line : {F : Type 0} {D : Ghosts F} → RowsFile F D → Bool
+ends_line sink = sink.ends_line
+
 -- how many bytes of a torn row the opening of this sink cut off
 abbrev pub torn_in : {F : Type 0} {D : Ghosts F} → RowsFile F D → ℕ
 torn_in sink = sink.torn

@@ -1,6 +1,7 @@
 //! What is proved of files of rows over all runs and crashes. The functions have no effect: their contracts are the laws.
 
 ghost use Rattle.gc_files.specs.Failing.{TablesOutlastFailures, CopiesAreNeeded};
+ghost use Rattle.gc_files.specs.InTurn.{LeftFilesLast};
 ghost use Rattle.gc_files.specs.Runs.{TablesLast, KillsLoseNothing, CallsAreRuns};
 
 /// The table lasts over any runs. Each run opens the file, appends rows, and ends by itself, by a kill or by a crash of the
@@ -15,6 +16,12 @@ pub fn tables_last()
 /// table, synced or not.
 pub fn kills_lose_nothing()
     ensures { KillsLoseNothing }
+{}
+
+/// A file that a run leaves after a sync, as its rows go on in another one, lasts whole: whatever a kill or a crash leaves of it from
+/// then on, the next opening makes of it the table that it was, with rows of the runs before, and then each row that this run wrote there.
+pub fn left_files_last()
+    ensures { LeftFilesLast }
 {}
 
 /// What the calls of this crate do to a file is a run as `tables_last` has it: an opening with the writes and syncs after it,

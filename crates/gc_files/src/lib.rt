@@ -12,6 +12,8 @@
 //!   and, for each run in order, the first rows of its own: at least those that were kept, each once, none in part. Without
 //!   `sync` a crash of the machine may take the last rows of a run, and all rows of the runs after it, but never one in
 //!   between.
+//! - A file that a run has left ([`Earlier`]), after a sync and where a row had ended, has all rows of that run over any crash
+//!   ([`laws::left_files_last`]).
 //! - Where only programs end, by themselves or by a kill, each row that went out whole is there, synced or not
 //!   ([`laws::kills_lose_nothing`]).
 //! - An opening, and what is written and synced after it, is such a run ([`laws::calls_are_runs`]).
@@ -36,6 +38,7 @@
 mod appending;
 mod beside;
 mod copying;
+mod earlier;
 pub mod laws;
 mod memory_file;
 mod opening;
@@ -46,8 +49,9 @@ mod system;
 pub use appending::Appending;
 pub use beside::{end_at, open_at};
 pub use copying::copy_lines;
+pub use earlier::Earlier;
 pub use memory_file::{Call, MemoryFile};
 pub use opening::{Refused, open_rows};
-pub use past::{Done, Past};
+pub use past::{Done, Past, Pasts};
 pub use rows_file::{RowsFile, RowsOptions};
 pub use system::{SystemFile, Unfit, open_file};

@@ -88,7 +88,7 @@ fn has_sign<F: Appending>(file: &F, len: u64, sign: &[u8]) -> Result<bool, PortF
 }
 
 // How many bytes a block has up to and including its last line feed; 0 without one.
-fn whole_len(block: &[u8]) -> usize
+pub(crate) fn whole_len(block: &[u8]) -> usize
     ensures len { result ≡ length (whole block.now) }
     ensures within { result ≤ length block.now }
 {

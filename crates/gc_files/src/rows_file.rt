@@ -3,12 +3,13 @@
 ghost use Rattle.std.specs.Prelude.{◌≡◌, ◌<◌, ◌⊎◌, ◌++◌, ◌∷◌, [], true, false, length, Some, OnOk, IsTrue};
 ghost use Rattle.gc_files.specs.Files.{IsKeptFile, Makes};
 ghost use Rattle.gc_files.specs.Noted.{MayNoteSync, Notes, append_front};
-ghost use Rattle.gc_files.specs.Rows.{cuts_none, appended, Puts};
+ghost use Rattle.gc_files.specs.Rows.{cuts_none, appended, whole, Puts};
 ghost use Rattle.gc_files.specs.Runs.{synced};
 ghost use Rattle.std.specs.Io.KnownBytes.{Keeps};
 ghost use Rattle.gc_lines.specs.Ports.{TakesBytes, Fails};
 
 use crate::appending::Appending;
+use crate::opening::whole_len;
 use crate::past::{Done, Past};
 use gc_lines::{Durable, PortFailed, Sink};
 
@@ -36,10 +37,14 @@ pub struct RowsFile<F: Appending> {
     unkept: bool,
     // Whether a write or a sync has failed.
     broken: bool,
+    // Whether the last byte that was appended since the opening ended a row, or none was.
+    ends_line: bool,
     // What was done to the file since it was opened, for proofs alone.
     past: Past,
     // Since its opening the file was only appended to and synced.
     ghost only_appends: { cuts_none past.steps ≡ true },
+    // Where `ends_line` is true, what was appended since the opening is whole rows.
+    ghost whole_rows: { ends_line ≡ true → whole (appended past.steps) ≡ appended past.steps },
     // Where `unkept` is false, all that was appended since the opening was appended before a sync.
     ghost kept: { unkept ≡ false → synced past.steps ≡ appended past.steps },
     // Where `unkept` is false, all that the file holds is on the disk.
@@ -47,7 +52,7 @@ pub struct RowsFile<F: Appending> {
 }
 
 impl<F: Appending> RowsFile<F> {
-    ghost use Rattle.gc_files.specs.Sinks.{life_in, has_failed, torn_in, asks_sync, is_durable, steps_in, taken_in, HasOptions};
+    ghost use Rattle.gc_files.specs.Sinks.{life_in, has_failed, torn_in, asks_sync, ends_line, is_durable, steps_in, taken_in, HasOptions};
 
     // A sink over a file that ends in a whole row, or has none, after its opening cut off `torn` bytes. What the file holds may
     // not be on the disk yet.
@@ -64,6 +69,7 @@ impl<F: Appending> RowsFile<F> {
             torn,
             unkept: true,
             broken: false,
+            ends_line: true,
             past: Past::new(),
         }
     }
@@ -82,6 +88,14 @@ impl<F: Appending> RowsFile<F> {
         self.torn
     }
 
+    /// Whether the last byte that was appended since the opening ended a row, or none was: whether the rows can go on elsewhere.
+    pub fn ends_line(&self) -> bool
+        ensures is { result ≡ ends_line self.now }
+        ensures whole { result ≡ true → whole (taken_in self.now) ≡ taken_in self.now }
+    {
+        self.ends_line
+    }
+
     // Ends the sink: returns the file, and whether all that it holds is known to be on the disk. Where some of it may not be, the
     // file is synced first, also after a failed write, unless it is in doubt.
     pub(crate) fn finish(self) -> (F, bool)
@@ -93,6 +107,7 @@ impl<F: Appending> RowsFile<F> {
             torn: _,
             unkept,
             broken: _,
+            ends_line: _,
             past: _,
         } = self;
         if !unkept {
@@ -147,7 +162,9 @@ impl<F: Appending> Sink for RowsFile<F> {
         self.unkept = true;
         match self.file.append(bytes) {
             Ok(n) => {
-                self.past = self.past.then(&Done::Append(&bytes[..n]));
+                let taken = &bytes[..n];
+                self.ends_line = whole_len(taken) == taken.len();
+                self.past = self.past.then(&Done::Append(taken));
                 Ok(n)
             }
             Err(why) => {

@@ -1,5 +1,5 @@
 -- The acts of a station's link are done by its calls of the system.
-use Rattle.std.proofs.Common.{◌≡◌, ℕ, List, subst, refl, Option}
+use Rattle.std.proofs.Common.{◌≡◌, List, subst, refl}
 use mathlib.Core.Logic.{∥∥₁_elim, ∥∥₁_map, ∥∥₁_prop}
 use Rattle.gc_links.specs.declared.connection.Peer.{Peer}
 use Rattle.gc_links.specs.declared.connection.Peer.TheVariants as peer
@@ -10,7 +10,7 @@ use Rattle.gc_links.specs.Acts.{Act}
 use Rattle.gc_links.specs.Calls.{Call}
 use Rattle.gc_links.specs.LinksMeant.{IsMeant, IsMeantAt, place_of_link}
 use Rattle.gc_links.specs.Placed.{PlaceSeen, AreMeantAt, AreMeantOnTcp, place_seen, place_in, acts_in, calls_in}
-use Rattle.gc_links.specs.Seeing.{path_at}
+use Rattle.gc_links.specs.Seeing.{SignalsSeen, signals_at}
 use Rattle.gc_links.specs.TcpLinks.{peer_place}
 
 -- over TCP, for either kind of peer
@@ -30,8 +30,8 @@ pub link_meant : {R : Type 0} (w : Watched R) → ∥ IsMeant w ∥₁
 link_meant w =
     ∥∥₁_elim (placed_meant w.link) ∥∥₁_prop (λ meant. ∥∥₁_map w.seen (λ seen. record { inner = acts_in w.link; meant = meant; seen = seen }))
 
--- the same, at the place and the path that are asked for, where the link is for these
-pub link_meant_at : {R : Type 0} (w : Watched R) (where_to : PlaceSeen) (until : Option (List ℕ))
-    → (place_of_link w ≡ where_to) × (path_at w.until ≡ until) → ∥ IsMeantAt where_to until w ∥₁
-link_meant_at w where_to until is =
-    subst (λ u. ∥ IsMeantAt where_to u w ∥₁) is.1 (subst (λ p. ∥ IsMeantAt p (path_at w.until) w ∥₁) is.0 (link_meant w))
+-- the same, at the place and with the signals that are asked for, where the link is for these
+pub link_meant_at : {R : Type 0} (w : Watched R) (where_to : PlaceSeen) (signals : SignalsSeen)
+    → (place_of_link w ≡ where_to) × (signals_at w.signals ≡ signals) → ∥ IsMeantAt where_to signals w ∥₁
+link_meant_at w where_to signals is =
+    subst (λ u. ∥ IsMeantAt where_to u w ∥₁) is.1 (subst (λ p. ∥ IsMeantAt p (signals_at w.signals) w ∥₁) is.0 (link_meant w))

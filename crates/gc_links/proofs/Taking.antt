@@ -1,4 +1,4 @@
--- The values of files, by the calls that read them.
+-- The values of files, and when one was changed, by the calls that read them.
 use Rattle.std.proofs.Common.{◌≡◌, ◌+◌, ◌-◌, ◌<◌, ◌≤◌, ◌||◌, ℕ, suc, Bool, List, [], ◌∷◌, ◌++◌, length, take, get_or, slice_set, replicate, refl, sym, ap, subst, inl, ◌∙◌, arith, append_assoc, length-append, Option, Some, None}
 use Rattle.std.proofs.Math.Seq.{set-append_seam}
 use Rattle.std.proofs.lemmas.List.{length-take-le, take_all, take_more}
@@ -6,10 +6,10 @@ use Rattle.gc_values.specs.FileValues.{no_value, no_values, path_of, IsValueIn}
 use Rattle.gc_values.specs.declared.file_value.ValueFile.{ValueFile}
 use Rattle.gc_links.specs.Answered.{file_bytes, file_call}
 use Rattle.gc_links.specs.Calls.{Call, Kept, NotKept, Makes}
-use Rattle.gc_links.specs.Seeing.{AreTaken, AreValues, IsLook, IsSeenAt, IsTakenBy, none, one_more}
+use Rattle.gc_links.specs.Seeing.{AreTaken, AreValues, IsLook, IsSeenAt, IsTakenBy, IsTouch, SignalsSeen, none, one_more}
 use Rattle.gc_links.specs.declared.link.Moment.{Moment}
 use Rattle.gc_links.specs.declared.system.files.SmallFile.{SmallFile}
-use Rattle.gc_links.proofs.Making.{makes_then}
+use Rattle.gc_links.proofs.Making.{makes_none, makes_then}
 
 -- a file was read
 pub kept_taken : {old new : List Call} (path text : List ℕ) (result : Option SmallFile) (file : SmallFile) (bytes : List ℕ) (seconds now : ℕ) (value : List ℕ)
@@ -65,21 +65,60 @@ pub values_all : (files : List ValueFile) (k now : ℕ) (reads : List Call) (all
     → AreValues files now reads all
 values_all files k now reads all h is = subst (λ fs. AreValues fs now reads all) (take_all k files h) is
 
--- a file was looked for, and the others were read
-pub seen_at : {old mid new : List Call} (until : Option (List ℕ)) (files : List ValueFile) (m : Moment) (here stops : Bool) (values : List (List ℕ))
-    → (m.stops || here) ≡ stops → Makes old mid (λ looks. IsLook until looks here) → Makes mid new (λ reads. AreValues files m.utc reads values)
-    → Makes old new (λ looks. IsSeenAt until files looks m (record { elapsed = m.elapsed; utc = m.utc; stops = stops; values = values }))
-seen_at until files m here stops values e looked taken =
-    makes_then (λ looks. IsLook until looks here) (λ reads. AreValues files m.utc reads values)
-    (λ looks. IsSeenAt until files looks m (record { elapsed = m.elapsed; utc = m.utc; stops = stops; values = values }))
-    (λ xs ys look reads. record {
+-- the file by which a cycle is asked for was read
+pub touch_kept : {old new : List Call} (now : Option (List ℕ)) (text : List ℕ) (result : Option SmallFile) (file : SmallFile)
+    → now ≡ Some text → result ≡ Some file → new ≡ old ++ file_call text result ∷ [] → Makes old new (λ reads. IsTouch now reads file.changed)
+touch_kept {old = old} now text result file named is added = record {
+  calls = Kept text file.changed (file_bytes file) ∷ [];
+  added = added ∙ ap (λ r. old ++ file_call text r ∷ []) is;
+  are =
+      subst (λ at. IsTouch at (Kept text file.changed (file_bytes file) ∷ []) file.changed) (sym named)
+      (Kept text file.changed (file_bytes file), refl, (refl, refl));
+}
+
+-- the file by which a cycle is asked for couldn't be read
+pub touch_not_kept : {old new : List Call} (now : Option (List ℕ)) (text : List ℕ) (result : Option SmallFile)
+    → now ≡ Some text → result ≡ None → new ≡ old ++ file_call text result ∷ [] → Makes old new (λ reads. IsTouch now reads 0)
+touch_not_kept {old = old} now text result named is added = record {
+  calls = NotKept text ∷ [];
+  added = added ∙ ap (λ r. old ++ file_call text r ∷ []) is;
+  are = subst (λ at. IsTouch at (NotKept text ∷ []) 0) (sym named) (NotKept text, refl, (refl, refl));
+}
+
+-- no file is named by which a cycle is asked for
+pub touch_none : {old : List Call} (now : Option (List ℕ)) → now ≡ None → Makes old old (λ reads. IsTouch now reads 0)
+touch_none now named = makes_none (λ reads. IsTouch now reads 0) (subst (λ at. IsTouch at [] 0) (sym named) (refl, refl))
+
+-- the file by which a cycle is asked for was read, and then the files with values were
+record IsReadAt (now : Option (List ℕ)) (files : List ValueFile) (utc touched : ℕ) (values : List (List ℕ)) (calls : List Call) : Type 0 where
+  touch_calls : List Call
+  read_calls : List Call
+  touch : IsTouch now touch_calls touched
+  reads : AreValues files utc read_calls values
+  calls_are : calls ≡ touch_calls ++ read_calls
+
+-- the files of the signals were looked for, and the others were read
+pub seen_at : {old mid next new : List Call} (signals : SignalsSeen) (files : List ValueFile) (m : Moment) (here stops : Bool) (touched : ℕ) (values : List (List ℕ))
+    → (m.stops || here) ≡ stops → Makes old mid (λ looks. IsLook signals.until looks here) → Makes mid next (λ reads. IsTouch signals.now reads touched)
+    → Makes next new (λ reads. AreValues files m.utc reads values)
+    → Makes old new (λ looks. IsSeenAt signals files looks m (record { elapsed = m.elapsed; utc = m.utc; stops = stops; touched = touched; values = values }))
+seen_at signals files m here stops touched values e looked touch taken =
+    makes_then (λ looks. IsLook signals.until looks here) (IsReadAt signals.now files m.utc touched values)
+    (λ looks. IsSeenAt signals files looks m (record { elapsed = m.elapsed; utc = m.utc; stops = stops; touched = touched; values = values }))
+    (λ xs rest look read. record {
       here = here;
       look_calls = xs;
       look = look;
+      touched = touched;
+      touch_calls = read.touch_calls;
+      touch = read.touch;
       values = values;
-      read_calls = ys;
-      reads = reads;
-      looks_are = refl;
-      is = ap (λ b. record { elapsed = m.elapsed; utc = m.utc; stops = b; values = values }) (sym e);
+      read_calls = read.read_calls;
+      reads = read.reads;
+      looks_are = ap (λ calls. xs ++ calls) read.calls_are;
+      is = ap (λ b. record { elapsed = m.elapsed; utc = m.utc; stops = b; touched = touched; values = values }) (sym e);
     })
-    looked taken
+    looked
+    (makes_then (λ reads. IsTouch signals.now reads touched) (λ reads. AreValues files m.utc reads values) (IsReadAt signals.now files m.utc touched values)
+    (λ ys zs touch reads. record { touch_calls = ys; read_calls = zs; touch = touch; reads = reads; calls_are = refl })
+    touch taken)

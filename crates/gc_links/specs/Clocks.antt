@@ -14,7 +14,7 @@ in_millis nanos = min (nanos / 1_000_000) (2 ^ 64 - 1)
 -- made when the monotonic clock was read as `start`. Where that clock went back behind the start, no time has gone by. Nothing is
 -- known of the end of the run, nor of values of files
 abbrev pub moment_at : (start now utc : ℕ) → Moment
-moment_at start now utc = record { elapsed = in_millis (now - start); utc = in_millis utc; stops = false; values = no_values }
+moment_at start now utc = record { elapsed = in_millis (now - start); utc = in_millis utc; stops = false; touched = 0; values = no_values }
 
 -- these calls read both clocks, the monotonic one first, and this is the moment
 pub record ReadsClocks (start : ℕ) (moment : Moment) (calls : List Call) : Type 0 where

@@ -6,17 +6,17 @@ use Rattle.gc_links.specs.declared.link.Moment.{Moment}
 use Rattle.gc_links.specs.Acts.{Act, Told, Untold, Put, Cut, Gave, Silent, Ended, Broke, Closed, Opened, Unopened}
 
 -- the parts of an act: a number for its kind, its bytes, its count, and its moment, which is a time on each of two clocks and
--- whether the end of the run was asked for by then, and values of files
+-- whether the end of the run was asked for by then, when the file was changed by which a cycle is asked for, and values of files
 abbrev ActParts : Type 0
-ActParts = ℕ × (List ℕ × (ℕ × (ℕ × (ℕ × (Bool × List (List ℕ))))))
+ActParts = ℕ × (List ℕ × (ℕ × (ℕ × (ℕ × (Bool × (ℕ × List (List ℕ)))))))
 
 -- the moment that is stored with an act that has none
 abbrev no_moment : Moment
-no_moment = record { elapsed = 0; utc = 0; stops = false; values = [] }
+no_moment = record { elapsed = 0; utc = 0; stops = false; touched = 0; values = [] }
 
 -- the parts of an act of this kind, with these bytes, this count and this moment
 abbrev parts : (kind : ℕ) (bytes : List ℕ) (count : ℕ) → Moment → ActParts
-parts kind bytes count m = (kind, (bytes, (count, (m.elapsed, (m.utc, (m.stops, m.values))))))
+parts kind bytes count m = (kind, (bytes, (count, (m.elapsed, (m.utc, (m.stops, (m.touched, m.values)))))))
 
 -- an act as its parts
 abbrev to_parts : Act → ActParts
@@ -34,7 +34,7 @@ to_parts Unopened = parts 10 [] 0 no_moment
 
 -- the moment among the parts of an act
 abbrev moment_of_parts : ActParts → Moment
-moment_of_parts p = record { elapsed = p.1.1.1.0; utc = p.1.1.1.1.0; stops = p.1.1.1.1.1.0; values = p.1.1.1.1.1.1 }
+moment_of_parts p = record { elapsed = p.1.1.1.0; utc = p.1.1.1.1.0; stops = p.1.1.1.1.1.0; touched = p.1.1.1.1.1.1.0; values = p.1.1.1.1.1.1.1 }
 
 -- the act of these parts; a kind above 10, which no act has, counts as 10
 abbrev from_parts : ActParts → Act
@@ -69,5 +69,5 @@ abbrev pub acts_code : Coded (List Act)
 acts_code =
     coded_list
     (code_by ActParts
-    (coded× coded_ℕ (coded× (coded_list coded_ℕ) (coded× coded_ℕ (coded× coded_ℕ (coded× coded_ℕ (coded× coded_bool (coded_list (coded_list coded_ℕ))))))))
+    (coded× coded_ℕ (coded× (coded_list coded_ℕ) (coded× coded_ℕ (coded× coded_ℕ (coded× coded_ℕ (coded× coded_bool (coded× coded_ℕ (coded_list (coded_list coded_ℕ)))))))))
     to_parts from_parts from_parts-to_parts)

@@ -16,6 +16,8 @@ pub struct Moment {
     pub utc: u64,
     /// Whether the end of the run was asked for by this moment. `false` where nobody can ask.
     pub stops: bool,
+    /// When the file by which somebody asks for a cycle was changed last, in milliseconds since 1970. 0: there is none, or nobody can ask.
+    pub touched: u64,
     /// The values of files by this moment, for requests that are sent next; none where no file is read.
     pub values: FileValues,
 }

@@ -48,6 +48,7 @@ impl Timer {
             elapsed: millis_of(now.duration_since(self.start)),
             utc: millis_of(since_1970),
             stops: false,
+            touched: 0,
             values: no_values(),
         })
     }

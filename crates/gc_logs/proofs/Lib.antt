@@ -1,3 +1,4 @@
-pub mod Bounds
+mod LogCuts
 mod LogLines
+mod OnDisk
 mod Ways

@@ -1,3 +1,5 @@
-pub mod Bounds
+pub mod Disk
+pub mod Files
 pub mod Logging
+pub mod Sinks
 pub mod Ways

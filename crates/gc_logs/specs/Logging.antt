@@ -1,6 +1,6 @@
 -- What a log has of the bytes of one direction, as they are sent and received: this project's own. Bytes that aren't written
 -- into a line of the log yet are pending.
-use Rattle.std.specs.Prelude.{◌≡◌, ℕ, ◌-◌, ◌==◌, ◌&&◌, Bool, true, false, not, nat_lt, List, [], ◌∷◌, ◌++◌, length, take, Option, if◌then◌else◌, codes}
+use Rattle.std.specs.Prelude.{◌≡◌, ℕ, ◌-◌, ◌==◌, ◌&&◌, Bool, true, false, not, nat_lt, List, [], ◌∷◌, ◌++◌, length, take, if◌then◌else◌, codes}
 use Rattle.std.specs.Io.KnownBytes.{Appends}
 use Rattle.std.specs.List.{flat_map}
 use Rattle.gc_lines.specs.Answering.{Taken, taken_by}
@@ -13,6 +13,7 @@ use Rattle.gc_texts.specs.declared.log_line.LogMark.TheVariants as mark
 use Rattle.gc_links.specs.Acts.{Act, Told, Put, Cut, Gave, Silent, Ended, Broke, Closed, Opened, Unopened}
 use Rattle.gc_logs.specs.declared.logging.Lines.{Lines}
 use Rattle.gc_logs.specs.declared.logging.Log.{Log}
+use Rattle.gc_logs.specs.declared.logged.Logged.{Logged}
 use Rattle.gc_logs.specs.declared.logging.Unwritten.{Unwritten}
 use Rattle.gc_logs.specs.declared.logging.Direction.{Direction}
 use Rattle.gc_logs.specs.declared.logging.Direction.TheVariants.{Went, Came}
@@ -179,3 +180,7 @@ pub record LogsEntries (old new : LogSeen) (es : List Entry) (sent received : Un
 abbrev pub Logs : (old new : LogSeen) → Act → Type 0
 Logs old new act =
     LogsEntries (record old { utc = utc_of old.utc act }) new (entries_of_act old.went old.came act) (went_after old.went act) (came_after old.came act)
+
+-- the sink that a link's log is written into
+abbrev pub sink_of : {L K : Type 0} → Logged L K → K
+sink_of logged = logged.log.lines.sink

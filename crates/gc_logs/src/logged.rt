@@ -2,8 +2,7 @@
 
 ghost use Rattle.std.specs.Prelude.{◌≡◌, ◌<◌, [], ◌∷◌, length};
 ghost use Rattle.gc_links.specs.Acts.{AddsActs, Closed, clock_act, read_act, put_act, open_act, CameWithin, IsPartIfErr};
-ghost use Rattle.gc_logs.specs.Bounds.{sink_of};
-ghost use Rattle.gc_logs.specs.Logging.{Logs, log_seen};
+ghost use Rattle.gc_logs.specs.Logging.{Logs, log_seen, sink_of};
 
 use crate::logging::Log;
 use gc_lines::{PortFailed, Sink};

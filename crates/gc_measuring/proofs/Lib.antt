@@ -5,6 +5,7 @@ mod Hearing
 mod HandingBack
 mod LostTimes
 mod Measured
+mod Multiples
 mod TextRead
 mod Unbegun
 mod ValueCounts

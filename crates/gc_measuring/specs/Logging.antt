@@ -2,8 +2,8 @@
 use Rattle.std.specs.Prelude.{◌≡◌, ℕ, Bool, true, false, List, Option, codes}
 use Rattle.std.specs.Io.KnownBytes.{Appends}
 
--- what is written before the lines on how a run ended: a line if the run's log isn't complete (`is_lost`), because it ended
--- at its bound or its file failed; else nothing
+-- what is written before the lines on how a run ended: a line if the run's log isn't complete (`is_lost`), because it
+-- couldn't be written; else nothing
 abbrev pub ReportsLoss : (is_lost : Bool) → (old new : Option (List ℕ)) → Type 0
 ReportsLoss true old new = Appends old new (codes "geocom: the log could not be written completely\n")
 ReportsLoss false old new = new ≡ old

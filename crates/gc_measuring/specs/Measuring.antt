@@ -90,7 +90,7 @@ text_by survey = text_in survey.layout survey.labels
 -- what a station measures, in at most `max_turns` acts, of a text with these tasks and labels
 abbrev pub survey_of : Settings → (max_turns : ℕ) → TasksSeen → Survey
 survey_of station max_turns all =
-    record { plan = plan_of station.choice all.setup all.tasks; tasks = all.tasks; max_turns = max_turns; layout = station.layout; labels = labels_of all }
+    record { plan = plan_of station.choice station.layout.run all.setup all.tasks; tasks = all.tasks; max_turns = max_turns; layout = station.layout; labels = labels_of all }
 
 -- what is seen of the link and the book of a run that measures this survey, by what is seen of its ports
 abbrev pub run_in : Survey → PortsSeen → RunSeen

@@ -13,7 +13,7 @@ use crate::codes::report_accepted_busy;
 use crate::counts::report_end_of_run;
 use crate::describing::{outline_descriptions, outline_parameters, report_descriptions};
 use crate::expecting::{outline_expectation, report_expected_counts};
-use crate::plan::{commands_per_cycle, plan_of};
+use crate::plan::plan_of;
 use crate::sendings::{repeats_before, report_disagreeing, report_long_chains};
 use crate::stop::Stop;
 use crate::task_text::hear_task_text;
@@ -30,11 +30,14 @@ use std::alloc::Global;
 use std::io::{self, Write};
 use std::process::ExitCode;
 
-/// Reads the text of a station, and writes on the output what a station would do with it: the setup, and the chains of a cycle
-/// with the names of their targets, the deadlines of their commands in milliseconds, what is expected of their answers, and how often and
-/// after what they may be sent again; the procedures that the text describes, and the columns that rows get for them; and, where cycles have
-/// due moments, by when a row is written. With a `unit` angles are in that unit, and where positionings turn to and where targets are is
-/// written, too. What looks wrong, and is no fault, is reported on the messages, as far as they can be written: angles outside one turn,
+// A second, in milliseconds.
+const SECOND: u64 = 1_000;
+
+/// Reads the text of a station, and writes on the output what a station would do with it: the setup, and the chains of a cycle, and of every
+/// so many cycles, with the names of their targets, the deadlines of their commands in milliseconds, what is expected of their answers, and
+/// how often and after what they may be sent again; the procedures that the text describes, and the columns that rows get for them; and,
+/// where cycles have due moments, when these are, if that goes by the clock, and by when a row is written. With a `unit` angles are in that
+/// unit, and where positionings turn to and where targets are is written, too. What looks wrong, and is no fault, is reported on the messages, as far as they can be written: angles outside one turn,
 /// targets of which the text says where they are, though no command measures their direction, answers of which another number of values is
 /// expected than they have, parameters of raw commands that aren't as described or look like values of files, return codes that are accepted and busy, chains that are too
 /// long for being sent twice, commands whose answers can't agree, names of targets without a command, unwatched targets without a command of
@@ -57,7 +60,8 @@ pub fn check_task_text<S: Source, K: Sink, E: Write>(
 {
     let end = match hear_task_text(alloc, &mut streams.input, &choice) {
         Ok((tasks, text)) => {
-            let plan = plan_of(choice, tasks.setup, tasks.tasks.as_slice());
+            // No run began, and no line depends on when the first cycle is due.
+            let plan = plan_of(choice, 0, tasks.setup, tasks.tasks.as_slice());
             let _ = report_doubts(text.as_slice(), &tasks, &plan, &mut streams.messages);
             write_outline(alloc, &tasks, &plan, unit, &mut streams.output)
         }
@@ -111,9 +115,9 @@ fn write_outline<K: Sink>(
     }
 }
 
-// Writes the outline of these tasks: if there is a setup, a line with the number of its commands and a line for each of them; and
-// then a line with the number of a cycle's commands and a line for each of its chains; with a unit, where targets are; the procedures that
-// the text describes; and, where cycles have due moments, by when a row is written.
+// Writes the outline of these tasks: if there is a setup, a line with the number of its commands and a line for each of them; and then the
+// chains of the cycle (`outline_chains`); with a unit, where targets are; the procedures that the text describes; and, where cycles have due
+// moments, when these are, if that goes by the clock, and by when a row is written.
 fn outline_tasks<W: Write>(
     tasks: &Tasks,
     plan: &Plan,
@@ -129,14 +133,29 @@ fn outline_tasks<W: Write>(
         outline_command(tasks, task, unit, outline)?;
         writeln!(outline)?;
     }
-    let commands = commands_per_cycle(tasks);
-    writeln!(outline, "each cycle, commands: {commands}")?;
     outline_chains(tasks, unit, outline)?;
     if unit.is_some() {
         outline_places(tasks, unit, outline)?;
     }
     outline_descriptions(tasks, outline)?;
+    outline_clock(plan, outline)?;
     outline_bound(tasks, plan, outline)
+}
+
+// Writes when cycles are due, if that goes by the clock.
+fn outline_clock<W: Write>(plan: &Plan, outline: &mut W) -> io::Result<()> {
+    let Some(at) = plan.at else {
+        return Ok(());
+    };
+    let every = plan.every / SECOND;
+    write!(outline, "cycles are due ")?;
+    if at == 0 {
+        write!(outline, "at")?;
+    } else {
+        let after = at / SECOND;
+        write!(outline, "{after} s after")?;
+    }
+    writeln!(outline, " whole multiples of {every} s since 1970, UTC")
 }
 
 // Writes where targets are, if the text says it of any: a line for each, in this unit.
@@ -165,11 +184,14 @@ struct ChainEnd {
 }
 
 // Writes a line for each chain of a cycle: its target, its commands, whether they are sent twice, and how often and after what it may
-// be sent again.
+// be sent again. Before the first of those that have their turn in every so many cycles, one after the other, it writes how many that is, and
+// how many commands they have.
 fn outline_chains<W: Write>(tasks: &Tasks, unit: Option<Unit>, outline: &mut W) -> io::Result<()> {
     // Of the chain that is being written. `None`: no chain is being written.
     let mut chain: Option<ChainEnd> = None;
-    for task in tasks.tasks.iter().skip(tasks.setup) {
+    // In every how many cycles the chains before have their turn. 0: there are none.
+    let mut every = 0;
+    for (place, task) in tasks.tasks.iter().enumerate().skip(tasks.setup) {
         // A later attempt or sending has the commands of the first.
         if task.turn.attempt > 1 {
             chain = chain.map(|end| end_with(end, task));
@@ -177,6 +199,10 @@ fn outline_chains<W: Write>(tasks: &Tasks, unit: Option<Unit>, outline: &mut W) 
         }
         if task.turn.link == 0 {
             end_chain(chain, unit, outline)?;
+            if task.every != every {
+                every = task.every;
+                head_chains(tasks, place, every, outline)?;
+            }
             begin_chain(tasks, task.command.target, outline)?;
             chain = Some(ChainEnd {
                 agree: None,
@@ -187,6 +213,28 @@ fn outline_chains<W: Write>(tasks: &Tasks, unit: Option<Unit>, outline: &mut W) 
         outline_command(tasks, task, unit, outline)?;
     }
     end_chain(chain, unit, outline)
+}
+
+// Writes in every how many cycles the chains from the task at this place on have their turn, and how many commands those have that follow
+// one another.
+fn head_chains<W: Write>(
+    tasks: &Tasks,
+    place: usize,
+    every: u64,
+    outline: &mut W,
+) -> io::Result<()> {
+    let commands = tasks
+        .tasks
+        .iter()
+        .skip(place)
+        .take_while(|task| task.every == every)
+        .filter(|task| task.turn.attempt == 1)
+        .count();
+    if every == 1 {
+        writeln!(outline, "each cycle, commands: {commands}")
+    } else {
+        writeln!(outline, "every {every} cycles, commands: {commands}")
+    }
 }
 
 // What the end of a chain's line says with a task of a later attempt or sending.

@@ -1,12 +1,13 @@
 //! The log of a station: what was on its link, written into a file.
 
-ghost use Rattle.std.specs.Prelude.{◌≡◌, true, None, IfOk, IfErr};
+ghost use Rattle.std.specs.Prelude.{◌≡◌, true, Some, None, IfOk, IfErr};
 ghost use Rattle.std.specs.Option.{is_some};
 ghost use Rattle.std.specs.Process.{exit_status};
 ghost use Rattle.gc_texts.specs.declared.fault.RunFault.{RunFault};
 ghost use Rattle.gc_measuring.specs.Logging.{ReportsLoss};
 ghost use Rattle.gc_measuring.specs.Telling.{ReportsLossAndEnd, ReportsMeasuring, MeasuresAll, stage, views_by};
-ghost use Rattle.gc_logs.specs.Bounds.{has_ended, sink_of};
+ghost use Rattle.gc_logs.specs.Logging.{sink_of};
+ghost use Rattle.gc_logs.specs.Sinks.{bytes_in, has_ended};
 ghost use Rattle.gc_messages.specs.Statuses.{IsStatusUpTo};
 
 use crate::counts::report_end_of_run;
@@ -14,13 +15,12 @@ use crate::measure::run_station_text;
 use crate::spot::Spot;
 use crate::station::note_stop;
 use crate::stop::Stop;
-use gc_files::{Appending, RowsFile, RowsOptions, SystemFile, Unfit, open_file, open_rows};
 use gc_lines::{Durable, PortFailed, Sink, Source};
-use gc_links::Link;
-use gc_logs::{Bounded, Logged};
+use gc_links::{Link, millis_of};
+use gc_logs::{FilesAt, Logged, Rolling, Rolls};
 use gc_messages::{FilesSeen, LogSeen, Noticed, Streams, note_files};
 use gc_station::{Kept, Tally};
-use gc_texts::RunFault;
+use gc_texts::{RunFault, has_date};
 use gc_words::LogPlace;
 use std::alloc::Global;
 use std::cell::Cell;
@@ -28,102 +28,82 @@ use std::fs::File;
 use std::io::{self, Write};
 use std::process::ExitCode;
 use std::rt::Files;
+use std::time::{Clock, Duration, SystemTime, UNIX_EPOCH};
 
-// The form of the moment that begins each line of a log, with the space after it. Each 0 stands for any digit.
-const MOMENT: &[u8] = b"0000-00-00T00:00:00.000Z ";
-
-// The first bytes of the marks of lines, which follow the moment: what came, what went, and what became of the connection.
-const MARKS: &[u8] = b"<>-";
-
-// The length of `MOMENT` and the first byte of a mark.
-const FRONT: usize = 26;
-
-// Whether `front`, the first `FRONT` bytes of a file, begins as a log does: with a moment of the form of `MOMENT`, and then one
-// of `MARKS`. A shorter file has to agree only as far as it goes; an empty one counts as a log.
-fn begins_log(front: &[u8]) -> bool {
-    front.iter().enumerate().all(|(at, b)| match MOMENT.get(at) {
-        Some(b'0') => b.is_ascii_digit(),
-        Some(form) => b == form,
-        None => MARKS.contains(b),
-    })
-}
-
-// Opens the file of a log, which is made if the path is free, and cuts off a torn last line. The file is refused, and stays as it
-// is, if it can't be opened or read, is no regular file, doesn't begin as a log does, or is held by another program or by the
-// records of this one. It is refused, too, if the cut or its sync fails; the cut may be done then. A file that can't be locked
-// for another reason is taken unlocked.
-fn open_log<R: Files<File = File>>(rt: &R, path: &str) -> Result<RowsFile<SystemFile>, Unfit> {
-    let file = open_file(rt, path)?;
-    if file.hold() == Err(Unfit::Held) {
-        return Err(Unfit::Held);
-    }
-    let mut front = [0u8; FRONT];
-    let count = file.read_at(0, &mut front).map_err(|_| Unfit::Failed)?;
-    if !begins_log(&front[..count]) {
-        return Err(Unfit::Foreign);
-    }
-    let options = RowsOptions {
-        head: b"",
-        sign: b"",
-        sync: false,
-    };
-    match open_rows(file, options) {
-        Ok(rows) => Ok(rows),
-        Err((why, _)) => Err(why.into()),
-    }
-}
-
-/// Opens the log at `log`, and notes in `noticed` how many bytes of a torn line were cut off. The file grows to `log.most` bytes
-/// at most. If fewer than 100 bytes are left until then, or its length can't be read, nothing is appended. Returns `None` if no
-/// log is asked for, and fails with `Log` if the file can't be had as a log.
-pub(crate) fn log_at<'a, R: Files<File = File>>(
-    rt: &R,
+/// Opens the log at `log`, as it is now if its path has a date, and notes in `noticed` how many bytes of a torn line were cut off. No file of
+/// the log grows above `log.most` bytes. Returns `None` if no log is asked for, and fails with `Log` if its files can't be had as a log, or
+/// its path has a date and the clock can't be read.
+pub(crate) fn log_at<'a, R: Clock + Files<File = File>>(
+    rt: &'a R,
+    alloc: Global,
     noticed: &'a Cell<Noticed>,
-    log: Option<LogPlace<'_>>,
-) -> Result<Option<LogSink<'a, RowsFile<SystemFile>>>, RunFault>
+    log: Option<LogPlace<'a>>,
+) -> Result<Option<LogSink<'a, FilesAt<'a, R>>>, RunFault>
     ensures logged { IfOk result (λ opened. is_some opened ≡ is_some log.entry) }
     ensures fault { IfErr result (λ fault. (is_some log.entry ≡ true) × (fault ≡ RunFault.Log)) }
 {
     let Some(log) = log else {
         return Ok(None);
     };
-    let Ok(rows) = open_log(rt, log.path) else {
+    let Some(utc) = moment_for(rt, log.path) else {
         return Err(RunFault::Log);
     };
-    note_torn(noticed, rows.torn());
-    let room = room_in(rows.file(), log.most);
+    let Ok(files) = FilesAt::open(rt, alloc, log.path, utc, log.most < u64::MAX) else {
+        return Err(RunFault::Log);
+    };
+    note_torn(noticed, files.torn());
     Ok(Some(LogSink {
-        sink: Bounded::new(rows, room),
+        sink: Rolling::new(files, log.most),
         noticed,
     }))
 }
 
-// How many bytes may be appended until the file has `most`; 0 if it has more already, or its length can't be read.
-fn room_in<F: Appending>(file: &F, most: u64) -> u64 {
-    match file.len() {
-        Ok(len) => most.saturating_sub(len),
-        Err(_) => 0,
+// The moment for which a path is made, in milliseconds since 1970: now; without a date in the path any. `None`: the clock can't be read.
+fn moment_for<R: Clock>(rt: &R, path: &str) -> Option<u64> {
+    if !has_date(path) {
+        return Some(0);
+    }
+    let Ok(now) = SystemTime::now(rt) else {
+        return None;
+    };
+    let since_1970 = now.duration_since(UNIX_EPOCH).unwrap_or(Duration::ZERO);
+    Some(millis_of(since_1970))
+}
+
+/// Files of a log that may have had torn lines.
+pub(crate) trait Torn {
+    /// How many bytes of torn lines were cut off of the files.
+    fn torn_bytes(&self) -> u64;
+}
+
+impl<'a, R: Files<File = File>> Torn for FilesAt<'a, R> {
+    fn torn_bytes(&self) -> u64 {
+        self.torn()
     }
 }
 
-/// The sink of a log. If a write fails, it notes that the log has ended, at its bound or because the file failed.
+/// The sink of a log, in files at a path. If a write fails, it notes that the log can't be written and ends.
 #[derive(Drop)]
-pub(crate) struct LogSink<'a, K> {
-    sink: Bounded<K>,
+pub(crate) struct LogSink<'a, K: Rolls> {
+    sink: Rolling<K>,
     noticed: &'a Cell<Noticed>,
 }
 
-impl<'a, K: Sink> Sink for LogSink<'a, K> {
-    ghost taken = { λ _. None };
+impl<'a, K: Rolls + Torn> Sink for LogSink<'a, K> {
+    ghost taken = { λ n. Some (bytes_in n.sink) };
 
     ghost failed = { λ n. has_ended n.sink };
 
-    // Writes into the bounded sink. If that fails it notes whether the log is full, or was lost.
+    // Writes into the files. Notes how many bytes of a torn line were cut off, if lines go on in a file that had one; and if the write fails,
+    // that the log was lost.
     fn write(&mut self, bytes: &[u8]) -> Result<usize, PortFailed> {
         match self.sink.write(bytes) {
-            Ok(n) => Ok(n),
+            Ok(n) => {
+                note_torn(self.noticed, self.sink.files().torn_bytes());
+                Ok(n)
+            }
             Err(failed) => {
-                note_log(self.noticed, end_seen(&self.sink));
+                note_loss(self.noticed);
                 Err(failed)
             }
         }
@@ -134,35 +114,34 @@ impl<'a, K: Sink> Sink for LogSink<'a, K> {
     }
 }
 
-// What is seen of the end of a log whose sink failed: the log is full, or its file failed.
-fn end_seen<K: Sink>(sink: &Bounded<K>) -> LogSeen {
-    if sink.is_full() {
-        LogSeen::Full
-    } else {
-        LogSeen::Lost
-    }
-}
-
-// Notes what became of the log.
-fn note_log(noticed: &Cell<Noticed>, log: LogSeen) {
-    let files = noticed.get().files;
-    note_files(noticed, FilesSeen { log, ..files });
-}
-
-// Notes how many bytes of a torn line of the log were cut off (`torn`).
-fn note_torn(noticed: &Cell<Noticed>, torn: u64) {
+// Notes that the log can't be written any more.
+fn note_loss(noticed: &Cell<Noticed>) {
     let files = noticed.get().files;
     note_files(
         noticed,
         FilesSeen {
-            log_torn: torn,
+            log: LogSeen::Lost,
             ..files
         },
     );
 }
 
+// Notes how many bytes of torn lines of the log were cut off (`torn`), unless that is noted.
+fn note_torn(noticed: &Cell<Noticed>, torn: u64) {
+    let files = noticed.get().files;
+    if torn != files.log_torn {
+        note_files(
+            noticed,
+            FilesSeen {
+                log_torn: torn,
+                ..files
+            },
+        );
+    }
+}
+
 /// Measures over a link with a log, and reports how the run ended, as `measure_over` does. If the log isn't complete, because it
-/// ended at its bound or its file failed, a line says so before that. Returns the streams and the status of the report, or the
+/// couldn't be written, a line says so before that. Returns the streams and the status of the report, or the
 /// error if a line of it couldn't be written. What was seen of link and output at each act is noted in `kept`.
 pub(crate) fn measure_logged<L: Link, G: Sink, S: Source, K: Durable, E: Write>(
     alloc: Global,

@@ -144,7 +144,12 @@ fn measure<L: Link, S: Source, K: Durable, E: Write>(
         described,
         columns,
     } = tasks;
-    let plan = plan_of(spot.station.choice, setup, tasks.as_slice());
+    let plan = plan_of(
+        spot.station.choice,
+        spot.station.layout.run,
+        setup,
+        tasks.as_slice(),
+    );
     let mut reporter = Reporter::new(spot.station.choice.watch, spot.station.layout.run, messages);
     reporter.begin(spot.site.place, commands);
     let mut records = Records {

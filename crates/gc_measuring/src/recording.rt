@@ -1,13 +1,13 @@
 //! A station that appends its records, as rows, to a file that outlasts the program.
 
-ghost use Rattle.std.specs.Prelude.{◌≡◌, ℕ, ◌≤◌, true, List, Option, Some, Ok, IfOk, IfSome, OnErr, length, map};
+ghost use Rattle.std.specs.Prelude.{◌≡◌, ◌≤◌, true, Some, Ok, IfOk, IfSome, OnErr, length, map};
 ghost use Rattle.std.specs.Io.KnownBytes.{Appends};
 ghost use Rattle.std.specs.Option.{is_some};
 ghost use Rattle.std.specs.Process.{exit_status};
 ghost use Rattle.gc_lines.specs.Ports.{WritesIfOk};
 ghost use Rattle.gc_links.specs.LinksMeant.{IsMeantAt};
 ghost use Rattle.gc_links.specs.Placed.{PlaceSeen, place_seen};
-ghost use Rattle.gc_links.specs.Seeing.{path_at};
+ghost use Rattle.gc_links.specs.Seeing.{SignalsSeen, signals_at};
 ghost use Rattle.gc_measuring.specs.Recording.{IsBegunAt, ReportsOpening, fault_of_unfit, opened_lines, rotation_line, unfit_text};
 ghost use Rattle.gc_measuring.specs.Appending.{AppendsToFile, appending_run};
 ghost use Rattle.gc_measuring.specs.Noted.{IsMeantRecord};
@@ -91,7 +91,7 @@ fn held(alloc: Global, bytes: &[u8]) -> Result<&'static [u8], Unfit>
 // columns beside those of the table's quantities, each of which is synced if `recording.sync` is set. Writes how many rows were copied and
 // how many bytes of an incomplete row were cut off, if any were. Returns the file, and whether this could be written. `Err`: why the file
 // can't be had; then there is no message.
-fn open_records<'a, R: Files<File = File>, E: Write>(
+fn open_records<'a, R: Files<File = File> + Clock, E: Write>(
     rt: &'a R,
     alloc: Global,
     spot: Spot<'a>,
@@ -136,8 +136,8 @@ impl<'a, R: Net<Listener = TcpListener, Stream = TcpStream> + Clock + Files<File
     pub fn end(self) -> (Option<LinkRecord>, Past)
         ensures acts { acts_noted result.0 ≡ acts_of self.entry.link }
         ensures began { began_noted result.0 ≡ began_of self.entry.link }
-        ensures meant { (where_to : PlaceSeen) (until : Option (List ℕ)) → IfSome self.entry.link (λ link. ∥ IsMeantAt where_to until link ∥₁)
-            → IfSome result.0 (λ left. ∥ IsMeantRecord where_to until left ∥₁) }
+        ensures meant { (where_to : PlaceSeen) (signals : SignalsSeen) → IfSome self.entry.link (λ link. ∥ IsMeantAt where_to signals link ∥₁)
+            → IfSome result.0 (λ left. ∥ IsMeantRecord where_to signals left ∥₁) }
         ensures rows { appended result.1.steps ≡ bytes_in self.entry.file }
     {
         let Appended { file, link } = self;
@@ -152,7 +152,8 @@ impl<'a, R: Net<Listener = TcpListener, Stream = TcpStream> + Clock + Files<File
 /// table in it has these columns beside those of the table's quantities: those of the text that the streams give; and the link's
 /// moments have the values of these files, which that text names. If the file can't be
 /// had, nothing is read or sent, and the fault, which is reported with status 1, is `RecordsUnopened`, `RecordsHeld`, `RecordsForeign`,
-/// or `Output` if a call of the system failed, a read gave nothing, or memory ran out. For `RecordsForeign` the messages also say how to
+/// or `Output` if a call of the system failed, a read gave nothing, or memory ran out. If a date is in the path, the file is that of the date,
+/// and rows go on in another one when the date changes (`Followed`). For `RecordsForeign` the messages also say how to
 /// rotate the file. What was in the file stays, but for half a row at its end, which is cut off. If a mark is beside the file, as after a
 /// run that was killed or a sync that failed, the rows are copied to a new file. Cut and copy are reported. If the path no longer leads
 /// to the file, rows go on in a new one there, if it can be had.
@@ -206,7 +207,7 @@ pub fn append_at<
     ensures output { result.0.output ≡ streams.output }
 
     // The acts of the link that is handed back are what the system's calls did, at the site's place.
-    ensures place { IfSome result.2 (λ left. IfSome left.link (λ link. ∥ IsMeantAt (place_seen spot.entry.site.place) (path_at spot.entry.site.until) link ∥₁)) }
+    ensures place { IfSome result.2 (λ left. IfSome left.link (λ link. ∥ IsMeantAt (place_seen spot.entry.site.place) (signals_at spot.entry.site.signals) link ∥₁)) }
 
     // The file that is handed back is at the recording's path, and syncs exactly if the recording asks for that.
     ensures path { IfSome result.2 (λ left. path_of left.file ≡ recording.entry.path.now) }
@@ -292,7 +293,7 @@ pub fn append_text_at<
     ensures output { result.0.output ≡ streams.output }
 
     // The acts of the link that is handed back are what the system's calls did, at the site's place.
-    ensures place { IfSome result.2 (λ left. IfSome left.link (λ link. ∥ IsMeantAt (place_seen spot.entry.site.place) (path_at spot.entry.site.until) link ∥₁)) }
+    ensures place { IfSome result.2 (λ left. IfSome left.link (λ link. ∥ IsMeantAt (place_seen spot.entry.site.place) (signals_at spot.entry.site.signals) link ∥₁)) }
 
     // The file that is handed back is at the recording's path, and syncs exactly if the recording asks for that.
     ensures path { IfSome result.2 (λ left. path_of left.file ≡ recording.entry.path.now) }
@@ -318,7 +319,6 @@ pub fn append_text_at<
         output,
         messages,
     };
-    let path = recording.path;
     let (left, ended, appended) = append_at(
         rt,
         alloc,
@@ -336,7 +336,7 @@ pub fn append_text_at<
     } = left;
     if let Some(appended) = &appended {
         // If this line can't be written, the fault's line is written all the same.
-        let _ = tell_refusal(appended, path, &mut messages);
+        let _ = tell_refusal(appended, &mut messages);
     }
     let streams = Streams {
         input,
@@ -346,13 +346,13 @@ pub fn append_text_at<
     (streams, ended, appended)
 }
 
-// If the system refused to write or to sync the file that takes the rows, writes a line with its path and why. `Err`: that line couldn't
+// If the system refused to write or to sync the file that takes the rows, writes a line with the path that it has, and why. `Err`: that line couldn't
 // be written.
 fn tell_refusal<R: Files<File = File>, E: Write>(
     appended: &Appended<'_, R>,
-    path: &str,
     messages: &mut E,
 ) -> io::Result<()> {
+    let path = appended.file.here();
     match appended.file.rows.file().refusal() {
         Some(why) => writeln!(messages, "geocom: {path}: {why}"),
         None => Ok(()),

@@ -84,6 +84,7 @@ impl Signs {
                 elapsed: 0,
                 utc: 0,
                 stops: false,
+                touched: 0,
                 values: no_values(),
             },
             elapsed: 0,

@@ -1,11 +1,11 @@
 //! A station at a place: it opens its log and its link, measures, and reports how that ended.
 
-ghost use Rattle.std.specs.Prelude.{◌≡◌, ℕ, List, [], Option, None, Some, Ok, false, IfOk, IfErr, IfSome, OnOk, map};
+ghost use Rattle.std.specs.Prelude.{◌≡◌, [], None, Some, Ok, false, IfOk, IfErr, IfSome, OnOk, map};
 ghost use Rattle.std.specs.Option.{is_some};
 ghost use Rattle.std.specs.Process.{exit_status};
 ghost use Rattle.gc_links.specs.LinksMeant.{IsMeantAt};
 ghost use Rattle.gc_links.specs.Placed.{PlaceSeen, place_seen};
-ghost use Rattle.gc_links.specs.Seeing.{path_at};
+ghost use Rattle.gc_links.specs.Seeing.{SignalsSeen, signals_at};
 ghost use Rattle.gc_measuring.specs.Noted.{IsMeantRecord};
 ghost use Rattle.gc_measuring.specs.Stops.{fault_without_link, IsFaultWithoutLink};
 ghost use Rattle.gc_measuring.specs.Telling.{ReportsMeasuring, MeasuresAll, ReportsAtSite, MeasuresAllAtLink, CannotBegin, acts_noted, acts_of, began_noted, began_of, stage, views_by};
@@ -20,10 +20,9 @@ use crate::spot::Spot;
 use crate::stop::Stop;
 use crate::task_text::{ReadText, hear_task_text};
 use gc_ask::fault_of_unusable;
-use gc_files::{RowsFile, SystemFile};
 use gc_lines::{Durable, FromReader, Source};
 use gc_links::{Link, LinkRecord, Moment, Unusable, ValueFiles, Watched};
-use gc_logs::Logged;
+use gc_logs::{FilesAt, Logged};
 use gc_messages::{Heard, Noticing, Streams};
 use gc_station::{Kept, Tally};
 use gc_texts::RunFault;
@@ -85,7 +84,7 @@ pub fn measure_text_at<
         (stage streams None (Some []) kept.old.turns) (stage result.0 (began_of result.2) (acts_of result.2) kept.new.turns) (exit_status status)) }
 
     // The acts of the link that is handed back are what the system's calls did, at the site's place.
-    ensures place { IfSome result.2 (λ link. ∥ IsMeantAt (place_seen spot.entry.site.place) (path_at spot.entry.site.until) link ∥₁) }
+    ensures place { IfSome result.2 (λ link. ∥ IsMeantAt (place_seen spot.entry.site.place) (signals_at spot.entry.site.signals) link ∥₁) }
     ensures bound { IsStatusUpTo 1 result.1 }
 {
     let read = match text_at(alloc, spot, &mut streams) {
@@ -123,10 +122,10 @@ pub fn measure_text_at<
 
 /// Measures at a site, and reports how the run ended: with status 0 by the counts, or with status 1 by the fault (`Err`: the
 /// messages couldn't be written). If the site has a log, its file is opened first, and what was on the link is appended to it. If
-/// the site's file `until` is there, the run ends between two chains, or two attempts of one, as a run that is done. The link's moments have
-/// the values of these files. Beside the
+/// the site's file `until` is there, the run ends between two chains, or two attempts of one, as a run that is done; each time that its file
+/// `now` is changed, a cycle begins. The link's moments have the values of these files. Beside the
 /// faults of a run, the fault is `Log` if no log can be had, `Clock` if the clock can't be read, and what is wrong with the
-/// device if the place is one and can't be used. That a log isn't complete, because it ended at its bound or its file failed, is
+/// device if the place is one and can't be used. That a log isn't complete, because it couldn't be written, is
 /// reported before that, and changes no status. The streams are handed back, and the link, if there was one. What was seen of link
 /// and output at each act is noted in `kept`.
 pub fn measure_at<
@@ -161,10 +160,10 @@ pub fn measure_at<
         (stage streams None (Some []) kept.old.turns) (stage result.0 (began_of result.2) (acts_of result.2) kept.new.turns)) }
 
     // The acts of the link that is handed back are what the system's calls did, at the site's place.
-    ensures place { IfSome result.2 (λ link. ∥ IsMeantAt (place_seen spot.entry.site.place) (path_at spot.entry.site.until) link ∥₁) }
+    ensures place { IfSome result.2 (λ link. ∥ IsMeantAt (place_seen spot.entry.site.place) (signals_at spot.entry.site.signals) link ∥₁) }
     ensures bound { IsStatusUpTo 1 result.1 }
 {
-    let Opened { link, log } = match open_link_and_log(rt, spot, files) {
+    let Opened { link, log } = match open_link_and_log(rt, alloc, spot, files) {
         Ok(opened) => opened,
         Err(fault) => {
             let ended = report_end_of_run(Err(Stop::Run(fault)), &mut streams.messages);
@@ -196,8 +195,8 @@ pub fn record_of<'a, R>(link: Option<Watched<'a, R>>) -> Option<LinkRecord>
     ensures began { began_noted result ≡ began_of link.entry }
 
     // If the link's acts are what the system's calls did at this place, so are these acts, by the calls that are left of it.
-    ensures meant { (where_to : PlaceSeen) (until : Option (List ℕ)) → IfSome link.entry (λ link. ∥ IsMeantAt where_to until link ∥₁)
-        → IfSome result (λ left. ∥ IsMeantRecord where_to until left ∥₁) }
+    ensures meant { (where_to : PlaceSeen) (signals : SignalsSeen) → IfSome link.entry (λ link. ∥ IsMeantAt where_to signals link ∥₁)
+        → IfSome result (λ left. ∥ IsMeantRecord where_to signals left ∥₁) }
 {
     match link {
         Some(link) => Some(link.into_record()),
@@ -215,9 +214,9 @@ fn hand_back<'a, R>(
     link: Watched<'a, R>,
 ) -> (io::Result<ExitCode>, Option<Watched<'a, R>>)
     ensures same { IfOk result.0 (λ status. (ended ≡ Ok status) × (result.1 ≡ Some link.entry) × (link.entry.began.utc ≡ began.utc)) }
-    ensures place { IfSome result.1 (λ link. ∥ IsMeantAt (place_seen site.entry.place) (path_at site.entry.until) link ∥₁) }
+    ensures place { IfSome result.1 (λ link. ∥ IsMeantAt (place_seen site.entry.place) (signals_at site.entry.signals) link ∥₁) }
 {
-    if link.is_for(site.place, site.until) && link.began().utc == began.utc {
+    if link.is_for(site.place, site.signals) && link.began().utc == began.utc {
         (ended, Some(link))
     } else {
         (Err(io::Error::from(ErrorKind::Other)), None)
@@ -226,9 +225,9 @@ fn hand_back<'a, R>(
 
 // What a run measures over: a link, and its log, if one is asked for.
 #[derive(Drop)]
-struct Opened<'a, R> {
+struct Opened<'a, R, G> {
     link: Watched<'a, R>,
-    log: Option<LogSink<'a, RowsFile<SystemFile>>>,
+    log: Option<G>,
 }
 
 // Opens the log, if one is asked for, and then makes the link, whose moments have the values of these files. Fails with `Log` if the log can't be had, else with the fault of
@@ -236,12 +235,17 @@ struct Opened<'a, R> {
 fn open_link_and_log<
     'a,
     R: Net<Listener = TcpListener, Stream = TcpStream> + Clock + Files<File = File>,
->(rt: &'a R, spot: Spot<'a>, files: ValueFiles) -> Result<Opened<'a, R>, RunFault>
+>(
+    rt: &'a R,
+    alloc: Global,
+    spot: Spot<'a>,
+    files: ValueFiles,
+) -> Result<Opened<'a, R, LogSink<'a, FilesAt<'a, R>>>, RunFault>
     ensures logged { IfOk result (λ opened. is_some opened.log ≡ is_some spot.entry.site.log) }
     ensures fresh { IfOk result (λ opened. opened.link.history.acts ≡ []) }
     ensures fault { IfErr result (λ fault. CannotBegin (is_some spot.entry.site.log) fault) }
 {
-    let log = log_at(rt, spot.noticed, spot.site.log)?;
+    let log = log_at(rt, alloc, spot.noticed, spot.site.log)?;
     match link_at(rt, spot.site, files) {
         Ok(link) => Ok(Opened { link, log }),
         Err(fault) => {
@@ -261,7 +265,7 @@ fn link_at<'a, R: Net<Listener = TcpListener, Stream = TcpStream> + Clock + File
     ensures fresh { IfOk result (λ link. link.history.acts ≡ []) }
     ensures fault { IfErr result (λ fault. IsFaultWithoutLink fault) }
 {
-    match Watched::new(rt, site.place, site.until, files) {
+    match Watched::new(rt, site.place, site.signals, files) {
         Ok(link) => Ok(link),
         Err(reason) => Err(fault_without_link(reason)),
     }

@@ -1,2 +1,2 @@
-mod Leaving
+pub mod Leaving
 mod ServedEnds

@@ -14,6 +14,14 @@ range_line = refusal_line (codes "a number on the command line is out of range")
 abbrev pub stale_line : List ℕ
 stale_line = refusal_line (codes "--stale is below --every: the run would end before its second cycle")
 
+-- the line that says that a station's cycles are to be due by the clock, but not before the next whole multiple of their period
+abbrev pub at_line : List ℕ
+at_line = refusal_line (codes "--at is not below --every: cycles are due so long after its whole multiples")
+
+-- the line that says that in the name of a file a percent sign begins no part of a date
+abbrev pub date_line : List ℕ
+date_line = refusal_line (codes "in the name of --append or --log a % begins none of %Y, %m, %d, %H and %%")
+
 -- the line that says that a word names no unit of angles
 abbrev pub unit_line : List ℕ
 unit_line = refusal_line (codes "--unit is gon or degree")

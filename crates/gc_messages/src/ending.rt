@@ -5,7 +5,7 @@ ghost use Rattle.std.specs.Process.{exit_status};
 ghost use Rattle.gc_lines.specs.Answering.{serve_fault_text};
 ghost use Rattle.gc_texts.specs.Faults.{run_fault_text, Tells};
 ghost use Rattle.gc_messages.specs.Ends.{is_port, TellsAt};
-ghost use Rattle.gc_messages.specs.Refusals.{Refuses, refusal_line, range_line, stale_line, unit_line, place_line};
+ghost use Rattle.gc_messages.specs.Refusals.{Refuses, at_line, date_line, refusal_line, range_line, stale_line, unit_line, place_line};
 ghost use Rattle.gc_messages.specs.Statuses.{IsStatusUpTo};
 
 use crate::noting::Noting;
@@ -37,6 +37,27 @@ pub fn refuse_stale<E: Write>(messages: &mut E) -> io::Result<ExitCode>
 {
     refuse(
         "--stale is below --every: the run would end before its second cycle",
+        messages,
+    )
+}
+
+/// Reports, with status 2, that a station's cycles are to be due by the clock, but not before the next whole multiple of their period.
+/// `Err`: the messages couldn't be written.
+pub fn refuse_at<E: Write>(messages: &mut E) -> io::Result<ExitCode>
+    ensures told { IfOk result (λ status. Refuses at_line (exit_status status) (E.contents messages.old) (E.contents messages.new)) }
+{
+    refuse(
+        "--at is not below --every: cycles are due so long after its whole multiples",
+        messages,
+    )
+}
+
+/// Reports, with status 2, that in the name of a file a percent sign begins no part of a date. `Err`: the messages couldn't be written.
+pub fn refuse_date<E: Write>(messages: &mut E) -> io::Result<ExitCode>
+    ensures told { IfOk result (λ status. Refuses date_line (exit_status status) (E.contents messages.old) (E.contents messages.new)) }
+{
+    refuse(
+        "in the name of --append or --log a % begins none of %Y, %m, %d, %H and %%",
         messages,
     )
 }

@@ -19,8 +19,6 @@ pub const MINUTE: u64 = 60_000;
 pub enum LogSeen {
     /// It hasn't ended, or there is no log.
     Whole,
-    /// A line had no room in it, and it ends there.
-    Full,
     /// It couldn't be written, and ends.
     Lost,
 }
@@ -30,16 +28,20 @@ pub enum LogSeen {
 pub struct FilesSeen {
     /// The log.
     pub log: LogSeen,
-    /// How many bytes of an incomplete line of the log were cut off.
+    /// How many bytes of incomplete lines of the log were cut off, of all its files together.
     pub log_torn: u64,
     /// How many times the rows went on in a new file, because the path no longer led to the one before.
     pub moves: u64,
+    /// How many times the rows went on in the file of another date.
+    pub dates: u64,
     /// How many rows of the last of these new files were copied (`open_at`), as after a kill or a failed sync.
     pub copied: u64,
     /// How many bytes of an incomplete row were cut off the last of these new files.
     pub torn: u64,
     /// Whether the path isn't known to lead to the rows' file, and no new one can be had there.
     pub is_astray: bool,
+    /// Whether that is so because the date's path is another one than the file's, and no file can be had there.
+    pub by_date: bool,
 }
 
 impl FilesSeen {
@@ -49,9 +51,11 @@ impl FilesSeen {
             log: LogSeen::Whole,
             log_torn: 0,
             moves: 0,
+            dates: 0,
             copied: 0,
             torn: 0,
             is_astray: false,
+            by_date: false,
         }
     }
 }
@@ -116,11 +120,17 @@ impl FilesNews {
         self.report_astray(messages)
     }
 
-    // Writes, if that is due, that the rows' file was moved or deleted, that no new one can be opened at its path, and that rows
-    // are still written to the old one.
+    // Writes, if that is due, that the rows' file was moved or deleted, or that its date has passed, that no new one can be opened at its
+    // path, and that rows are still written to the old one.
     fn report_astray<E: Write>(self, messages: &mut E) -> io::Result<()> {
         if !self.tells_astray {
             return Ok(());
+        }
+        if self.now.by_date {
+            return writeln!(
+                messages,
+                "geocom: no file of records can be opened at the path of the date: rows are still written to the one before"
+            );
         }
         writeln!(
             messages,
@@ -136,10 +146,6 @@ impl FilesNews {
         }
         match self.now.log {
             LogSeen::Whole => Ok(()),
-            LogSeen::Full => writeln!(
-                messages,
-                "geocom: the log is full: what is sent or received from here on is not in it"
-            ),
             LogSeen::Lost => writeln!(
                 messages,
                 "geocom: the log can't be written and ends here: measuring continues"
@@ -149,8 +155,8 @@ impl FilesNews {
 
     // Writes how many bytes of an incomplete line of the log were cut off, if that is new.
     fn report_torn_log<E: Write>(self, messages: &mut E) -> io::Result<()> {
-        let torn = self.now.log_torn;
-        if torn == self.before.log_torn {
+        let torn = self.now.log_torn.saturating_sub(self.before.log_torn);
+        if torn == 0 {
             return Ok(());
         }
         writeln!(
@@ -159,15 +165,18 @@ impl FilesNews {
         )
     }
 
-    // Writes that the rows go on in a new file, if that is new, and of the last such file what was copied into it and cut off it.
+    // Writes that the rows go on in a new file because the one before was moved or deleted, if that is new, and of the last new file, also
+    // of one that its date brought, what was copied into it and cut off it.
     fn report_moves<E: Write>(self, messages: &mut E) -> io::Result<()> {
-        if self.now.moves == self.before.moves {
+        if self.now.moves == self.before.moves && self.now.dates == self.before.dates {
             return Ok(());
         }
-        writeln!(
-            messages,
-            "geocom: the file of records was moved or deleted: rows continue in a new one at its path"
-        )?;
+        if self.now.moves != self.before.moves {
+            writeln!(
+                messages,
+                "geocom: the file of records was moved or deleted: rows continue in a new one at its path"
+            )?;
+        }
         report_copied(self.now.copied, messages)?;
         report_torn(self.now.torn, messages)
     }

@@ -1,5 +1,6 @@
 //! The messages of the program: how an end is reported, with the system's reason, and what is noticed of a line, of its
-//! connection and of files; the standard streams, one of which takes them; and what went through a stream, as proofs see it.
+//! connection and of files; the standard streams, one of which takes them; and what went through a stream, as proofs see it. A file of
+//! rows is followed at its path, over moves and changes of date; the files that it leaves last ([`laws::earlier_files_last`]).
 #![tactic(auto)]
 
 mod blanks;
@@ -7,6 +8,7 @@ mod ending;
 mod files;
 mod following;
 mod heard;
+pub mod laws;
 mod lossy;
 mod noting;
 mod oddity;
@@ -21,8 +23,8 @@ mod unasked;
 
 pub use blanks::report_blanks;
 pub use ending::{
-    refuse_numbers, refuse_place, refuse_stale, refuse_unit, report_end, report_end_at,
-    report_served, tell_place,
+    refuse_at, refuse_date, refuse_numbers, refuse_place, refuse_stale, refuse_unit, report_end,
+    report_end_at, report_served, tell_place,
 };
 pub use files::{FilesNews, FilesSeen, FilesTold, LogSeen, MINUTE, report_copied, report_torn};
 pub use following::Followed;

@@ -47,10 +47,10 @@ pub fn report_odd_angles<E: Write>(text: &[u8], tasks: &Tasks, messages: &mut E)
 }
 
 // Whether the commands after this line are those of the setup; `is_setup` says it of those before it. As the text was read as
-// tasks, only its lines `at start` and `each cycle` begin with these words.
+// tasks, only its lines `at start`, `each cycle` and `every N cycles` begin with these words.
 fn is_setup_after(line: &[u8], is_setup: bool) -> bool {
     if is_setup {
-        !line.starts_with(b"each cycle")
+        !line.starts_with(b"each cycle") && !line.starts_with(b"every ")
     } else {
         line.starts_with(b"at start")
     }

@@ -40,7 +40,7 @@ pub(crate) struct Programme<'a> {
     pub(crate) tasks: &'a [Task],
     /// How many of the tasks in front are the setup.
     pub(crate) setup: usize,
-    /// How many commands a cycle has.
+    /// How many commands a cycle has in which all have their turn.
     pub(crate) commands: usize,
     /// What the operator chose. Its number of cycles isn't used: each run has as many as are left of its night.
     pub(crate) choice: Choice,
@@ -173,12 +173,12 @@ impl<K: Sink> Rehearsing<K> {
             cycles: limits.cycles,
             ..programme.choice
         };
-        let plan = plan_of(choice, programme.setup, programme.tasks);
+        let begins = programme.start.saturating_add(self.link.elapsed());
+        let plan = plan_of(choice, begins, programme.setup, programme.tasks);
         let Ok(watches) = Watches::of(programme.alloc, programme.setup, programme.tasks) else {
             return Err(Halt::Fault(RunFault::Memory));
         };
         self.link.begin();
-        let begins = programme.start.saturating_add(self.link.elapsed());
         self.book.begin(begins, self.link.requests(), limits);
         let fault = self.run_by_plan(programme, &plan, watches);
         check_run(&self.link, &mut self.book, programme)?;

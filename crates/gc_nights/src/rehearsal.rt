@@ -194,7 +194,7 @@ fn programme_of<'a>(
 
 // What was seen of this programme before the first row. `Err`: memory was refused.
 fn seen_at_first(alloc: Global, programme: Programme<'_>) -> Result<Seen, AllocError> {
-    let summary = Summary::new(alloc, programme.commands)?;
+    let summary = Summary::new(alloc, programme.tasks, programme.setup)?;
     let deadlines = Deadlines::new(alloc, programme.tasks, programme.setup)?;
     Ok(Seen::new(alloc, programme.start, deadlines, summary))
 }

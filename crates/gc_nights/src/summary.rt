@@ -1,8 +1,8 @@
 //! The summary of a rehearsal: how commands ended, for each target too, and how long cycles took.
 
 use crate::explained::FalseRows;
-use gc_station::{Tally, is_well};
-use gc_texts::{Ending, RunFault, Stamp, Wish};
+use gc_station::{Tally, is_turn, is_well};
+use gc_texts::{Ending, RunFault, Stamp, Task, Wish};
 use std::alloc::{AllocError, Global};
 
 /// How the commands of a target ended, in all its rows.
@@ -101,15 +101,39 @@ pub(crate) struct Summary {
     // How long each cycle took that was counted (`finish`): from its first request until the last command that was sent ended. A
     // cycle in which nothing was sent has no span.
     pub(crate) spans: Vec<u64>,
-    // How many of the cycles that were counted (`finish`) have a good answer (`is_well`) in the last row of each command.
+    // How many of the cycles that were counted (`finish`) have a good answer (`is_well`) in the last row of each command that has its turn
+    // in them.
     pub(crate) whole: u64,
     // The cycle of the last row that isn't one of the setup. `None`: none is going on.
     cycle: Option<Cycle>,
-    // For each command of a cycle, by its place: the number of the cycle of its last row, counted over all nights, if it was answered
-    // well there, and else 0.
-    good: Vec<u64>,
+    // The commands of a cycle, by their places.
+    commands: Vec<Counted>,
     // How many times a run came to the first row of a cycle, over all nights.
     count: u64,
+}
+
+// A command of a cycle, as its rows are counted.
+#[derive(Clone, Copy)]
+struct Counted {
+    // In every how many cycles it has its turn.
+    every: u64,
+    // The number of the cycle of its last row, counted over all nights, if it was answered well there, and else 0.
+    good: u64,
+}
+
+// The commands of a cycle of these tasks, of which the first `setup` are the setup, before the first row. It fails if memory is refused.
+fn commands_of(alloc: Global, tasks: &[Task], setup: usize) -> Result<Vec<Counted>, AllocError> {
+    let mut commands = Vec::new(alloc);
+    for task in tasks.iter().skip(setup) {
+        // A later attempt or sending has the command of the first.
+        if task.turn.attempt == 1 {
+            commands.push(Counted {
+                every: task.every,
+                good: 0,
+            })?;
+        }
+    }
+    Ok(commands)
 }
 
 // The place of a target among these; how many they are, if it isn't one of them.
@@ -121,9 +145,9 @@ fn place_of_target(targets: &[TargetTally], target: u32) -> usize {
 }
 
 impl Summary {
-    /// A summary in which nothing was counted yet, of cycles with this many commands. It fails if memory is refused, as `note` and
-    /// `finish` do.
-    pub(crate) fn new(alloc: Global, commands: usize) -> Result<Summary, AllocError> {
+    /// A summary in which nothing was counted yet, of cycles with these tasks, of which the first `setup` are the setup. It fails if memory
+    /// is refused, as `note` and `finish` do.
+    pub(crate) fn new(alloc: Global, tasks: &[Task], setup: usize) -> Result<Summary, AllocError> {
         Ok(Summary {
             runs: RunCounts::none(),
             rows: 0,
@@ -137,7 +161,7 @@ impl Summary {
             spans: Vec::new(alloc),
             whole: 0,
             cycle: None,
-            good: vec![in alloc; 0u64; commands]?,
+            commands: commands_of(alloc, tasks, setup)?,
             count: 0,
         })
     }
@@ -166,8 +190,8 @@ impl Summary {
         let cycle = self.cycle_of(stamp)?;
         self.cycle = Some(cycle.with_row(stamp));
         let count = if is_well(ending) { self.count } else { 0 };
-        if let Some(place) = self.good.get_mut(stamp.turn.place) {
-            *place = count;
+        if let Some(command) = self.commands.get_mut(stamp.turn.place) {
+            command.good = count;
         }
         Ok(())
     }
@@ -200,7 +224,7 @@ impl Summary {
     }
 
     /// Ends the cycle that is going on, if there is one, and counts it: how long it took, unless nothing was sent, and whether it
-    /// is whole. It is called once the cycle has a row for each command. It fails, and doesn't count the cycle, if memory is
+    /// is whole. It is called once the cycle has a row for each command that has its turn in it. It fails, and doesn't count the cycle, if memory is
     /// refused for its span.
     pub(crate) fn finish(&mut self) -> Result<(), AllocError> {
         let Some(cycle) = self.cycle else {
@@ -211,7 +235,9 @@ impl Summary {
             self.spans.push(cycle.last.saturating_sub(first))?;
         }
         let count = self.count;
-        if self.good.iter().all(|place| *place == count) {
+        if self.commands.iter().all(|command| command.good == count
+            || !is_turn(cycle.number, command.every))
+        {
             self.whole = self.whole.saturating_add(1);
         }
         Ok(())

@@ -8,7 +8,8 @@ use Rattle.gc_files.specs.Rows.{cuts_none, appended, IsFront}
 use Rattle.gc_files.specs.Sinks.{steps_in, taken_in}
 use Rattle.gc_files.proofs.Adding.{appended_two}
 use Rattle.gc_links.specs.Acts.{Act}
-use Rattle.gc_messages.specs.Following.{bytes_in}
+use Rattle.gc_messages.specs.Following.{bytes_in, steps_before}
+use Rattle.gc_messages.proofs.Leaving.{earlier_files_last}
 use Rattle.gc_station.specs.ActKinds.{ReadsClock}
 use Rattle.gc_station.specs.Keeping.{KeepsUp, close_at_output}
 use Rattle.gc_station.specs.Model.{Runs, opening}
@@ -24,15 +25,15 @@ use Rattle.gc_lines.specs.declared.ports.Source.{Ghosts as Source}
 use Rattle.gc_lines.specs.declared.ports.Sink.{Ghosts as Sink}
 use Rattle.gc_measuring.specs.Measuring.{PortsSeen, Measures, most_turns, survey_of, Survey, text_by, front_text, RunsAfterFront}
 use Rattle.std.proofs.lemmas.Option.{same_Some}
-use Rattle.gc_promise.specs.Lasting.{HasRunOfFile, AppendsAreRuns, RunMoment, IsRunMoment, rows_by, AreLeft, RowsOutlastCrashes, RowsOutlastFailures}
+use Rattle.gc_promise.specs.Lasting.{HasRunOfFile, AppendsAreRuns, EachFileHasItsRows, IsRunOfFile, RunMoment, IsRunMoment, rows_by, AreLeft, RowsOutlastCrashes, RowsOutlastFailures}
 use Rattle.gc_promise.specs.LastingSoFar.{AreLeftSoFar, IsFileRunSoFar}
 use Rattle.gc_promise.specs.RunMoments.{FileMomentsAreRunsSoFar, file_so_far_at}
 use Rattle.gc_promise.proofs.LastingSoFar.{so_far_outlast_crashes, so_far_outlast_failures}
 use Rattle.gc_promise.proofs.RunMoments.{measured_are}
-use Rattle.gc_promise.specs.Tables.{acts_in, acts_measured, records_of_run, scope_of}
+use Rattle.gc_promise.specs.Tables.{StationRun, acts_in, acts_measured, records_of_run, scope_of}
 use Rattle.gc_promise.proofs.Seen.{IsKeptAt, kept_at, done_at, next_at, seen_at}
 use Rattle.gc_promise.proofs.Taken.{appended_to_known, run_took, written_front}
-use Rattle.gc_promise.proofs.Staying.{cuts_first}
+use Rattle.gc_files.proofs.Staying.{cuts_first}
 use Rattle.gc_promise.proofs.SoundLabels.{labels_sound}
 
 -- What the clauses say.
@@ -70,6 +71,19 @@ appends_are_runs source sink K E taken lasts shown has_log station whole file st
       (subst (λ f. sink.taken f ≡ Some (bytes_in file)) it (taken file)) ran.measured.2
   | inr unbegun ↦ inl unbegun.turns
 ]
+
+-- what the files of a run took in the end is a front of the rows of the run's records
+front_of_rows : {R : Type 0} (run : StationRun) (file : Followed R) → IsRunOfFile run file → (reads : Reads) → AreReadings reads → IsFront (bytes_in file) (rows_by run.survey reads (acts_in run))
+front_of_rows run file is reads are =
+    let took = run_took reads are run [] is.is_run is.fresh in
+    let written = texts_of (text_by run.survey) took.are.written ++ took.torn in
+    let none : front_text run.survey.layout run.survey.labels.columns ≡ [] = rw (is.headed) refl in
+    let same : bytes_in file ≡ written = same_Some (bytes_in file) written (sym is.took ∙ took.is ∙ ap (λ (l : List ℕ). Some (l ++ written)) none) in
+    subst (λ (l : List ℕ). IsFront l (rows_by run.survey reads (acts_in run))) (sym same) (written_front (text_by run.survey) (records_of_run reads run) run.result took.torn took.are)
+
+-- the law on the files of a run
+pub each_file_has_its_rows : {R : Type 0} → EachFileHasItsRows R
+each_file_has_its_rows reads are run file is = (front_of_rows run file is reads are, earlier_files_last file)
 
 module _ {R : Type 0} (m : RunMoment R) (is : IsRunMoment m) (reads : Reads) (are : AreReadings reads) where
   -- the scope of the moment's run
@@ -111,12 +125,7 @@ module _ {R : Type 0} (m : RunMoment R) (is : IsRunMoment m) (reads : Reads) (ar
 
   -- what the file and those before it took in the end is a front of the rows of the run's records
   end : IsFront (bytes_in m.file) (rows_by m.run.survey reads (acts_in m.run))
-  end =
-      let took = run_took reads are m.run [] is.run.is_run is.run.fresh in
-      let written = texts_of text took.are.written ++ took.torn in
-      let none : front_text m.run.survey.layout m.run.survey.labels.columns ≡ [] = rw (is.run.headed) refl in
-      let same : bytes_in m.file ≡ written = same_Some (bytes_in m.file) written (sym is.run.took ∙ took.is ∙ ap (λ (l : List ℕ). Some (l ++ written)) none) in
-      subst (λ (l : List ℕ). IsFront l (rows_by m.run.survey reads (acts_in m.run))) (sym same) (written_front text (records_of_run reads m.run) m.run.result took.torn took.are)
+  end = front_of_rows m.run m.file is.run reads are
 
   -- the calls of the file in the end are those at the turn, those since, and a rest
   calls_are : steps_in m.file.rows ≡ (steps_in m.was.rows ++ is.reached.since) ++ is.reached.rest
@@ -126,11 +135,11 @@ module _ {R : Type 0} (m : RunMoment R) (is : IsRunMoment m) (reads : Reads) (ar
   file_is : bytes_in m.file ≡ (bytes_in m.was ++ appended is.reached.since) ++ appended is.reached.rest
   file_is =
       ap (λ (l : List Step). appended l ++ taken_in m.file.rows) is.reached.left
-      ∙ ap (λ (l : List ℕ). appended m.was.earlier.steps ++ l)
+      ∙ ap (λ (l : List ℕ). appended (steps_before m.was) ++ l)
       (ap appended calls_are ∙ appended_two (steps_in m.was.rows ++ is.reached.since) is.reached.rest
       ∙ ap (λ (l : List ℕ). l ++ appended is.reached.rest) (appended_two (steps_in m.was.rows) is.reached.since))
-      ∙ sym (append_assoc (appended m.was.earlier.steps) (taken_in m.was.rows ++ appended is.reached.since) (appended is.reached.rest))
-      ∙ ap (λ (l : List ℕ). l ++ appended is.reached.rest) (sym (append_assoc (appended m.was.earlier.steps) (taken_in m.was.rows) (appended is.reached.since)))
+      ∙ sym (append_assoc (appended (steps_before m.was)) (taken_in m.was.rows ++ appended is.reached.since) (appended is.reached.rest))
+      ∙ ap (λ (l : List ℕ). l ++ appended is.reached.rest) (sym (append_assoc (appended (steps_before m.was)) (taken_in m.was.rows) (appended is.reached.since)))
 
   -- the acts that were done by the turn are first ones of the run's
   acts_are : acts_in m.run ≡ m.done ++ seen.act ∷ seen.behind

@@ -13,7 +13,7 @@ use Rattle.gc_files.proofs.Failing.{tables_outlast_failures}
 use Rattle.gc_files.proofs.Lasting.{tables_last}
 use Rattle.gc_files.proofs.Whole.{whole_more}
 use Rattle.gc_links.specs.Acts.{Act}
-use Rattle.gc_messages.specs.Following.{bytes_in}
+use Rattle.gc_messages.specs.Following.{bytes_in, steps_before}
 use Rattle.gc_station.specs.Scopes.{AreReadings, Reads}
 use Rattle.gc_measuring.specs.Measuring.{text_by}
 use Rattle.gc_promise.specs.Lasting.{life_begun, sides_begun}
@@ -21,9 +21,9 @@ use Rattle.gc_promise.specs.LastingSoFar.{AreLeftSoFar, FileRunSoFar, IsFileRunS
 use Rattle.gc_promise.specs.SoFar.{texts_by}
 use Rattle.gc_promise.specs.Tables.{records_in}
 use Rattle.gc_promise.proofs.Ended.{text_whole}
-use Rattle.gc_promise.proofs.Pieces.{all_pieces, rows_left, whole_rest}
+use Rattle.gc_files.proofs.Pieces.{all_pieces, rows_left, whole_rest}
 use Rattle.gc_promise.proofs.Seen.{texts_whole}
-use Rattle.gc_promise.proofs.Staying.{run_by, is_run, happen_append, life_append, splits_at_run, possible_events_append, sides_append, runs_of_append}
+use Rattle.gc_files.proofs.Staying.{run_by, is_run, happen_append, life_append, no_rows_of_none, splits_at_run, possible_events_append, sides_append, runs_of_append}
 
 module _ {R : Type 0} (reads : Reads) (are : AreReadings reads) (m : FileRunSoFar R) (is : IsFileRunSoFar reads m) where
   -- the rows of what any acts settle end in a line feed, unless there is none
@@ -32,7 +32,7 @@ module _ {R : Type 0} (reads : Reads) (are : AreReadings reads) (m : FileRunSoFa
 
   -- what the run wrote into files before this one
   abbrev earlier_bytes : List ℕ
-  earlier_bytes = appended m.was.earlier.steps
+  earlier_bytes = appended (steps_before m.was)
 
   -- what this file had taken after the acts `done`
   abbrev taken : List ℕ
@@ -104,11 +104,6 @@ so_far_outlast_crashes reads are m is x was =
     let there = subst (λ (l : Life). MayBeLeft l x.found) (sym (life_append (settled x.first) x.earlier (one_run ∷ []))) was.is_found in
     let p = splits_at_run x.head (opened_table x.head x.first) x.found x.earlier [] one_run (tables_last x.head x.first was.is_head (x.earlier ++ one_run ∷ []) all x.found there) in
     (p.counts, row_lines (take p.count one_run.rows), p.first, left_of reads are m is p.count p.least, p.is ∙ no_rows_of_none p.counts' p.others _)
-  where
-    -- the rows of an empty list of runs are empty, so appending them changes nothing
-    no_rows_of_none : (counts : List ℕ) → AreRowCounts [] counts → (l : List ℕ) → l ++ rows_of [] counts ≡ l
-    no_rows_of_none [] cs l = append-nil l
-    no_rows_of_none (n ∷ counts) cs l = absurd cs
 
 -- the law on failed syncs: where a run ended by a kill or by a sync that failed, and events came before and after, the file's
 -- table is the one that was there at first, rows of the earlier runs, the rows that are left of this run, and rows of the later

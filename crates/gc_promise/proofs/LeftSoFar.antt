@@ -25,7 +25,7 @@ use Rattle.gc_promise.specs.Objects.{AreTyped, IsTyped}
 use Rattle.gc_promise.specs.Tables.{Answers, AreReadAs, records_in, table_form}
 use Rattle.gc_promise.proofs.Objected.{all_unbroken, each_line, line_of_record, objects_one_for_one, one_line}
 use Rattle.gc_promise.proofs.Owning.{in_table}
-use Rattle.gc_promise.proofs.Pieces.{feed_behind_first, tail_whole, whole_rest}
+use Rattle.gc_files.proofs.Pieces.{feed_behind_first, tail_whole, whole_rest}
 use Rattle.gc_promise.proofs.Reading.{each_reads}
 use Rattle.gc_promise.proofs.Tabled.{one_reads, row, rows_one_for_one}
 use Rattle.gc_promise.proofs.Unbroken.{escaped_lacks, quote_lacks}

@@ -18,9 +18,7 @@ mod Typed
 mod Ended
 mod SoundLabels
 mod Lasting
-mod Pieces
 mod Seen
-mod Staying
 mod Witnessed
 mod Fronts
 mod SoFar

@@ -66,6 +66,8 @@ module _ {S T F K E M A X : Type 0} (seeing : Seeing S T F K M) (shown : E → O
   by_job args read job.NumberMissing is does = inl does.1
   by_job args read job.NoUnit is does = inl does.1
   by_job args read job.StaleTooSoon is does = inl does.1
+  by_job args read job.AtWithoutMultiple is does = inl does.1
+  by_job args read job.NoDate is does = inl does.1
 
   -- of what the program did by its words
   pub by_words : DoesProgram seeing shown standard begun texts kind words traces status → Came

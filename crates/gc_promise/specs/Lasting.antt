@@ -9,7 +9,7 @@ use Rattle.gc_files.specs.Sinks.{steps_in, taken_in, is_durable, asks_sync}
 use Rattle.gc_links.specs.Acts.{Act}
 use Rattle.gc_lines.specs.declared.ports.Source.{Ghosts as Source}
 use Rattle.gc_lines.specs.declared.ports.Sink.{Ghosts as Sink}
-use Rattle.gc_messages.specs.Following.{bytes_in}
+use Rattle.gc_messages.specs.Following.{EarlierFilesLast, bytes_in, steps_before}
 use Rattle.gc_messages.specs.declared.following.Followed.{Followed}
 use Rattle.gc_station.specs.ActKinds.{ReadsClock}
 use Rattle.gc_station.specs.Keeping.{Snapshot}
@@ -75,7 +75,7 @@ pub record IsSeen {R : Type 0} (m : RunMoment R) : Type 0 where
 -- the moment's calls begin with those that the file had at the moment's act, and are the first of those that it has in the end.
 -- The rows didn't go on in another file in between
 pub record IsReached {R : Type 0} (m : RunMoment R) : Type 0 where
-  pub left : m.file.earlier.steps ≡ m.was.earlier.steps
+  pub left : steps_before m.file ≡ steps_before m.was
   pub since : List Step
   pub begins : m.calls ≡ steps_in m.was.rows ++ since
   pub rest : List Step
@@ -180,3 +180,12 @@ OutlastsFailures m = ForEachReadings (λ reads. (x : FileHistory) → IsFileHist
 -- so it is at each moment of a run that syncs (`IsRunMoment`)
 abbrev pub RowsOutlastFailures : Type 0 → Type 0
 RowsOutlastFailures R = (m : RunMoment R) → IsRunMoment m → OutlastsFailures m
+
+-- The files that a run wrote one after the other, as those of a path with a date.
+
+-- a run that appends to files: what these took, one file after the other, is the first bytes of the rows of the run's records; each file but
+-- the last has whole rows, so none is lost between two files, split or in both; and if the files sync, each of them lasts with all its rows
+-- (`EarlierFilesLast`): where `reads` gives what replies say of their calls
+abbrev pub EachFileHasItsRows : Type 0 → Type 0
+EachFileHasItsRows R = ForEachReadings (λ reads. (run : StationRun) (file : Followed R) → IsRunOfFile run file
+    → IsFront (bytes_in file) (rows_by run.survey reads (acts_in run)) × EarlierFilesLast file)

@@ -2,7 +2,7 @@
 
 ghost use Rattle.gc_console.specs.Stations.{seeing_by};
 ghost use Rattle.gc_promise.specs.Damaged.{ObjectsAreOwnOrDamaged, RowsAreOwnOrDamaged, RowsByDamagedLinesAreFew, RunsInFieldAreInstances, TablesAreOwnOrDamaged};
-ghost use Rattle.gc_promise.specs.Lasting.{AppendsAreRuns, RowsOutlastCrashes, RowsOutlastFailures};
+ghost use Rattle.gc_promise.specs.Lasting.{AppendsAreRuns, EachFileHasItsRows, RowsOutlastCrashes, RowsOutlastFailures};
 ghost use Rattle.gc_promise.specs.LastingSoFar.{LeftObjectsSoFarAreOwnOrDamaged, LeftObjectsSoFarAreTheirOwn, LeftTablesSoFarAreOwnOrDamaged, LeftTablesSoFarAreTheirOwn, RowsSoFarOutlastCrashes, RowsSoFarOutlastFailures};
 ghost use Rattle.gc_promise.specs.Left.{LeftObjectsAreOwnOrDamaged, LeftObjectsAreTheirOwn, LeftTablesAreOwnOrDamaged, LeftTablesAreTheirOwn};
 ghost use Rattle.gc_promise.specs.Programs.{ProgramsAreFaithful, ProgramsWithoutActsWriteNoRow};
@@ -19,6 +19,7 @@ use gc_messages::{Followed, Lossy, Noting, Told};
 use std::fs::File;
 use std::io::{Read, Write};
 use std::rt::Files;
+use std::time::Clock;
 
 /// For any instrument, and every run of a station in the field: what the station writes reads back as its records, one row or
 /// object each, in order, in a table after the header. The row of a command that a reply in time ended has in its columns what
@@ -145,6 +146,14 @@ pub fn rows_outlast_failures<R>()
     ensures { RowsOutlastFailures R }
 {}
 
+/// The files that a run appends to one after the other, as those of a path with a date, have the run's rows: one file after the other, they
+/// are the rows of its first records; no row is split between two files, lost between them, or in both. With `sync`, whatever a kill or a
+/// crash of the machine leaves of a file once the rows went on in the next one, the next opening makes of it the table that was there
+/// before the run, rows of earlier runs, and each row that this run wrote there.
+pub fn each_file_has_its_rows<R>()
+    ensures { EachFileHasItsRows R }
+{}
+
 /// What is left after a crash or a failed sync are whole rows, each its own. With those that went into files before this one, what
 /// `rows_outlast_crashes` and `rows_outlast_failures` find of a run in the field reads as the first ones of its records, one row or
 /// object each, in order, and each is its own as `rows_are_their_own` has it.
@@ -186,7 +195,7 @@ pub fn rows_left_so_far_are_their_own<R, State>()
 /// that were appended to a file with `sync` outlast crashes and failed syncs, each its own.
 pub fn programs_are_faithful<
     'a,
-    R: Files<File = File> + 'a,
+    R: Files<File = File> + Clock + 'a,
     I: Read,
     O: Write,
     E: Write,

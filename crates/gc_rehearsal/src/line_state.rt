@@ -94,6 +94,7 @@ impl LineState {
             elapsed: self.now.saturating_sub(self.began),
             utc: self.start.saturating_add(self.now),
             stops: false,
+            touched: 0,
             values: [filled_up(b"1.0"); FILE_VALUES],
         }
     }

@@ -36,7 +36,7 @@ use Rattle.gc_station.specs.Records.{Record}
 use Rattle.gc_station.specs.Runs.{state_after, OfEachRecord}
 use Rattle.gc_station.specs.ActKinds.{moment_in, Puts, ReadsClock, IsOpening, ReadsLink}
 use Rattle.gc_station.specs.Model.{Model, opening, action_at, waiting_of, next_request_text, null_text, first_text, with_progress, is_heard, client_sent, asks_first, asks_next, after_pass, with_more_passes, next_left_out, with_listed, listed_after_skip, with_more_records, unsent_record, first_unsent_record, after_clock, after_put, after_open, after_read, Performs, moved, Runs, cycle_length, place_to_send, text_or_null, asks_setup, null_request, request_or_null, asks_for, mark_sent, mark_setup_sent, occasion_at}
-use Rattle.gc_station.specs.NextCommand.{mark_next, needs_first, place_next, upcoming_after}
+use Rattle.gc_station.specs.NextCommand.{mark_next, place_next, upcoming_after, first_upcoming}
 use Rattle.gc_station.proofs.InCycle.{within_window}
 use Rattle.gc_station.proofs.EachRun.{invariant_holds}
 use Rattle.gc_station.proofs.Outs.{prepare_cycle, prepare_place, send_cycle, send_place, sending_asks}
@@ -221,7 +221,7 @@ module _ (plan : Plan) (commands : List Task) (scope : Scope) (acts : List Act) 
   pass_honest (Told m) s h o =
       let p = turned s.progress in
       let n = p.next_others in
-      clock_honest (Told m) (λ m p'. early_noted plan (commands_in s.marks) (attempts_left_out (upcoming_after n commands p) m p'))
+      clock_honest (Told m) (λ m p'. early_noted plan (commands_in s.marks) (attempts_left_out (upcoming_after plan n commands p) m p'))
       (with_more_passes (next_left_out plan commands p) s) (record { waiting = h.waiting; written = h.written }) o
   pass_honest Untold s h o = clock_honest Untold (λ m p. p) s h o
   pass_honest act s h o = absurd o
@@ -252,7 +252,7 @@ module _ (plan : Plan) (commands : List Task) (scope : Scope) (acts : List Act) 
       → HonestAfter act (moved plan commands action (with_progress turned here) act)
   moved_honest actions.ReadClock act tail fine h is needs o ends = clock_honest act (λ m p. early_noted plan (commands_in here.marks) (moment_noted m p)) here h o
   moved_honest actions.Renew act tail fine h is needs o ends = clock_honest act (λ m p. early_noted plan 0 (resynchronized plan m p)) here h o
-  moved_honest actions.Begin act tail fine h is needs o ends = clock_honest act (cycle_begun plan (cycle_length plan commands) (needs_first (drop plan.setup commands))) here h o
+  moved_honest actions.Begin act tail fine h is needs o ends = clock_honest act (cycle_begun plan (cycle_length plan commands) (first_upcoming plan commands (turned here.progress))) here h o
   moved_honest actions.Open act tail fine h is needs o ends = open_honest act here h o
   moved_honest actions.Clear act tail fine h is needs o ends =
       let s = here in
@@ -271,15 +271,15 @@ module _ (plan : Plan) (commands : List Task) (scope : Scope) (acts : List Act) 
   moved_honest actions.Send act tail fine h is needs o ends =
       let s = here in
       put_honest plan commands scope (acts ++ act ∷ []) _
-      (λ (x : Model). with_progress (sent (upcoming_after 1 commands x.progress)) (asks_next plan commands x))
+      (λ (x : Model). with_progress (sent (upcoming_after plan 1 commands x.progress)) (asks_next plan commands x))
       (with_progress turned s) act
-      (first_honest act (upcoming_after 1 commands s.progress)
+      (first_honest act (upcoming_after plan 1 commands s.progress)
       (drop (place_next commands s.progress) commands) (mark_sent plan commands s) fine h
       (record { sends = inl is; cycle = sym (send_cycle plan s is); place = sym (send_place plan commands s is); sent = refl; id = refl; expects = refl; before = refl; values = refl }) (within_window _ _ needs.3.1)
       (ap (λ n. drop n commands) (send_place plan commands s is)) o)
   moved_honest actions.Skip act tail fine h is needs o ends =
       let s = here in
-      clock_honest act (λ m p. early_noted plan (commands_in s.marks) (skipped (upcoming_after 1 commands s.progress) m p))
+      clock_honest act (λ m p. early_noted plan (commands_in s.marks) (skipped (upcoming_after plan 1 commands s.progress) m p))
       (with_listed (listed_after_skip plan commands (with_progress turned s) act) (with_more_records (unsent_record plan commands s.progress act) s))
       (record {
         waiting = h.waiting;

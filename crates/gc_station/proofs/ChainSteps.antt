@@ -29,11 +29,11 @@ pub record Still (p q : Progress) : Type 0 where
 
 -- q is in the same cycle as p, with `count` commands fewer left, or none; and whether the next one of q waits for the answer of
 -- the one before it is what `is_chained_after` says
-pub record GoesOnBy (count : ℕ) (commands : List Task) (p q : Progress) : Type 0 where
+pub record GoesOnBy (plan : Plan) (count : ℕ) (commands : List Task) (p q : Progress) : Type 0 where
   pub left : q.left ≡ p.left
   pub unsent : q.unsent ≡ p.unsent - count
   pub missed : q.missed ≡ p.missed
-  pub chained : q.next_is_chained ≡ is_chained_after count commands p
+  pub chained : q.next_is_chained ≡ is_chained_after plan count commands p
 
 -- q is at the beginning of a cycle of `count` commands: all are unsent, and no chain goes on
 pub record AtCycleStart (count : ℕ) (q : Progress) : Type 0 where
@@ -45,9 +45,9 @@ pub record AtCycleStart (count : ℕ) (q : Progress) : Type 0 where
 abbrev pub ChangesChain : Plan → List Task → Action → (p q : Progress) → Type 0
 ChangesChain plan commands Begin p q = Still p q ⊎ AtCycleStart (cycle_length plan commands) q
 ChangesChain plan commands Renew p q = Still p q ⊎ (Still p q × (q.chain_unbroken ≡ false))
-ChangesChain plan commands Send p q = GoesOnBy 1 commands p q
-ChangesChain plan commands Skip p q = Still p q ⊎ (GoesOnBy 1 commands p q × (q.chain_unbroken ≡ false))
-ChangesChain plan commands Pass p q = Still p q ⊎ (GoesOnBy p.next_others commands p q × (q.chain_unbroken ≡ false))
+ChangesChain plan commands Send p q = GoesOnBy plan 1 commands p q
+ChangesChain plan commands Skip p q = Still p q ⊎ (GoesOnBy plan 1 commands p q × (q.chain_unbroken ≡ false))
+ChangesChain plan commands Pass p q = Still p q ⊎ (GoesOnBy plan p.next_others commands p q × (q.chain_unbroken ≡ false))
 ChangesChain plan commands Prepare p q = Still p q × (q.chain_unbroken ≡ false)
 ChangesChain plan commands (Close why) p q = Still p q × (q.chain_unbroken ≡ false)
 ChangesChain plan commands _ p q = Still p q
@@ -84,10 +84,10 @@ moved_steps plan commands Open s act = (still_but_broken s.progress _ refl refl 
 moved_steps plan commands Prepare s (Cut bytes n) = still_but_broken s.progress _ refl refl refl refl refl
 moved_steps plan commands Prepare s act = still_but_broken s.progress _ refl refl refl refl refl
 moved_steps plan commands Send s (Cut bytes n) =
-    subst (λ (x : Model). GoesOnBy 1 commands s.progress (failing (cause.Write (commands_before plan commands s.progress) n) x.progress)) (sent_same plan commands s)
+    subst (λ (x : Model). GoesOnBy plan 1 commands s.progress (failing (cause.Write (commands_before plan commands s.progress) n) x.progress)) (sent_same plan commands s)
     (record { left = refl; unsent = refl; missed = refl; chained = refl })
 moved_steps plan commands Send s act =
-    subst (λ (x : Model). GoesOnBy 1 commands s.progress x.progress) (sent_same plan commands s) (record { left = refl; unsent = refl; missed = refl; chained = refl })
+    subst (λ (x : Model). GoesOnBy plan 1 commands s.progress x.progress) (sent_same plan commands s) (record { left = refl; unsent = refl; missed = refl; chained = refl })
 moved_steps plan commands Skip s (Told m) = inr (record { left = refl; unsent = refl; missed = refl; chained = refl }, refl)
 moved_steps plan commands Skip s act = inl (still s.progress _ refl refl refl refl refl)
 moved_steps plan commands Pass s (Told m) = inr (record { left = refl; unsent = refl; missed = refl; chained = refl }, refl)

@@ -31,7 +31,7 @@ use Rattle.gc_station.specs.Records.{Record}
 use Rattle.gc_station.specs.Runs.{state_after}
 use Rattle.gc_station.specs.Scopes.{Scope}
 use Rattle.gc_station.specs.Model.{Model, Performs, Runs, opening, action_at, waiting_of, with_losses, with_progress, moved, after, after_all, cycle_length}
-use Rattle.gc_station.specs.NextCommand.{place_next, commands_left, cycles_begun, first_is_chained}
+use Rattle.gc_station.specs.NextCommand.{place_next, commands_left, cycles_begun, rests, is_chained_in}
 use Rattle.gc_station.proofs.Answers.{answers_true}
 use Rattle.gc_station.proofs.Counts.{with_losses_progress, with_losses_passes}
 use Rattle.gc_station.proofs.Each.{row_settled, reached_next, row}
@@ -101,18 +101,21 @@ same_passes : (s t : Model) (before : List RunRequest) → LeavesNothingOut s t 
 same_passes s t before (inl same) e is = same ∙ is
 same_passes s t before (inr none) e is = absurd (both_ways t.progress.chain_unbroken none e)
 
--- whether the cycle's next command waits for the answer of the one before it: its cycle is missed, or the text chains it
-abbrev pub waits_for_answer : List Task → Progress → Bool
-waits_for_answer commands p = p.missed || first_is_chained (commands_left commands p)
+-- whether the cycle's next command counts as one that waits for the answer of the one before it: its cycle is missed, or it rests, or the
+-- text chains it
+abbrev pub waits_for_answer : Plan → List Task → Progress → Bool
+waits_for_answer plan commands p = p.missed || is_chained_in (cycles_begun plan p) (commands_left commands p)
 
 -- what `ChainIsRight` says of `next_is_chained` holds still where the next command and the fields on chains stay (`Still`)
 still_chained : (plan : Plan) (commands : List Task) (p q : Progress) → (stays : Still p q)
-    → (before : plan.setup < place_next commands p → p.next_is_chained ≡ waits_for_answer commands p)
-    → plan.setup < place_next commands q → q.next_is_chained ≡ waits_for_answer commands q
+    → (before : plan.setup < place_next commands p → p.next_is_chained ≡ waits_for_answer plan commands p)
+    → plan.setup < place_next commands q → q.next_is_chained ≡ waits_for_answer plan commands q
 still_chained plan commands p q k before above =
     let place_is : place_next commands q ≡ place_next commands p = ap (λ (n : ℕ). length commands - n) k.unsent in
-    k.next_is_chained ∙ before (subst (λ (n : ℕ). plan.setup < n) place_is above) ∙ ap (λ (b : Bool). b || first_is_chained (drop (place_next commands p) commands)) (sym k.missed)
-    ∙ ap (λ (n : ℕ). q.missed || first_is_chained (drop n commands)) (sym place_is)
+    k.next_is_chained ∙ before (subst (λ (n : ℕ). plan.setup < n) place_is above)
+    ∙ ap (λ (b : Bool). b || is_chained_in (cycles_begun plan p) (drop (place_next commands p) commands)) (sym k.missed)
+    ∙ ap (λ (n : ℕ). q.missed || is_chained_in (plan.cycles - n) (drop (place_next commands p) commands)) (sym k.left)
+    ∙ ap (λ (n : ℕ). q.missed || is_chained_in (cycles_begun plan q) (drop n commands)) (sym place_is)
 
 -- if a command is unsent in p, no more are than `commands` has, and one fewer is unsent in q, the next command of q is one place
 -- after that of p
@@ -121,11 +124,12 @@ next_place commands p q less some within = omega (arith, less, some, within)
 
 -- once commands had their turn (`GoesOnBy`), `next_is_chained` is what the text says of the next command, or true in a missed
 -- cycle, if no more were unsent than `commands` has
-pub next_chained : (count : ℕ) (commands : List Task) (p q : Progress) → GoesOnBy count commands p q → p.unsent ≤ length commands → q.next_is_chained ≡ waits_for_answer commands q
-next_chained count commands p q on within =
-    on.chained ∙ ap (λ (b : Bool). b || first_is_chained (drop (place_next commands p + count) commands)) (sym on.missed)
-    ∙ ap (λ (xs : List Task). q.missed || first_is_chained xs) (drop_past commands p.unsent count within)
-    ∙ ap (λ (n : ℕ). q.missed || first_is_chained (drop (length commands - n) commands)) (sym on.unsent)
+pub next_chained : (plan : Plan) (count : ℕ) (commands : List Task) (p q : Progress) → GoesOnBy plan count commands p q → p.unsent ≤ length commands → q.next_is_chained ≡ waits_for_answer plan commands q
+next_chained plan count commands p q on within =
+    on.chained ∙ ap (λ (b : Bool). b || is_chained_in (cycles_begun plan p) (drop (place_next commands p + count) commands)) (sym on.missed)
+    ∙ ap (λ (n : ℕ). q.missed || is_chained_in (plan.cycles - n) (drop (place_next commands p + count) commands)) (sym on.left)
+    ∙ ap (λ (xs : List Task). q.missed || is_chained_in (cycles_begun plan q) xs) (drop_past commands p.unsent count within)
+    ∙ ap (λ (n : ℕ). q.missed || is_chained_in (cycles_begun plan q) (drop (length commands - n) commands)) (sym on.unsent)
 
 -- `LeavesNothingOut` is preserved by the loss of what is outstanding, at the end of an act
 with_losses_leaves_nothing_out : (s t : Model) → LeavesNothingOut s t → LeavesNothingOut s (with_losses t)
@@ -212,7 +216,7 @@ module _ (plan : Plan) (commands : List Task) (scope : Scope) where
   -- the two fields on chains of p are right after these acts: if the next command isn't the first of its cycle, `next_is_chained`
   -- is what the text says of it, or true in a missed cycle; and if `chain_unbroken` is true, `IsUnbroken` holds
   record ChainIsRight (acts : List Act) (p : Progress) : Type 0 where
-    next_is_chained : plan.setup < place_next commands p → p.next_is_chained ≡ waits_for_answer commands p
+    next_is_chained : plan.setup < place_next commands p → p.next_is_chained ≡ waits_for_answer plan commands p
     chain_unbroken : p.chain_unbroken ≡ true → IsUnbroken acts p
 
   -- `LeavesNothingOut` holds from the model before an act to the one after it
@@ -272,19 +276,19 @@ module _ (plan : Plan) (commands : List Task) (scope : Scope) where
 
   -- `ChainIsRight` holds after commands had their turn without being sent (`GoesOnBy`, with the chain broken), if no more were
   -- unsent than `commands` has
-  chain_unsent : (acts : List Act) (count : ℕ) (p q : Progress) → GoesOnBy count commands p q → q.chain_unbroken ≡ false → p.unsent ≤ length commands → ChainIsRight acts q
+  chain_unsent : (acts : List Act) (count : ℕ) (p q : Progress) → GoesOnBy plan count commands p q → q.chain_unbroken ≡ false → p.unsent ≤ length commands → ChainIsRight acts q
   chain_unsent acts count p q on broken within =
-      record { next_is_chained = λ above. next_chained count commands p q on within; chain_unbroken = λ e. absurd (both_ways q.chain_unbroken broken e) }
+      record { next_is_chained = λ above. next_chained plan count commands p q on within; chain_unbroken = λ e. absurd (both_ways q.chain_unbroken broken e) }
 
   -- `ChainIsRight` holds after a command of a cycle is sent, if one was unsent, and no more were than `commands` has; given
   -- that, if a chain goes on after the act, the station has synchronized
   chain_sent : (acts : List Act) (act : Act) (p q : Progress) → (here : p ≡ turned (at acts).progress) → (there : (at (acts ++ act ∷ [])).progress ≡ q)
       → (sends : action_at plan (at acts) ≡ Send) → (begins : q.chain_unbroken ≡ true → has_begun q ≡ true)
-      → (goes_on : GoesOnBy 1 commands p q) → (some : 0 < p.unsent) → (within : p.unsent ≤ length commands) → ChainIsRight (acts ++ act ∷ []) q
+      → (goes_on : GoesOnBy plan 1 commands p q) → (some : 0 < p.unsent) → (within : p.unsent ≤ length commands) → ChainIsRight (acts ++ act ∷ []) q
   chain_sent acts act p q here there is begins n some within =
       let place_is = next_place commands p q n.unsent some within in
       record {
-        next_is_chained = λ above. next_chained 1 commands p q n within;
+        next_is_chained = λ above. next_chained plan 1 commands p q n within;
         chain_unbroken = λ e. record {
           before = acts;
           request = act;
@@ -374,12 +378,12 @@ module _ (plan : Plan) (commands : List Task) (scope : Scope) where
 
   -- `ChainIsRight` holds after every run
   chain_holds : (acts : List Act) → Runs plan commands (opening plan scope) acts → ChainIsRight acts (at acts).progress
-  chain_holds acts runs = chain_along [] acts runs (record { next_is_chained = λ above. sym (ap first_is_chained (no_next_command commands)); chain_unbroken = λ e. cc })
+  chain_holds acts runs = chain_along [] acts runs (record { next_is_chained = λ above. sym (ap (is_chained_in (plan.cycles - plan.cycles)) (no_next_command commands)); chain_unbroken = λ e. cc })
 
   -- after every run, if the next command isn't the first of its cycle, `next_is_chained` is what the text says of it, or true in
   -- a missed cycle
   pub chained_as_text_says : (acts : List Act) → Runs plan commands (opening plan scope) acts → plan.setup < place_next commands (at acts).progress
-      → (at acts).progress.next_is_chained ≡ waits_for_answer commands (at acts).progress
+      → (at acts).progress.next_is_chained ≡ waits_for_answer plan commands (at acts).progress
   chained_as_text_says acts runs above = (chain_holds acts runs).next_is_chained above
 
   -- `IsLinked` holds: the command before the next one was sent, and was answered well. Since it was sent, the station has
@@ -411,7 +415,10 @@ module _ (plan : Plan) (commands : List Task) (scope : Scope) where
 
     -- the next command waits for the answer of the one before it
     next_is_chained : s.progress.next_is_chained ≡ true
-    next_is_chained = h.next_is_chained chained.0 ∙ ap (λ (b : Bool). s.progress.missed || b) chained.1 ∙ or_right s.progress.missed true refl
+    next_is_chained =
+        let resting = rests (cycles_begun plan s.progress) (commands_left commands s.progress) in
+        h.next_is_chained chained.0 ∙ ap (λ (b : Bool). s.progress.missed || (resting || b)) chained.1
+        ∙ or_right s.progress.missed (resting || true) (or_right resting true refl)
 
     -- `IsLinkedStill` holds if no command is outstanding, the chain is unbroken, so that the command before the next one was sent
     -- (`IsUnbroken`), and the last record, which is that command's own, was answered well (`EndsAnsweredWell`)

@@ -20,7 +20,7 @@ use Rattle.gc_station.specs.Deciding.{is_up, is_past, is_quiet}
 use Rattle.gc_station.specs.Marks.{commands_in}
 use Rattle.gc_station.specs.Progressing.{turned, moment_noted, cycle_begun, skipped, attempts_left_out, opened, cleared, request_noted, null_sent, resynchronized, sent, early_noted, time_passed, quieted, is_idle, drained, setup_sent}
 use Rattle.gc_station.specs.Model.{Model, next_request_text, null_text, first_text, occasion_at, waiting_of, piece_at, with_progress, Performs, moved, cycle_length, text_or_null, opening, action_at, Runs}
-use Rattle.gc_station.specs.NextCommand.{commands_before, commands_left, needs_first, upcoming_after}
+use Rattle.gc_station.specs.NextCommand.{commands_before, commands_left, upcoming_after, first_upcoming}
 use Rattle.gc_station.specs.Runs.{state_after}
 use Rattle.gc_station.specs.Scopes.{Scope}
 use Rattle.gc_station.proofs.Always.{always_of_progress}
@@ -67,19 +67,19 @@ HoldsIfSilent plan F until m p acts =
 abbrev pub HoldsInUse : Plan → List Task → (F : Progress → List Act → Type 0) → Action → Model → List Act → Type 0
 HoldsInUse plan commands F actions.ReadClock s acts = (m : Moment) → F (early_noted plan (commands_in s.marks) (moment_noted m s.progress)) (acts ++ Told m ∷ [])
 HoldsInUse plan commands F actions.Renew s acts = (m : Moment) → F (early_noted plan 0 (resynchronized plan m s.progress)) (acts ++ Told m ∷ [])
-HoldsInUse plan commands F actions.Begin s acts = (m : Moment) → F (cycle_begun plan (cycle_length plan commands) (needs_first (drop plan.setup commands)) m s.progress) (acts ++ Told m ∷ [])
+HoldsInUse plan commands F actions.Begin s acts = (m : Moment) → F (cycle_begun plan (cycle_length plan commands) (first_upcoming plan commands s.progress) m s.progress) (acts ++ Told m ∷ [])
 HoldsInUse plan commands F actions.Open s acts = (m : Moment) → F (opened s.progress) (acts ++ Opened ∷ [])
 HoldsInUse plan commands F actions.Clear s acts = (m : Moment) → F (cleared s.progress) (acts ++ Put (10 ∷ []) ∷ [])
 HoldsInUse plan commands F actions.Ask s acts = (m : Moment) → F (null_sent plan s.progress) (acts ++ Put (null_text s.progress.word) ∷ [])
 HoldsInUse plan commands F actions.Prepare s acts = (m : Moment) → F (setup_sent plan s.progress) (acts ++ Put (text_or_null (occasion_at s.progress.moment) s.client (drop s.progress.prepared commands)) ∷ [])
-HoldsInUse plan commands F actions.Send s acts = (m : Moment) → F (sent (upcoming_after 1 commands s.progress) s.progress)
+HoldsInUse plan commands F actions.Send s acts = (m : Moment) → F (sent (upcoming_after plan 1 commands s.progress) s.progress)
     (acts ++ Put (first_text (occasion_at s.progress.moment) s.client (commands_left commands s.progress)) ∷ [])
 HoldsInUse plan commands F actions.Skip s acts = (m : Moment)
-    → F (early_noted plan (commands_in s.marks) (skipped (upcoming_after 1 commands s.progress) m s.progress))
+    → F (early_noted plan (commands_in s.marks) (skipped (upcoming_after plan 1 commands s.progress) m s.progress))
     (acts ++ Told m ∷ [])
 HoldsInUse plan commands F actions.Pass s acts =
     (m : Moment) → F (early_noted plan (commands_in s.marks)
-    (attempts_left_out (upcoming_after s.progress.next_others commands s.progress) m s.progress)) (acts ++ Told m ∷ [])
+    (attempts_left_out (upcoming_after plan s.progress.next_others commands s.progress) m s.progress)) (acts ++ Told m ∷ [])
 HoldsInUse plan commands F actions.Flush s acts = (m : Moment) → F (request_noted s.progress) (acts ++ Put (next_request_text s.client (Table NullProc)) ∷ [])
 HoldsInUse plan commands F (actions.Read until) s acts =
     ((bytes : List ℕ) (m : Moment) → F (piece_at plan until bytes m s).progress (acts ++ Gave bytes m ∷ []))

@@ -1,22 +1,21 @@
--- Cycles begin on a grid of due moments, and nothing of a missed cycle is sent, if the clock doesn't go back (`ClockRises`). An
+-- Cycles begin at their due moments or later, and nothing of a missed cycle is sent, if the clock doesn't go back (`ClockRises`). An
 -- act is one call on the link, with its result. A cycle is missed if it began so late that the next one was due. The chain's
 -- fields of a progress are `next_is_chained`, whether the next command waits for the answer of the one before it, and
 -- `chain_unbroken`. `Cycling` says which cycle the station is in, and when it began; `Begun` says that it is in one, or that none
 -- has begun yet.
-use Rattle.std.proofs.Common.{◌≡◌, ◌⊎◌, inl, inr, ℕ, suc, ◌+◌, ◌-◌, ◌<◌, ◌≤◌, Bool, true, false, List, [], ◌∷◌, ◌++◌, length, drop, min, nat_lt, nat_le, nat_eq, refl, sym, ap, ◌∙◌, subst, arith, append_assoc}
-use Rattle.std.proofs.lemmas.Bool.{lt-ltb, ne_eqb, leb-true, leb-false, or_left, cond-false, both_ways, false_from_ne_true}
+use Rattle.std.proofs.Common.{◌≡◌, ◌⊎◌, inl, inr, ℕ, suc, ◌+◌, ◌-◌, ◌<◌, ◌≤◌, ◌||◌, Bool, true, false, List, [], ◌∷◌, ◌++◌, length, drop, min, nat_lt, nat_le, nat_eq, refl, sym, ap, ◌∙◌, subst, arith, append_assoc}
+use Rattle.std.proofs.lemmas.Bool.{lt-ltb, ne_eqb, leb-false, or_left, cond-false, both_ways, false_from_ne_true}
 use Rattle.gc_texts.specs.declared.tasks.Task.{Task}
 use Rattle.gc_links.specs.Acts.{Act, Told, Untold, Gave, Silent, Ended, Broke, Closed, Opened, Unopened}
 use Rattle.gc_links.specs.declared.link.Moment.{Moment}
 use Rattle.gc_station.specs.Chains.{IsChained}
-use Rattle.gc_station.specs.Cycles.{ClockRises, first_due, due_after, BeginsAt, BeginsLate, LastBegan, CyclesBeginWhenDue, SentOnlyInTime}
-use Rattle.gc_station.specs.Deciding.{is_due}
-use Rattle.gc_station.specs.Progressing.{turned, due_at, cycle_begun, cycle_start, lateness, failing}
+use Rattle.gc_station.specs.Cycles.{ClockRises, BeginsAt, BeginsLate, LastBegan, SentOnlyInTime}
+use Rattle.gc_station.specs.Progressing.{turned, due_at, cycle_begun, cycle_start, is_missed_at, lateness, failing}
 use Rattle.gc_station.specs.Reasons.{HoldsBefore, MayGo}
 use Rattle.gc_station.specs.Runs.{state_after}
 use Rattle.gc_station.specs.Scopes.{Scope}
 use Rattle.gc_station.specs.Model.{Model, opening, action_at, waiting_of, with_progress, piece_at, moved, Performs, Runs, cycle_length}
-use Rattle.gc_station.specs.NextCommand.{cycles_begun, place_next, first_is_chained, is_chained_after, needs_first}
+use Rattle.gc_station.specs.NextCommand.{cycles_begun, cycle_next, place_next, commands_left, first_is_chained, rests, is_chained_in, is_chained_after, first_upcoming}
 use Rattle.gc_station.specs.declared.cause.Cause.{Cause}
 use Rattle.gc_station.specs.declared.cause.Cause.TheVariants as cause
 use Rattle.gc_station.specs.declared.plan.Plan.{Plan}
@@ -26,13 +25,14 @@ use Rattle.gc_station.specs.declared.progress.Progress.{Progress}
 use Rattle.gc_station.specs.declared.progress.Waiting.{Waiting}
 use Rattle.gc_station.specs.Silences.{latest}
 use Rattle.gc_station.proofs.Interleaving.{drop_past}
-use Rattle.gc_station.proofs.Closings.{runs_split, needs_of}
+use Rattle.gc_station.proofs.Closings.{needs_of}
 use Rattle.gc_station.proofs.Always.{always, progress_after_act}
 use Rattle.gc_station.proofs.ChainSteps.{GoesOnBy}
 use Rattle.gc_station.proofs.EachRun.{invariant_holds}
-use Rattle.gc_station.proofs.Facts.{action_for, begin_due}
+use Rattle.gc_station.proofs.Facts.{action_for}
 use Rattle.gc_station.proofs.InCycle.{or_second, and_second}
 use Rattle.gc_station.proofs.Invariant.{Invariant}
+use Rattle.gc_station.proofs.Needed.{cycle_is_last}
 use Rattle.gc_station.proofs.Walk.{walk}
 use Rattle.gc_station.proofs.Ticking.{Ticks, began_kept, began_at_start, rises_front, rises_last, latest_more, last_ticks}
 use Rattle.gc_station.proofs.Staying.{Stays, stays, StaysAndTicks, gave_stays, silent_stays, closed_stays}
@@ -44,9 +44,10 @@ module _ (plan : Plan) (commands : List Task) (scope : Scope) (some : 0 < plan.e
   abbrev at : List Act → Model
   at acts = state_after plan commands scope acts
 
-  -- why the next command of p waits for the answer of the one before it: its cycle is missed, or the text chains it
+  -- why the next command of p counts as one that waits for the answer of the one before it: its cycle is missed, or the text chains it, or
+  -- it rests
   abbrev pub WaitsForAnswer : Progress → Type 0
-  WaitsForAnswer p = (p.missed ≡ true) ⊎ IsChained plan commands p
+  WaitsForAnswer p = (p.missed ≡ true) ⊎ (IsChained plan commands p ⊎ (rests (cycles_begun plan p) (commands_left commands p) ≡ true))
 
   -- with the progress p a station is within a cycle: `earlier` cycles came before it, it began at `moment`, `late` milliseconds
   -- after it was due; and the fields of p on it are right. `began` is its due moment, which isn't later than the moment read
@@ -83,7 +84,8 @@ module _ (plan : Plan) (commands : List Task) (scope : Scope) (some : 0 < plan.e
 
   -- a cycle that began late among acts began so among them and more
   pub late_more : (acts more : List Act) (n : ℕ) (m : Moment) (late : ℕ) → BeginsLate plan commands scope acts n m late → BeginsLate plan commands scope (acts ++ more) n m late
-  late_more acts more n m late b = record { first = b.first; first_begins = at_more acts more 0 b.first b.first_begins; begins = at_more acts more n m b.begins; grid = b.grid }
+  unfolding at_more
+  late_more acts more n m late b = record { begins = at_more acts more n m b.begins; grid = b.grid }
 
   -- `Cycling` is preserved by an act that stays in its cycle, and reads moments as `Ticks` says, if the clock doesn't go back,
   -- and what `Cycling` says of missed cycles and chains (`held`, `chained`) holds after the act
@@ -119,15 +121,17 @@ module _ (plan : Plan) (commands : List Task) (scope : Scope) (some : 0 < plan.e
       inr (cycling_on acts act p q k.still.left k.still.missed k.due t rises
       (λ was. let h = c.held was in (k.still.next_is_chained ∙ h.0, false_from_ne_true q.chain_unbroken (λ e. both_ways p.chain_unbroken h.1 (k.still.chain_unbroken e))))
       (λ e. by_chain (c.chained (sym k.still.next_is_chained ∙ e)) place_is k.still.missed) c) where
-        -- what makes the next command wait, still does: its cycle is missed, or the text chains it
+        -- what makes the next command wait, still does: its cycle is missed, or the text chains it, or it rests
         by_chain : WaitsForAnswer p → place_next commands q ≡ place_next commands p → q.missed ≡ p.missed → WaitsForAnswer q
         by_chain (inl missed) place_is same = inl (same ∙ missed)
-        by_chain (inr (above, is)) place_is same = inr (subst (λ (x : ℕ). plan.setup < x) (sym place_is) above, ap (λ (x : ℕ). first_is_chained (drop x commands)) place_is ∙ is)
+        by_chain (inr (inl (above, is))) place_is same = inr (inl (subst (λ (x : ℕ). plan.setup < x) (sym place_is) above, ap (λ (x : ℕ). first_is_chained (drop x commands)) place_is ∙ is))
+        by_chain (inr (inr resting)) place_is same =
+            inr (inr (ap (λ (x : ℕ). rests (plan.cycles - x) (drop (place_next commands q) commands)) k.still.left ∙ ap (λ (x : ℕ). rests (cycles_begun plan p) (drop x commands)) place_is ∙ resting))
 
   -- `Begun` is preserved by an act with which the next `count` commands of the cycle had their turn (`GoesOnBy`), at least one,
   -- if the clock doesn't go back and the act reads moments as `Ticks` says. Before the act a command was unsent, and no more than
   -- a cycle has; after it no chain goes on if the cycle is missed
-  pub begun_next : (acts : List Act) (act : Act) (count : ℕ) (p q : Progress) (goes_on : GoesOnBy count commands p q) (due : q.due ≡ p.due)
+  pub begun_next : (acts : List Act) (act : Act) (count : ℕ) (p q : Progress) (goes_on : GoesOnBy plan count commands p q) (due : q.due ≡ p.due)
       (more : 0 < count) (broken : p.missed ≡ true → q.chain_unbroken ≡ false) (ticks : Ticks p act q) (rises : ClockRises p.moment.elapsed (act ∷ []))
       (here : 0 < p.unsent) (within : p.unsent ≤ cycle_length plan commands) → Begun acts p → Begun (acts ++ act ∷ []) q
   begun_next acts act count p q on due more broken t rises here within (inl none) = let nothing = none.1 in absurd (omega (arith, nothing, here))
@@ -137,14 +141,22 @@ module _ (plan : Plan) (commands : List Task) (scope : Scope) (some : 0 < plan.e
       let others : drop (place_next commands p + count) commands ≡ drop (place_next commands q) commands =
       drop_past commands p.unsent count (omega (arith, within)) ∙ ap (λ (x : ℕ). drop (length commands - x) commands) (sym unsent) in
       inr (cycling_on acts act p q on.left on.missed due t rises
-      (λ was. (on.chained ∙ or_left p.missed (first_is_chained (drop (place_next commands p + count) commands)) was, broken was))
+      (λ was. (on.chained ∙ or_left p.missed (is_chained_in (cycles_begun plan p) (drop (place_next commands p + count) commands)) was, broken was))
       (λ e. by_missed p.missed refl (sym on.chained ∙ e) above others) c) where
-        -- what makes the new next command wait: its cycle is missed (`true`), or the text chains it
-        by_missed : (b : Bool) → p.missed ≡ b → is_chained_after count commands p ≡ true → plan.setup < place_next commands q
+        -- what makes the new next command wait: its cycle is missed (`true`), or the text chains it, or it rests
+        by_missed : (b : Bool) → p.missed ≡ b → is_chained_after plan count commands p ≡ true → plan.setup < place_next commands q
             → drop (place_next commands p + count) commands ≡ drop (place_next commands q) commands → WaitsForAnswer q
         by_missed true is e above others = inl (on.missed ∙ is)
         by_missed false is e above others =
-            inr (above, ap first_is_chained (sym others) ∙ or_second p.missed (first_is_chained (drop (place_next commands p + count) commands)) e is)
+            by_rest (rests (cycles_begun plan p) front) refl (or_second p.missed (is_chained_in (cycles_begun plan p) front) e is) where
+              -- the commands from the new next one on
+              front : List Task
+              front = drop (place_next commands p + count) commands
+
+              -- the lemma above, in a cycle that isn't missed, whether the command rests
+              by_rest : (r : Bool) → rests (cycles_begun plan p) front ≡ r → is_chained_in (cycles_begun plan p) front ≡ true → WaitsForAnswer q
+              by_rest true resting f = inr (inr (ap (λ (x : ℕ). rests (plan.cycles - x) (drop (place_next commands q) commands)) on.left ∙ ap (rests (cycles_begun plan p)) (sym others) ∙ resting))
+              by_rest false awake f = inr (inl (above, ap first_is_chained (sym others) ∙ or_second (rests (cycles_begun plan p) front) (first_is_chained front) f awake))
 
   -- after these acts the next one reads the clock at the moment m and begins a cycle, before which as many began as by p
   abbrev pub BeginsNow : List Act → Moment → Progress → Type 0
@@ -164,7 +176,7 @@ module _ (plan : Plan) (commands : List Task) (scope : Scope) (some : 0 < plan.e
 
   -- `Cycling` holds after the act that begins a cycle at the moment m, if a cycle was left, and the cycle has a `Start`
   pub begins_cycle : (acts : List Act) (m : Moment) (p : Progress) → (unbegun : 0 < p.left) → (within : p.left ≤ plan.cycles) → Start acts m p
-      → Cycling (acts ++ Told m ∷ []) (cycle_begun plan (cycle_length plan commands) (needs_first (drop plan.setup commands)) m p)
+      → Cycling (acts ++ Told m ∷ []) (cycle_begun plan (cycle_length plan commands) (first_upcoming plan commands p) m p)
   begins_cycle acts m p left within x =
       let past = x.past in
       let number = x.number in
@@ -180,65 +192,32 @@ module _ (plan : Plan) (commands : List Task) (scope : Scope) (some : 0 < plan.e
         past = past;
         missed = and_second (nat_lt 0 plan.every) (nat_le plan.every (lateness plan m p)) (lt-ltb 0 plan.every some);
         due = refl;
-        held = λ e. (e, refl);
-        chained = λ e. inl e;
-      }
+        held = λ e. (or_left _ (rests (cycle_next plan p) (drop plan.setup commands)) e, refl);
+        chained = λ e. by_missed (is_missed_at plan m p) refl e;
+      } where
+        -- why the first command counts as chained: its cycle is missed, or it rests
+        by_missed : (b : Bool) → is_missed_at plan m p ≡ b → (is_missed_at plan m p || rests (cycle_next plan p) (drop plan.setup commands)) ≡ true
+            → WaitsForAnswer (cycle_begun plan (cycle_length plan commands) (first_upcoming plan commands p) m p)
+        by_missed true missed e = inl missed
+        by_missed false free e =
+            inr (inr (ap (rests (cycle_next plan p)) (sym (cycle_is_last plan commands)) ∙ or_second (is_missed_at plan m p) (rests (cycle_next plan p) (drop plan.setup commands)) e free))
 
   -- where cycles have due moments, a cycle that begins at the moment m counts as begun when it was due, or at m if that is earlier
-  start_is : (m : Moment) (p : Progress) → cycle_start plan m p ≡ min (due_at plan p) m.elapsed
+  pub start_is : (m : Moment) (p : Progress) → cycle_start plan m p ≡ min (due_at p) m.elapsed
   start_is m p = cond-false (nat_eq plan.every 0) _ _ (ne_eqb plan.every 0 (λ e. omega (arith, e, some)))
 
-  -- the first cycle has a `Start`: it is due at the moment at which it begins, or a period after the start of the clock if that is
-  -- earlier
-  pub start_first : (acts : List Act) (m : Moment) (p : Progress) → BeginsNow acts m p → p.left ≡ plan.cycles → p.began ≡ 0 → (rises : ClockRises p.moment.elapsed (Told m ∷ [])) → Start acts m p
-  start_first acts m p begins all from rises =
-      let none : cycles_begun plan p ≡ 0 = omega (arith, all) in
-      let here = subst (λ (n : ℕ). BeginsAt plan commands scope (acts ++ Told m ∷ []) n m) none begins in
-      let most = rises.1 in
-      let start : cycle_start plan m p ≡ first_due plan m = start_is m p ∙ omega (arith, from, most) in
-      let grid : first_due plan m + (m.elapsed - cycle_start plan m p) ≡ m.elapsed = omega (arith, start) in
+  -- a cycle that begins has a `Start`, with the progress p, by which as many cycles began, and the next one is due, as after these acts
+  pub starts : (acts : List Act) (m : Moment) (p : Progress) → action_at plan (at acts) ≡ actions.Begin → (count : cycles_begun plan (at acts).progress ≡ cycles_begun plan p)
+      → (due : due_at p ≡ due_at (at acts).progress) → Start acts m p
+  unfolding begins_now
+  starts acts m p is count due =
+      let start = start_is m p in
       record {
-        earlier = 0;
+        earlier = cycles_begun plan (at acts).progress;
         past = omega (arith, start);
-        number = none;
-        late = record { first = m; first_begins = here; begins = here; grid = grid };
+        number = sym count;
+        late = record { begins = begins_now acts m is; grid = omega (arith, start, due) };
       }
-
-  -- a later cycle that begins when it is due, if the clock doesn't go back, has a `Start`: it is due `every` milliseconds after
-  -- the one before it was due, and begins then or later
-  pub start_more : (acts : List Act) (m : Moment) (p : Progress) → BeginsNow acts m p
-      → (due : is_due plan p ≡ true) → (rises : ClockRises p.moment.elapsed (Told m ∷ [])) → Cycling acts p → Start acts m p
-  start_more acts m p begins due rises c =
-      let few = c.fewer in
-      let past = c.past in
-      let before = c.began in
-      let last_grid = c.begins.grid in
-      let apart : nat_eq p.left plan.cycles ≡ false = ne_eqb p.left plan.cycles (λ e. omega (arith, e, few)) in
-      let long : plan.every ≤ p.moment.elapsed - p.began = leb-true plan.every (p.moment.elapsed - p.began)
-      (sym (cond-false (nat_eq p.left plan.cycles) true (nat_le plan.every (p.moment.elapsed - p.began)) apart) ∙ due) in
-      let now = rises.0 in
-      let most = rises.1 in
-      let here = subst (λ (n : ℕ). BeginsAt plan commands scope (acts ++ Told m ∷ []) n m) c.count begins in
-      let last : due_after (first_due plan c.begins.first) plan.every c.earlier ≡ p.began = omega (arith, last_grid, before) in
-      let start : cycle_start plan m p ≡ p.began + plan.every = start_is m p ∙ omega (arith, long, past, now, most) in
-      let grid : (due_after (first_due plan c.begins.first) plan.every c.earlier + plan.every) + (m.elapsed - cycle_start plan m p) ≡ m.elapsed = omega (arith, start, last, long, past, now) in
-      record {
-        earlier = suc c.earlier;
-        past = omega (arith, start, long, past, now);
-        number = c.count;
-        late = record {
-          first = c.begins.first;
-          first_begins = at_more acts (Told m ∷ []) 0 c.begins.first c.begins.first_begins;
-          begins = here;
-          grid = grid;
-        };
-      }
-
-  -- a cycle that begins when it is due, the first or a further one, has a `Start`, if the clock doesn't go back
-  pub starts : (acts : List Act) (m : Moment) (p : Progress) → BeginsNow acts m p
-      → (due : is_due plan p ≡ true) → (rises : ClockRises p.moment.elapsed (Told m ∷ [])) → Begun acts p → Start acts m p
-  starts acts m p begins due rises (inl none) = start_first acts m p begins none.0 none.2 rises
-  starts acts m p begins due rises (inr c) = start_more acts m p begins due rises c
 
   -- Acts.
 
@@ -297,8 +276,7 @@ module _ (plan : Plan) (commands : List Task) (scope : Scope) (some : 0 < plan.e
       walk plan commands (KeepsBegunOf acts s.progress) actions.Begin s act o (
         λ m. (
           refl,
-          λ rises. inr (begins_cycle acts m s.progress needs.4 fine.left
-              (starts acts m s.progress (begins_now acts m is) (begin_due plan (at acts).progress (waiting_of (at acts)) is) rises h)),
+          λ rises. inr (begins_cycle acts m s.progress needs.4 fine.left (starts acts m s.progress is refl refl)),
         ),
         λ n. begun_after_failure acts s Untold cause.Clock h (refl, refl),
       )
@@ -442,20 +420,13 @@ module _ (plan : Plan) (commands : List Task) (scope : Scope) (some : 0 < plan.e
         by_begun here (inl none) free = let nothing = none.1 in absurd (omega (arith, nothing, here))
         by_begun here (inr c) free = last_began acts (at acts).progress refl c free
 
-  -- if the clock doesn't go back, a cycle that begins does so at its due moment, or `late` milliseconds after it
-  pub begins_due : (acts later : List Act) (m : Moment) → Runs plan commands (opening plan scope) (acts ++ Told m ∷ later) → ClockRises 0 (acts ++ Told m ∷ [])
-      → action_at plan (at acts) ≡ actions.Begin
+  -- a cycle that begins does so at the moment at which it counts as begun, or `late` milliseconds after it
+  pub begins_due : (acts : List Act) (m : Moment) → action_at plan (at acts) ≡ actions.Begin
       → (late : ℕ) × BeginsLate plan commands scope (acts ++ Told m ∷ []) (cycles_begun plan (at acts).progress) m late
-  begins_due acts later m runs rises is =
-      let s = at acts in
-      let split = runs_split plan commands (opening plan scope) acts later (Told m) runs in
-      let old = begun_if_clock_rises acts split.0 (rises_front 0 acts (Told m) rises) in
-      let x = starts acts m s.progress (begins_now acts m is) (begin_due plan s.progress (waiting_of s) is) (rises_here acts (Told m) rises old.0) old.1 in
-      (lateness plan m s.progress, subst (λ (k : ℕ). BeginsLate plan commands scope (acts ++ Told m ∷ []) k m (lateness plan m s.progress)) (sym x.number) x.late)
-
--- the law: a cycle begins at or after its due moment, where cycles have due moments and the clock doesn't go back
-pub begin_when_due : CyclesBeginWhenDue
-begin_when_due plan commands scope acts later m some runs rises is = begins_due plan commands scope some acts later m runs rises is
+  begins_due acts m is =
+      let p = (at acts).progress in
+      let x = starts acts m p is refl refl in
+      (lateness plan m p, subst (λ (k : ℕ). BeginsLate plan commands scope (acts ++ Told m ∷ []) k m (lateness plan m p)) (sym x.number) x.late)
 
 -- the law: if a command is sent, its cycle began before the next one was due, where cycles have due moments and the clock doesn't
 -- go back

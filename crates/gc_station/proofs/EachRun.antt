@@ -32,7 +32,7 @@ use Rattle.gc_station.specs.Records.{Record}
 use Rattle.gc_station.specs.Runs.{state_after}
 use Rattle.gc_station.specs.Tasked.{EachRecordIsOfItsTask}
 use Rattle.gc_station.specs.Model.{Model, opening, action_at, waiting_of, with_progress, asks_first, asks_next, next_left_out, with_more_passes, with_listed, listed_after_skip, after_pass, with_more_records, end_unsent, unsent_record, first_unsent_record, after_clock, moved, after, after_all, cycle_length, asks_setup, request_for, null_request, request_or_null, asks_for, mark_sent, mark_setup_sent}
-use Rattle.gc_station.specs.NextCommand.{place_next, commands_left, mark_next, needs_first, upcoming_after, cycles_begun}
+use Rattle.gc_station.specs.NextCommand.{place_next, commands_left, mark_next, upcoming_after, first_upcoming, cycles_begun}
 use Rattle.gc_station.proofs.InCycle.{within_window}
 use Rattle.gc_station.proofs.Acting.{mid_fail, mid_moment, mid_clock, mid_put, mid_open, mid_close, mid_read}
 use Rattle.gc_station.proofs.Each.{row_empty, reached_whole}
@@ -74,10 +74,10 @@ going_on plan p w (inr over) = over.2
 
 -- the beginning of a cycle preserves `HoldsMidAct`, while the run goes on, if a cycle is left and no command of the one before is
 -- unsent
-mid_begun : (plan : Plan) (commands : List Task) (s : Model) (m : Moment) → (going : IsGoingOn s.progress.phase) → (none_unsent : s.progress.unsent ≡ 0)
+mid_begun : (plan : Plan) (commands : List Task) (s : Model) (next : Upcoming) (m : Moment) → (going : IsGoingOn s.progress.phase) → (none_unsent : s.progress.unsent ≡ 0)
     → (some : 0 < s.progress.left) → HoldsMidAct plan commands s
-    → HoldsMidAct plan commands (with_progress (cycle_begun plan (cycle_length plan commands) (needs_first (drop plan.setup commands)) m) s)
-mid_begun plan commands s m is none some mid =
+    → HoldsMidAct plan commands (with_progress (cycle_begun plan (cycle_length plan commands) next m) s)
+mid_begun plan commands s next m is none some mid =
     let p = s.progress in (
       sound_begun plan commands (ledger_at s p) none some mid.0,
       going_fits p.phase p.left p.unsent (p.left - 1) (cycle_length plan commands) s.rest s.marks s.marks is mid.1,
@@ -169,7 +169,7 @@ mid_pass : (plan : Plan) (commands : List Task) (s : Model) (act : Act) → IsGo
 mid_pass plan commands s (Told m) is some mid =
     let p = s.progress in
     let n = p.next_others in
-    mid_moment plan commands (with_progress (λ q. early_noted plan (commands_in s.marks) (attempts_left_out (upcoming_after n commands p) m q))
+    mid_moment plan commands (with_progress (λ q. early_noted plan (commands_in s.marks) (attempts_left_out (upcoming_after plan n commands p) m q))
     (with_more_passes (next_left_out plan commands p) s)) m (
       sound_passed plan commands (ledger_at s p) n some mid.0,
       going_fits p.phase p.left p.unsent p.left (p.unsent - n) s.rest s.marks s.marks is mid.1,
@@ -195,7 +195,7 @@ mid_moved plan commands s action.Renew act fine is =
 mid_moved plan commands s action.Begin act fine is =
     let t = with_progress turned s in
     let mid = mid_act_of plan commands s fine in
-    mid_clock plan commands (cycle_begun plan (cycle_length plan commands) (needs_first (drop plan.setup commands))) t act mid (λ m. mid_begun plan commands t m (going_on plan s.progress (waiting_of s) is.0) is.2 is.4 mid)
+    mid_clock plan commands (cycle_begun plan (cycle_length plan commands) (first_upcoming plan commands t.progress)) t act mid (λ m. mid_begun plan commands t (first_upcoming plan commands t.progress) m (going_on plan s.progress (waiting_of s) is.0) is.2 is.4 mid)
 mid_moved plan commands s action.Open act fine is = mid_open plan commands (with_progress turned s) act is (mid_act_of plan commands s fine)
 mid_moved plan commands s action.Clear act fine is =
     let t = with_progress turned s in mid_put plan commands _ (with_progress cleared) t act (mid_cleared plan commands t is (mid_act_of plan commands s fine))
@@ -207,12 +207,12 @@ mid_moved plan commands s action.Prepare act fine is =
     (mid_prepares plan commands t (drop t.progress.prepared commands) refl is.0 (within_window _ _ is.3.1) (mid_act_of plan commands s fine))
 mid_moved plan commands s action.Send act fine is =
     let t = with_progress turned s in
-    mid_put plan commands _ (λ (x : Model). with_progress (sent (upcoming_after 1 commands x.progress)) (asks_next plan commands x)) t act
-    (mid_first plan commands (upcoming_after 1 commands t.progress) t (drop (place_next commands t.progress) commands) refl
+    mid_put plan commands _ (λ (x : Model). with_progress (sent (upcoming_after plan 1 commands x.progress)) (asks_next plan commands x)) t act
+    (mid_first plan commands (upcoming_after plan 1 commands t.progress) t (drop (place_next commands t.progress) commands) refl
     is.0 is.2 (within_window _ _ is.3.1) (mid_act_of plan commands s fine))
 mid_moved plan commands s action.Skip act fine is =
     let t = with_progress turned s in
-    mid_skip plan commands (upcoming_after 1 commands t.progress) t act (going_on plan s.progress (waiting_of s) is.0) is.2 is.3 (mid_act_of plan commands s fine)
+    mid_skip plan commands (upcoming_after plan 1 commands t.progress) t act (going_on plan s.progress (waiting_of s) is.0) is.2 is.3 (mid_act_of plan commands s fine)
 mid_moved plan commands s action.Pass act fine is = mid_pass plan commands (with_progress turned s) act (going_on plan s.progress (waiting_of s) is.0) is.2 (mid_act_of plan commands s fine)
 mid_moved plan commands s action.Flush act fine is =
     let t = with_progress turned s in

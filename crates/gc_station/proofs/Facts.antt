@@ -13,7 +13,7 @@ use Rattle.gc_station.specs.declared.progress.Progress.{Progress}
 use Rattle.gc_station.specs.declared.progress.Until.TheVariants.{Limit, Due}
 use Rattle.gc_station.specs.declared.progress.Waiting.{Waiting}
 use Rattle.gc_station.specs.Reasons.{HoldsBefore, MayPrepare, IsOutOfTime, IsGoingOn, IsOverdue, IsPreparedOrOverdue}
-use Rattle.gc_station.specs.Deciding.{has_begun, is_up, is_dead, is_due, is_idle, is_finished, action_of, action_in, action_on, action_of_phase, action_ready, action_begun, action_beginning, action_to_send, action_waiting, action_without_turns, is_stale, is_resting, is_stopping, is_held_back, action_cycle, action_to_prepare, action_preparing, action_in_setup, is_preparing, is_out_of_time, waits_out, has_no_time_left, is_overdue, action_overdue, may_abandon, setup_permits, may_ask}
+use Rattle.gc_station.specs.Deciding.{has_begun, is_up, is_dead, is_wanted, is_idle, is_finished, action_of, action_in, action_on, action_of_phase, action_ready, action_begun, action_beginning, action_to_send, action_waiting, action_without_turns, is_stale, is_resting, is_stopping, is_held_back, action_cycle, action_to_prepare, action_preparing, action_in_setup, is_preparing, is_out_of_time, waits_out, has_no_time_left, is_overdue, action_overdue, may_abandon, setup_permits, may_ask}
 use Rattle.gc_station.specs.Stations.{SuitsAction}
 use Rattle.gc_station.proofs.InCycle.{within_window, Awake, Holds, IsAtWork, IsInChainIfStopping, Timely, Wakes, above_zero, awake_reads, awake_up, cycle_for, dead_parts, finished_by_test, has_connection_for, held_back_for, in_chain_if_stopping, not_zero, or_first, resting_by_test, room_for, to_send_for, waiting_for_reply, zero_if_not_above}
 
@@ -146,13 +146,6 @@ without_turns_for : (plan : Plan) (p : Progress) (w : Waiting) (up : Bool) → i
 without_turns_for plan p w true is none = ((is, inr none), tt, tt)
 without_turns_for plan p w false is none = ((is, inr (refl, none)), tt, tt)
 
--- a cycle that is out of time is past the moment at which the next one is due
-due_if_out_of_time : (plan : Plan) (p : Progress) → IsOutOfTime plan p → is_due plan p ≡ true
-due_if_out_of_time plan p late =
-    let long = late.1 in
-    cond_both (nat_eq p.left plan.cycles) true (nat_le plan.every (p.moment.elapsed - p.began)) (λ (b : Bool). b ≡ true) (λ first. refl)
-    (λ further. le-leb plan.every (p.moment.elapsed - p.began) (omega (arith, long)))
-
 -- in a phase in which the station may tell of commands, the run goes on
 going_by_test : (at : Phase) → may_abandon at ≡ true → IsGoingOn at
 going_by_test Clearing e = cc
@@ -178,10 +171,10 @@ overdue_for plan p w now over =
     (λ settled. let zero_left = zero_if_not_above w.commands settled in let ready = ready_by_test (is_preparing plan p w) (nat_eq p.prepared 0) (nat_lt 0 w.commands) overdue refl refl rests.0 settled in cond_both (nat_eq p.unsent 0) action.Begin _ P
     (λ sent. let all_sent = eqb-true p.unsent 0 sent in
     let late = late_if_sent time all_sent in
-    ((inr overdue, inr overdue, all_sent, zero_left, some_left p.left p.unsent w.commands (not-true (is_finished w.commands p) more.1) all_sent zero_left, late.1, ready), (due_if_out_of_time plan p late.0, now), tt))
+    ((inr overdue, inr overdue, all_sent, zero_left, some_left p.left p.unsent w.commands (not-true (is_finished w.commands p) more.1) all_sent zero_left, late.1, ready), (inr late.0, now), tt))
     (λ unsent. let here = above_zero p.unsent unsent in cond_both (nat_lt 0 p.next_others) action.Pass action.Skip P
     (λ others. ((inr overdue, inr overdue, here, zero_left, ltb-true 0 p.next_others others, inr overdue, ready), now, tt))
-    (λ first. ((inr overdue, inr overdue, here, zero_left, inr (inr overdue), ready), now, tt)))) where
+    (λ first. ((inr overdue, inr overdue, here, zero_left, inr (inr overdue), ready, inl (zero_if_not_above p.next_others first)), now, tt)))) where
       -- why no time is left for the cycle
       NoTime : Type 0
       NoTime = ((p.missed ≡ true) × (0 < p.unsent)) ⊎ (IsOutOfTime plan p × (p.stops ≡ false))
@@ -237,13 +230,13 @@ pub action_for : (plan : Plan) (p : Progress) (w : Waiting) → HoldsBefore plan
 action_for plan p w = (in_for plan p.phase p w refl).0
 
 -- the action that is next is `Timely`: it reads the clock alone only if the moment is out of date, begins a cycle only if the
--- cycle is due, connects only if the moment was read, and reads only if a read may be made (`CanRead`)
+-- cycle is wanted, connects only if the moment was read, and reads only if a read may be made (`CanRead`)
 pub action_timely : (plan : Plan) (p : Progress) (w : Waiting) → Timely plan p (action_of plan p w)
 action_timely plan p w = (in_for plan p.phase p w refl).1
 
--- if the beginning of a cycle is next, the cycle is due
-pub begin_due : (plan : Plan) (p : Progress) (w : Waiting) → action_of plan p w ≡ action.Begin → is_due plan p ≡ true
-begin_due plan p w is = (subst (λ (next : Action). Timely plan p next) is (action_timely plan p w)).0
+-- if the beginning of a cycle is next, the cycle is wanted, or the last one is out of time
+pub begin_wanted : (plan : Plan) (p : Progress) (w : Waiting) → action_of plan p w ≡ action.Begin → (is_wanted plan p ≡ true) ⊎ IsOutOfTime plan p
+begin_wanted plan p w is = (subst (λ (next : Action). Timely plan p next) is (action_timely plan p w)).0
 
 -- the action that is next is as `Wakes` says: it sends a request, resynchronizes or closes a dead line only if requests may be
 -- sent and the moment was read, or the phase says already that the dead line is to be closed

@@ -144,10 +144,10 @@ module _ (plan : Plan) (commands : List Task) where
   moved_same actions.Prepare k s act = refl
   moved_same actions.Send k s (Cut bytes n) =
       ap (λ (t : Model). with_progress (λ p. failing (cause.Write (commands_before plan commands s.progress) n) p)
-      (with_progress (sent (upcoming_after 1 commands s.progress)) t))
+      (with_progress (sent (upcoming_after plan 1 commands s.progress)) t))
       (first_same k (mark_sent plan commands s) (commands_left commands s.progress) s)
   moved_same actions.Send k s act =
-      ap (λ (t : Model). with_progress (sent (upcoming_after 1 commands s.progress)) t)
+      ap (λ (t : Model). with_progress (sent (upcoming_after plan 1 commands s.progress)) t)
       (first_same k (mark_sent plan commands s) (commands_left commands s.progress) s)
   moved_same actions.Skip k s (Told m) =
       ap (λ (rs : List Record). record (given k (moved plan commands actions.Skip s (Told m))) { records = s.records ++ rs })

@@ -22,7 +22,7 @@ use Rattle.gc_station.proofs.Walk.{acts_along}
 use Rattle.gc_station.specs.Scopes.{Scope}
 
 -- no fewer cycles began by q than by p, and in the same cycle no fewer commands had their turn
-abbrev NotBack : (p q : Progress) → Type 0
+abbrev pub NotBack : (p q : Progress) → Type 0
 NotBack p q = (q.left < p.left) ⊎ ((q.left ≡ p.left) × (q.unsent ≤ p.unsent))
 
 -- if t is at the cycle and the place of p, and the counts are kept from t to q, `NotBack` holds from p to q
@@ -57,7 +57,7 @@ not_back_twice p q r (inr a) (inl b) = inl (omega (arith, a.0, b))
 not_back_twice p q r (inr a) (inr b) = inr (b.0 ∙ a.0, omega (arith, a.1, b.1))
 
 -- acts don't take the progress back
-not_back_all : (plan : Plan) (commands : List Task) (s : Model) (acts : List Act) → NotBack s.progress (after_all plan commands s acts).progress
+pub not_back_all : (plan : Plan) (commands : List Task) (s : Model) (acts : List Act) → NotBack s.progress (after_all plan commands s acts).progress
 not_back_all plan commands s acts =
     acts_along plan commands (λ (t : Model). NotBack s.progress t.progress)
     (λ t act on. not_back_twice s.progress t.progress (after plan commands t act).progress on (not_back_after plan commands t act)) s acts (inr (refl, omega arith))

@@ -13,8 +13,8 @@ use Rattle.gc_station.specs.declared.progress.Action.TheVariants as action
 use Rattle.gc_station.specs.declared.progress.Progress.{Progress}
 use Rattle.gc_station.specs.declared.progress.Until.TheVariants.{Limit, Due}
 use Rattle.gc_station.specs.declared.progress.Waiting.{Waiting}
-use Rattle.gc_station.specs.Reasons.{HoldsBefore, IsBetweenChains, IsFinished, IsHeld, HasRoomToAsk, MayGo, MayRetry, NothingMayGo, WaitsForWhatIsInFlight, IsAtItsEnd, IsOverdue, IsResting, MayAskNoMore, StaysInItsChain, HasConnectionFor, WantsNull}
-use Rattle.gc_station.specs.Deciding.{width_of, has_begun, is_up, is_unquiet, is_silent, is_dead, is_due, is_finished, has_room_to_ask, lacks_value, may_go, waits_for_all, action_again, action_held, action_settled, action_done, action_to_send, action_room, action_waiting, is_between_chains, is_resting, is_cut, is_stopping, is_held_back, action_cycle, is_preparing}
+use Rattle.gc_station.specs.Reasons.{HoldsBefore, IsBetweenChains, IsFinished, IsHeld, HasRoomToAsk, MayGo, MayRetry, NothingMayGo, WaitsForWhatIsInFlight, IsAtItsEnd, IsOverdue, IsResting, MayAskNoMore, StaysInItsChain, HasConnectionFor, WantsNull, IsInItsTurn, IsOutOfTime}
+use Rattle.gc_station.specs.Deciding.{width_of, has_begun, is_up, is_unquiet, is_silent, is_dead, is_wanted, is_finished, has_room_to_ask, lacks_value, may_go, waits_for_all, action_again, action_held, action_settled, action_done, action_to_send, action_room, action_waiting, is_between_chains, is_resting, is_cut, is_stopping, is_held_back, action_cycle, is_preparing}
 
 -- Tests.
 
@@ -92,11 +92,11 @@ dead_parts plan p w dead = let it = and_parts (nat_eq w.current 0) (is_silent pl
 abbrev pub CanRead : Progress → Type 0
 CanRead p = (p.clock_due ≡ false) × (p.phase ≡ Clearing → ⊥)
 
--- if this action reads the clock alone, the moment is out of date; if it begins a cycle, the cycle is due; if it connects, the
+-- if this action reads the clock alone, the moment is out of date; if it begins a cycle, the cycle is wanted, or the last one out of time; if it connects, the
 -- moment was read; and if it reads, a read may be made (`CanRead`)
 abbrev pub Timely : Plan → Progress → Action → Type 0
 Timely plan p action.ReadClock = p.clock_due ≡ true
-Timely plan p action.Begin = (is_due plan p ≡ true) × (p.clock_due ≡ false)
+Timely plan p action.Begin = ((is_wanted plan p ≡ true) ⊎ IsOutOfTime plan p) × (p.clock_due ≡ false)
 Timely plan p action.Renew = p.clock_due ≡ false
 Timely plan p action.Skip = p.clock_due ≡ false
 Timely plan p action.Pass = p.clock_due ≡ false
@@ -122,7 +122,7 @@ Wakes p action.Flush = Awake p
 Wakes p (action.Close cause.Dead) = (p.phase ≡ Closing cause.Dead) ⊎ Awake p
 Wakes p _ = Unit {0}
 
--- what holds if this action is next: its conditions (`HoldsBefore`), that a cycle begins only if it is due, and whether the
+-- what holds if this action is next: its conditions (`HoldsBefore`), that a cycle begins only if it is wanted, and whether the
 -- moment was read before it (`Timely`, `Wakes`)
 abbrev pub Holds : Plan → Progress → Waiting → Action → Type 0
 Holds plan p w next = HoldsBefore plan p w next × Timely plan p next × Wakes p next
@@ -214,9 +214,9 @@ to_send_for plan p w o work near far =
 -- for a station in its cycles (`IsMeasuring`), `Holds` is true of `action_to_send` with `Send` if a command is unsent, it may be
 -- sent (`MayGo`, `MayRetry`), it goes on with its chain if the end of the run was asked for, and the values that it takes of files are there
 send_for : (plan : Plan) (p : Progress) (w : Waiting) → IsMeasuring plan p w → 0 < p.unsent → MayGo p w → MayRetry p w → StaysInItsChain p → lacks_value p ≡ false
-    → Holds plan p w (action_to_send plan p w action.Send)
-send_for plan p w m some may retry stays there =
-    to_send_for plan p w action.Send m.work (λ near room alive. ((m.work.awake.1, m.work.begun, some, room, may, near, retry, stays, m.set_up, alive, there), tt, m.work.awake))
+    → IsInItsTurn p → Holds plan p w (action_to_send plan p w action.Send)
+send_for plan p w m some may retry stays there turn =
+    to_send_for plan p w action.Send m.work (λ near room alive. ((m.work.awake.1, m.work.begun, some, room, may, near, retry, stays, m.set_up, alive, there, turn), tt, m.work.awake))
     (λ many. inr (inl (some, may), many))
 
 -- If the end of the run was asked for.
@@ -317,8 +317,8 @@ done_for : (plan : Plan) (p : Progress) (w : Waiting) → IsMeasuring plan p w �
 done_for plan p w m sent settled unasked =
     let P = Holds plan p w in
     cond_both (nat_eq p.left 0) (action.Close cause.Done) _ P (λ e. ((awake_up p m.work.awake, inr (eqb-true p.left 0 e, sent, settled)), tt, tt))
-    (λ e. cond_both (is_due plan p) action.Begin (action.Read Due) P
-    (λ d. ((inl m.work.awake.1, inl m.work.begun, sent, settled, above_zero p.left e, unasked, inl m.set_up), (d, m.work.awake.0), tt)) (λ d. ((m.work.awake.1, inr (sent, settled, d, m.set_up)), awake_reads p m.work.awake, tt)))
+    (λ e. cond_both (is_wanted plan p) action.Begin (action.Read Due) P
+    (λ d. ((inl m.work.awake.1, inl m.work.begun, sent, settled, above_zero p.left e, unasked, inl m.set_up), (inl d, m.work.awake.0), tt)) (λ d. ((m.work.awake.1, inr (sent, settled, d, m.set_up)), awake_reads p m.work.awake, tt)))
 
 -- if no command may be sent before those that are outstanding are settled (`IsHeld`), one is unsent, and it begins no further
 -- attempt, that one is chained, or a value that it takes of a file isn't there
@@ -336,8 +336,8 @@ again_for plan p w m some settled more stays =
     cond_both (w.listed && not p.next_is_chained) _ action.Pass (Holds plan p w)
     (λ e. let it = and_parts w.listed (not p.next_is_chained) e in
     cond_both (lacks_value p) action.Skip _ (Holds plan p w)
-    (λ lacks. ((inl m.work.awake.1, inl m.work.begun, some, settled, inr (inl (lacks, stays)), inl m.set_up), m.work.awake.0, tt))
-    (λ there. send_for plan p w m some (inl (not-true p.next_is_chained it.1)) (inr (settled, it.0)) stays there))
+    (λ lacks. ((inl m.work.awake.1, inl m.work.begun, some, settled, inr (inl (lacks, stays)), inl m.set_up, inr (not-true p.next_is_chained it.1)), m.work.awake.0, tt))
+    (λ there. send_for plan p w m some (inl (not-true p.next_is_chained it.1)) (inr (settled, it.0)) stays there (inr (not-true p.next_is_chained it.1))))
     (λ e. ((inl m.work.awake.1, inl m.work.begun, some, settled, more, inl (by_test (and_cases w.listed (not p.next_is_chained) e)), inl m.set_up), m.work.awake.0, tt)) where
       -- why the attempt is left out, by which of the two tests fails
       by_test : ((w.listed ≡ false) ⊎ (not p.next_is_chained ≡ false)) → (w.listed ≡ false) ⊎ (p.next_is_chained ≡ true)
@@ -354,8 +354,8 @@ settled_for plan p w m held settled only =
     (λ first. let none = zero_if_not_above p.next_others first in cond_both (may_go p w) _ action.Skip P
     (λ may. let both = and_parts (w.well && p.chain_unbroken) (not (lacks_value p)) may in
     let it = and_parts w.well p.chain_unbroken both.0 in
-    send_for plan p w m (above_zero p.unsent e) (inr (settled, it.0, it.1)) (inl none) (λ stops. (only stops).1) (not-true (lacks_value p) both.1))
-    (λ broken. ((inl m.work.awake.1, inl m.work.begun, above_zero p.unsent e, settled, unsent_for (held_is_chained p held e none) broken, inl m.set_up), m.work.awake.0, tt)))) where
+    send_for plan p w m (above_zero p.unsent e) (inr (settled, it.0, it.1)) (inl none) (λ stops. (only stops).1) (not-true (lacks_value p) both.1) (inl none))
+    (λ broken. ((inl m.work.awake.1, inl m.work.begun, above_zero p.unsent e, settled, unsent_for (held_is_chained p held e none) broken, inl m.set_up, inl none), m.work.awake.0, tt)))) where
       -- why the command isn't sent
       unsent_for : (p.next_is_chained ≡ true) ⊎ (lacks_value p ≡ true) → may_go p w ≡ false
           → ((p.next_is_chained ≡ true) × (may_go p w ≡ false)) ⊎ (((lacks_value p ≡ true) × StaysInItsChain p) ⊎ IsOverdue plan p w)
@@ -405,7 +405,7 @@ cycle_for plan p w m only =
     cond_both (nat_lt 0 p.unsent && not (waits_for_all p)) _ _ (Holds plan p w)
     (λ some. let it = and_parts (nat_lt 0 p.unsent) (not (waits_for_all p)) some in
     let free = unchained_if_free p it.1 in
-    send_for plan p w m (ltb-true 0 p.unsent it.0) (inl free.0) (inl free.1) (λ stops. (only stops).1) free.2)
+    send_for plan p w m (ltb-true 0 p.unsent it.0) (inl free.0) (inl free.1) (λ stops. (only stops).1) free.2 (inl free.1))
     (λ none. held_for plan p w m (held_by_test p none) only)
 
 -- if the test says that all is done, `IsFinished` holds: no cycle and no command is left, and none is outstanding

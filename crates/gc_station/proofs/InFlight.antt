@@ -139,7 +139,7 @@ module _ (plan : Plan) (longest span : ℕ) where
   start_after m p past rises =
       let now = rises.0 in
       let most = rises.1 in
-      cond_both (nat_eq plan.every 0) m.elapsed (min (due_at plan p) m.elapsed) (λ (x : ℕ). (p.began ≤ x) × (x ≤ m.elapsed))
+      cond_both (nat_eq plan.every 0) m.elapsed (min (due_at p) m.elapsed) (λ (x : ℕ). (p.began ≤ x) × (x ≤ m.elapsed))
       (λ e. (omega (arith, past, now), omega arith)) (λ e. (omega (arith, past, now, most), omega arith))
 
   -- a line preserves `TimesOut`

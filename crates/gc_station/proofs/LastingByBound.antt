@@ -11,7 +11,6 @@ use Rattle.gc_station.specs.Deciding.{later, is_out_of_time}
 use Rattle.gc_station.specs.Keeping.{Snapshot, IsKept, AreKept}
 use Rattle.gc_station.specs.Model.{opening, waiting_of, Runs}
 use Rattle.gc_station.specs.Pace.{out_of_time_at, stale_at, longest_timeout, read_end_without_deadline, read_end, read_timeout}
-use Rattle.gc_station.specs.Progressing.{due_at}
 use Rattle.gc_station.specs.RealTime.{LastsByBound, ReadsEndInTime}
 use Rattle.gc_station.specs.Records.{Record}
 use Rattle.gc_station.specs.Scopes.{Scope}
@@ -81,7 +80,7 @@ reads_end_in_time plan s until wait asked = (in_time, by_deadline asked.0 asked.
   in_time : 0 < plan.every → is_out_of_time plan s.progress ≡ false → s.progress.moment.elapsed + wait ≤ max (s.progress.began + 2 * plan.every) (s.progress.moment.elapsed + 1)
   in_time some punctual =
       let end : out_of_time_at plan s.progress ≤ s.progress.began + 2 * plan.every =
-      subst (λ (b : Bool). (if b then later (due_at plan s.progress) plan.every else 18446744073709551615) ≤ s.progress.began + 2 * plan.every)
+      subst (λ (b : Bool). (if b then later (later s.progress.began plan.every) plan.every else 18446744073709551615) ≤ s.progress.began + 2 * plan.every)
       (sym (test (nat_lt 0 plan.every) (is_out_of_time plan s.progress) (lt-ltb 0 plan.every some) punctual)) (omega arith)
       in
       let by = ends_by (min (read_end plan s.progress until asked.0) (stale_at plan (waiting_of s).fresh)) (out_of_time_at plan s.progress) s.progress.moment.elapsed (longest_timeout plan) in

@@ -73,7 +73,11 @@ mod Ticking
 mod Timing
 mod Tasked
 mod Staying
+mod Resting
 mod Cycles
+mod Periods
+mod Dues
+mod Grouped
 mod Unsent
 mod Pauses
 mod Qualified

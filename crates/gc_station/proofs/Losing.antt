@@ -96,7 +96,7 @@ sending_loses_none plan commands s act sends = by_action (action_at plan s) send
       → loses_all (moved plan commands next (with_progress turned s) act).progress ≡ false
   by_action actions.Send is needs =
       let t = with_progress turned s in
-      let f = λ (x : Model). with_progress (sent (upcoming_after 1 commands x.progress)) (asks_next plan commands x) in
+      let f = λ (x : Model). with_progress (sent (upcoming_after plan 1 commands x.progress)) (asks_next plan commands x) in
       loses_nothing (has_begun (moved plan commands actions.Send t act).progress) _ (ap (λ (x : Model). has_begun x.progress) (moved_changed plan commands actions.Send t act) ∙ needs.1)
       (put_not_over _ f t act (sym (ap (λ (x : Model). x.progress.phase) (sent_same plan commands t)) ∙ needs.0))
   by_action actions.Prepare is needs =

@@ -44,7 +44,7 @@ module _ (plan : Plan) (commands : List Task) where
       noted ∙ ap needs_first at
 
   -- the commands behind the setup are the last ones, as many as a cycle has
-  cycle_is_last : drop plan.setup commands ≡ drop (length commands - cycle_length plan commands) commands
+  pub cycle_is_last : drop plan.setup commands ≡ drop (length commands - cycle_length plan commands) commands
   cycle_is_last = by_test (nat_le plan.setup (length commands)) refl where
     -- the lemma above, whether the list has each command of the setup
     by_test : (b : Bool) → nat_le plan.setup (length commands) ≡ b → drop plan.setup commands ≡ drop (length commands - cycle_length plan commands) commands

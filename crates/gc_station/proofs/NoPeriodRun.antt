@@ -15,5 +15,5 @@ due_moments_needed =
       calls = calls_each gapless_plan outage_commands scope 5 long_pause (lit≤ tt) (λ slow. (0, refl, lit≤ tt), (λ slow. absurd slow, (λ slow. (1000, (None, refl, refl), lit≤ tt), tt)));
       readings = readings_at_once gapless_plan outage_commands scope long_pause (inr tt, (inr (lit≤ tt), (inl tt, tt)));
       unasked = refl;
-      beyond = not_in_time gapless_plan outage_commands scope 16 long_pause (lit< tt) (λ n. lit< tt) (lit≤ tt);
+      beyond = not_in_time gapless_plan outage_commands scope 16 0 long_pause (lit< tt) (inr (refl, refl)) (λ n. lit< tt) (lit≤ tt);
     }

@@ -5,8 +5,9 @@ use Rattle.std.proofs.lemmas.Bool.{both_ways, cond_both, or_left, false_from_ne_
 use Rattle.gc_texts.specs.declared.tasks.Task.{Task}
 use Rattle.gc_links.specs.Acts.{Act}
 use Rattle.gc_station.specs.Deciding.{is_between_chains}
-use Rattle.gc_station.specs.Model.{Model, opening, action_at, waiting_of, with_progress, moved, losing, with_losses, after, Performs, Runs}
-use Rattle.gc_station.specs.NextCommand.{place_next, commands_left, first_is_chained}
+use Rattle.gc_links.specs.declared.link.Moment.{Moment}
+use Rattle.gc_station.specs.Model.{Model, cycle_length, opening, action_at, waiting_of, with_progress, moved, losing, with_losses, after, Performs, Runs}
+use Rattle.gc_station.specs.NextCommand.{place_next, commands_left, cycles_begun, cycle_next, first_is_chained, rests, is_chained_in}
 use Rattle.gc_station.specs.OnceAsked.{requests_by, requests_sent, chained_first, chain_left, FinishesItsChainOnceAsked}
 use Rattle.gc_station.specs.Progressing.{turned, loses_all, is_missed_at}
 use Rattle.gc_station.specs.Reasons.{HoldsBefore, MayGo}
@@ -28,7 +29,10 @@ use Rattle.gc_station.proofs.Going.{after_all-append}
 use Rattle.gc_station.proofs.InTime.{asked_stays}
 use Rattle.gc_station.proofs.Interleaving.{drop_past}
 use Rattle.gc_station.proofs.Invariant.{Invariant}
+use Rattle.gc_station.proofs.InCycle.{or_second}
+use Rattle.gc_station.proofs.Needed.{cycle_is_last}
 use Rattle.gc_station.proofs.NoneEnded.{NoneEndedBefore, none_ended_holds}
+use Rattle.gc_station.proofs.Resting.{RestFits, is_resting_next, in_turn, rest_holds}
 use Rattle.gc_station.proofs.Asked.{begun_if_nothing_lost}
 use Rattle.gc_station.proofs.Nulls.{nulls_left, nulls_few, nulls_after, nulls_after_most, nulls_after_begun}
 use Rattle.gc_station.proofs.OnceAsked.{acts_fewer}
@@ -49,22 +53,23 @@ module _ (plan : Plan) (commands : List Task) where
   -- if the next command waits for the answer of the one before it, the text chains it, or the cycle is missed; and in a missed cycle each
   -- command waits so, and no chain goes on
   abbrev pub FollowsText : Progress → Type 0
-  FollowsText p = (p.next_is_chained ≡ true → waits_for_answer commands p ≡ true) × (p.missed ≡ true → (p.next_is_chained ≡ true) × (p.chain_unbroken ≡ false))
+  FollowsText p = (p.next_is_chained ≡ true → waits_for_answer plan commands p ≡ true) × (p.missed ≡ true → (p.next_is_chained ≡ true) × (p.chain_unbroken ≡ false))
 
   -- it stays so at the same command
   follows_still : (p q : Progress) → Still p q → FollowsText p → FollowsText q
   follows_still p q k h = (
-    λ e. ap (λ (b : Bool). b || first_is_chained (drop (length commands - q.unsent) commands)) k.missed
-        ∙ ap (λ (n : ℕ). p.missed || first_is_chained (drop (length commands - n) commands)) k.unsent ∙ h.0 (sym k.next_is_chained ∙ e),
+    λ e. ap (λ (b : Bool). b || is_chained_in (cycles_begun plan q) (drop (length commands - q.unsent) commands)) k.missed
+        ∙ ap (λ (n : ℕ). p.missed || is_chained_in (plan.cycles - n) (drop (length commands - q.unsent) commands)) k.left
+        ∙ ap (λ (n : ℕ). p.missed || is_chained_in (cycles_begun plan p) (drop (length commands - n) commands)) k.unsent ∙ h.0 (sym k.next_is_chained ∙ e),
     λ e. let was = h.1 (sym k.missed ∙ e) in
         (k.next_is_chained ∙ was.0, false_from_ne_true q.chain_unbroken (λ unbroken. both_ways p.chain_unbroken was.1 (k.chain_unbroken unbroken))),
   )
 
   -- and at a later one, if no chain goes on in a missed cycle
-  follows_next : (count : ℕ) (p q : Progress) → GoesOnBy count commands p q → p.unsent ≤ length commands → (p.missed ≡ true → q.chain_unbroken ≡ false) → FollowsText q
+  follows_next : (count : ℕ) (p q : Progress) → GoesOnBy plan count commands p q → p.unsent ≤ length commands → (p.missed ≡ true → q.chain_unbroken ≡ false) → FollowsText q
   follows_next count p q on within broken = (
-    λ e. sym (next_chained count commands p q on within) ∙ e,
-    λ e. let missed = sym on.missed ∙ e in (on.chained ∙ or_left p.missed (first_is_chained (drop (place_next commands p + count) commands)) missed, broken missed),
+    λ e. sym (next_chained plan count commands p q on within) ∙ e,
+    λ e. let missed = sym on.missed ∙ e in (on.chained ∙ or_left p.missed (is_chained_in (cycles_begun plan p) (drop (place_next commands p + count) commands)) missed, broken missed),
   )
 
   -- an act of each action preserves it
@@ -72,7 +77,18 @@ module _ (plan : Plan) (commands : List Task) where
       → FollowsText s.progress → FollowsText (moved plan commands o (with_progress turned s) act).progress
   follows_moved s actions.Begin act obeys needs within h =
       walk plan commands (λ (a : Act) (t : Model). FollowsText t.progress) actions.Begin (with_progress turned s) act obeys
-      (λ m. (λ e. or_left (is_missed_at plan m (turned s.progress)) _ e, λ e. (e, refl)), λ n. h)
+      (λ m. (λ e. bound_at_beginning m e, λ e. (or_left _ (rests (cycle_next plan s.progress) (drop plan.setup commands)) e, refl)), λ n. h) where
+        -- the first command waits for an answer as the text says, or rests
+        bound_at_beginning : (m : Moment) → let resting = rests (cycle_next plan s.progress) in (is_missed_at plan m (turned s.progress) || resting (drop plan.setup commands)) ≡ true
+            → (is_missed_at plan m (turned s.progress) || (resting (drop (length commands - cycle_length plan commands) commands) || first_is_chained (drop (length commands - cycle_length plan commands) commands))) ≡ true
+        bound_at_beginning m e =
+            by_tests (is_missed_at plan m (turned s.progress)) _ _ (first_is_chained (drop (length commands - cycle_length plan commands) commands)) (ap (rests (cycle_next plan s.progress)) (cycle_is_last plan commands)) e where
+              -- the lemma above, by the tests
+              by_tests : (a r r' f : Bool) → r ≡ r' → (a || r) ≡ true → (a || (r' || f)) ≡ true
+              by_tests true r r' f same e = refl
+              by_tests false r true f same e = refl
+              by_tests false true false f same e = cc
+              by_tests false false false f same e = cc
   follows_moved s actions.Send act obeys needs within h =
       follows_next 1 (turned s.progress) (moved plan commands actions.Send (with_progress turned s) act).progress (moved_steps plan commands actions.Send (with_progress turned s) act) within
       (λ missed. absurd (by_going needs.4 (h.1 missed))) where
@@ -86,7 +102,7 @@ module _ (plan : Plan) (commands : List Task) where
     q = (moved plan commands actions.Skip (with_progress turned s) act).progress
 
     -- the lemma above, whether the clock could be read
-    by_steps : Still (turned s.progress) q ⊎ (GoesOnBy 1 commands (turned s.progress) q × (q.chain_unbroken ≡ false)) → FollowsText q
+    by_steps : Still (turned s.progress) q ⊎ (GoesOnBy plan 1 commands (turned s.progress) q × (q.chain_unbroken ≡ false)) → FollowsText q
     by_steps (inl k) = follows_still (turned s.progress) q k h
     by_steps (inr (on, broken)) = follows_next 1 (turned s.progress) q on within (λ missed. broken)
   follows_moved s actions.Pass act obeys needs within h = by_steps (moved_steps plan commands actions.Pass (with_progress turned s) act) where
@@ -95,7 +111,7 @@ module _ (plan : Plan) (commands : List Task) where
     q = (moved plan commands actions.Pass (with_progress turned s) act).progress
 
     -- the lemma above, whether the clock could be read
-    by_steps : Still (turned s.progress) q ⊎ (GoesOnBy s.progress.next_others commands (turned s.progress) q × (q.chain_unbroken ≡ false)) → FollowsText q
+    by_steps : Still (turned s.progress) q ⊎ (GoesOnBy plan s.progress.next_others commands (turned s.progress) q × (q.chain_unbroken ≡ false)) → FollowsText q
     by_steps (inl k) = follows_still (turned s.progress) q k h
     by_steps (inr (on, broken)) = follows_next s.progress.next_others (turned s.progress) q on within (λ missed. broken)
   follows_moved s actions.Renew act obeys needs within h = by_steps (moved_steps plan commands actions.Renew (with_progress turned s) act) where
@@ -153,7 +169,7 @@ module _ (plan : Plan) (commands : List Task) where
         omega (arith, same)
     by_test false e = let none = broken_left q e in omega (arith, none)
 
-  module _ (s : Model) (act : Act) (fine : Invariant plan commands s) (before : NoneEndedBefore s.progress) (text : FollowsText s.progress) (stops : s.progress.stops ≡ true) where
+  module _ (s : Model) (act : Act) (fine : Invariant plan commands s) (before : NoneEndedBefore s.progress) (text : FollowsText s.progress) (stops : s.progress.stops ≡ true) (rest : RestFits plan commands s.progress) where
     -- the model after an act of this action
     abbrev pub then_is : Action → Model
     then_is o = moved plan commands o (with_progress turned s) act
@@ -187,14 +203,14 @@ module _ (plan : Plan) (commands : List Task) where
     quiet_less actions.Skip obeys needs other = by_steps (moved_steps plan commands actions.Skip (with_progress turned s) act) where
       -- the lemma above, whether the clock could be read
       by_steps : Still (turned s.progress) (then_is actions.Skip).progress
-          ⊎ (GoesOnBy 1 commands (turned s.progress) (then_is actions.Skip).progress × ((then_is actions.Skip).progress.chain_unbroken ≡ false)) → LeavesLess actions.Skip
+          ⊎ (GoesOnBy plan 1 commands (turned s.progress) (then_is actions.Skip).progress × ((then_is actions.Skip).progress.chain_unbroken ≡ false)) → LeavesLess actions.Skip
       by_steps (inl k) = still_less actions.Skip obeys needs k
       by_steps (inr (on, broken)) =
           broken_less actions.Skip refl (ap (λ (x : Model). nulls_left x.progress.behind x.marks) (moved_changed plan commands actions.Skip (with_progress turned s) act)) broken
     quiet_less actions.Pass obeys needs other = by_steps (moved_steps plan commands actions.Pass (with_progress turned s) act) where
       -- the lemma above, whether the clock could be read
       by_steps : Still (turned s.progress) (then_is actions.Pass).progress
-          ⊎ (GoesOnBy s.progress.next_others commands (turned s.progress) (then_is actions.Pass).progress × ((then_is actions.Pass).progress.chain_unbroken ≡ false)) → LeavesLess actions.Pass
+          ⊎ (GoesOnBy plan s.progress.next_others commands (turned s.progress) (then_is actions.Pass).progress × ((then_is actions.Pass).progress.chain_unbroken ≡ false)) → LeavesLess actions.Pass
       by_steps (inl k) = still_less actions.Pass obeys needs k
       by_steps (inr (on, broken)) =
           broken_less actions.Pass refl (ap (λ (x : Model). nulls_left x.progress.behind x.marks) (moved_changed plan commands actions.Pass (with_progress turned s) act)) broken
@@ -223,10 +239,13 @@ module _ (plan : Plan) (commands : List Task) where
       chained : s.progress.chain_unbroken ≡ true → first_is_chained (drop (place_next commands s.progress) commands) ≡ true
       chained unbroken = by_missed s.progress.missed refl (text.0 bound) where
         -- the lemma above, whether the cycle is missed
-        by_missed : (b : Bool) → s.progress.missed ≡ b → (s.progress.missed || first_is_chained (drop (place_next commands s.progress) commands)) ≡ true
+        by_missed : (b : Bool) → s.progress.missed ≡ b
+            → (s.progress.missed || (is_resting_next plan commands s.progress || first_is_chained (drop (place_next commands s.progress) commands))) ≡ true
             → first_is_chained (drop (place_next commands s.progress) commands) ≡ true
         by_missed true e waits = absurd (both_ways s.progress.chain_unbroken (text.1 e).1 unbroken)
-        by_missed false e waits = sym (ap (λ (b : Bool). b || first_is_chained (drop (place_next commands s.progress) commands)) e) ∙ waits
+        by_missed false e waits =
+            or_second (is_resting_next plan commands s.progress) (first_is_chained (drop (place_next commands s.progress) commands))
+            (or_second s.progress.missed (is_resting_next plan commands s.progress || first_is_chained (drop (place_next commands s.progress) commands)) waits e) (in_turn plan commands s.progress needs.11 rest)
 
       -- the lemma above, as the chain goes on
       by_going : MayGo s.progress (waiting_of s) → 1 + chain_left commands q ≤ chain_left commands s.progress
@@ -292,7 +311,7 @@ module _ (plan : Plan) (commands : List Task) (scope : Scope) where
     -- with the requests that the act sends, no more may be sent within the chain
     fewer : requests_by o + (8 * chain_left commands t.progress + nulls_after t) ≤ left_in_chain plan commands s
     fewer =
-        chain_fewer plan commands s act (invariant_holds plan commands scope earlier) (none_ended_holds plan commands scope earlier runs) (follows_text plan commands scope earlier runs) stops o obeys (action_for plan s.progress (waiting_of s))
+        chain_fewer plan commands s act (invariant_holds plan commands scope earlier) (none_ended_holds plan commands scope earlier runs) (follows_text plan commands scope earlier runs) stops (rest_holds plan commands scope earlier runs) o obeys (action_for plan s.progress (waiting_of s))
 
     -- where no request follows, nothing may be sent
     none_of : (x : Model) → sends_no_more x.progress ≡ true → may_send_of_chain x ≡ 0

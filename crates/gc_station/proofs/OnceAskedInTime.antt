@@ -36,10 +36,10 @@ use Rattle.gc_station.proofs.OnceAsked.{ends_soon}
 use Rattle.gc_station.proofs.OnceAskedInChain.{finishes_its_chain}
 use Rattle.gc_station.proofs.CallTimes.{latest_append, deadlines_within, waits_in_flight, read_if_slow}
 use Rattle.gc_station.proofs.OnceAskedOfTable.{finishes_a_table_chain}
-use Rattle.gc_station.proofs.RealTime.{slow_or_quick, rises_before, latest_rises, rises_behind, LastSlow, last_slow, quick_behind, read_by}
+use Rattle.gc_station.proofs.RealTime.{slow_or_quick, latest_rises, rises_behind, LastSlow, last_slow, quick_behind, read_by}
 use Rattle.gc_station.proofs.Staying.{gave_stays, silent_stays}
 use Rattle.gc_station.proofs.Stopping.{asked-append}
-use Rattle.gc_station.proofs.Ticking.{rises_front, latest_more, last_ticks}
+use Rattle.gc_station.proofs.Ticking.{rises_front, latest_more, last_ticks, rises_before}
 use Rattle.gc_station.proofs.Walk.{asked_along, came_along, quieted_along, closed_along, losing_along, walk}
 
 -- The moment read last.

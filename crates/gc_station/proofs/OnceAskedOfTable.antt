@@ -32,6 +32,7 @@ use Rattle.gc_station.proofs.InTime.{asked_stays}
 use Rattle.gc_station.proofs.NoneEnded.{none_ended_holds}
 use Rattle.gc_station.proofs.Asked.{begun_if_nothing_lost}
 use Rattle.gc_station.proofs.Nulls.{nulls_left, nulls_few, nulls_after, nulls_after_begun}
+use Rattle.gc_station.proofs.Resting.{rest_holds}
 use Rattle.gc_station.proofs.OnceAskedInChain.{follows_text, left_in_chain, sends_few_of_chain, quiet_less, sent_less, finishes_its_chain}
 use Rattle.gc_station.proofs.SendsNoMore.{sends_no_more, losing_sends_none}
 use Rattle.gc_station.proofs.Stopping.{asked-append, stops_as_asked}
@@ -106,7 +107,7 @@ module _ (plan : Plan) (commands : List Task) (scope : Scope) where
     -- after an act that isn't a send
     quiet_here : (o ≡ actions.Send → ⊥) → (chain_left commands t.progress ≤ chain_left commands s.progress)
         × (requests_by o + nulls_after t ≤ nulls_left s.progress.behind s.marks)
-    quiet_here other = quiet_less plan commands s act (invariant_holds plan commands scope earlier) (none_ended_holds plan commands scope earlier before.0) (follows_text plan commands scope earlier before.0) stops o before.1 needs other
+    quiet_here other = quiet_less plan commands s act (invariant_holds plan commands scope earlier) (none_ended_holds plan commands scope earlier before.0) (follows_text plan commands scope earlier before.0) stops (rest_holds plan commands scope earlier before.0) o before.1 needs other
 
   -- the chain of the model can't go on, since a command of it has timed out, or since it is broken
   abbrev EndsHere : Model → Type 0
@@ -209,7 +210,7 @@ module _ (plan : Plan) (commands : List Task) (scope : Scope) where
             omega (arith, few, nulls)
         by_action rest actions.Send is =
             let both = sent_both earlier later act runs asked in
-            let less = sent_less plan commands (at earlier) act (invariant_holds plan commands scope earlier) (none_ended_holds plan commands scope earlier first.0) (follows_text plan commands scope earlier first.0) (stops earlier later act runs asked)
+            let less = sent_less plan commands (at earlier) act (invariant_holds plan commands scope earlier) (none_ended_holds plan commands scope earlier first.0) (follows_text plan commands scope earlier first.0) (stops earlier later act runs asked) (rest_holds plan commands scope earlier first.0)
             (subst (λ (o : Action). Performs commands (at earlier) o act) is first.1) (needs_of plan (at earlier) actions.Send is) in
             let left : chain_left commands (at (earlier ++ act ∷ [])).progress ≡ chain_left commands (moved plan commands actions.Send (with_progress turned (at earlier)) act).progress =
             ap (chain_left commands) same ∙ ap (λ (o : Action). chain_left commands (moved plan commands o (with_progress turned (at earlier)) act).progress) is in

@@ -1,5 +1,5 @@
 -- Each due cycle is recorded in time, whatever the line does. An act is one call on the link, with its result.
-use Rattle.std.proofs.Common.{◌≡◌, ◌⊎◌, inl, inr, ℕ, zero, suc, ◌+◌, ◌*◌, ◌-◌, ◌<◌, ◌≤◌, ◌&&◌, ◌||◌, Bool, true, false, not, if◌then◌else◌, List, [], ◌∷◌, ◌++◌, length, map, take, nat_lt, nat_le, nat_eq, refl, sym, ap, ◌∙◌, subst, arith, append-nil}
+use Rattle.std.proofs.Common.{◌≡◌, ◌⊎◌, inl, inr, ℕ, suc, ◌+◌, ◌*◌, ◌-◌, ◌<◌, ◌≤◌, ◌&&◌, ◌||◌, Bool, true, false, not, if◌then◌else◌, List, [], ◌∷◌, ◌++◌, length, map, take, nat_lt, nat_le, nat_eq, refl, sym, ap, ◌∙◌, subst, arith, append-nil}
 use Rattle.std.proofs.lemmas.Bool.{ltb-true, ltb-false, leb-true, leb-false, eq-eqb, and_parts, cond_both, both_ways}
 use native.Mathlib.Nat.{suc-mul, mul-le-mul_right}
 use Rattle.std.proofs.lemmas.List.{nil_from_length}
@@ -7,11 +7,11 @@ use Rattle.gc_catalogue.specs.declared.asked.Asked.{Asked}
 use Rattle.gc_client.specs.Rule.{ById}
 use Rattle.gc_texts.specs.declared.tasks.Task.{Task}
 use Rattle.gc_links.specs.Acts.{Act, Told}
-use Rattle.gc_station.specs.Cycles.{first_due, due_after}
+use Rattle.gc_station.specs.Cycles.{ClockRises}
 use Rattle.gc_station.specs.Deciding.{has_begun, lacks_value, is_out_of_time, is_overdue, setup_permits, is_stale, is_stopping, is_preparing, is_finished, is_up, may_abandon, action_in, action_on, action_overdue, action_of_phase, action_without_turns}
 use Rattle.gc_station.specs.EachOnce.{Interleave, RunRequest, of_record, still_waiting, all_cycles, of_text}
 use Rattle.gc_station.specs.Marks.{commands_in}
-use Rattle.gc_station.specs.Model.{Model, opening, action_at, waiting_of, with_progress, with_rest, moved, Performs}
+use Rattle.gc_station.specs.Model.{Model, opening, action_at, waiting_of, with_progress, with_rest, moved, Performs, Runs}
 use Rattle.gc_station.specs.Progressing.{turned}
 use Rattle.gc_station.specs.NextCommand.{cycles_begun, place_next}
 use Rattle.gc_station.specs.Reasons.{IsFinished, MayGo, MayRetry, NothingMayGo, AwaitsSettlements, AwaitsReply, AwaitsSomething, MayBeSent}
@@ -35,6 +35,7 @@ use Rattle.gc_station.proofs.BehindRaw.{raws_within}
 use Rattle.gc_station.proofs.CallTimes.{read_if_slow}
 use Rattle.gc_station.proofs.Closings.{needs_of, runs_split}
 use Rattle.gc_station.proofs.Cycles.{Cycling, begun_if_clock_rises}
+use Rattle.gc_station.proofs.Dues.{due_no_earlier}
 use Rattle.gc_station.proofs.Each.{row_settled, reached_whole}
 use Rattle.gc_station.proofs.EachRun.{invariant_holds}
 use Rattle.gc_station.proofs.InCycle.{finished_by_test}
@@ -111,13 +112,6 @@ out_of_time_or_done missed true true true true true false false e a b c d f = cc
 
 -- Due moments.
 
--- later cycles are due later
-due_rises : (first every n k : ℕ) → n ≤ k → due_after first every n ≤ due_after first every k
-due_rises first every n zero le = let none : zero ≡ n = omega (arith, le) in subst (λ (m : ℕ). due_after first every m ≤ first) none (omega arith)
-due_rises first every n (suc k) le = cond_both (nat_le n k) zero zero (λ _. due_after first every n ≤ due_after first every (suc k))
-    (λ e. let before = due_rises first every n k (leb-true n k e) in omega (arith, before))
-    (λ e. let past = leb-false n k e in let same : n ≡ suc k = omega (arith, le, past) in subst (λ (m : ℕ). due_after first every n ≤ due_after first every m) same (omega arith))
-
 module _ (plan : Plan) (commands : List Task) (scope : Scope) where
   -- the model after these acts
   abbrev at : List Act → Model
@@ -138,11 +132,6 @@ module _ (plan : Plan) (commands : List Task) (scope : Scope) where
             (reached_whole plan.setup commands n (place_next commands s.progress) (omega (arith, sent))) (invariant_holds plan commands scope acts).each);
       }
 
-  -- a cycle that was due `wait` milliseconds ago was due before the one that began last, if that began less than that ago
-  pub before_this : (n k first began now wait : ℕ) → due_after first plan.every k ≡ began → now - began < wait → began ≤ now → due_after first plan.every n + wait ≤ now → n < k
-  before_this n k first began now wait here short past due = cond_both (nat_lt n k) zero zero (λ _. n < k) (λ e. ltb-true n k e)
-      (λ e. let on = due_rises first plan.every k n (ltb-false n k e) in absurd (omega (arith, on, here, short, past, due)))
-
   -- where a cycle has begun, each one before it is recorded
   pub recorded_earlier : (acts : List Act) (some : 0 < plan.every) → (c : Cycling plan commands scope some acts (at acts).progress) → AreRecorded plan commands scope acts c.earlier
   recorded_earlier acts some c =
@@ -160,28 +149,26 @@ module _ (plan : Plan) (commands : List Task) (scope : Scope) where
       (subst (λ (n : ℕ). AreRecorded plan commands scope (acts ++ []) n) (omega (arith, left)) (recorded_if_settled acts [] all.1 all.2))
 
   -- where a cycle has begun, less than `wait` milliseconds ago, each cycle that was due that long ago is recorded
-  pub recorded_before : (acts : List Act) (some : 0 < plan.every) (wait : ℕ) → Cycling plan commands scope some acts (at acts).progress → (at acts).progress.moment.elapsed - (at acts).progress.began < wait
+  pub recorded_before : (acts : List Act) (some : 0 < plan.every) (wait : ℕ) → Runs plan commands (opening plan scope) acts → ClockRises 0 acts
+      → Cycling plan commands scope some acts (at acts).progress → (at acts).progress.moment.elapsed - (at acts).progress.began < wait
       → DueOnesAreRecorded plan commands scope wait acts
-  recorded_before acts some wait c short =
-      let p = (at acts).progress in
-      let b = c.begins in
-      let grid = b.grid in
-      let began = c.began in
-      let past = c.past in
-      let here : due_after (first_due plan b.first) plan.every c.earlier ≡ p.began = omega (arith, grid, began) in
+  recorded_before acts some wait runs rises c short =
       record {
         count = c.earlier;
         are = recorded_earlier acts some c;
-        first = b.first;
-        begins = b.first_begins;
-        each = λ n below due. before_this n c.earlier (first_due plan b.first) p.began p.moment.elapsed wait here short past due;
+        each = λ n d below due long.
+            cond_both (nat_lt n c.earlier) n n (λ _. n < c.earlier) (λ e. ltb-true n c.earlier e)
+            (λ e.
+            let since = due_no_earlier plan commands scope some acts runs rises c n d (ltb-false n c.earlier e) due in
+            let past = c.past in
+            absurd (omega (arith, since, past, long, short)));
       }
 
   -- once all is done, each cycle that is due is recorded
   pub recorded_at_end : (acts : List Act) (some : 0 < plan.every) (wait : ℕ) → Cycling plan commands scope some acts (at acts).progress → IsFinished (commands_in (at acts).marks) (at acts).progress
       → DueOnesAreRecorded plan commands scope wait acts
   recorded_at_end acts some wait c all =
-      record { count = plan.cycles; are = recorded_whole acts all; first = c.begins.first; begins = c.begins.first_begins; each = λ n below due. below }
+      record { count = plan.cycles; are = recorded_whole acts all; each = λ n d below due long. below }
 
   -- with nothing in flight that hasn't timed out, a run that goes on with an action that may take its time isn't in a cycle that is out
   -- of time, or all is done
@@ -224,7 +211,7 @@ records_once_timed_out plan commands scope acts runs some rises way on none =
           let short = short_if_punctual plan s.progress some punctual in
           inl (none_begun.0, inl (omega (arith, start, short)))
       by_begun (inl none_begun) (inr all) = inl (none_begun.0, inr (sym none_begun.0 ∙ all.0))
-      by_begun (inr c) (inl punctual) = inr (recorded_before plan commands scope acts some (2 * plan.every) c (short_if_punctual plan s.progress some punctual))
+      by_begun (inr c) (inl punctual) = inr (recorded_before plan commands scope acts some (2 * plan.every) runs rises c (short_if_punctual plan s.progress some punctual))
       by_begun (inr c) (inr all) = inr (recorded_at_end plan commands scope acts some (2 * plan.every) c all)
 
 -- where a setup keeps the cycle from being abandoned, though an action is next that may take its time: the station has synchronized, and is
@@ -317,7 +304,7 @@ records_in_time longest call plan commands scope acts runs some listed few all_f
       by_why (inl begins) (inr all) = inl (begins.0, inr (sym begins.0 ∙ all.0))
       by_why (inr c) (inl punctual) =
           let short = short_if_punctual plan s.progress some punctual in
-          inr (recorded_before plan commands scope acts some (2 * plan.every + span) c (omega (arith, short)))
+          inr (recorded_before plan commands scope acts some (2 * plan.every + span) runs rises c (omega (arith, short)))
       by_why (inr c) (inr all) = inr (recorded_at_end plan commands scope acts some (2 * plan.every + span) c all)
 
       -- the lemma above, by whether all that is in flight has timed out for sure
@@ -334,7 +321,7 @@ records_in_time longest call plan commands scope acts runs some listed few all_f
       by_time (inr c) false e =
           let low = leb-false ((s.progress.began + 2 * plan.every) + span) s.progress.moment.elapsed e in
           let past = both.0.0 in
-          inr (recorded_before plan commands scope acts some (2 * plan.every + span) c (omega (arith, low, past)))
+          inr (recorded_before plan commands scope acts some (2 * plan.every + span) runs rises c (omega (arith, low, past)))
 
 -- The clock is read before what takes its time.
 

@@ -1,19 +1,18 @@
 -- Each due cycle is recorded by its bound, at each moment that is read, where the calls on the link return in their time. An act is
 -- one call on the link, with its result.
-use Rattle.std.proofs.Common.{◌≡◌, ◌⊎◌, inl, inr, ℕ, suc, ◌+◌, ◌*◌, ◌-◌, ◌<◌, ◌≤◌, ◌&&◌, Bool, true, false, not, if◌then◌else◌, List, [], ◌∷◌, ◌++◌, length, min, nat_lt, nat_le, nat_eq, refl, sym, ap, ◌∙◌, subst, arith, append-nil, append_assoc}
-use Rattle.std.proofs.lemmas.Bool.{lt-ltb, le-leb, leb-true, eqb-true, eqb-false, and_parts, cond_both, false_from_ne_true, both_ways}
+use Rattle.std.proofs.Common.{◌≡◌, ◌⊎◌, inl, inr, ℕ, suc, ◌+◌, ◌*◌, ◌-◌, ◌<◌, ◌≤◌, ◌&&◌, Bool, true, false, not, if◌then◌else◌, List, [], ◌∷◌, ◌++◌, length, min, nat_lt, nat_eq, refl, sym, ap, ◌∙◌, subst, arith, append-nil, append_assoc}
+use Rattle.std.proofs.lemmas.Bool.{lt-ltb, eqb-true, eqb-false, false_from_ne_true, both_ways}
 use Rattle.std.specs.List.{AllByRecursion}
 use Rattle.gc_values.proofs.Every.{every_weaker}
 use native.Mathlib.Nat.{suc-mul}
 use Rattle.gc_texts.specs.declared.tasks.Task.{Task}
 use Rattle.gc_links.specs.Acts.{Act, Told, Gave, Silent}
 use Rattle.gc_station.specs.CallTimes.{MayTakeTime, IsAskedToWait, IsReadBy, AreQuick, CallsReturn, ReadingsReturn}
-use Rattle.gc_station.specs.Cycles.{ClockRises, first_due, due_after}
-use Rattle.gc_station.specs.Deciding.{later, has_begun, is_out_of_time, is_due, setup_permits}
+use Rattle.gc_station.specs.Cycles.{ClockRises}
+use Rattle.gc_station.specs.Deciding.{later, has_begun, is_out_of_time, is_wanted, setup_permits}
 use Rattle.gc_station.specs.Marks.{commands_in}
 use Rattle.gc_station.specs.Model.{Model, opening, action_at, waiting_of, Runs}
 use Rattle.gc_station.specs.Pace.{out_of_time_at, stale_at, longest_timeout, read_end}
-use Rattle.gc_station.specs.Progressing.{due_at}
 use Rattle.gc_station.specs.Reasons.{IsFinished, AwaitsSomething}
 use Rattle.gc_station.specs.RealTime.{bound, RecordsByBound}
 use Rattle.gc_station.specs.RecordedInTime.{AreRecorded, IsInTime, raws_of_setup}
@@ -25,16 +24,18 @@ use Rattle.gc_station.specs.declared.plan.Plan.{Plan}
 use Rattle.gc_station.specs.declared.progress.Action.{Action}
 use Rattle.gc_station.specs.declared.progress.Action.TheVariants as actions
 use Rattle.gc_station.specs.declared.progress.Phase.TheVariants as phase
-use Rattle.gc_station.specs.declared.progress.Progress.{Progress}
 use Rattle.gc_station.specs.declared.progress.Until.{Until}
 use Rattle.gc_station.specs.declared.progress.Until.TheVariants.{Limit, Due}
 use Rattle.gc_station.proofs.CallTimes.{latest_append, calls_front, deadlines_within, waits_until, waits_not, waits_in_flight, read_if_slow}
-use Rattle.gc_station.proofs.Cycles.{Begun, begun_if_clock_rises, at_more}
+use Rattle.gc_station.proofs.Cycles.{Begun, begun_if_clock_rises}
+use Rattle.gc_station.proofs.Dues.{began_rises}
 use Rattle.gc_station.proofs.Closings.{needs_of}
 use Rattle.gc_station.proofs.Going.{runs_front}
 use Rattle.gc_station.proofs.InFlight.{EndsBy, EndsEarly, TimesOut}
 use Rattle.gc_station.proofs.InTime.{times_out, short_if_punctual}
-use Rattle.gc_station.proofs.Outages.{before_this, recorded_earlier, recorded_whole, in_time_if_slow, held_by_setup}
+use Rattle.gc_station.proofs.Outages.{recorded_before, recorded_whole, in_time_if_slow, held_by_setup}
+use Rattle.gc_station.proofs.Periods.{soon_due, wanted_if_out}
+use Rattle.gc_station.proofs.Ticking.{rises_before}
 use Rattle.gc_station.proofs.UnderWay.{SettingUp, not_permitted}
 use Rattle.gc_station.proofs.Stopping.{asked-append, stops_as_asked}
 
@@ -49,14 +50,6 @@ slow_or_quick actions.Clear = inr (λ x. x)
 slow_or_quick (actions.Close why) = inr (λ x. x)
 slow_or_quick (actions.Stop why) = inr (λ x. x)
 slow_or_quick other = inl tt
-
--- if the clock doesn't go back in acts, it doesn't in the first of them
-pub rises_before : (now : ℕ) (xs ys : List Act) → ClockRises now (xs ++ ys) → ClockRises now xs
-rises_before now [] ys h = tt
-rises_before now (Told m ∷ xs) ys h = (h.0, h.1, rises_before m.elapsed xs ys h.2)
-rises_before now (Gave bytes m ∷ xs) ys h = (h.0, h.1, rises_before m.elapsed xs ys h.2)
-rises_before now (Silent m ∷ xs) ys h = (h.0, h.1, rises_before m.elapsed xs ys h.2)
-rises_before now (x ∷ xs) ys h = rises_before now xs ys h
 
 -- the moment read last isn't before the start
 pub latest_rises : (now : ℕ) (xs : List Act) → ClockRises now xs → now ≤ latest now xs
@@ -171,43 +164,24 @@ module _ (plan : Plan) (commands : List Task) (scope : Scope) where
 
     -- if a cycle that began last, or the start of the clock, isn't long ago after the first of these acts, the due cycles are recorded
     -- after all of them
-    near_in_time : Begun plan commands scope some before (at before).progress → Begun plan commands scope some all (at all).progress
-        → (at before).progress.moment.elapsed ≤ (at all).progress.moment.elapsed → IsNear → Claim
-    near_in_time (inl none) (inl still) rises (inl near) = let start = none.2 in inl (still.0, inl (omega (arith, near, start)))
-    near_in_time (inl none) (inr c) rises (inl near) =
+    near_in_time : Runs plan commands (opening plan scope) all → ClockRises 0 all → Begun plan commands scope some before (at before).progress
+        → Begun plan commands scope some all (at all).progress → IsNear → Claim
+    near_in_time runs rises (inl none) (inl still) (inl near) = let start = none.2 in inl (still.0, inl (omega (arith, near, start)))
+    near_in_time runs rises (inl none) (inr c) (inl near) =
         let start = none.2 in
-        inr (record {
-          count = 0;
-          are = none_recorded all;
-          first = c.begins.first;
-          begins = c.begins.first_begins;
-          each = λ n below due. absurd (omega (arith, near, start, due));
-        })
-    near_in_time (inl none) (inl still) rises (inr done) = inl (still.0, inr (sym none.0 ∙ done.0))
-    near_in_time (inl none) (inr c) rises (inr done) =
+        inr (record { count = 0; are = none_recorded all; each = λ n d below due long. absurd (omega (arith, near, start, long)) })
+    near_in_time runs rises (inl none) (inl still) (inr done) = inl (still.0, inr (sym none.0 ∙ done.0))
+    near_in_time runs rises (inl none) (inr c) (inr done) =
         let nothing : plan.cycles ≡ 0 = sym none.0 ∙ done.0 in let fewer = c.fewer in absurd (omega (arith, nothing, fewer))
-    near_in_time (inr c) x rises (inl near) =
-        let p = (at before).progress in
-        let b = c.begins in
-        let grid = b.grid in
-        let began = c.began in
-        let past = c.past in
-        let here : due_after (first_due plan b.first) plan.every c.earlier ≡ p.began = omega (arith, grid, began) in
-        inr (record {
-          count = c.earlier;
-          are = recorded_more before more c.earlier (recorded_earlier plan commands scope before some c);
-          first = b.first;
-          begins = at_more plan commands scope some before more 0 b.first b.first_begins;
-          each = λ n below due. before_this plan commands scope n c.earlier (first_due plan b.first) p.began (at all).progress.moment.elapsed (suc wait) here (omega (arith, near, past, rises)) (omega (arith, past, rises)) due;
-        })
-    near_in_time (inr c) x rises (inr done) =
-        inr (record {
-          count = plan.cycles;
-          are = recorded_more before more plan.cycles (recorded_whole plan commands scope before done);
-          first = c.begins.first;
-          begins = at_more plan commands scope some before more 0 c.begins.first c.begins.first_begins;
-          each = λ n below due. below;
-        })
+    near_in_time runs rises (inr c) (inl still) (inl near) =
+        let on = began_rises plan commands scope some before more runs rises in
+        let start = still.2 in
+        inl (still.0, inl (omega (arith, on, near, start)))
+    near_in_time runs rises (inr c) (inr last) (inl near) =
+        let on = began_rises plan commands scope some before more runs rises in
+        inr (recorded_before plan commands scope all some (suc wait) runs rises last (omega (arith, on, near)))
+    near_in_time runs rises (inr c) x (inr done) =
+        inr (record { count = plan.cycles; are = recorded_more before more plan.cycles (recorded_whole plan commands scope before done); each = λ n d below due long. below })
 
 -- a moment that is read in time behind a call whose wait is over in time is within the bound: of a setup of n commands, with `lost` for null
 -- procedures
@@ -227,7 +201,7 @@ module _ (plan : Plan) (s : Model) where
   waits_in_time some punctual past short (actions.Read until) wait asked =
       let p = s.progress in
       let end : out_of_time_at plan p ≤ p.began + 2 * plan.every =
-      subst (λ (b : Bool). (if b then later (due_at plan p) plan.every else 18446744073709551615) ≤ p.began + 2 * plan.every) (sym test) (omega arith)
+      subst (λ (b : Bool). (if b then later (later p.began plan.every) plan.every else 18446744073709551615) ≤ p.began + 2 * plan.every) (sym test) (omega arith)
       in
       let until_end = waits_until (min (read_end plan p until asked.0) (stale_at plan (waiting_of s).fresh)) (out_of_time_at plan p) p.moment.elapsed (longest_timeout plan) (p.began + 2 * plan.every) end
       (omega (arith, past, short)) in
@@ -242,14 +216,6 @@ module _ (plan : Plan) (s : Model) where
           by_tests true true e f = cc
           by_tests false b e f = cc
   waits_in_time some punctual past short o wait asked = waits_not s.progress.moment.elapsed (s.progress.began + 2 * plan.every) wait asked (omega (arith, past, short))
-
--- a cycle that is out of time is followed by one that is due
-due_if_out : (plan : Plan) (p : Progress) → is_out_of_time plan p ≡ true → is_due plan p ≡ true
-due_if_out plan p e =
-    let late = and_parts (nat_lt 0 plan.every) (nat_le plan.every ((p.moment.elapsed - p.began) - plan.every)) e in
-    let past = leb-true plan.every ((p.moment.elapsed - p.began) - plan.every) late.1 in
-    cond_both (nat_eq p.left plan.cycles) true (nat_le plan.every (p.moment.elapsed - p.began)) (λ (b : Bool). b ≡ true) (λ f. refl)
-    (λ f. le-leb plan.every (p.moment.elapsed - p.began) (omega (arith, past)))
 
 -- no other call than a read is asked to wait
 waits_in_read : (plan : Plan) (s : Model) (o : Action) (wait : ℕ) → IsAskedToWait plan s o wait → ((until : Until) → o ≡ actions.Read until → ⊥) → wait ≡ 0
@@ -309,7 +275,7 @@ module _ (plan : Plan) (commands : List Task) (scope : Scope) (longest call : �
       by_until Limit (inr (inr (ready, inr (inr set_up)))) = let nothing = set_up.1 in let left = held.2 in omega (arith, nothing, left)
       by_until Due (ready, inl (idle, inl begins)) = both_ways (has_begun s.progress) begins held.1
       by_until Due (ready, inl (idle, inr on)) = let nothing = on.1 in omega (arith, nothing, sent)
-      by_until Due (ready, inr done) = both_ways (is_due plan s.progress) done.2 (due_if_out plan s.progress late)
+      by_until Due (ready, inr done) = both_ways (is_wanted plan s.progress) done.2 (wanted_if_out plan s.progress (soon_due plan commands scope acts runs) late)
 
     -- the lemma above, where nothing is in flight, though the cycle is out of time: whether the setup lets it be abandoned
     by_setup : is_out_of_time plan s.progress ≡ true → (waiting_of s).current ≡ 0 → (b : Bool) → setup_permits plan s.progress (waiting_of s) ≡ b → Claim
@@ -367,9 +333,7 @@ records_by_bound longest call readings plan commands scope acts runs some listed
       let read = read_by plan commands scope readings (latest 0 before + given.0 + call) before (act ∷ quick) (omega arith) given.2 are back in
       let now = moment_is (before ++ act ∷ quick) runs rises in
       let before_it = moment_is before runs_there rises_there in
-      let on = latest_rises (latest 0 before) (act ∷ quick) (rises_behind 0 before (act ∷ quick) rises) in
-      let more = latest_append 0 before (act ∷ quick) in
-      near_in_time plan commands scope some wait before (act ∷ quick) (begun before runs_there rises_there) (begun (before ++ act ∷ quick) runs rises) (omega (arith, now, before_it, on, more))
+      near_in_time plan commands scope some wait before (act ∷ quick) runs rises (begun before runs_there rises_there) (begun (before ++ act ∷ quick) runs rises)
       (by_reach given.0 read now before_it
       (asked_in_time plan commands scope longest call some listed few all_few before runs_there rises_there (calls_front plan commands scope call before (act ∷ quick) calls) (unasked_before before (act ∷ quick) unasked) slow given.0 given.1)) where
         -- the moment read last of all acts is near (`IsNear`), if the last call that may take its time wasn't asked to wait for long
@@ -388,7 +352,7 @@ records_by_bound longest call readings plan commands scope acts runs some listed
   by_last (inl quick) =
       let read = read_by plan commands scope readings call [] acts (omega arith) calls.first (quick_behind plan commands scope [] acts quick) back in
       let now = moment_is acts runs rises in
-      near_in_time plan commands scope some wait [] acts (inl (refl, refl, refl)) (begun acts runs rises) (omega arith) (inl (omega (arith, read, now)))
+      near_in_time plan commands scope some wait [] acts runs rises (inl (refl, refl, refl)) (begun acts runs rises) (inl (omega (arith, read, now)))
   by_last (inr found) =
       subst (λ (xs : List Act). Runs plan commands (opening plan scope) xs → ClockRises 0 xs → CallsReturn plan commands scope call xs → ReadingsReturn plan commands scope readings xs
       → asked_after false xs ≡ false → IsInTime plan commands scope (suc wait) xs)

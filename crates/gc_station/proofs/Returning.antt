@@ -14,7 +14,7 @@ use Rattle.gc_station.specs.Model.{Model, opening, action_at, waiting_of, moved,
 use Rattle.gc_station.specs.Pace.{read_timeout}
 use Rattle.gc_station.specs.Progressing.{turned}
 use Rattle.gc_station.specs.CallTimes.{MayTakeTime, IsAskedToWait, IsReadBy, AreQuick, CallsReturn, ReadingsReturn}
-use Rattle.gc_station.specs.RecordedInTime.{AreRecorded, IsInTime}
+use Rattle.gc_station.specs.RecordedInTime.{AreRecorded, IsInTime, IsDueAt}
 use Rattle.gc_station.specs.Records.{Record}
 use Rattle.gc_station.specs.Runs.{state_after}
 use Rattle.gc_station.specs.Scopes.{Scope}
@@ -165,12 +165,12 @@ module _ (plan : Plan) (commands : List Task) (scope : Scope) where
       s rest (omega arith))
 
   -- if fewer commands are recorded or left out than a cycle has, and the first cycle was due long enough ago, it isn't in time
-  pub not_in_time : (wait : ℕ) (acts : List Act) → 0 < plan.cycles
+  pub not_in_time : (wait due : ℕ) (acts : List Act) → 0 < plan.cycles → IsDueAt plan commands scope acts 0 due
       → ((n : ℕ) → length (state_after plan commands scope acts).records + length (state_after plan commands scope acts).passes < length (commands_of_cycle n plan.setup commands))
-      → plan.every + wait ≤ (state_after plan commands scope acts).progress.moment.elapsed → IsInTime plan commands scope wait acts → ⊥
-  not_in_time wait acts some few long (inl (left, inl short)) = omega (arith, long, short)
-  not_in_time wait acts some few long (inl (left, inr none)) = omega (arith, some, none)
-  not_in_time wait acts some few long (inr d) = by_count d.count (d.each 0 some (omega (arith, long))) d.are where
+      → due + wait ≤ (state_after plan commands scope acts).progress.moment.elapsed → IsInTime plan commands scope wait acts → ⊥
+  not_in_time wait due acts some is few long (inl (left, inl short)) = omega (arith, long, short)
+  not_in_time wait due acts some is few long (inl (left, inr none)) = omega (arith, some, none)
+  not_in_time wait due acts some is few long (inr d) = by_count d.count (d.each 0 due some is long) d.are where
     -- the lemma above, by how many cycles are said to be recorded
     by_count : (count : ℕ) → 0 < count → AreRecorded plan commands scope acts count → ⊥
     by_count zero more are = omega (arith, more)

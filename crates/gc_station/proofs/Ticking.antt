@@ -73,3 +73,19 @@ last_ticks p q (Told m) t = ap (λ (x : Moment). x.elapsed) t.0
 last_ticks p q (Gave bytes m) t = ap (λ (x : Moment). x.elapsed) t.0
 last_ticks p q (Silent m) t = ap (λ (x : Moment). x.elapsed) t.0
 last_ticks p q act t = ap (λ (x : Moment). x.elapsed) t.0
+
+-- if the clock doesn't go back in acts, it doesn't in the first of them
+pub rises_before : (now : ℕ) (xs ys : List Act) → ClockRises now (xs ++ ys) → ClockRises now xs
+rises_before now [] ys h = tt
+rises_before now (Told m ∷ xs) ys h = (h.0, h.1, rises_before m.elapsed xs ys h.2)
+rises_before now (Gave bytes m ∷ xs) ys h = (h.0, h.1, rises_before m.elapsed xs ys h.2)
+rises_before now (Silent m ∷ xs) ys h = (h.0, h.1, rises_before m.elapsed xs ys h.2)
+rises_before now (x ∷ xs) ys h = rises_before now xs ys h
+
+-- no moment is past 2^64 - 1
+pub latest_most : (now : ℕ) (xs : List Act) → now ≤ 18446744073709551615 → ClockRises now xs → latest now xs ≤ 18446744073709551615
+latest_most now [] most h = most
+latest_most now (Told m ∷ xs) most h = latest_most m.elapsed xs h.1 h.2
+latest_most now (Gave bytes m ∷ xs) most h = latest_most m.elapsed xs h.1 h.2
+latest_most now (Silent m ∷ xs) most h = latest_most m.elapsed xs h.1 h.2
+latest_most now (x ∷ xs) most h = latest_most now xs most h

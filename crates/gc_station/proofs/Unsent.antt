@@ -34,6 +34,7 @@ use Rattle.gc_station.proofs.Always.{always}
 use Rattle.gc_station.proofs.Going.{after_all-append}
 use Rattle.gc_station.proofs.Lists.{all_append, all_on}
 use Rattle.gc_station.proofs.Needed.{without_value}
+use Rattle.gc_station.proofs.Resting.{is_resting_next, skipped_in_turn}
 use Rattle.gc_station.proofs.Walk.{came_along, losing_along, moved_changed}
 use Rattle.gc_station.proofs.Ticking.{rises_front}
 use Rattle.gc_station.proofs.Cycles.{Begun, Cycling, late_more, begun_if_clock_rises, last_began, WaitsForAnswer}
@@ -149,11 +150,13 @@ module _ (plan : Plan) (commands : List Task) (scope : Scope) (some : 0 < plan.e
     due = utc ∙ cond-true p.missed p.due m.utc missed ∙ c.due;
   }
 
-  -- in a cycle that isn't missed, a command that waits for the answer of the one before it is of a chain, and not its first
-  waits_in_its_chain : (p : Progress) → WaitsForAnswer plan commands scope some p → p.missed ≡ false
+  -- in a cycle that isn't missed, a command that waits for the answer of the one before it, and doesn't rest, is of a chain, and not its
+  -- first
+  waits_in_its_chain : (p : Progress) → WaitsForAnswer plan commands scope some p → p.missed ≡ false → is_resting_next plan commands p ≡ false
       → IsChained plan commands p
-  waits_in_its_chain p (inl missed) free = absurd (both_ways p.missed free missed)
-  waits_in_its_chain p (inr chain) free = chain
+  waits_in_its_chain p (inl missed) free awake = absurd (both_ways p.missed free missed)
+  waits_in_its_chain p (inr (inl chain)) free awake = chain
+  waits_in_its_chain p (inr (inr resting)) free awake = absurd (both_ways (is_resting_next plan commands p) awake resting)
 
   -- where `Begun` holds, and the next action is to skip a command, the record of that command in a cycle that isn't missed comes
   -- about as `IsUnsentIn` says, for a reason that there is within the cycle
@@ -185,9 +188,9 @@ module _ (plan : Plan) (commands : List Task) (scope : Scope) (some : 0 < plan.e
         }
 
   -- why a command is skipped, in a cycle that isn't missed, if each value is there that it takes: its chain is broken, or the cycle is overdue
-  skip_reason : (acts : List Act) → action_at plan (state acts) ≡ actions.Skip → (state acts).progress.missed ≡ false → lacks_value (state acts).progress ≡ false
+  skip_reason : (acts : List Act) → Runs plan commands (opening plan scope) acts → action_at plan (state acts) ≡ actions.Skip → (state acts).progress.missed ≡ false → lacks_value (state acts).progress ≡ false
       → Cycling plan commands scope some acts (state acts).progress → IsBroken plan commands (state acts) ⊎ IsOverdue plan (state acts).progress (waiting_of (state acts))
-  skip_reason acts is free there c = by_why (needs_of plan (state acts) actions.Skip is).4 where
+  skip_reason acts runs is free there c = by_why (needs_of plan (state acts) actions.Skip is).4 where
     -- the model before the act
     s : Model
     s = state acts
@@ -196,7 +199,7 @@ module _ (plan : Plan) (commands : List Task) (scope : Scope) (some : 0 < plan.e
     by_why : ((s.progress.next_is_chained ≡ true) × (may_go s.progress (waiting_of s) ≡ false))
         ⊎ (((lacks_value s.progress ≡ true) × StaysInItsChain s.progress) ⊎ IsOverdue plan s.progress (waiting_of s))
         → IsBroken plan commands s ⊎ IsOverdue plan s.progress (waiting_of s)
-    by_why (inl broken) = inl (waits_in_its_chain s.progress (c.chained broken.0) free, broken.1)
+    by_why (inl broken) = inl (waits_in_its_chain s.progress (c.chained broken.0) free (skipped_in_turn plan commands scope acts runs is), broken.1)
     by_why (inr (inl without)) = absurd (both_ways (lacks_value s.progress) there without.0)
     by_why (inr (inr over)) = inr over
 
@@ -213,7 +216,7 @@ module _ (plan : Plan) (commands : List Task) (scope : Scope) (some : 0 < plan.e
       let ends = unsent_ends_as p in (
         (
           (λ e. skip_missed acts m p _ cycle_begun here refl refl refl (ends.0 e)),
-          (λ e. skip_unsent _ acts m _ cycle_begun is refl refl refl refl (ends.1 e).0 (skip_reason acts is (ends.1 e).0 (ends.1 e).1)),
+          (λ e. skip_unsent _ acts m _ cycle_begun is refl refl refl refl (ends.1 e).0 (skip_reason acts runs is (ends.1 e).0 (ends.1 e).1)),
           (λ e. skip_unsent _ acts m _ cycle_begun is refl refl refl refl (ends.2 e).0 (λ c. without_value plan commands scope acts runs (ends.2 e).1)),
         ),
         tt,

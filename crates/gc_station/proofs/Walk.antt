@@ -28,7 +28,7 @@ use Rattle.gc_station.specs.Marks.{commands_in}
 use Rattle.gc_station.specs.Progressing.{turned, moment_noted, cycle_begun, skipped, failing, opened, after_failure, cleared, request_noted, null_sent, resynchronized, sent, line_synchronizing, lines_synchronizing, pause_ended, drained, quieted, time_passed, early_noted, ended_for, closed, setup_sent}
 use Rattle.gc_station.specs.ActKinds.{Puts}
 use Rattle.gc_station.specs.Model.{Model, waiting_of, next_request_text, null_text, first_text, occasion_at, listed_after_skip, with_listed, after_pass, Performs, is_heard, with_progress, with_moment, with_rest, with_more_records, asks_for, asks_first, asks_next, unsent_record, line_came, lines_came, lines_completed, piece_heard, after_piece, piece_noted, piece_at, after_read, after_put, after_close, moved, settles, losing, after, after_all, cycle_length, end_unsent, text_or_null, asks_setup, request_for, null_request, request_or_null, mark_sent}
-use Rattle.gc_station.specs.NextCommand.{place_next, commands_left, commands_before, needs_first, upcoming_after}
+use Rattle.gc_station.specs.NextCommand.{place_next, commands_left, commands_before, upcoming_after, first_upcoming}
 
 -- Parts of an act.
 
@@ -116,7 +116,7 @@ acts_along plan commands P step s (act ∷ acts) p = acts_along plan commands P 
 -- the model that sent the next command, by its fields
 abbrev pub model_sent : Plan → List Task → Model → Model
 model_sent plan commands s = record s {
-  progress = sent (upcoming_after 1 commands s.progress) s.progress;
+  progress = sent (upcoming_after plan 1 commands s.progress) s.progress;
   client = (asks_next plan commands s).client;
   marks = (asks_next plan commands s).marks;
 }
@@ -130,8 +130,8 @@ first_sent_same next mark (task ∷ others) s = refl
 
 -- the model that sent the next command, by its fields (`model_sent`), is that after the act that sends
 pub sent_same : (plan : Plan) (commands : List Task) (s : Model)
-    → model_sent plan commands s ≡ with_progress (sent (upcoming_after 1 commands s.progress)) (asks_next plan commands s)
-sent_same plan commands s = first_sent_same (upcoming_after 1 commands s.progress) (mark_sent plan commands s)
+    → model_sent plan commands s ≡ with_progress (sent (upcoming_after plan 1 commands s.progress)) (asks_next plan commands s)
+sent_same plan commands s = first_sent_same (upcoming_after plan 1 commands s.progress) (mark_sent plan commands s)
     (drop (place_next commands s.progress) commands) s
 
 -- Which fields change.
@@ -194,6 +194,8 @@ progress_of Renew p q = record (told_of p q) {
   attempt = q.attempt;
 }
 progress_of Begin p q = record (told_of p q) {
+  period = q.period;
+  touched = q.touched;
   due = q.due;
   missed = q.missed;
   left = q.left;
@@ -346,7 +348,7 @@ HoldsAfterClock P t u = ((m : Moment) → P (Told m) (with_moment m (t m))) × (
 abbrev pub HoldsInEachCase : Plan → List Task → (P : Act → Model → Type 0) → Action → Model → Type 0
 HoldsInEachCase plan commands P ReadClock s = HoldsAfterClock P (λ m. with_progress (λ p. early_noted plan (commands_in s.marks) (moment_noted m p)) s) s
 HoldsInEachCase plan commands P Renew s = HoldsAfterClock P (λ m. with_progress (λ p. early_noted plan 0 (resynchronized plan m p)) s) s
-HoldsInEachCase plan commands P Begin s = HoldsAfterClock P (λ m. with_progress (cycle_begun plan (cycle_length plan commands) (needs_first (drop plan.setup commands)) m) s) s
+HoldsInEachCase plan commands P Begin s = HoldsAfterClock P (λ m. with_progress (cycle_begun plan (cycle_length plan commands) (first_upcoming plan commands s.progress) m) s) s
 HoldsInEachCase plan commands P Open s = ((m : Moment) → P Opened (with_progress opened s)) × ((n : ℕ) → P Unopened (with_progress (after_failure plan (commands_in s.marks) cause.Open) s))
 HoldsInEachCase plan commands P Clear s = HoldsAfterPut P (commands_before plan commands s.progress) (10 ∷ []) (with_progress cleared s)
 HoldsInEachCase plan commands P Ask s = HoldsAfterPut P (commands_before plan commands s.progress) (null_text s.progress.word) (with_progress (null_sent plan) s)
@@ -356,7 +358,7 @@ HoldsInEachCase plan commands P Prepare s =
 HoldsInEachCase plan commands P Send s =
     HoldsAfterPut P (commands_before plan commands s.progress) (first_text (occasion_at s.progress.moment) s.client (commands_left commands s.progress)) (model_sent plan commands s)
 HoldsInEachCase plan commands P Skip s =
-    HoldsAfterClock P (λ m. with_progress (λ p. early_noted plan (commands_in s.marks) (skipped (upcoming_after 1 commands s.progress) m p))
+    HoldsAfterClock P (λ m. with_progress (λ p. early_noted plan (commands_in s.marks) (skipped (upcoming_after plan 1 commands s.progress) m p))
     (with_listed (listed_after_skip plan commands s (Told m)) (with_more_records (unsent_record plan commands s.progress (Told m)) s)))
     (with_more_records [] s)
 HoldsInEachCase plan commands P Pass s = ((m : Moment) → P (Told m) (after_pass plan commands s (Told m))) × ((n : ℕ) → P Untold (with_progress (failing cause.Clock) s))
@@ -370,7 +372,7 @@ HoldsInEachCase plan commands P (Stop why) s = Unit {0}
 
 -- some moment, for a row that is given one though no clock is read
 abbrev no_moment : Moment
-no_moment = record { elapsed = 0; utc = 0; stops = false; values = no_values }
+no_moment = record { elapsed = 0; utc = 0; stops = false; touched = 0; values = no_values }
 
 -- `HoldsAfterPut` gives P after an act that puts the bytes
 put_walk : (P : Act → Model → Type 0) (requests : ℕ) (bytes : List ℕ) (f : Model → Model) (s : Model) (act : Act) → Puts bytes act
@@ -403,7 +405,7 @@ walk plan commands P Prepare s act o h =
 walk plan commands P Send s act o h =
     let requests = commands_before plan commands s.progress in
     let text = first_text (occasion_at s.progress.moment) s.client (drop (place_next commands s.progress) commands) in
-    put_walk P requests text (λ (x : Model). with_progress (sent (upcoming_after 1 commands s.progress)) (asks_next plan commands x)) s act o
+    put_walk P requests text (λ (x : Model). with_progress (sent (upcoming_after plan 1 commands s.progress)) (asks_next plan commands x)) s act o
     (subst (λ (u : Model). HoldsAfterPut P requests text u) (sent_same plan commands s) h)
 walk plan commands P Skip s (Told m) o h = h.0 m
 walk plan commands P Skip s Untold o h = h.1 0

@@ -45,6 +45,7 @@ number_task deadline chained = record {
   again = no_again;
   turn = no_turn;
   others = 0;
+  every = 1;
   now = false;
   needs = no_needs;
   twice = Once;
@@ -53,7 +54,7 @@ number_task deadline chained = record {
 -- a plan of two cycles with these due moments and this longest deadline, without a setup, with a quiet time of `quiet` milliseconds
 abbrev pub plan_of : (every deadline quiet : ℕ) → Plan
 plan_of every deadline quiet =
-    record { width = 1; deadline = deadline; every = every; cycles = 2; quiet = quiet; retries = 5; setup = 0; stale = 0; watched = false }
+    record { width = 1; deadline = deadline; every = every; first = every; at = None; cycles = 2; quiet = quiet; retries = 5; setup = 0; stale = 0; watched = false }
 
 -- at most a hundred acts, in which every reply is taken to say the number 0
 abbrev pub scope : Scope
@@ -61,11 +62,11 @@ scope = scoped 100 [] (λ form call line. Value (Long (pos 0)))
 
 -- the moment at which both clocks show this number
 abbrev pub at : ℕ → Moment
-at now = record { elapsed = now; utc = now; stops = false; values = no_values }
+at now = record { elapsed = now; utc = now; stops = false; touched = 0; values = no_values }
 
 -- the same, at which the end of the run was asked for
 abbrev pub at_asking : ℕ → Moment
-at_asking now = record { elapsed = now; utc = now; stops = true; values = no_values }
+at_asking now = record { elapsed = now; utc = now; stops = true; touched = 0; values = no_values }
 
 -- what has to hold of acts beside the premise that is looked at: they are a run, cycles have due moments, the list has each command of
 -- the setup, and the clock doesn't go back

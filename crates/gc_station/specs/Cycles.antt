@@ -1,7 +1,7 @@
--- When cycles begin, and which commands aren't sent, in the acts' own moments: this project's own. Cycles are due on a grid:
--- the first when it begins, but at the latest `every` milliseconds after the start of the clock, and each other one `every`
--- milliseconds after the one before it. An act is one call on the link, with its result.
-use Rattle.std.specs.Prelude.{◌≡◌, ℕ, zero, suc, ◌+◌, ◌-◌, ◌<◌, ◌≤◌, ◌⊎◌, true, false, min, List, [], ◌∷◌, ◌++◌, None, MatchOption}
+-- When cycles begin, and which commands aren't sent, in the acts' own moments: this project's own. From the beginning of a cycle on it is
+-- known when the next one is due (`due_at`). A cycle counts as begun when it was due, or when it began if that is earlier: it was asked for
+-- then, or it is the first one. An act is one call on the link, with its result.
+use Rattle.std.specs.Prelude.{◌≡◌, ℕ, suc, ◌+◌, ◌-◌, ◌*◌, ◌%◌, ◌<◌, ◌≤◌, ◌⊎◌, true, false, min, List, [], ◌∷◌, ◌++◌, Some, None, MatchOption}
 use Rattle.std.specs.List.{AllByRecursion}
 use Rattle.gc_texts.specs.Endings.{Skipped, NoValue, Missed}
 use Rattle.gc_texts.specs.ValueItems.{lack}
@@ -9,15 +9,17 @@ use Rattle.gc_texts.specs.declared.tasks.Task.{Task}
 use Rattle.gc_links.specs.Acts.{Act, Told}
 use Rattle.gc_links.specs.declared.link.Moment.{Moment}
 use Rattle.gc_station.specs.ActKinds.{moment_in}
-use Rattle.gc_station.specs.Deciding.{may_go}
+use Rattle.gc_station.specs.Deciding.{later, may_go}
+use Rattle.gc_station.specs.Progressing.{due_at}
 use Rattle.gc_station.specs.Reasons.{IsOverdue}
 use Rattle.gc_station.specs.Records.{Record}
-use Rattle.gc_station.specs.Runs.{state_after, OfEachRun, WhereNext}
+use Rattle.gc_station.specs.Runs.{state_after, OfEachRun, OfEachAct, WhereNext}
 use Rattle.gc_station.specs.Scopes.{Scope}
 use Rattle.gc_station.specs.Model.{Model, opening, action_at, waiting_of, Runs}
 use Rattle.gc_station.specs.NextCommand.{commands_left, cycles_begun, needs_first, place_next}
 use Rattle.gc_station.specs.declared.plan.Plan.{Plan}
 use Rattle.gc_station.specs.declared.progress.Action.TheVariants.{Begin, Send, Skip}
+use Rattle.gc_station.specs.declared.progress.Progress.{Progress}
 use Rattle.gc_station.specs.Chains.{IsChained}
 
 -- the clock doesn't go back: the first moment that these acts read is at or past `now`, each later one at or past the one
@@ -27,17 +29,6 @@ ClockRises now [] = Unit {0}
 ClockRises now (act ∷ acts) =
     MatchOption (moment_in act) (ClockRises now acts) (λ m. (now ≤ m.elapsed) × (m.elapsed ≤ 18446744073709551615) × ClockRises m.elapsed acts)
 
--- the due moment of the first cycle, if it begins at the moment `first`: that moment, but at the latest a period after the start of
--- the clock
-abbrev pub first_due : Plan → (first : Moment) → ℕ
-first_due plan first = min plan.every first.elapsed
-
--- the due moment of the cycle that has `n` cycles before it, if the first one was due at the moment `first`, and cycles are due
--- `every` milliseconds apart
-abbrev pub due_after : (first every n : ℕ) → ℕ
-due_after first every zero = first
-due_after first every (suc n) = due_after first every n + every
-
 -- one of `acts` reads the clock at the moment `m` and begins a cycle, before which `n` cycles began
 pub record BeginsAt (plan : Plan) (commands : List Task) (scope : Scope) (acts : List Act) (n : ℕ) (m : Moment) : Type 0 where
   pub before : List Act
@@ -46,16 +37,18 @@ pub record BeginsAt (plan : Plan) (commands : List Task) (scope : Scope) (acts :
   pub begins : action_at plan (state_after plan commands scope before) ≡ Begin
   pub number : cycles_begun plan (state_after plan commands scope before).progress ≡ n
 
--- one of `acts` begins a cycle at the moment `m`, which is `late` milliseconds after the cycle's due moment; `n` cycles began
--- before it. `first` is the moment at which the first cycle began
+-- when a cycle counts as begun that begins at the moment `m`, after the acts `before`: when it was due, or at `m` if that is earlier
+abbrev pub counts_from : Plan → List Task → Scope → (before : List Act) → (m : Moment) → ℕ
+counts_from plan commands scope before m = min (due_at (state_after plan commands scope before).progress) m.elapsed
+
+-- one of `acts` begins a cycle at the moment `m`, which is `late` milliseconds after the cycle counts as begun; `n` cycles began
+-- before it
 pub record BeginsLate (plan : Plan) (commands : List Task) (scope : Scope) (acts : List Act) (n : ℕ) (m : Moment) (late : ℕ) : Type 0 where
-  pub first : Moment
-  pub first_begins : BeginsAt plan commands scope acts 0 first
   pub begins : BeginsAt plan commands scope acts n m
-  pub grid : due_after (first_due plan first) plan.every n + late ≡ m.elapsed
+  pub grid : counts_from plan commands scope begins.before m + late ≡ m.elapsed
 
 -- one of `acts` begins the cycle `cycle`, counted from 1: how many cycles began before it (`n`), the moment at which it begins,
--- and how many milliseconds after its due moment that is (`late`)
+-- and how many milliseconds after it counts as begun that is (`late`)
 pub record CycleBegan (plan : Plan) (commands : List Task) (scope : Scope) (acts : List Act) (cycle : ℕ) : Type 0 where
   pub n : ℕ
   pub moment : Moment
@@ -67,21 +60,66 @@ pub record CycleBegan (plan : Plan) (commands : List Task) (scope : Scope) (acts
 abbrev pub LastBegan : Plan → List Task → Scope → List Act → Type 0
 LastBegan plan commands scope acts = CycleBegan plan commands scope acts (cycles_begun plan (state_after plan commands scope acts).progress)
 
--- a cycle begins at or after its due moment, where cycles have due moments and the clock doesn't go back
-abbrev pub CyclesBeginWhenDue : Type 0
-CyclesBeginWhenDue =
-    (plan : Plan) (commands : List Task) (scope : Scope) (acts later : List Act) (m : Moment) → 0 < plan.every
-    → Runs plan commands (opening plan scope) (acts ++ Told m ∷ later)
-    → ClockRises 0 (acts ++ Told m ∷ []) → let s = state_after plan commands scope acts in action_at plan s ≡ Begin
-    → (late : ℕ) × BeginsLate plan commands scope (acts ++ Told m ∷ []) (cycles_begun plan s.progress) m late
+-- after these acts somebody asks for a cycle: by the moment read last the file by which that is asked is there, and was changed at another
+-- time than by the moment at which the last cycle began
+pub record IsAskedFor (plan : Plan) (commands : List Task) (scope : Scope) (acts : List Act) : Type 0 where
+  pub n : ℕ
+  pub moment : Moment
+  pub begins : BeginsAt plan commands scope acts n moment
+  pub last : cycles_begun plan (state_after plan commands scope acts).progress ≡ suc n
+  pub there : 0 < (state_after plan commands scope acts).progress.moment.touched
+  pub changed : (state_after plan commands scope acts).progress.moment.touched ≡ moment.touched → ⊥
 
--- if a command of a cycle is sent, its cycle began before the next one was due, where cycles have due moments and the clock
--- doesn't go back
+-- no cycle has begun at the progress `p`, and cycles don't begin by the clock: so the first one needn't wait
+abbrev pub IsFirstOfAll : Plan → Progress → Type 0
+IsFirstOfAll plan p = (p.left ≡ plan.cycles) × (plan.at ≡ None)
+
+-- why a cycle begins next: it is due by the moment read last, or somebody asks for it, or it is the first and needn't wait
+abbrev pub IsWantedBy : Plan → List Task → Scope → List Act → Type 0
+IsWantedBy plan commands scope acts =
+    let p = (state_after plan commands scope acts).progress in (due_at p ≤ p.moment.elapsed) ⊎ (IsAskedFor plan commands scope acts ⊎ IsFirstOfAll plan p)
+
+-- of a cycle that begins at the moment `m`, where the progress was `p` before: when the next one is due then (`now`)
+pub record IsDueNext (plan : Plan) (p : Progress) (m : Moment) (now : ℕ) : Type 0 where
+  -- if this one wasn't due by then, as somebody asked for it, when it was due before
+  pub stays : p.left < plan.cycles → m.elapsed < due_at p → now ≡ due_at p
+  -- else, if cycles don't begin by the clock, `every` milliseconds after this one counts as begun
+  pub regular : (due_at p ≤ m.elapsed) ⊎ (p.left ≡ plan.cycles) → plan.at ≡ None → now ≡ later (min (due_at p) m.elapsed) plan.every
+  -- and if cycles begin by the clock, `at` milliseconds after a whole multiple of `every` since 1970, by the clock of time stamps as it is at
+  -- `m`: at least half a period after this one was due, and at most one and a half. No sum may reach 2^64
+  pub by_clock : (at : ℕ) → due_at p ≤ m.elapsed → plan.at ≡ Some at → m.elapsed + 2 * plan.every ≤ 18446744073709551615
+      → ((k : ℕ) × ((m.utc - (m.elapsed - due_at p)) + (now - due_at p) ≡ k * plan.every + at % plan.every))
+      × (plan.every ≤ 2 * (now - due_at p)) × (2 * (now - due_at p) ≤ 3 * plan.every)
+
+-- when cycles begin, where cycles have due moments and the clock doesn't go back
+pub record CyclesBeginWhenDue : Type 0 where
+  -- the first due moment is `first`, but at the latest a period after the start of the clock
+  pub first : (plan : Plan) (scope : Scope) → plan.every ≤ 18446744073709551615 → due_at (opening plan scope).progress ≡ min plan.first plan.every
+  -- a cycle begins only if it is due, or somebody asked for it; the first one needn't be, unless cycles begin by the clock
+  pub why : (plan : Plan) (commands : List Task) (scope : Scope) (acts : List Act) → 0 < plan.every → Runs plan commands (opening plan scope) acts
+      → ClockRises 0 acts → action_at plan (state_after plan commands scope acts) ≡ Begin → IsWantedBy plan commands scope acts
+  -- it begins when it counts as begun, or later
+  pub begins : (plan : Plan) (commands : List Task) (scope : Scope) (acts later : List Act) (m : Moment) → 0 < plan.every
+      → Runs plan commands (opening plan scope) (acts ++ Told m ∷ later)
+      → ClockRises 0 (acts ++ Told m ∷ []) → let s = state_after plan commands scope acts in action_at plan s ≡ Begin
+      → (late : ℕ) × BeginsLate plan commands scope (acts ++ Told m ∷ []) (cycles_begun plan s.progress) m late
+  -- from then on it is known when the next one is due (`IsDueNext`)
+  pub next : (plan : Plan) (commands : List Task) (scope : Scope) (acts later : List Act) (m : Moment) → 0 < plan.every
+      → Runs plan commands (opening plan scope) (acts ++ Told m ∷ later)
+      → ClockRises 0 (acts ++ Told m ∷ []) → let s = state_after plan commands scope acts in action_at plan s ≡ Begin
+      → IsDueNext plan s.progress m (due_at (state_after plan commands scope (acts ++ Told m ∷ [])).progress)
+  -- and no act but the beginning of a cycle changes that
+  pub stays : OfEachAct (λ plan commands scope earlier act.
+      0 < plan.every → ClockRises 0 (earlier ++ act ∷ []) → (action_at plan (state_after plan commands scope earlier) ≡ Begin → ⊥)
+      → due_at (state_after plan commands scope (earlier ++ act ∷ [])).progress ≡ due_at (state_after plan commands scope earlier).progress)
+
+-- if a command of a cycle is sent, its cycle began less than a period after it counts as begun, where cycles have due moments and the
+-- clock doesn't go back
 abbrev pub SentOnlyInTime : Type 0
 SentOnlyInTime = WhereNext Send (λ plan commands scope acts.
     0 < plan.every → ClockRises 0 acts → (last : LastBegan plan commands scope acts) × (last.late < plan.every))
 
--- the command of the record `r` is missed: its cycle (`its`) began when the next one was due, or later; the command wasn't sent;
+-- the command of the record `r` is missed: its cycle (`its`) began a period after it was due, or later; the command wasn't sent;
 -- and the record has the moment at which its cycle was due, by the clock of time stamps
 pub record IsMissedIn (plan : Plan) (commands : List Task) (scope : Scope) (acts : List Act) (r : Record) : Type 0 where
   pub its : CycleBegan plan commands scope acts r.cycle
@@ -110,7 +148,7 @@ pub record IsUnsentIn (Why : Model → Type 0) (plan : Plan) (commands : List Ta
   pub cycle : r.cycle ≡ cycles_begun plan (state_after plan commands scope before).progress
   pub place : r.place ≡ place_next commands (state_after plan commands scope before).progress
   pub why : Why (state_after plan commands scope before)
-  -- its cycle began before the next one was due
+  -- its cycle began less than a period after it counts as begun
   pub last : LastBegan plan commands scope before
   pub in_time : last.late < plan.every
   pub sent : r.sent ≡ None

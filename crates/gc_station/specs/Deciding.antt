@@ -4,7 +4,7 @@
 -- (`Clearing`), until a connection is quiet (`Draining`), with a connection for requests (`Ready`), before a close (`Closing`),
 -- and at the end (`Over`). Of the progress, `left` counts the cycles that haven't begun, and `unsent` the commands of the cycle
 -- that are left: neither sent, nor recorded without being sent, nor left out.
-use Rattle.std.specs.Prelude.{◌+◌, ℕ, ◌-◌, ◌&&◌, ◌||◌, Bool, true, false, not, if◌then◌else◌, nat_lt, nat_le, nat_eq, min, max, List, [], ◌∷◌}
+use Rattle.std.specs.Prelude.{◌+◌, ℕ, ◌-◌, ◌&&◌, ◌||◌, Bool, true, false, not, if◌then◌else◌, nat_lt, nat_le, nat_eq, min, max, List, [], ◌∷◌, is_some}
 pub use Rattle.gc_catalogue.specs.Moments.{later}
 use Rattle.gc_client.specs.declared.window.TheConstants.{WINDOW}
 use Rattle.gc_texts.specs.ValueItems.{lack}
@@ -104,19 +104,29 @@ is_held_back p w = (p.stops && is_between_chains p) && nat_lt 0 w.current
 abbrev pub action_waiting : Plan → Progress → Waiting → Action
 action_waiting plan p w = if is_dead plan p w then Close Dead else if nat_eq w.current 0 then Renew else Read Limit
 
--- whether the next cycle is due: the first one is at once, and each other one `every` milliseconds after `began`, the moment that
--- counts as the beginning of the one before it. Whether a cycle is left (`left`) isn't looked at
+-- whether the next cycle is due: the first one is at once, unless cycles begin by the clock (`at`), and each other one `period`
+-- milliseconds after `began`, the moment that counts as the beginning of the one before it. Whether a cycle is left (`left`) isn't
+-- looked at
 abbrev pub is_due : Plan → Progress → Bool
-is_due plan p = if nat_eq p.left plan.cycles then true else nat_le plan.every (p.moment.elapsed - p.began)
+is_due plan p = if nat_eq p.left plan.cycles && not (is_some plan.at) then true else nat_le p.period (p.moment.elapsed - p.began)
 
--- whether no connection is wanted: the cycle was done before the next was due, and the next isn't due yet
+-- whether somebody asked for a cycle since the last one began, of which there was one: by the moment read last the file by which that is
+-- asked is there, and was changed at another time than the one that counted when the last cycle began (`touched`)
+abbrev pub is_asked_for : Plan → Progress → Bool
+is_asked_for plan p = nat_lt p.left plan.cycles && nat_lt 0 p.moment.touched && not (nat_eq p.moment.touched p.touched)
+
+-- whether the next cycle is wanted: it is due, or was asked for
+abbrev pub is_wanted : Plan → Progress → Bool
+is_wanted plan p = is_due plan p || is_asked_for plan p
+
+-- whether no connection is wanted: the cycle was done before the next was due, and the next isn't wanted yet
 abbrev pub is_idle : Plan → Progress → Bool
-is_idle plan p = p.early && not (is_due plan p)
+is_idle plan p = p.early && not (is_wanted plan p)
 
--- whether the station goes on without waiting for a due moment: some commands of this cycle are left, or the next cycle is due
--- (`is_due`, which doesn't look whether there is one)
+-- whether the station goes on without waiting for a due moment: some commands of this cycle are left, or the next cycle is wanted
+-- (`is_wanted`; whether there is one isn't looked at)
 abbrev pub goes_on : Plan → Progress → Bool
-goes_on plan p = nat_lt 0 p.unsent || is_due plan p
+goes_on plan p = nat_lt 0 p.unsent || is_wanted plan p
 
 -- whether no command of any cycle is left to be sent, and none is outstanding (`count` is how many are): the test of `IsFinished`
 abbrev pub is_finished : (count : ℕ) → Progress → Bool
@@ -140,9 +150,9 @@ action_beginning plan p w =
     action_unless_idle plan p w (if may_ask p then (if is_dead plan p w then Close Dead else Ask) else Read Limit)
 
 -- the next action if each command of the cycle is settled: to close the connection if no cycle is left, to begin the next cycle
--- if it is due, and else to read until it is
+-- if it is wanted, and else to read until it is due
 abbrev pub action_done : Plan → Progress → Action
-action_done plan p = if nat_eq p.left 0 then Close Done else if is_due plan p then Begin else Read Due
+action_done plan p = if nat_eq p.left 0 then Close Done else if is_wanted plan p then Begin else Read Due
 
 -- whether there is room for another request: the test of `HasRoomToAsk`
 abbrev pub has_room_to_ask : Plan → Progress → Waiting → Bool
@@ -173,13 +183,14 @@ abbrev pub may_go : Progress → Waiting → Bool
 may_go p w = (w.well && p.chain_unbroken) && not (lacks_value p)
 
 -- whether the next command is sent, or recorded without being sent, only once all that were sent are settled: it is chained, or begins a
--- further attempt of its chain, or a value that it takes of a file isn't there
+-- further attempt of its chain, or rests (then it counts as both), or a value that it takes of a file isn't there
 abbrev pub waits_for_all : Progress → Bool
 waits_for_all p = (p.next_is_chained || nat_lt 0 p.next_others) || lacks_value p
 
 -- the next action if the next command begins a further attempt of its chain, and each command that was sent is settled: the
 -- command is sent if a command of the attempt before ended as its rule names, and skipped then if a value that it takes of a file isn't
--- there; otherwise this attempt and those after it are left out, as they are in a missed cycle, in which each command counts as chained
+-- there; otherwise this attempt and those after it are left out, as they are in a missed cycle, in which each command counts as chained.
+-- A command that rests counts as chained, too, and as an attempt of its own: so it alone is left out
 abbrev pub action_again : Plan → Progress → Waiting → Action
 action_again plan p w =
     if w.listed && not p.next_is_chained then (if lacks_value p then Skip else action_to_send plan p w Send) else Pass

@@ -7,6 +7,7 @@ pub mod Firsts
 pub mod Zeros
 pub mod Lines
 pub mod Deciding
+pub mod Periods
 pub mod Progressing
 pub mod ActKinds
 pub mod NextCommand
@@ -50,6 +51,7 @@ pub mod Codes
 pub mod Counting
 pub mod Room
 pub mod Cycles
+pub mod Groups
 pub mod Pauses
 pub mod Nearness
 pub mod Agreeing

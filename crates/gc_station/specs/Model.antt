@@ -40,7 +40,7 @@ use Rattle.gc_station.specs.Busy.{busy_after_settlements}
 use Rattle.gc_station.specs.Counters.{no_counts, with_before, counts_after_settlements}
 use Rattle.gc_station.specs.Firsts.{firsts_after, with_first}
 use Rattle.gc_station.specs.Marks.{commands_in, occasion_of, with_id, with_values, record_with, records_of, last_well, any_unexpected}
-use Rattle.gc_station.specs.NextCommand.{place_next, commands_left, cycles_begun, mark_next, mark_setup, commands_before, needs_first, upcoming_after}
+use Rattle.gc_station.specs.NextCommand.{place_next, commands_left, cycles_begun, mark_next, mark_setup, commands_before, upcoming_after, first_upcoming}
 use Rattle.gc_station.specs.Progressing.{at_start, turned, moment_noted, cycle_begun, skipped, attempts_left_out, unsent_at, failing, opened, after_failure, cleared, request_noted, null_sent, resynchronized, sent, behind_noted, ended_noted, doubt_noted, hold_noted, line_noted, lines_synchronizing, bytes_noted, silent, early_noted, closed, loses_all, setup_sent}
 use Rattle.gc_station.specs.Records.{Record}
 use Rattle.gc_station.specs.Requests.{RunRequest, requests, of_task, command_at}
@@ -66,7 +66,7 @@ pub record Model : Type 0 where
   pub listed : Bool
   -- of each counter of the text, the number in the answer that was recorded last
   pub counts : List (Option Decimal)
-  -- the commands of further attempts that were left out so far, in order
+  -- the commands that were left out so far, in order: those of further attempts, and those that rested in their cycle
   pub passes : List RunRequest
   -- of each watched command, when it was recorded last as answered well
   pub fresh : List Watch
@@ -276,7 +276,7 @@ listed_after_skip plan commands s (Told m) = listed_unsent plan commands s.progr
 listed_after_skip plan commands s _ = s.listed
 
 -- the commands that are left out if the cycle's next one begins a further attempt: those of this attempt, and of the chain's
--- later attempts
+-- later attempts; and if it rests, the command alone
 abbrev pub next_left_out : Plan → List Task → Progress → List RunRequest
 next_left_out plan commands p =
     requests (cycles_begun plan p) (place_next commands p) (map of_task (take p.next_others (commands_left commands p)))
@@ -410,7 +410,7 @@ after_clock f s _ = with_progress (failing cause.Clock) s
 -- the model `s` after the clock was read to leave out the further attempts of a chain; if it couldn't be read, none is left out
 abbrev pub after_pass : Plan → List Task → Model → Act → Model
 after_pass plan commands s (Told m) =
-    let next = upcoming_after s.progress.next_others commands s.progress in
+    let next = upcoming_after plan s.progress.next_others commands s.progress in
     with_moment m
     (with_progress (λ p. early_noted plan (commands_in s.marks) (attempts_left_out next m p)) (with_more_passes (next_left_out plan commands s.progress) s))
 after_pass plan commands s _ = with_progress (failing cause.Clock) s
@@ -436,17 +436,17 @@ after_close plan cause s = with_progress (closed plan (waiting_of s) cause) (wit
 abbrev pub moved : Plan → List Task → Action → Model → Act → Model
 moved plan commands ReadClock s act = after_clock (λ m p. early_noted plan (commands_in s.marks) (moment_noted m p)) s act
 moved plan commands Renew s act = after_clock (λ m p. early_noted plan 0 (resynchronized plan m p)) s act
-moved plan commands Begin s act = after_clock (cycle_begun plan (cycle_length plan commands) (needs_first (drop plan.setup commands))) s act
+moved plan commands Begin s act = after_clock (cycle_begun plan (cycle_length plan commands) (first_upcoming plan commands s.progress)) s act
 moved plan commands Open s act = after_open plan s act
 moved plan commands Clear s act = after_put (commands_before plan commands s.progress) (with_progress cleared) s act
 moved plan commands Ask s act = after_put (commands_before plan commands s.progress) (with_progress (null_sent plan)) s act
 moved plan commands Prepare s act = after_put (commands_before plan commands s.progress)
     (λ (s : Model). with_progress (setup_sent plan) (asks_setup plan commands s)) s act
 moved plan commands Send s act = after_put (commands_before plan commands s.progress)
-    (λ (s : Model). with_progress (sent (upcoming_after 1 commands s.progress)) (asks_next plan commands s))
+    (λ (s : Model). with_progress (sent (upcoming_after plan 1 commands s.progress)) (asks_next plan commands s))
     s act
 moved plan commands Skip s act = after_clock
-    (λ m p. early_noted plan (commands_in s.marks) (skipped (upcoming_after 1 commands s.progress) m p))
+    (λ m p. early_noted plan (commands_in s.marks) (skipped (upcoming_after plan 1 commands s.progress) m p))
     (with_listed (listed_after_skip plan commands s act) (with_more_records (unsent_record plan commands s.progress act) s)) act
 moved plan commands Pass s act = after_pass plan commands s act
 moved plan commands Flush s act = after_put (commands_before plan commands s.progress)

@@ -1,6 +1,6 @@
 -- The next command of a station's list, this project's own: its place, its mark and how it stands to the commands after it, at a
 -- given progress.
-use Rattle.std.specs.Prelude.{ℕ, ◌+◌, ◌-◌, ◌||◌, Bool, false, List, [], ◌∷◌, length, drop, None, if◌then◌else◌, nat_eq}
+use Rattle.std.specs.Prelude.{ℕ, ◌+◌, ◌-◌, ◌%◌, ◌||◌, Bool, false, not, List, [], ◌∷◌, length, drop, None, if◌then◌else◌, nat_eq, nat_le}
 use Rattle.gc_texts.specs.Again.{no_again}
 use Rattle.gc_values.specs.FileValues.{no_values}
 use Rattle.gc_texts.specs.Codes.{no_codes}
@@ -127,20 +127,52 @@ abbrev pub needs_first : List Task → Needs
 needs_first [] = no_needs
 needs_first (task ∷ others) = task.needs
 
--- whether the command `count` places after the cycle's next one is sent only once the one before it was answered well; false if
--- there is no such command. In a missed cycle, in which none is sent, always true
-abbrev pub is_chained_after : (count : ℕ) → List Task → Progress → Bool
-is_chained_after count commands p = p.missed || first_is_chained (commands_left_after count commands p)
+-- whether a command that has its turn in one of every `every` cycles, from cycle 1 on, has it in this cycle; with 1 it has it in each
+abbrev pub is_turn : (cycle every : ℕ) → Bool
+is_turn cycle every = nat_le every 1 || nat_eq ((cycle - 1) % every) 0
+
+-- whether the first of these commands rests in this cycle: it doesn't have its turn in it (`is_turn`). False if there is no command
+abbrev pub rests : (cycle : ℕ) → List Task → Bool
+rests cycle [] = false
+rests cycle (task ∷ others) = not (is_turn cycle task.every)
+
+-- whether the first of these commands counts as chained in this cycle: it rests, so that it isn't sent; or it is sent only once the one
+-- before it was answered well
+abbrev pub is_chained_in : (cycle : ℕ) → List Task → Bool
+is_chained_in cycle tasks = rests cycle tasks || first_is_chained tasks
+
+-- how many commands are left out with the first of these in this cycle, if that is left out: the command alone, if it rests; and if it
+-- begins a further attempt of its chain, those of `others_in`. 0 if it is neither
+abbrev pub left_out_in : (cycle : ℕ) → List Task → ℕ
+left_out_in cycle tasks = if rests cycle tasks then 1 else others_in tasks
+
+-- whether the command `count` places after the cycle's next one is sent only once the one before it was answered well, or rests; false
+-- if there is no such command. In a missed cycle, in which none is sent, always true
+abbrev pub is_chained_after : Plan → (count : ℕ) → List Task → Progress → Bool
+is_chained_after plan count commands p = p.missed || is_chained_in (cycles_begun plan p) (commands_left_after count commands p)
 
 -- if the command `count` places after the cycle's next one begins a further attempt of its chain, the number of commands of
--- this and the chain's later attempts (`others_in`); otherwise 0, also if there is no such command
-abbrev pub others_after : (count : ℕ) → List Task → Progress → ℕ
-others_after count commands p = others_in (commands_left_after count commands p)
+-- this and the chain's later attempts; 1 if it rests (`left_out_in`); otherwise 0, also if there is no such command
+abbrev pub others_after : Plan → (count : ℕ) → List Task → Progress → ℕ
+others_after plan count commands p = left_out_in (cycles_begun plan p) (commands_left_after count commands p)
 
 -- what is noted of the cycle's next command once the cycle has gone on by `count` commands
-abbrev pub upcoming_after : (count : ℕ) → List Task → Progress → Upcoming
-upcoming_after count commands p = record {
-  is_chained = is_chained_after count commands p;
-  others = others_after count commands p;
+abbrev pub upcoming_after : Plan → (count : ℕ) → List Task → Progress → Upcoming
+upcoming_after plan count commands p = record {
+  is_chained = is_chained_after plan count commands p;
+  others = others_after plan count commands p;
   needs = needs_first (commands_left_after count commands p);
+}
+
+-- the number of the cycle that begins next at the progress `p`
+abbrev pub cycle_next : Plan → Progress → ℕ
+cycle_next plan p = plan.cycles - (p.left - 1)
+
+-- what is noted of the first command of the cycle that begins next: as it begins a chain, whatever the text says of it, it counts as
+-- chained, and is left out, only if it rests
+abbrev pub first_upcoming : Plan → List Task → Progress → Upcoming
+first_upcoming plan commands p = record {
+  is_chained = rests (cycle_next plan p) (drop plan.setup commands);
+  others = if rests (cycle_next plan p) (drop plan.setup commands) then 1 else 0;
+  needs = needs_first (drop plan.setup commands);
 }

@@ -16,7 +16,7 @@ use Rattle.gc_station.specs.Progressing.{is_idle, due_at}
 -- the moment of the next attempt to connect: the end of the pause, or, if no connection is wanted before the next cycle is due,
 -- that due moment if it is later
 abbrev pub retry_at : Plan → Progress → ℕ
-retry_at plan p = if is_idle plan p then max (later p.since p.pause) (due_at plan p) else later p.since p.pause
+retry_at plan p = if is_idle plan p then max (later p.since p.pause) (due_at p) else later p.since p.pause
 
 -- the moment from which on the run is stale, if no answer of a good quality is recorded until then; the greatest `u64` if it
 -- never is. `fresh` is when such an answer was recorded last; 0 if none was; an earlier moment if the clock went back past it
@@ -24,7 +24,7 @@ retry_at plan p = if is_idle plan p then max (later p.since p.pause) (due_at pla
 abbrev pub stale_at : Plan → (fresh : ℕ) → ℕ
 stale_at plan fresh = if nat_lt 0 plan.stale then later fresh plan.stale else 18446744073709551615
 
--- how many milliseconds a read waits at most: a second if somebody may ask for the end of the run, otherwise a minute
+-- how many milliseconds a read waits at most: a second if somebody may ask for the end of the run or for a cycle, otherwise a minute
 abbrev pub longest_timeout : Plan → ℕ
 longest_timeout plan = if plan.watched then 1000 else 60000
 
@@ -38,7 +38,7 @@ read_end_in _ plan p = if has_begun p then 18446744073709551615 else max p.again
 
 -- as `read_end_in` in the phase of `p`, except that a read that only waits for the next cycle ends when that cycle is due
 abbrev pub read_end_without_deadline : Plan → Progress → Until → ℕ
-read_end_without_deadline plan p Due = due_at plan p
+read_end_without_deadline plan p Due = due_at p
 read_end_without_deadline plan p Limit = read_end_in p.phase plan p
 
 -- the moment at which a read ends if nothing comes: `read_end_without_deadline`, or the next deadline of a request if that is
@@ -49,7 +49,7 @@ read_end plan p until None = read_end_without_deadline plan p until
 
 -- the moment at which the cycle that began last is out of time, if cycles have due moments and it isn't yet; else the greatest `u64`
 abbrev pub out_of_time_at : Plan → Progress → ℕ
-out_of_time_at plan p = if nat_lt 0 plan.every && not (is_out_of_time plan p) then later (due_at plan p) plan.every else 18446744073709551615
+out_of_time_at plan p = if nat_lt 0 plan.every && not (is_out_of_time plan p) then later (later p.began plan.every) plan.every else 18446744073709551615
 
 -- how many milliseconds a read waits: until `read_end`, or until the run is stale or the cycle out of time if that is earlier, but at
 -- least one and at most `longest_timeout`. `fresh` is as in `stale_at`, and `deadline` is the next deadline of a request, if any

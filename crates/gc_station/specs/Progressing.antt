@@ -7,7 +7,6 @@ use Rattle.gc_client.specs.Rule.{heard}
 use Rattle.gc_client.specs.declared.window.TheConstants.{WINDOW}
 use Rattle.gc_values.specs.FileValues.{no_values}
 use Rattle.gc_texts.specs.ValueItems.{no_needs}
-use Rattle.gc_texts.specs.declared.value_item.Needs.{Needs}
 use Rattle.gc_links.specs.declared.link.Moment.{Moment}
 use Rattle.gc_station.specs.declared.plan.Plan.{Plan}
 use Rattle.gc_station.specs.declared.cause.Cause.{Cause}
@@ -22,6 +21,7 @@ use Rattle.gc_station.specs.declared.progress.Waiting.{Waiting}
 use Rattle.gc_station.specs.Deciding.{later, is_up, is_past, is_quiet, is_due, goes_on, has_begun}
 pub use Rattle.gc_station.specs.Deciding.{is_idle, is_finished}
 use Rattle.gc_station.specs.Lines.{is_reply}
+use Rattle.gc_station.specs.Periods.{period_from}
 
 -- the progress of a station that has done nothing: no null procedure of the synchronization is answered, and no call of the table
 -- is ended by a reply (`behind`)
@@ -32,11 +32,13 @@ at_start plan turns = record {
   again = 0;
   hold = 0;
   clock_due = false;
-  moment = record { elapsed = 0; utc = 0; stops = false; values = no_values };
+  moment = record { elapsed = 0; utc = 0; stops = false; touched = 0; values = no_values };
   since = 0;
   alive = 0;
   asked = false;
   began = 0;
+  period = min plan.first plan.every;
+  touched = 0;
   early = false;
   due = 0;
   missed = false;
@@ -86,15 +88,16 @@ moment_noted m p = record p {
 abbrev pub moment_noted_meanwhile : Moment → Progress → Progress
 moment_noted_meanwhile m p = let q = moment_noted m p in record q { since = min p.since m.elapsed }
 
--- the moment at which the next cycle is due: `every` milliseconds after `began`, the moment that counts as the beginning of the
--- last one. The first cycle may begin at once; if it can't, it is due here, where `began` is the start of the clock
-abbrev pub due_at : Plan → Progress → ℕ
-due_at plan p = later p.began plan.every
+-- the moment at which the next cycle is due: `period` milliseconds after `began`, the moment that counts as the beginning of the
+-- last one. The first cycle may begin at once, unless cycles begin by the clock; if it can't, it is due here, where `began` is the start
+-- of the clock
+abbrev pub due_at : Progress → ℕ
+due_at p = later p.began p.period
 
 -- the moment that counts as the beginning of a cycle that is begun at the moment `m`: where cycles have no due moment, it is `m`;
 -- otherwise the moment at which the cycle was due, or `m` if that is earlier
 abbrev pub cycle_start : Plan → Moment → Progress → ℕ
-cycle_start plan m p = if nat_eq plan.every 0 then m.elapsed else min (due_at plan p) m.elapsed
+cycle_start plan m p = if nat_eq plan.every 0 then m.elapsed else min (due_at p) m.elapsed
 
 -- how late a cycle begins that is begun at the moment `m`: how long before `m` it counts as begun (`cycle_start`)
 abbrev pub lateness : Plan → Moment → Progress → ℕ
@@ -110,26 +113,40 @@ is_missed_at plan m p = nat_lt 0 plan.every && nat_le plan.every (lateness plan 
 abbrev pub due_of : Plan → Moment → Progress → ℕ
 due_of plan m p = m.utc - lateness plan m p
 
+-- the regular time from a cycle that begins at the moment `m` to the next due moment: `every`; and where cycles begin by the clock
+-- (`at`), the time to the next such moment from when this one was due, by the clock of time stamps as it is then. So a clock that was set
+-- meanwhile is followed
+abbrev pub regular_period : Plan → Moment → Progress → ℕ
+regular_period plan m p = period_from plan.at plan.every (due_of plan m p)
+
+-- how long after the beginning of a cycle that begins at the moment `m` the next one is due: the time of `regular_period`; but if the
+-- cycle wasn't due, and isn't by then, because somebody asked for it, the next due moment stays
+abbrev pub next_period : Plan → Moment → Progress → ℕ
+next_period plan m p =
+    if not (is_due plan p) && nat_lt m.elapsed (due_at p) then min p.period (due_at p - m.elapsed) else regular_period plan m p
+
 -- whether the setup is still to be done once a cycle began or went on: it is if it was (`preparing`) and nothing of it was sent, but
 -- no longer once a command of a cycle was sent (`were_sent`)
 abbrev pub still_prepares : (were_sent : Bool) → Progress → Bool
 still_prepares were_sent p = (not were_sent && p.preparing) && nat_eq p.prepared 0
 
--- the progress after a cycle of `count` commands, the first of which takes these values of files, began at the moment `m`. If the cycle is
--- missed, none of them is sent
-abbrev pub cycle_begun : Plan → (count : ℕ) → Needs → Moment → Progress → Progress
-cycle_begun plan count needs m p =
+-- the progress after a cycle of `count` commands began at the moment `m`. `next` is noted of the first of them. If the cycle is
+-- missed, none of them is sent. A cycle that is asked for from then on begins before the next one is due
+abbrev pub cycle_begun : Plan → (count : ℕ) → (next : Upcoming) → Moment → Progress → Progress
+cycle_begun plan count next m p =
     let q = moment_noted_meanwhile m p in
     record q {
       began = cycle_start plan m p;
+      period = next_period plan m p;
+      touched = m.touched;
       due = due_of plan m p;
       missed = is_missed_at plan m p;
       early = false;
       left = p.left - 1;
       unsent = count;
-      next_is_chained = is_missed_at plan m p;
-      next_others = 0;
-      next_needs = needs;
+      next_is_chained = is_missed_at plan m p || next.is_chained;
+      next_others = next.others;
+      next_needs = next.needs;
       chain_unbroken = false;
       preparing = still_prepares false p;
     }
@@ -298,8 +315,8 @@ abbrev pub lines_synchronizing : Progress → List (List ℕ) → Progress
 lines_synchronizing p [] = p
 lines_synchronizing p (line ∷ others) = lines_synchronizing (line_synchronizing p line) others
 
--- whether the cycle counts as done early after a read: it does after one that waited until the next cycle is due, because only a
--- done cycle has such a read; after any other read as before (`early`)
+-- whether the cycle counts as done early after a read: it does after one that waited until the next cycle is due, because only after a
+-- done cycle there is such a read, or before the first one is due; after any other read as before (`early`)
 abbrev pub early_after : Until → (early : Bool) → Bool
 early_after Due early = true
 early_after Limit early = early
@@ -345,10 +362,11 @@ time_passed until m p = let q = moment_noted m p in record q { since = min p.sin
 abbrev pub silent : Plan → Until → Moment → Progress → Progress
 silent plan until m p = quieted plan p.phase (time_passed until m p)
 
--- the progress once it is noted whether the cycle was done early: none of its commands is left, no command is outstanding
--- (`count` is how many are), and the next cycle isn't due yet; or it was noted before that the cycle was done early
+-- the progress once it is noted whether the cycle was done early: a cycle has begun, none of its commands is left, no command is
+-- outstanding (`count` is how many are), and the next cycle isn't due yet; or it was noted before that the cycle was done early
 abbrev pub early_noted : Plan → (count : ℕ) → Progress → Progress
-early_noted plan count p = record p { early = p.early || (nat_eq count 0 && nat_eq p.unsent 0 && not (is_due plan p)) }
+early_noted plan count p =
+    record p { early = p.early || (nat_eq count 0 && nat_eq p.unsent 0 && not (is_due plan p) && nat_lt p.left plan.cycles) }
 
 -- the progress at the end of a run for the cause `why`: no further connection is made, and no chain goes on
 abbrev pub ended_for : Cause → Progress → Progress

@@ -13,7 +13,7 @@ use Rattle.gc_station.specs.declared.progress.Progress.{Progress}
 use Rattle.gc_station.specs.declared.progress.Until.{Until}
 use Rattle.gc_station.specs.declared.progress.Until.TheVariants.{Limit, Due}
 use Rattle.gc_station.specs.declared.progress.Waiting.{Waiting}
-use Rattle.gc_station.specs.Deciding.{width_of, has_begun, is_up, is_unquiet, is_due, is_idle, is_silent, is_dead, is_stale, lacks_value, may_go, is_preparing}
+use Rattle.gc_station.specs.Deciding.{width_of, has_begun, is_up, is_unquiet, is_wanted, is_idle, is_silent, is_dead, is_stale, lacks_value, may_go, is_preparing}
 
 -- another request may be sent: fewer that haven't timed out are in flight than `width_of` allows; all that are outstanding, and those
 -- that the last line ended that ended any, are together fewer than the window has places; since the station synchronized no line called
@@ -46,6 +46,11 @@ IsCut p = (is_unquiet p.phase ≡ true) × (p.chain_unbroken ≡ false) × (p.mi
 -- hasn't timed out, and the station is between two chains or a close cut its chain (`IsCut`)
 abbrev pub IsResting : Progress → Waiting → Type 0
 IsResting p w = (is_up p.phase ≡ false) ⊎ ((has_begun p ≡ false) ⊎ ((w.current ≡ 0) × (IsBetweenChains p ⊎ IsCut p)))
+
+-- the next command isn't one that is left out without a record whatever the commands before it came to. Of a command that rests in its
+-- cycle both is noted, that it is chained, and that it begins a further attempt; in a missed cycle all others count as chained, too
+abbrev pub IsInItsTurn : Progress → Type 0
+IsInItsTurn p = (p.next_others ≡ 0) ⊎ (p.next_is_chained ≡ false)
 
 -- if the end of the run was asked for, the next command goes on with a chain (`next_is_chained`)
 abbrev pub StaysInItsChain : Progress → Type 0
@@ -140,12 +145,12 @@ HasConnectionFor Stale p = Unit {0}
 HasConnectionFor Stopped p = Unit {0}
 HasConnectionFor _ p = is_up p.phase ≡ true
 
--- what a read waits for that ends when the next cycle is due: that moment hasn't come, each command of the cycle is settled, and the
+-- what a read waits for that ends when the next cycle is due: that moment hasn't come, no cycle was asked for, each command of the cycle is settled, and the
 -- setup is done; or the cycle was done before it, and the station hasn't synchronized, or nothing of its setup was sent
 abbrev pub AwaitsDueMoment : Plan → Progress → Waiting → Type 0
 AwaitsDueMoment plan p w =
     ((is_idle plan p ≡ true) × ((has_begun p ≡ false) ⊎ ((is_preparing plan p w ≡ true) × (p.prepared ≡ 0))))
-    ⊎ ((p.unsent ≡ 0) × (w.commands ≡ 0) × (is_due plan p ≡ false) × (is_preparing plan p w ≡ false))
+    ⊎ ((p.unsent ≡ 0) × (w.commands ≡ 0) × (is_wanted plan p ≡ false) × (is_preparing plan p w ≡ false))
 
 -- what another read waits for on a connection that was quiet: while the station synchronizes, the end of the wait after a busy answer, or
 -- the reply to a null procedure whose deadline hasn't come; or something in flight that hasn't timed out, while no command may be sent. The last case is one without a setup, in which
@@ -181,16 +186,17 @@ HoldsBefore plan p w action.Ask = (p.phase ≡ phase.Ready) × (has_begun p ≡ 
 HoldsBefore plan p w action.Prepare =
     (p.phase ≡ phase.Ready) × (has_begun p ≡ true) × MayPrepare plan p w × HasRoomToAsk plan p w × (p.behind < WINDOW) × (p.stops ≡ false)
     × (is_dead plan p w ≡ false)
--- a command of a cycle has its turn only once the setup is done, and is sent only if the values that it takes of files are there
+-- a command of a cycle has its turn only once the setup is done, and is sent only if it doesn't rest, and the values that it takes of files
+-- are there
 HoldsBefore plan p w action.Send =
     (p.phase ≡ phase.Ready) × (has_begun p ≡ true) × (0 < p.unsent) × HasRoomToAsk plan p w × MayGo p w × (p.behind < WINDOW) × MayRetry p w
-    × StaysInItsChain p × (is_preparing plan p w ≡ false) × (is_dead plan p w ≡ false) × (lacks_value p ≡ false)
+    × StaysInItsChain p × (is_preparing plan p w ≡ false) × (is_dead plan p w ≡ false) × (lacks_value p ≡ false) × IsInItsTurn p
 HoldsBefore plan p w action.Skip =
     IsReadyOrOverdue plan p w × ((has_begun p ≡ true) ⊎ IsOverdue plan p w) × (0 < p.unsent) × (w.commands ≡ 0)
     × (((p.next_is_chained ≡ true) × (may_go p w ≡ false)) ⊎ (((lacks_value p ≡ true) × StaysInItsChain p) ⊎ IsOverdue plan p w))
-    × IsPreparedOrOverdue plan p w
+    × IsPreparedOrOverdue plan p w × IsInItsTurn p
 -- the further attempts of a chain are left out if all that were sent are settled, and no command of the attempt before ended as
--- its rule names; or if nothing is sent, because the cycle is missed
+-- its rule names; or if nothing is sent, because the cycle is missed; and so is a command that rests in its cycle, which counts as chained
 HoldsBefore plan p w action.Pass =
     IsReadyOrOverdue plan p w × ((has_begun p ≡ true) ⊎ IsOverdue plan p w) × (0 < p.unsent) × (w.commands ≡ 0) × (0 < p.next_others)
     × (((w.listed ≡ false) ⊎ (p.next_is_chained ≡ true)) ⊎ IsOverdue plan p w) × IsPreparedOrOverdue plan p w

@@ -7,12 +7,14 @@ use Rattle.gc_links.specs.Acts.{Act}
 use Rattle.gc_links.specs.declared.link.Moment.{Moment}
 pub use Rattle.gc_station.specs.CallTimes.{MayTakeTime}
 use Rattle.gc_station.specs.CallTimes.{CallsReturn}
-use Rattle.gc_station.specs.Cycles.{ClockRises, first_due, due_after, BeginsAt}
+use Rattle.gc_station.specs.Cycles.{ClockRises, BeginsAt, counts_from}
 use Rattle.gc_station.specs.Deciding.{setup_permits, is_preparing}
 use Rattle.gc_station.specs.EachOnce.{AreRecordedOnce, all_cycles}
 use Rattle.gc_station.specs.Model.{opening, action_at, waiting_of, cycle_length, Runs}
 use Rattle.gc_station.specs.Quiet.{IsListening}
 use Rattle.gc_station.specs.Runs.{state_after, OfEachRun, OfEachAct, WhereNext}
+use Rattle.gc_station.specs.NextCommand.{cycles_begun}
+use Rattle.gc_station.specs.Progressing.{due_at}
 use Rattle.gc_station.specs.Reasons.{AwaitsSomething, MayBeSent}
 use Rattle.gc_station.specs.Scopes.{Scope}
 use Rattle.gc_station.specs.Stopping.{asked_after}
@@ -30,15 +32,19 @@ pub record AreRecorded (plan : Plan) (commands : List Task) (scope : Scope) (act
   pub order : acts ≡ before ++ behind
   pub all : AreRecordedOnce commands (state_after plan commands scope before) (all_cycles plan.setup commands n)
 
--- cycles are due every `every` milliseconds, from the due moment of the first one on, which began at the moment `first`. Each cycle
--- that was due at least `wait` milliseconds before the moment read last is recorded: all its commands have their records, or were left out. `count`
--- is how many of the first cycles are
+-- the cycle that has `n` cycles before it is due at the moment `d`: it began among `acts`, and counts as begun then; or it is the next one,
+-- which hasn't begun. When a later one is due isn't known yet: no earlier than the next one
+abbrev pub IsDueAt : Plan → List Task → Scope → List Act → (n d : ℕ) → Type 0
+IsDueAt plan commands scope acts n d =
+    ((m : Moment) × (begins : BeginsAt plan commands scope acts n m) × (d ≡ counts_from plan commands scope begins.before m))
+    ⊎ (let p = (state_after plan commands scope acts).progress in (cycles_begun plan p ≡ n) × (d ≡ due_at p))
+
+-- each cycle that was due at least `wait` milliseconds before the moment read last is recorded: all its commands have their records, or were
+-- left out. `count` is how many of the first cycles are
 pub record DueOnesAreRecorded (plan : Plan) (commands : List Task) (scope : Scope) (wait : ℕ) (acts : List Act) : Type 0 where
   pub count : ℕ
   pub are : AreRecorded plan commands scope acts count
-  pub first : Moment
-  pub begins : BeginsAt plan commands scope acts 0 first
-  pub each : (n : ℕ) → n < plan.cycles → due_after (first_due plan first) plan.every n + wait ≤ (state_after plan commands scope acts).progress.moment.elapsed → n < count
+  pub each : (n d : ℕ) → n < plan.cycles → IsDueAt plan commands scope acts n d → d + wait ≤ (state_after plan commands scope acts).progress.moment.elapsed → n < count
 
 -- no cycle has begun, and the moment read last is less than `wait` milliseconds after the start of the clock; or there is no cycle
 abbrev pub NoneHasBegun : Plan → List Task → Scope → (wait : ℕ) → List Act → Type 0

@@ -1,6 +1,6 @@
 -- Chains that are sent again, this project's own: a further attempt of a chain is sent only if a command of the attempt before
--- ended as its rule names, and it is left out only if none did, or its cycle is missed. An act is one call on the link, with its
--- result.
+-- ended as its rule names, and it is left out only if none did, or its cycle is missed. A command that rests in its cycle is left out, too.
+-- An act is one call on the link, with its result.
 use Rattle.std.specs.Prelude.{◌≡◌, ◌⊎◌, ℕ, ◌<◌, Bool, true, if◌then◌else◌, nat_eq, List, ◌∷◌, ◌++◌, Option, None}
 use Rattle.std.specs.List.{AllByRecursion}
 use Rattle.gc_catalogue.specs.declared.asked.Asked.{Asked}
@@ -12,7 +12,7 @@ use Rattle.gc_station.specs.Attempts.{code_in}
 use Rattle.gc_station.specs.Marks.{commands_in}
 use Rattle.gc_station.specs.Model.{Model, waiting_of}
 use Rattle.gc_station.specs.Reasons.{IsOverdue}
-use Rattle.gc_station.specs.NextCommand.{place_next, commands_left, expected_at, expected_of_setup, first_is_chained, others_in}
+use Rattle.gc_station.specs.NextCommand.{place_next, commands_left, cycles_begun, expected_at, expected_of_setup, first_is_chained, others_in, rests}
 use Rattle.gc_station.specs.Records.{Record}
 use Rattle.gc_station.specs.Runs.{state_after, WhereNext, OfAnyRecord}
 use Rattle.gc_station.specs.Scopes.{Reads}
@@ -63,6 +63,10 @@ MayLeaveOut plan reads commands s =
     (HasListed reads commands s.records → ⊥)
     ⊎ ((s.progress.missed ≡ true) ⊎ ((first_is_chained (commands_left commands s.progress) ≡ true) ⊎ IsOverdue plan s.progress (waiting_of s)))
 
+-- the next command rests in its cycle
+abbrev pub Rests : Plan → List Task → Model → Type 0
+Rests plan commands s = rests (cycles_begun plan s.progress) (commands_left commands s.progress) ≡ true
+
 -- why further attempts are sent or left out
 pub record FurtherAttemptsHaveACause : Type 0 where
   -- if a further attempt is begun, all commands that were sent are settled, and one of the attempt before ended as its rule
@@ -70,10 +74,11 @@ pub record FurtherAttemptsHaveACause : Type 0 where
   pub goes : WhereNext Send (λ plan commands scope acts.
       let s = state_after plan commands scope acts in
       IsFurtherAttempt plan commands s → (commands_in s.marks ≡ 0) × HasListed scope.reads commands s.records)
-  -- only further attempts are left out, once all commands that were sent are settled, and only for a reason (`MayLeaveOut`)
+  -- only a command that rests, and further attempts are left out, once all commands that were sent are settled; and the latter only for a
+  -- reason (`MayLeaveOut`)
   pub passes : WhereNext Pass (λ plan commands scope acts.
       let s = state_after plan commands scope acts in
-      IsFurtherAttempt plan commands s × (commands_in s.marks ≡ 0) × MayLeaveOut plan scope.reads commands s)
+      (commands_in s.marks ≡ 0) × (Rests plan commands s ⊎ (IsFurtherAttempt plan commands s × MayLeaveOut plan scope.reads commands s)))
 
 -- the record `r` has the turn of the command at its cycle and place (`expected_of`); if it is of the setup nothing is said of the
 -- attempt in it

@@ -210,7 +210,7 @@ ReadsMoment told told' old new None = AddsActs told told' (Untold ∷ []) × (ne
 abbrev pub station_advancing : Plan → List Task → (count : ℕ) → Moment → Station → Station
 station_advancing plan commands count moment station =
     let p = station.progress in
-    let past = advanced count (upcoming_after count commands p) false (moment_noted_meanwhile moment p) in
+    let past = advanced count (upcoming_after plan count commands p) false (moment_noted_meanwhile moment p) in
     record station { progress = early_noted plan (commands_in station.marks.items) past }
 
 -- the station once the record of its next command, which isn't sent, is written at the moment `moment`, counted and noted

@@ -16,6 +16,9 @@
 //!    unsent; else `Pass` if the next command begins a further attempt; else `Skip`. These only read the clock. They change no phase,
 //!    and a pause and the quiet time go on meanwhile.
 //!
+//! A cycle is wanted if it is due, or somebody asked for it. A command that isn't of this cycle rests: it counts as chained, and as a
+//! further attempt of its own, so that it alone is left out.
+//!
 //! In any other case the table lists the actions that may be next in each phase, of which the first that fits is taken, and the
 //! phase after each.
 //!
@@ -27,7 +30,7 @@
 //! | `Draining` | no command is unsent, none is outstanding, and no cycle is left | `Close(Done)` | closes the connection | `Over(Done)` |
 //! | | else | `Read(Limit)` | discards what comes | `Ready`, once nothing came for the quiet time |
 //! | `Ready`: the station synchronizes | no command is unsent, and no cycle is left | `Close(Done)` | closes the connection | `Over(Done)` |
-//! | | the cycle is done, and the next isn't due | `Read(Due)` | hears what comes | `Ready` |
+//! | | the cycle is done, and the next isn't wanted | `Read(Due)` | hears what comes | `Ready` |
 //! | | a busy answer has the station wait (`hold`) | `Read(Limit)` | hears what comes | `Ready` |
 //! | | the null procedure that was sent last hasn't timed out | `Read(Limit)` | hears what comes | `Ready`; the station has synchronized once the eighth is answered |
 //! | | the line is dead | `Close(Dead)` | closes the connection | as below |
@@ -35,7 +38,7 @@
 //! | `Ready`: the station has synchronized | the end of the run was asked for, the station is between two chains, and something hasn't timed out | as if the station waits | | |
 //! | | the cycle is out of time, something hasn't timed out, and the setup is done or nothing of it was sent | as if the station waits | | |
 //! | | the setup isn't done, no command is unsent, none is outstanding, and no cycle is left | `Close(Done)` | closes the connection | `Over(Done)` |
-//! | | nothing of the setup was sent, the cycle is done, and the next isn't due | `Read(Due)` | hears what comes | `Ready` |
+//! | | nothing of the setup was sent, the cycle is done, and the next isn't wanted | `Read(Due)` | hears what comes | `Ready` |
 //! | | nothing of the setup was sent | as if the next command may be sent, with `Prepare` for `Send` | | |
 //! | | the setup isn't done, commands are outstanding, and all outstanding requests have timed out | with room, unless the line is dead, `Flush`, else as if the station waits | sends a null procedure after them | `Ready` |
 //! | | the setup isn't done, commands are outstanding, and something hasn't timed out | as if the station waits | | |
@@ -49,8 +52,8 @@
 //! | | no command is outstanding, one is unsent, and may be sent | as if the next command may be sent | | |
 //! | | no command is outstanding, one is unsent, and may not be sent | `Skip` | reads the clock, and records the command as skipped | `Ready` |
 //! | | no command is outstanding or unsent, and no cycle is left | `Close(Done)` | closes the connection | `Over(Done)` |
-//! | | no command is outstanding or unsent, and the next cycle is due | `Begin` | reads the clock, and begins the cycle | `Ready` |
-//! | | no command is outstanding or unsent, and the next cycle isn't due | `Read(Due)` | hears what comes | `Ready` |
+//! | | no command is outstanding or unsent, and the next cycle is wanted | `Begin` | reads the clock, and begins the cycle | `Ready` |
+//! | | no command is outstanding or unsent, and the next cycle isn't wanted | `Read(Due)` | hears what comes | `Ready` |
 //! | the next command may be sent | one of the seven requests before it is a call of the table that a reply ended | with room, unless the line is dead, `Send`, else as if the station waits | sends the next command | `Ready` |
 //! | | else, as after each synchronization, if all outstanding requests have timed out, or nothing is outstanding | with room, unless the line is dead, `Flush`, else as if the station waits | sends a null procedure before it | `Ready` |
 //! | | else | as if the station waits | | |
@@ -68,7 +71,7 @@
 //! follows, and without a connection `Over`.
 
 ghost use Rattle.std.specs.Prelude.{◌≡◌};
-ghost use Rattle.gc_station.specs.Deciding.{is_silent, is_dead, is_due, goes_on, is_finished, has_room_to_ask, lacks_value, may_ask, may_go, waits_for_all, action_again, action_of, action_on, action_ready, action_begun, action_beginning, action_to_send, action_room, action_flush, action_held, action_settled, action_done, action_waiting, is_stale, is_between_chains, is_cut, is_resting, is_stopping, is_held_back, action_cycle, action_to_prepare, action_preparing, action_in_setup, is_preparing, action_draining};
+ghost use Rattle.gc_station.specs.Deciding.{is_silent, is_dead, goes_on, is_finished, has_room_to_ask, lacks_value, may_ask, may_go, waits_for_all, action_again, action_of, action_on, action_ready, action_begun, action_beginning, action_to_send, action_room, action_flush, action_held, action_settled, action_done, action_waiting, is_stale, is_between_chains, is_cut, is_resting, is_stopping, is_held_back, action_cycle, action_to_prepare, action_preparing, action_in_setup, is_preparing, action_draining};
 
 use crate::cause::Cause;
 use crate::plan::Plan;
@@ -144,23 +147,12 @@ impl Progress {
         self.stops && self.is_between_chains() && waiting.current > 0
     }
 
-    // Whether the next cycle is due: the first at once, and each other one `every` milliseconds after `began`, the moment that counts
-    // as the beginning of the one before it. After the last cycle, too: whether there is a next one makes no difference.
-    pub(crate) fn is_due(&self, plan: &Plan) -> bool
-        ensures { result ≡ is_due plan.now self.now }
-    {
-        if self.left == plan.cycles {
-            return true;
-        }
-        plan.every <= self.moment.elapsed.saturating_sub(self.began)
-    }
-
-    // Whether the station goes on without waiting for a due moment: some commands of this cycle are left, or the next cycle is due
-    // (`is_due`, which doesn't look whether there is one).
+    // Whether the station goes on without waiting for a due moment: some commands of this cycle are left, or the next cycle is wanted
+    // (`is_wanted`, which doesn't look whether there is one).
     pub(crate) fn goes_on(&self, plan: &Plan) -> bool
         ensures { result ≡ goes_on plan.now self.now }
     {
-        self.unsent > 0 || self.is_due(plan)
+        self.unsent > 0 || self.is_wanted(plan)
     }
 
     // The next action: to stop if the run is over, to close the connection if that is to be closed, and else that of
@@ -476,13 +468,13 @@ impl Progress {
     }
 
     // The next action if each command of the cycle is settled: to close the connection if no cycle is left, to begin the next
-    // cycle if it is due, and else to read until it is.
+    // cycle if it is wanted, and else to read until it is due.
     fn action_done(&self, plan: &Plan) -> Action
         ensures { result ≡ action_done plan.now self.now }
     {
         if self.left == 0 {
             Action::Close(Cause::Done)
-        } else if self.is_due(plan) {
+        } else if self.is_wanted(plan) {
             Action::Begin
         } else {
             Action::Read(Until::Due)

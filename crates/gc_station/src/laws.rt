@@ -240,8 +240,8 @@ pub fn chains_stay()
 
 /// A further attempt of a chain is sent only once all commands sent are settled, and one of the attempt before ended as its
 /// rule names. Further attempts are left out only if none of the attempt before did, or the cycle is missed, or the next command
-/// is chained, which in a station's text the first one of an attempt never is, or the cycle is overdue. A command of the setup that is
-/// sent between two attempts belongs to neither.
+/// is chained, which in a station's text the first one of an attempt never is, or the cycle is overdue. Besides, a command is left out that
+/// rests in its cycle. A command of the setup that is sent between two attempts belongs to neither.
 pub fn each_further_attempt_has_a_cause()
     ensures { FurtherAttemptsHaveACause }
 {}
@@ -301,15 +301,18 @@ pub fn nothing_is_sent_while_busy()
     ensures { NothingIsSentWhileBusy }
 {}
 
-/// If the plan's `every` is above 0 and the clock doesn't go back, each cycle begins at or after it is due: the first is due
-/// when it begins, but at the latest `every` milliseconds after the start of the clock, and each further one `every` milliseconds
-/// after the one before it was due.
+/// If the plan's `every` is above 0, a cycle begins only if it is due, or somebody asked for it since the last one began (`why`). If the
+/// clock doesn't go back either, it begins when it counts as begun, or later (`begins`): that is when it was due; or when it begins, if that
+/// is earlier, as of the first cycle, or of one that was asked for. From then on it is known when the next one is due (`next`), and no other
+/// act changes that (`stays`): `every` milliseconds after this one counts as begun. If this one was asked for before it was due, the due
+/// moment stays. Where cycles begin by the clock (`at`), the next one is due `at` milliseconds after a whole multiple of `every` since
+/// 1970, by the clock of time stamps as it is when this one begins: the one that is nearest to a period later.
 pub fn cycles_begin_when_due()
     ensures { CyclesBeginWhenDue }
 {}
 
-/// If the plan's `every` is above 0 and the clock doesn't go back: when a command of a cycle is sent, its cycle began before the
-/// next one was due. So nothing of a missed cycle is sent.
+/// If the plan's `every` is above 0 and the clock doesn't go back: when a command of a cycle is sent, its cycle began less than a period
+/// after it counts as begun. So nothing of a missed cycle is sent.
 pub fn missed_cycles_are_not_sent()
     ensures { SentOnlyInTime }
 {}
@@ -324,7 +327,8 @@ pub fn missed_cycles_are_not_sent()
 ///   is sent: so seven times the sum of `longest` and `call` is added for each of these, and calls return at most `call` milliseconds
 ///   after they are to (`CallsReturn`).
 ///
-/// The first cycle is due when it begins, but at the latest one period after the start of the clock. For each plan and each clock:
+/// A cycle is due as `cycles_begin_when_due` says: when it counts as begun, or as long as it hasn't begun, at the due moment that is known
+/// since the last one began. For each plan and each clock:
 /// - `reads`: an action that connects, sends a request or reads comes directly after an act that read a moment, but for the first
 ///   of the run. So the moment read last is older than now by what one call takes at most, with the line feed or the close that
 ///   follows it.
@@ -392,7 +396,7 @@ pub fn a_read_awaits_something()
 {}
 
 /// If the plan's `every` is above 0 and the clock doesn't go back, each record of a command that was missed, skipped or without a value is
-/// justified, and has no time of sending. Missed: its cycle began when the next one was due, or later, and the record has the time at which
+/// justified, and has no time of sending. Missed: its cycle began a period after it was due, or later, and the record has the time at which
 /// its cycle was due. Skipped: its cycle wasn't missed, and was overdue; or it isn't the first of its chain, and the command before
 /// it wasn't answered well, or after that command was sent a connection was closed or the station resynchronized. Without a value: a value that
 /// it takes of a file wasn't there at the moment read last.

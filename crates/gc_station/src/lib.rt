@@ -8,6 +8,7 @@ mod counters;
 mod deciding;
 mod described;
 mod doubting;
+mod due;
 mod firsts;
 mod kept;
 pub mod laws;
@@ -27,6 +28,7 @@ mod writing;
 
 pub use book::{Book, LinkHealth};
 pub use cause::Cause;
+pub use due::is_turn;
 pub use firsts::FIRSTS;
 pub use kept::Kept;
 pub use plan::Plan;

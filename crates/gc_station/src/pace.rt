@@ -7,7 +7,7 @@ ghost use Rattle.std.specs.Option.{option_to_list};
 ghost use Rattle.std.specs.Io.KnownBytes.{Appends};
 ghost use Rattle.gc_client.specs.Rule.{IsEarliest, deadlines};
 ghost use Rattle.gc_station.specs.Marks.{commands_in};
-ghost use Rattle.gc_station.specs.NextCommand.{cycles_begun};
+ghost use Rattle.gc_station.specs.NextCommand.{cycles_begun, cycle_next};
 ghost use Rattle.gc_station.specs.Pace.{out_of_time_at, retry_at, stale_at, longest_timeout, read_end_in, read_end_without_deadline, read_end, read_timeout, is_cycle_done, health_in, overrun};
 ghost use Rattle.gc_station.specs.Progressing.{due_at};
 ghost use Rattle.gc_station.specs.Watching.{fresh_of};
@@ -31,7 +31,7 @@ fn stale_at(plan: &Plan, fresh: u64) -> u64
     }
 }
 
-// How many milliseconds a read waits at most: a second if somebody may ask for the end of the run, else a minute.
+// How many milliseconds a read waits at most: a second if somebody may ask for the end of the run or for a cycle, else a minute.
 fn longest_timeout(plan: &Plan) -> u64
     ensures { result ≡ longest_timeout plan.now }
 {
@@ -39,12 +39,12 @@ fn longest_timeout(plan: &Plan) -> u64
 }
 
 impl Progress {
-    // The moment at which the next cycle is due. The first may begin at once; if it can't, it is due here, a period after the start of
-    // the clock.
-    pub(crate) fn due_at(&self, plan: &Plan) -> u64
-        ensures { result ≡ due_at plan.now self.now }
+    // The moment at which the next cycle is due. The first may begin at once, unless cycles begin by the clock; if it can't, it is due
+    // here.
+    pub(crate) fn due_at(&self) -> u64
+        ensures { result ≡ due_at self.now }
     {
-        later(self.began, plan.every)
+        later(self.began, self.period)
     }
 
     // The moment of the next attempt to connect: the end of the pause, or the moment at which a connection is wanted again
@@ -54,7 +54,7 @@ impl Progress {
     {
         let retry = later(self.since, self.pause);
         if self.is_idle(plan) {
-            retry.max(self.due_at(plan))
+            retry.max(self.due_at())
         } else {
             retry
         }
@@ -85,7 +85,7 @@ impl Progress {
         ensures { result ≡ read_end_without_deadline plan.now self.now until }
     {
         match until {
-            Until::Due => self.due_at(plan),
+            Until::Due => self.due_at(),
             Until::Limit => self.read_end_in_phase(plan),
         }
     }
@@ -107,7 +107,7 @@ impl Progress {
         ensures { result ≡ out_of_time_at plan.now self.now }
     {
         if plan.every > 0 && !self.is_out_of_time(plan) {
-            later(self.due_at(plan), plan.every)
+            later(later(self.began, plan.every), plan.every)
         } else {
             u64::MAX
         }
@@ -118,6 +118,13 @@ impl Progress {
         ensures { result ≡ cycles_begun plan.now self.now }
     {
         plan.cycles.saturating_sub(self.left)
+    }
+
+    // The number of the cycle that begins next.
+    pub(crate) fn cycle_next(&self, plan: &Plan) -> u64
+        ensures { result ≡ cycle_next plan.now self.now }
+    {
+        plan.cycles.saturating_sub(self.left.saturating_sub(1))
     }
 
     // The number of the cycle that began last, if it has overrun and that wasn't reported yet: it isn't missed, and it wasn't

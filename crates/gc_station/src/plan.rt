@@ -9,10 +9,16 @@ pub struct Plan {
     /// procedure of a synchronization is sent again after this time. After twice this time without a reply line a line is
     /// dead, once all outstanding requests have timed out.
     pub deadline: u64,
-    /// How far apart the cycles are due, counted from when the first one begins, or from so long after the start of the link's
-    /// clock for deadlines if that is earlier. 0: each begins when the one before it is done. A cycle that can't begin before the
-    /// next is due is missed, and one that isn't done when the cycle after the next is due is abandoned.
+    /// How far apart the cycles are due, counted from when the first one begins, or from `first` if that is earlier; and where cycles
+    /// begin by the clock, as `at` says. 0: each begins when the one before it is done. A cycle that can't begin before the next is due
+    /// is missed, and one that isn't done when the cycle after the next is due is abandoned.
     pub every: u64,
+    /// When the first cycle is due, by the link's clock for deadlines; a period after that clock's start, if this is later. It may
+    /// begin before, unless cycles begin by the clock (`at`).
+    pub first: u64,
+    /// How long after whole multiples of `every`, counted from the beginning of 1970, UTC, cycles are due. `None`: a period after the
+    /// last one was due. It counts for nothing where `every` is 0.
+    pub at: Option<u64>,
     /// How many cycles are measured or missed.
     pub cycles: u64,
     /// The quiet time: how long the station pauses before it connects again, twice as long at each further failure, up to a
@@ -30,6 +36,7 @@ pub struct Plan {
     /// How long the run goes on without an answer of a good quality, counted from when the last one was recorded, or if none was,
     /// from the start of the link's clock for deadlines. 0: without a limit.
     pub stale: u64,
-    /// Whether somebody may ask for the end of the run. Then no read waits longer than a second, so that the station sees it.
+    /// Whether somebody may ask for the end of the run, or for a cycle. Then no read waits longer than a second, so that the station
+    /// sees it.
     pub watched: bool,
 }

@@ -55,7 +55,8 @@ pub(crate) enum Action {
     /// To read the clock, and to write the next command down without sending it: it may not be sent, or a value that it takes of a file
     /// isn't there.
     Skip,
-    /// To read the clock, and to leave out the further attempt that the next command begins, and those of its chain after it.
+    /// To read the clock, and to leave out the further attempt that the next command begins, and those of its chain after it; or the next
+    /// command alone, if it rests in this cycle.
     Pass,
     /// To send a null procedure after requests that have all timed out: its reply settles them. Or to send one before a command,
     /// if none of the seven requests before the command is a call of the table that a reply ended: so after a synchronization.
@@ -97,11 +98,11 @@ pub(crate) struct Waiting {
 /// What a station notes of the next command of its cycle: whether it waits for those before it.
 #[derive(Clone, Copy)]
 pub(crate) struct Upcoming {
-    /// Whether it is sent only once the command before it was answered well. In a missed cycle, in which none is sent, always
-    /// `true`.
+    /// Whether it is sent only once the command before it was answered well, or rests in its cycle, so that it isn't sent. In a missed
+    /// cycle, in which none is sent, always `true`.
     pub is_chained: bool,
-    /// If it begins a further attempt of its chain: how many commands this attempt and those after it have. Else 0, also if there
-    /// is no such command.
+    /// If it begins a further attempt of its chain: how many commands this attempt and those after it have. 1 if it rests in its cycle.
+    /// Else 0, also if there is no such command.
     pub others: usize,
     /// Which values of files its request takes; none if there is no such command.
     pub needs: Needs,
@@ -139,6 +140,11 @@ pub(crate) struct Progress {
     /// The moment that counts as the beginning of the cycle: its due moment, or the one at which it began if it has none, or the
     /// first began before it was due; an earlier one if the clock went back past it since. 0 before the first cycle.
     pub began: u64,
+    /// How long after `began` the next cycle is due. Before the first cycle, where `began` is the start of the clock, it is when that is due.
+    pub period: u64,
+    /// When the file by which somebody asks for a cycle had been changed, as that counted when the cycle began: in milliseconds since
+    /// 1970, 0 if there was none. If it was changed at another time by the moment read last, a cycle is asked for.
+    pub touched: u64,
     /// Whether the cycle was done before the next was due.
     pub early: bool,
     /// When the cycle was due, in milliseconds since 1970-01-01, UTC.
@@ -149,10 +155,10 @@ pub(crate) struct Progress {
     pub left: u64,
     /// How many commands of the cycle are left: neither sent, nor recorded without being sent, nor left out.
     pub unsent: usize,
-    /// Whether the next of them is sent only once the command before it was answered well. In a missed cycle, in which none is
-    /// sent, always `true`.
+    /// Whether the next of them is sent only once the command before it was answered well, or rests: it isn't of this cycle. In a missed
+    /// cycle, in which none is sent, always `true`.
     pub next_is_chained: bool,
-    /// If it begins a further attempt of its chain: how many commands this attempt and those after it have. Else 0.
+    /// If it begins a further attempt of its chain: how many commands this attempt and those after it have. 1 if it rests. Else 0.
     pub next_others: usize,
     /// Which values of files its request takes.
     pub next_needs: Needs,
@@ -297,12 +303,15 @@ impl Progress {
                 elapsed: 0,
                 utc: 0,
                 stops: false,
+                touched: 0,
                 values: no_values(),
             },
             since: 0,
             alive: 0,
             asked: false,
             began: 0,
+            period: plan.first.min(plan.every),
+            touched: 0,
             early: false,
             due: 0,
             missed: false,

@@ -16,7 +16,6 @@ use crate::progress::{Phase, Progress, Until, Upcoming, Waiting};
 use gc_client::{Beginning, Hearing, WINDOW};
 use gc_lines::read_reply;
 use gc_links::Moment;
-use gc_texts::Needs;
 
 // The moment `wait` milliseconds after `moment`, or the greatest `u64` if there is none.
 pub(crate) fn later(moment: u64, wait: u64) -> u64
@@ -26,7 +25,8 @@ pub(crate) fn later(moment: u64, wait: u64) -> u64
 }
 
 // Whether the cycle counts as done early after a read. A read `Until::Due` shows that the cycle was done early, because only
-// after a done cycle is there such a read. After any other read the cycle counts as it did before (`early`).
+// after a done cycle is there such a read, or before the first one is due. After any other read the cycle counts as it did before
+// (`early`).
 fn early_after(until: Until, early: bool) -> bool
     ensures { result ≡ early_after until early }
 {
@@ -97,7 +97,7 @@ impl Progress {
         if plan.every == 0 {
             moment.elapsed
         } else {
-            self.due_at(plan).min(moment.elapsed)
+            self.due_at().min(moment.elapsed)
         }
     }
 
@@ -121,30 +121,33 @@ impl Progress {
 
     // When a cycle that begins at this moment was due, in milliseconds since 1970-01-01, UTC: as much before `moment` as by the clock
     // for deadlines, at the earliest 0. (`due_at` is the due moment of the next cycle, by the clock for deadlines.)
-    fn due_of(&self, plan: &Plan, moment: Moment) -> u64
+    pub(crate) fn due_of(&self, plan: &Plan, moment: Moment) -> u64
         ensures { result ≡ due_of plan.now moment self.now }
     {
         moment.utc.saturating_sub(self.lateness(plan, moment))
     }
 
-    // Begins a cycle of `count` commands at this moment, of which the first takes these values of files. If the cycle is missed, none of
-    // them is sent.
-    pub(crate) fn begin_cycle(&mut self, plan: &Plan, count: usize, needs: Needs, moment: Moment)
-        ensures { self.new ≡ cycle_begun plan.now count needs moment self.old }
+    // Begins a cycle of `count` commands at this moment; `next` is of the first of them. If the cycle is missed, none of them is sent. The
+    // file by which somebody asks for a cycle counts from now on as it is at this moment.
+    pub(crate) fn begin_cycle(&mut self, plan: &Plan, count: usize, next: Upcoming, moment: Moment)
+        ensures { self.new ≡ cycle_begun plan.now count next moment self.old }
     {
         let began = self.cycle_start(plan, moment);
         let missed = self.is_missed_at(plan, moment);
         let due = self.due_of(plan, moment);
+        let period = self.next_period(plan, moment);
         self.note_moment_meanwhile(moment);
         self.began = began;
+        self.period = period;
+        self.touched = moment.touched;
         self.due = due;
         self.missed = missed;
         self.early = false;
         self.left = self.left.saturating_sub(1);
         self.unsent = count;
-        self.next_is_chained = missed;
-        self.next_others = 0;
-        self.next_needs = needs;
+        self.next_is_chained = missed || next.is_chained;
+        self.next_others = next.others;
+        self.next_needs = next.needs;
         self.chain_unbroken = false;
         self.preparing = self.still_prepares(false);
     }
@@ -196,11 +199,11 @@ impl Progress {
         self.phase = Phase::Clearing;
     }
 
-    // Whether no connection is wanted: the cycle was done early, and the next one isn't due yet.
+    // Whether no connection is wanted: the cycle was done early, and the next one isn't wanted yet.
     pub(crate) fn is_idle(&self, plan: &Plan) -> bool
         ensures { result ≡ is_idle plan.now self.now }
     {
-        self.early && !self.is_due(plan)
+        self.early && !self.is_wanted(plan)
     }
 
     // Whether the next attempt to connect takes no try: a connection was closed while none is wanted. An attempt that failed
@@ -456,12 +459,13 @@ impl Progress {
         self.end_quiet_phase(plan);
     }
 
-    // Notes whether the cycle was done early: none of its commands is left, no command is outstanding (`count` is how many are),
-    // and the next cycle isn't due yet. A cycle that was noted as done early stays so until the next one begins.
+    // Notes whether the cycle was done early: a cycle has begun, none of its commands is left, no command is outstanding (`count` is
+    // how many are), and the next cycle isn't due yet. A cycle that was noted as done early stays so until the next one begins.
     pub(crate) fn note_early(&mut self, plan: &Plan, count: usize)
         ensures { self.new ≡ early_noted plan.now count self.old }
     {
-        self.early = self.early || (count == 0 && self.unsent == 0 && !self.is_due(plan));
+        self.early = self.early
+            || (count == 0 && self.unsent == 0 && !self.is_due(plan) && self.left < plan.cycles);
     }
 
     // Notes that the connection, if there was one, was closed: for `Done`, `Clock`, `Turns`, `Stale` and `Stopped` the run is

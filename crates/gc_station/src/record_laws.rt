@@ -13,6 +13,7 @@ ghost use Rattle.gc_station.specs.Requested.{EachRecordIsOfItsRequest};
 ghost use Rattle.gc_station.specs.Retries.{EachRecordHasItsTurn};
 ghost use Rattle.gc_station.specs.Tasked.{EachRecordIsOfItsTask};
 ghost use Rattle.gc_station.specs.Values.{EachRequestHasItsValues};
+ghost use Rattle.gc_station.specs.Groups.{GroupsHaveTheirTurn};
 
 /// Each record is of the task at its place, and has a time of sending exactly if its request was sent. Its command is what the
 /// task asks at that time: if the task sets the clock, the time cut to seconds, UTC; if it takes values of files, what the text says with some
@@ -129,4 +130,10 @@ pub fn answers_are_as_expected()
 /// `again` is how many times a chain was sent again. Records of the setup (cycle 0) aren't counted. A count stops at 2^64 - 1.
 pub fn tallies_count_the_records()
     ensures { TalliesCountRecords }
+{}
+
+/// A command that the text has in one of every N cycles is sent only in cycles 1, N + 1, 2 N + 1 and so on, and has a record of no other
+/// cycle.
+pub fn groups_have_their_turn()
+    ensures { GroupsHaveTheirTurn }
 {}

@@ -11,7 +11,7 @@ ghost use Rattle.gc_station.specs.Marks.{commands_in, with_id, with_values};
 ghost use Rattle.gc_station.specs.Scopes.{AreReadings, scoped, Reads};
 ghost use Rattle.gc_station.specs.Records.{WritesNews};
 ghost use Rattle.gc_station.specs.Model.{Model, opening, action_at, with_losses};
-ghost use Rattle.gc_station.specs.NextCommand.{place_next, expected_first, mark_next, commands_before, first_is_chained, others_in, needs_first, is_chained_after, others_after, upcoming_after, mark_setup};
+ghost use Rattle.gc_station.specs.NextCommand.{place_next, expected_first, mark_next, commands_before, is_chained_in, left_out_in, needs_first, is_chained_after, others_after, upcoming_after, first_upcoming, rests, mark_setup};
 ghost use Rattle.gc_station.specs.Stations.{waiting_of_station, CanPerform, Refines, MakesMoveAlone, Moves, Steps, as_seen, OnCall, KeepsToModel, DropsMarks, SuitsAction, ReadsMoment, station_expiring};
 ghost use Rattle.gc_station.specs.Watching.{fresh_of, places_of};
 ghost use Rattle.gc_station.specs.Writing.{KeepsBook, news_settled, NotesSettled};
@@ -24,6 +24,7 @@ mod unsent;
 
 use crate::book::Book;
 use crate::cause::Cause;
+use crate::due::is_turn;
 use crate::mark::{Mark, commands_in};
 use crate::plan::Plan;
 use crate::progress::{Action, Progress, Upcoming, Waiting};
@@ -38,12 +39,23 @@ use gc_links::{Link, Moment};
 use gc_texts::{Again, Codes, Expected, Needs, Task, Turn, Twice};
 use gc_values::no_values;
 
-// Whether a command at this place is sent only once the one before it was answered well; `false` if there is no such command.
-fn is_chained_at(commands: &[Task], place: usize) -> bool
-    ensures { result ≡ first_is_chained (drop place commands.now) }
+// Whether the command at this place rests in this cycle: it doesn't have its turn in it; `false` if there is no such command.
+fn rests_at(commands: &[Task], place: usize, cycle: u64) -> bool
+    ensures { result ≡ rests cycle (drop place commands.now) }
 {
     match commands.get(place) {
-        Some(task) => task.chained,
+        Some(task) => !is_turn(cycle, task.every),
+        None => false,
+    }
+}
+
+// Whether a command at this place is sent only once the one before it was answered well, or rests in this cycle; `false` if there is no
+// such command.
+fn is_chained_at(commands: &[Task], place: usize, cycle: u64) -> bool
+    ensures { result ≡ is_chained_in cycle (drop place commands.now) }
+{
+    match commands.get(place) {
+        Some(task) => !is_turn(cycle, task.every) || task.chained,
         None => false,
     }
 }
@@ -104,12 +116,18 @@ fn needs_at(commands: &[Task], place: usize) -> Needs
 }
 
 // If the command at this place begins a further attempt of its chain: how many commands this and the chain's later attempts have
-// together. Else 0, also if there is no such command.
-fn others_at(commands: &[Task], place: usize) -> usize
-    ensures { result ≡ others_in (drop place commands.now) }
+// together; 1 if it rests in this cycle. Else 0, also if there is no such command.
+fn others_at(commands: &[Task], place: usize, cycle: u64) -> usize
+    ensures { result ≡ left_out_in cycle (drop place commands.now) }
 {
     match commands.get(place) {
-        Some(task) => task.others,
+        Some(task) => {
+            if !is_turn(cycle, task.every) {
+                1
+            } else {
+                task.others
+            }
+        }
         None => 0,
     }
 }
@@ -240,30 +258,45 @@ impl Station {
         }
     }
 
-    // Whether the command `count` places after the next one is sent only once the one before it was answered well; `false` if there
-    // is no such command. In a missed cycle the result is always `true`, because none is sent.
-    fn is_chained_after(&self, count: usize, commands: &[Task]) -> bool
-        ensures { result ≡ is_chained_after count commands.now self.now.progress }
+    // Whether the command `count` places after the next one is sent only once the one before it was answered well, or rests; `false` if
+    // there is no such command. In a missed cycle the result is always `true`, because none is sent.
+    fn is_chained_after(&self, plan: &Plan, count: usize, commands: &[Task]) -> bool
+        ensures { result ≡ is_chained_after plan.now count commands.now self.now.progress }
     {
-        self.progress.missed || is_chained_at(commands, self.place(commands).saturating_add(count))
+        let place = self.place(commands).saturating_add(count);
+        self.progress.missed || is_chained_at(commands, place, self.progress.cycle(plan))
     }
 
     // If the command `count` places after the next one begins a further attempt of its chain: how many commands this attempt
-    // and those after it have. Else 0, also if there is no such command.
-    fn others_after(&self, count: usize, commands: &[Task]) -> usize
-        ensures { result ≡ others_after count commands.now self.now.progress }
+    // and those after it have; 1 if it rests. Else 0, also if there is no such command.
+    fn others_after(&self, plan: &Plan, count: usize, commands: &[Task]) -> usize
+        ensures { result ≡ others_after plan.now count commands.now self.now.progress }
     {
-        others_at(commands, self.place(commands).saturating_add(count))
+        let place = self.place(commands).saturating_add(count);
+        others_at(commands, place, self.progress.cycle(plan))
     }
 
     // What is noted of the next command once the cycle has gone on by `count` commands.
-    fn upcoming_after(&self, count: usize, commands: &[Task]) -> Upcoming
-        ensures { result ≡ upcoming_after count commands.now self.now.progress }
+    fn upcoming_after(&self, plan: &Plan, count: usize, commands: &[Task]) -> Upcoming
+        ensures { result ≡ upcoming_after plan.now count commands.now self.now.progress }
     {
         Upcoming {
-            is_chained: self.is_chained_after(count, commands),
-            others: self.others_after(count, commands),
+            is_chained: self.is_chained_after(plan, count, commands),
+            others: self.others_after(plan, count, commands),
             needs: needs_at(commands, self.place(commands).saturating_add(count)),
+        }
+    }
+
+    // What is noted of the first command of the cycle that begins next, which begins a chain: it counts as chained, and is left out, only
+    // if it rests.
+    fn first_upcoming(&self, plan: &Plan, commands: &[Task]) -> Upcoming
+        ensures { result ≡ first_upcoming plan.now commands.now self.now.progress }
+    {
+        let rests = rests_at(commands, plan.setup, self.progress.cycle_next(plan));
+        Upcoming {
+            is_chained: rests,
+            others: if rests { 1 } else { 0 },
+            needs: needs_at(commands, plan.setup),
         }
     }
 
@@ -334,8 +367,8 @@ impl Station {
     {
         if let Some(moment) = self.read_moment(link) {
             let count = commands.len().saturating_sub(plan.setup);
-            let needs = needs_at(commands, plan.setup);
-            self.progress.begin_cycle(plan, count, needs, moment);
+            let next = self.first_upcoming(plan, commands);
+            self.progress.begin_cycle(plan, count, next, moment);
         }
     }
 

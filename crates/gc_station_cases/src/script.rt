@@ -204,6 +204,14 @@ impl<'a> Script<'a> {
         values
     }
 
+    // When the file was changed by which somebody asks for a cycle; 0 before that.
+    fn touched(&self) -> u64 {
+        if self.setting.asked > self.clock {
+            return 0;
+        }
+        self.setting.asked.saturating_add(TIME_AT_START)
+    }
+
     // Lets `later` milliseconds pass, and returns the moment then.
     fn moment_after(&mut self, later: u64) -> Moment {
         self.clock = self.clock.saturating_add(later);
@@ -214,6 +222,7 @@ impl<'a> Script<'a> {
                 .saturating_add(TIME_AT_START)
                 .saturating_add(self.setting.ahead),
             stops: self.setting.until <= self.clock,
+            touched: self.touched(),
             values: self.values(),
         }
     }

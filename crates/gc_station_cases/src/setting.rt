@@ -46,6 +46,8 @@ pub struct Setting {
     pub gone: u64,
     /// From when on all are there again, in milliseconds since the start.
     pub back: u64,
+    /// When the file is changed by which somebody asks for a cycle, in milliseconds since the start. Before, there is none.
+    pub asked: u64,
 }
 
 impl Setting {
@@ -57,6 +59,8 @@ impl Setting {
                 width: 1,
                 deadline: 100,
                 every: 0,
+                first: u64::MAX,
+                at: None,
                 cycles: 1,
                 quiet: 10,
                 retries: 1,
@@ -83,6 +87,7 @@ impl Setting {
             values: 0,
             gone: u64::MAX,
             back: u64::MAX,
+            asked: u64::MAX,
         }
     }
 
@@ -116,6 +121,8 @@ impl Setting {
             "width" => self.plan.width = u8::try_from(value).ok()?,
             "deadline" => self.plan.deadline = value,
             "every" => self.plan.every = value,
+            "due" => self.plan.first = value,
+            "at" => self.plan.at = Some(value),
             "cycles" => self.plan.cycles = value,
             "quiet" => self.plan.quiet = value,
             "stale" => self.plan.stale = value,
@@ -149,6 +156,7 @@ impl Setting {
             "values" => self.values = value as usize,
             "gone" => self.gone = value,
             "back" => self.back = value,
+            "asked" => self.asked = value,
             _ => return false,
         }
         true

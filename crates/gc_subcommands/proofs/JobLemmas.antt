@@ -9,14 +9,14 @@ use Rattle.clap.specs.Walk.{Text}
 use Rattle.clap.specs.declared.parser.matches.ArgMatches.TheViews.{out-SubCommand}
 use Rattle.clap.specs.declared.parser.matches.SubCommand.{SubCommand}
 use Rattle.gc_links.specs.declared.place.Place.{Place}
-use Rattle.gc_subcommands.specs.Jobs.{IsJobOf, name_of, station_job, subcommand_named, subcommands}
+use Rattle.gc_subcommands.specs.Jobs.{IsJobOf, are_dated, name_of, station_job, subcommand_named, subcommands}
 use Rattle.gc_subcommands.specs.declared.words.ClientJob.TheVariants as kind
 use Rattle.gc_subcommands.specs.declared.words.Job.{Job}
 use Rattle.gc_subcommands.specs.declared.words.Job.TheVariants as job
 use Rattle.gc_subcommands.specs.declared.words.Subcommand.{Subcommand}
 use Rattle.gc_subcommands.specs.declared.words.Subcommand.TheVariants as subcommand
 use Rattle.gc_words.specs.Chosen.{IsChosen, IsRecording, IsSite}
-use Rattle.gc_words.specs.Stations.{is_stale_too_soon}
+use Rattle.gc_words.specs.Stations.{is_at_without_multiple, is_stale_too_soon}
 use Rattle.gc_words.specs.Units.{unit_in}
 use Rattle.gc_words.specs.Words.{Words, has_flag}
 use Rattle.gc_words.specs.declared.settings.Settings.{Settings}
@@ -57,11 +57,13 @@ named_so name s is = (bytes_eq-Decides (name_of s) name).0 (found_passes (λ kno
 pub station_asked : (words : Words) (site : Site) (station : Settings) (recording : Option Recording) (checks : Bool) (unit : Option Unit) → IsSite words site
     → IsChosen words station → IsRecording words recording → has_flag words (codes "check") ≡ checks → unit_in words ≡ Some unit
     → IsJobOf (Some (codes "station", words)) (station_job site station recording checks unit)
-station_asked words site station recording checks unit at_site chosen recorded flag shown = go (is_stale_too_soon station.choice) refl checks flag
+station_asked words site station recording checks unit at_site chosen recorded flag shown =
+    go (is_stale_too_soon station.choice) refl (is_at_without_multiple station.choice) refl (are_dated site.log recording) refl checks flag
   where
-    go : (stale : Bool) → is_stale_too_soon station.choice ≡ stale → (checks : Bool) → has_flag words (codes "check") ≡ checks
+    go : (stale : Bool) → is_stale_too_soon station.choice ≡ stale → (late : Bool) → is_at_without_multiple station.choice ≡ late
+        → (dated : Bool) → are_dated site.log recording ≡ dated → (checks : Bool) → has_flag words (codes "check") ≡ checks
         → IsJobOf (Some (codes "station", words)) (station_job site station recording checks unit)
-    go true stale checks flag =
+    go true stale late due dated named checks flag =
         rw stale (inl (record {
           words = words;
           named = refl;
@@ -71,8 +73,24 @@ station_asked words site station recording checks unit at_site chosen recorded f
             stale = stale;
           };
         }))
-    go false fresh true flag =
-        rw fresh (record {
+    go false fresh true late dated named checks flag =
+        rw (fresh, late) (record {
+          words = words;
+          named = refl;
+          is = record {
+            station = station;
+            planned = record { place = site.place; given = at_site.place; chosen = chosen };
+            late = late;
+          };
+        })
+    go false fresh false due false undated checks flag =
+        rw (fresh, due, undated) (record {
+          words = words;
+          named = refl;
+          is = record { log = site.log; logged = at_site.log; recording = recording; recorded = recorded; undated = undated };
+        })
+    go false fresh false due true dated true flag =
+        rw (fresh, due, dated) (record {
           words = words;
           named = refl;
           is = record {
@@ -82,13 +100,14 @@ station_asked words site station recording checks unit at_site chosen recorded f
             shown = shown;
             checks = flag;
             fresh = fresh;
+            due = due;
           };
         })
-    go false fresh false flag =
-        rw fresh (record {
+    go false fresh false due true dated false flag =
+        rw (fresh, due, dated) (record {
           words = words;
           named = refl;
-          is = record { at_site = at_site; chosen = chosen; recorded = recorded; measures = flag; fresh = fresh };
+          is = record { at_site = at_site; chosen = chosen; recorded = recorded; measures = flag; fresh = fresh; due = due; dated = dated };
         })
 
 -- a subcommand that was found has one name

@@ -1,5 +1,5 @@
 -- What the words of the command line ask for, each value by the name of its argument: this project's own.
-use Rattle.std.specs.Prelude.{◌≡◌, ◌⊎◌, ⊤, ℕ, Bool, true, false, List, [], ◌∷◌, Option, Some, None, codes, find, option_map, if◌then◌else◌}
+use Rattle.std.specs.Prelude.{◌≡◌, ◌⊎◌, ⊤, ℕ, Bool, true, false, not, ◌&&◌, List, [], ◌∷◌, Option, Some, None, codes, find, option_map, if◌then◌else◌}
 use Rattle.std.specs.Borrow.{Bor}
 use Rattle.std.specs.Str.{bytes_eq}
 use Rattle.clap.specs.Walk.{Text}
@@ -13,13 +13,15 @@ use Rattle.gc_subcommands.specs.declared.words.Job.{Job}
 use Rattle.gc_subcommands.specs.declared.words.Job.TheVariants as job
 use Rattle.gc_subcommands.specs.declared.words.Subcommand.{Subcommand}
 use Rattle.gc_subcommands.specs.declared.words.Subcommand.TheVariants as subcommand
-use Rattle.gc_words.specs.Chosen.{GivesPlace, HasNumbers, HasRehearsalNumbers, IsChosen, IsRecording, IsRehearsal, IsSite}
-use Rattle.gc_words.specs.Stations.{is_stale_too_soon}
+use Rattle.gc_words.specs.Chosen.{GivesPlace, HasNumbers, HasRehearsalNumbers, IsChosen, IsLog, IsRecording, IsRehearsal, IsSite}
+use Rattle.gc_texts.specs.DatedPaths.{is_dated_path}
+use Rattle.gc_words.specs.Stations.{is_at_without_multiple, is_stale_too_soon}
 use Rattle.gc_words.specs.Units.{unit_in}
 use Rattle.gc_words.specs.Words.{IsNumberOr, ReadsNumber, Words, has_flag, text_in}
 use Rattle.gc_words.specs.declared.choice.Choice.{Choice}
 use Rattle.gc_words.specs.declared.rehearsal.Rehearsal.{Rehearsal}
 use Rattle.gc_words.specs.declared.settings.Settings.{Settings}
+use Rattle.gc_words.specs.declared.site.LogPlace.{LogPlace}
 use Rattle.gc_words.specs.declared.site.Recording.{Recording}
 use Rattle.gc_words.specs.declared.site.Site.{Site}
 use Rattle.gc_words.specs.declared.unit.Unit.{Unit}
@@ -68,6 +70,20 @@ pub record IsPlanned (words : Words) (station : Settings) : Type 0 where
   pub given : GivesPlace words place
   pub chosen : IsChosen words station
 
+-- whether in the name of this log, if there is one, each percent sign begins a part of a date, or another percent sign (`is_dated_path`)
+abbrev pub is_log_dated : Option LogPlace → Bool
+is_log_dated None = true
+is_log_dated (Some log) = is_dated_path log.path.now
+
+-- the same of a file of records
+abbrev pub is_recording_dated : Option Recording → Bool
+is_recording_dated None = true
+is_recording_dated (Some recording) = is_dated_path recording.path.now
+
+-- the same of both
+abbrev pub are_dated : Option LogPlace → Option Recording → Bool
+are_dated log recording = is_log_dated log && is_recording_dated recording
+
 -- the words of `station` ask to measure at this site, with these settings, and with its records in this file
 pub record IsStation (words : Words) (site : Site) (station : Settings) (recording : Option Recording) : Type 0 where
   pub at_site : IsSite words site
@@ -75,6 +91,8 @@ pub record IsStation (words : Words) (site : Site) (station : Settings) (recordi
   pub recorded : IsRecording words recording
   pub measures : has_flag words (codes "check") ≡ false
   pub fresh : is_stale_too_soon station.choice ≡ false
+  pub due : is_at_without_multiple station.choice ≡ false
+  pub dated : are_dated site.log recording ≡ true
 
 -- the words of `station` ask what a station of this choice would do, with angles in this unit if they name one
 pub record IsOutline (words : Words) (choice : Choice) (unit : Option Unit) : Type 0 where
@@ -84,6 +102,7 @@ pub record IsOutline (words : Words) (choice : Choice) (unit : Option Unit) : Ty
   pub shown : unit_in words ≡ Some unit
   pub checks : has_flag words (codes "check") ≡ true
   pub fresh : is_stale_too_soon choice ≡ false
+  pub due : is_at_without_multiple choice ≡ false
 
 -- the words of `rehearse` ask for this rehearsal
 pub record IsRehearse (words : Words) (rehearsal : Rehearsal) : Type 0 where
@@ -102,6 +121,20 @@ pub record IsStaleRehearsal (words : Words) : Type 0 where
   pub is : IsRehearsal words rehearsal
   pub stale : is_stale_too_soon rehearsal.station.choice ≡ true
 
+-- a station of these words would have cycles that are due by the clock, but not before the next whole multiple of their period
+pub record IsWithoutMultiple (words : Words) : Type 0 where
+  pub station : Settings
+  pub planned : IsPlanned words station
+  pub late : is_at_without_multiple station.choice ≡ true
+
+-- these words name a log or a file of records in whose name a percent sign begins no part of a date
+pub record IsUndated (words : Words) : Type 0 where
+  pub log : Option LogPlace
+  pub logged : IsLog words log
+  pub recording : Option Recording
+  pub recorded : IsRecording words recording
+  pub undated : are_dated log recording ≡ false
+
 -- what a client is asked to do
 abbrev pub IsClientJobOf : Asked → ClientJob → Type 0
 IsClientJobOf asked (kind.Loop scene) = AsksFor (codes "loop") (λ words. IsScene words scene) asked
@@ -112,7 +145,8 @@ IsClientJobOf asked (kind.Station site station recording) =
 
 -- the subcommand that was asked for and the words behind it ask for this job: each job has the name of its subcommand and the
 -- values of its arguments. `NumberMissing` comes only if a number is missing or doesn't fit its type, `NoUnit` only if the word for a
--- unit names none, and `StaleTooSoon` only if the run would end too soon; which words name no place isn't said
+-- unit names none, `StaleTooSoon` only if the run would end too soon, `AtWithoutMultiple` only if its cycles would be due after the next whole
+-- multiple, and `NoDate` only if the name of a file has a percent sign that begins no part of a date; which words name no place isn't said
 abbrev pub IsJobOf : Asked → Job → Type 0
 IsJobOf asked (job.Exec scene) = AsksFor (codes "exec") (λ words. IsScene words scene) asked
 IsJobOf asked (job.Check log) = AsksFor (codes "check") (λ words. log ≡ has_flag words (codes "log")) asked
@@ -127,6 +161,8 @@ IsJobOf asked job.NumberMissing =
     ⊎ AsksFor (codes "rehearse") (λ words. HasRehearsalNumbers words → ⊥) asked
 IsJobOf asked job.NoUnit = AsksFor (codes "station") (λ words. unit_in words ≡ None) asked
 IsJobOf asked job.StaleTooSoon = AsksFor (codes "station") IsStaleStation asked ⊎ AsksFor (codes "rehearse") IsStaleRehearsal asked
+IsJobOf asked job.AtWithoutMultiple = AsksFor (codes "station") IsWithoutMultiple asked
+IsJobOf asked job.NoDate = AsksFor (codes "station") IsUndated asked
 
 -- the name of a subcommand, by which it is asked for
 abbrev pub name_of : Subcommand → Text
@@ -163,10 +199,13 @@ pub record AsksSubcommand (asked : Asked) : Type 0 where
   pub named : asked ≡ Some (name_of subcommand, words)
 
 -- what is done of a station at this site, with these settings and records: it is refused if its run would end before the second
--- cycle, also with `--check` (`checks`); with `--check` it is outlined, in this unit; and otherwise it measures there, with its log, its
+-- cycle, if its cycles would be due after the next whole multiple of their period, or if in the name of a file a percent sign begins no part
+-- of a date, also with `--check` (`checks`); with `--check` it is outlined, in this unit; and otherwise it measures there, with its log, its
 -- end and its records where the words name them
 abbrev pub station_job : Site → Settings → Option Recording → (checks : Bool) → Option Unit → Job
 station_job site station recording checks unit =
     if is_stale_too_soon station.choice then job.StaleTooSoon
+    else if is_at_without_multiple station.choice then job.AtWithoutMultiple
+    else if not (are_dated site.log recording) then job.NoDate
     else if checks then job.Client (kind.Outline station.choice unit)
     else job.Client (kind.Station site station recording)

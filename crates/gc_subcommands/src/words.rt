@@ -6,7 +6,7 @@ ghost use Rattle.clap.specs.Simple.{subcommand_rows_of};
 ghost use Rattle.clap.specs.Takes.{takes};
 ghost use Rattle.clap.specs.Values.{kind_of};
 ghost use Rattle.clap.specs.declared.error.ErrorKind.{ErrorKind};
-ghost use Rattle.gc_subcommands.specs.Jobs.{AsksSubcommand, IsJobOf, name_of, station_job, subcommand_named, subcommands};
+ghost use Rattle.gc_subcommands.specs.Jobs.{AsksSubcommand, are_dated, IsJobOf, is_log_dated, is_recording_dated, name_of, station_job, subcommand_named, subcommands};
 ghost use Rattle.gc_subcommands.specs.Program.{AreSubcommands, IsBareProgram, IsJobOfWords, IsSubcommand, program};
 ghost use Rattle.gc_words.specs.Words.{words_of};
 
@@ -18,15 +18,17 @@ use crate::looped::loop_command;
 use crate::serve::{Serving, serve_command, serving_of};
 use clap::{ArgMatches, Command, Error};
 use gc_links::Place;
+use gc_texts::is_dated_path;
 use gc_words::help::SCENES_AND_FAULTS;
 use gc_words::{
-    Choice, Recording, Rehearsal, Settings, Site, Unit, VERSION, has_flag, log_of, named_place,
-    recording_of, rehearsal_of, rehearse_command, station_command, station_of, text_in, unit_of,
+    Choice, LogPlace, Recording, Rehearsal, Settings, Site, Unit, VERSION, has_flag, log_of,
+    named_place, recording_of, rehearsal_of, rehearse_command, signals_of, station_command,
+    station_of, text_in, unit_of,
 };
 use std::alloc::{AllocError, Global};
 
-/// What a command line asks for, or why that can't be done (`Nowhere`, `NumberMissing`, `NoUnit`, `StaleTooSoon`). A scene is the name of
-/// its file, where one is named.
+/// What a command line asks for, or why that can't be done (`Nowhere`, `NumberMissing`, `NoUnit`, `StaleTooSoon`, `AtWithoutMultiple`,
+/// `NoDate`). A scene is the name of its file, where one is named.
 pub enum Job<'a> {
     /// Answers requests with the instrument of the scene, or with the simulator.
     Exec { scene: Option<&'a str> },
@@ -49,6 +51,10 @@ pub enum Job<'a> {
     NoUnit,
     /// A station's run would end for want of an answer before its second cycle is due.
     StaleTooSoon,
+    /// A station's cycles are to be due by the clock, but not before the next whole multiple of their period.
+    AtWithoutMultiple,
+    /// In the name of a station's file of records, or of its log, a percent sign begins no part of a date.
+    NoDate,
 }
 
 /// What a client is to do: ask commands, once, of a simulator or at a place; measure as a station; or say what a station would
@@ -266,8 +272,7 @@ fn ask_job<'a>(words: &ArgMatches<'a>) -> Job<'a>
 
 // A station at a place, with its records and its log in files where the words name them; with `--check` only the outline of what
 // it would do. `Nowhere`: the words name no place. `NumberMissing`: a number is missing or none of its type, which clap doesn't
-// let happen. `NoUnit`: the word for a unit names none. `StaleTooSoon`: the run would end for want of an answer before its second cycle
-// is due.
+// let happen. `NoUnit`: the word for a unit names none. `StaleTooSoon`, `AtWithoutMultiple` and `NoDate` are as for `station_job_at`.
 fn station_job<'a>(words: &ArgMatches<'a>) -> Job<'a>
     ensures { IsJobOf (Some (codes "station", words_of words.now)) result }
 {
@@ -283,14 +288,16 @@ fn station_job<'a>(words: &ArgMatches<'a>) -> Job<'a>
     let site = Site {
         place,
         log: log_of(words),
-        until: text_in(words, "until"),
+        signals: signals_of(words),
     };
     let checks = has_flag(words, "check");
     station_job_at(site, station, recording_of(words), checks, unit)
 }
 
 // A station at a site, with these settings and records, or with `checks` only the outline of what it would do, in this unit.
-// `StaleTooSoon`: the run would end for want of an answer before its second cycle is due, also where it would only be checked.
+// `StaleTooSoon`: the run would end for want of an answer before its second cycle is due; `AtWithoutMultiple`: its cycles are to be due by
+// the clock, but not below their period; `NoDate`: in a file's name a percent sign begins no part of a date; each also where the run would
+// only be checked.
 fn station_job_at<'a>(
     site: Site<'a>,
     station: Settings,
@@ -303,6 +310,12 @@ fn station_job_at<'a>(
     if station.choice.is_stale_too_soon() {
         return Job::StaleTooSoon;
     }
+    if station.choice.is_at_without_multiple() {
+        return Job::AtWithoutMultiple;
+    }
+    if !are_dated(site.log, recording) {
+        return Job::NoDate;
+    }
     if checks {
         return Job::Client(ClientJob::Outline {
             choice: station.choice,
@@ -314,6 +327,33 @@ fn station_job_at<'a>(
         station,
         recording,
     })
+}
+
+// Whether in the names of these files, where there are such, each percent sign begins a part of a date, or another percent sign.
+fn are_dated(log: Option<LogPlace<'_>>, recording: Option<Recording<'_>>) -> bool
+    ensures { result ≡ are_dated log.entry recording.entry }
+{
+    is_log_dated(log) && is_recording_dated(recording)
+}
+
+// The same of a log's.
+fn is_log_dated(log: Option<LogPlace<'_>>) -> bool
+    ensures { result ≡ is_log_dated log.entry }
+{
+    match log {
+        Some(log) => is_dated_path(log.path),
+        None => true,
+    }
+}
+
+// The same of a file of records.
+fn is_recording_dated(recording: Option<Recording<'_>>) -> bool
+    ensures { result ≡ is_recording_dated recording.entry }
+{
+    match recording {
+        Some(recording) => is_dated_path(recording.path),
+        None => true,
+    }
 }
 
 // A rehearsal. `NumberMissing` and `StaleTooSoon` are as for a station.

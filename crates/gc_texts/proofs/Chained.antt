@@ -1,14 +1,14 @@
 -- What holds of a command in a station's text, by the lines before it. The mode at a line is what these lines make hold there:
 -- the deadline, the accepted return codes, the retry, whether commands are chained, and the target of the group that a command
--- may continue. A group is a run of commands for one target, which a line `chained`, `unchained`, `retry`, `agree`, `at start`
--- or `each cycle` ends. `Says` says that a mode is what these lines say.
-use Rattle.std.proofs.Common.{◌≡◌, inl, inr, ◌+◌, ◌≤◌, nat_lt, if◌then◌else◌, arith, ℕ, ◌&&◌, ◌||◌, Bool, true, false, not, List, [], ◌∷◌, ◌++◌, length, map, Option, Some, None, refl, sym, ap, ◌∙◌, subst, append_assoc, append-nil}
+-- may continue. A group is a run of commands for one target, which a line `chained`, `unchained`, `retry`, `agree`, `at start`,
+-- `each cycle` or `every N cycles` ends. `Says` says that a mode is what these lines say.
+use Rattle.std.proofs.Common.{◌≡◌, inl, inr, ◌+◌, ◌≤◌, nat_le, nat_lt, if◌then◌else◌, arith, ℕ, ◌&&◌, ◌||◌, Bool, true, false, not, List, [], ◌∷◌, ◌++◌, length, map, Option, Some, None, refl, sym, ap, ◌∙◌, subst, append_assoc, append-nil}
 use Rattle.std.specs.List.{AllByRecursion}
 use Rattle.std.proofs.lemmas.Bool.{eq-eqb, and_parts, and_from}
 use Rattle.std.proofs.lemmas.List.{length-map, length-append, map-append}
 use Rattle.std.proofs.SliceLists.{all_by_recursion_push}
 use Rattle.std.proofs.lemmas.Option.{none-some, same_Some}
-use Rattle.gc_texts.specs.Chained.{section_after, setup_commands, cycle_commands, IsSetAfter, SaysNoDeadline, IsDeadlineAfter, SaysNoChaining, chaining_line, IsChainingAfter, SaysNoCodes, AreAcceptedAfter, SaysNoBusy, AreBusyAfter, SaysNoRetry, IsRetryAfter, SaysNoAgree, IsAgreeAfter, IsSentAfter, KeepsGroup, EndsInGroupOf, IsTaskOf, TasksFollowTheirLines}
+use Rattle.gc_texts.specs.Chained.{section_after, every_after, setup_commands, cycle_commands, IsSetAfter, SaysNoDeadline, IsDeadlineAfter, SaysNoChaining, chaining_line, IsChainingAfter, SaysNoCodes, AreAcceptedAfter, SaysNoBusy, AreBusyAfter, SaysNoRetry, IsRetryAfter, SaysNoAgree, IsAgreeAfter, IsSentAfter, KeepsGroup, EndsInGroupOf, IsTaskOf, TasksFollowTheirLines}
 use Rattle.gc_texts.specs.Attempts.{attempt_number, in_attempt, laid_out}
 use Rattle.gc_texts.specs.Repeats.{RetriesHold}
 use Rattle.gc_texts.specs.Codes.{no_codes}
@@ -46,6 +46,13 @@ section_after_lines : (mode : Mode) (lines : List TaskLine) → (mode_after_line
 section_after_lines mode [] = refl
 section_after_lines mode (says.AtStart ∷ later) = section_after_lines (mode_after mode says.AtStart) later
 section_after_lines mode (line ∷ later) = section_after_lines (mode_after mode line) later
+
+-- after lines, the mode says in every how many cycles commands have their turn as `every_after` says so of these lines; `mode` holds before
+-- them
+every_after_lines : (mode : Mode) (lines : List TaskLine) → (mode_after_lines mode lines).every ≡ every_after mode.every lines
+every_after_lines mode [] = refl
+every_after_lines mode (says.AtStart ∷ later) = every_after_lines (mode_after mode says.AtStart) later
+every_after_lines mode (line ∷ later) = every_after_lines (mode_after mode line) later
 
 -- if `ts` has n tasks, it has n + 1 with a task put in front where b is true, and n where it isn't, as no task is put there then
 one_task_more : (b : Bool) (t : Task) (ts : List Task) (n : ℕ) → length ts ≡ n → length ((if b then t ∷ [] else []) ++ ts) ≡ (if b then 1 else 0) + n
@@ -288,6 +295,7 @@ module _ (deadline : ℕ) (chained : Bool) (front : List TaskLine) (command : Wi
         again = again;
         turn = record { place = if mode.setup then mode.begun else mode.place; attempt = attempt_number 1 twice; link = link };
         others = others;
+        every = if mode.setup then 1 else mode.every;
         now = sets_clock wording || nat_lt 0 (values_asked wording command.call);
         needs = needs_from mode.values (values_asked wording command.call);
         twice = twice;
@@ -318,6 +326,7 @@ module _ (deadline : ℕ) (chained : Bool) (front : List TaskLine) (command : Wi
               place = ap (λ b. if b then mode.begun else mode.place) setup ∙ begun;
               chained = ap (λ b. if b then nat_lt 0 mode.begun else mode.chained && continues_group mode.group command.target) setup ∙ ap (nat_lt 0) begun;
               once = once setup;
+              turns = ap (λ b. if b then 1 else mode.every) setup;
             };
         in_cycle = λ e.
             let cycle : mode.setup ≡ false = section_after_lines (first_mode deadline chained) front ∙ e in
@@ -331,6 +340,7 @@ module _ (deadline : ℕ) (chained : Bool) (front : List TaskLine) (command : Wi
               found = λ a b. so ∙ and_from mode.chained (continues_group mode.group command.target) (chaining_of_lines (first_mode deadline chained) front true a)
                   (continues_its_group mode.group command.target (group_of (first_mode deadline chained) front command.target b));
               sent = sent cycle;
+              turns = ap (λ b. if b then 1 else mode.every) cycle ∙ every_after_lines (first_mode deadline chained) front;
             };
       }
 
@@ -405,7 +415,7 @@ module _
       → (earlier : List Task) × (task : Task) × (others : List Task) × (given.tasks ≡ earlier ++ task ∷ others)
       × (section_after false front ≡ true → length earlier ≡ setup_commands false front) × (section_after false front ≡ false → given.setup ≤ length earlier)
       × IsTaskOf deadline chained front command wording expects task × (task.near ≡ near_of command.target given.nears)
-      × (task.watched ≡ not (is_unwatched command.target given.unwatched)) × (task.form ≡ form_of_asked given.described command.call)
+      × (task.watched ≡ (not (is_unwatched command.target given.unwatched) && nat_le task.every 1)) × (task.form ≡ form_of_asked given.described command.call)
   by_section true e =
       let rest = setup_of mode_behind later ++ laid_out (planned ++ planned_of mode_behind later) in (
         map (placed given.nears given.unwatched given.described) setup_before,
@@ -415,7 +425,7 @@ module _
             ∙ map-append (placed given.nears given.unwatched given.described) setup_before (own_task ∷ rest),
         (λ s. length-map setup_before (placed given.nears given.unwatched given.described) ∙ setup_count (first_mode deadline chained) front),
         (λ s. let bad : true ≡ false = sym e ∙ section_after_lines (first_mode deadline chained) front ∙ s in cc),
-        task_follows_lines deadline chained front command wording expects (near_of command.target given.nears) (not (is_unwatched command.target given.unwatched)) (form_of_asked given.described command.call) no_again 0
+        task_follows_lines deadline chained front command wording expects (near_of command.target given.nears) (not (is_unwatched command.target given.unwatched) && nat_le own_task.every 1) (form_of_asked given.described command.call) no_again 0
             (place_in_chain mode_before (chained_at mode_before command.target)) Once refl (λ s. refl)
             (λ s. let bad : true ≡ false = sym e ∙ s in cc),
         refl,
@@ -445,10 +455,10 @@ module _
         (λ s. let bad : false ≡ true = sym e ∙ section_after_lines (first_mode deadline chained) front ∙ s in cc),
         (λ s. omega (arith, many, long)),
         subst (λ t. IsTaskOf deadline chained front command wording expects (placed given.nears given.unwatched given.described (in_attempt 1 among.again among.commands t))) (sym first.same)
-            (task_follows_lines deadline chained front command wording expects (near_of command.target given.nears) (not (is_unwatched command.target given.unwatched)) (form_of_asked given.described command.call) among.again 0 first.link first.twice
+            (task_follows_lines deadline chained front command wording expects (near_of command.target given.nears) (not (is_unwatched command.target given.unwatched) && nat_le own_task.every 1) (form_of_asked given.described command.call) among.again 0 first.link first.twice
             first.one (λ s. let bad : true ≡ false = sym s ∙ e in cc) (λ s. first.sent)),
         ap (λ (t : Task). near_of t.command.target given.nears) first.same,
-        ap (λ (t : Task). not (is_unwatched t.command.target given.unwatched)) first.same,
+        ap (λ (t : Task). not (is_unwatched t.command.target given.unwatched) && nat_le among.first.every 1) first.same,
         ap (λ (t : Task). form_of_asked given.described t.command.call) first.same,
       )
 

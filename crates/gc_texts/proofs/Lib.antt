@@ -20,6 +20,7 @@ mod Numerals
 mod Items
 mod DescribedForms
 mod ExpectForms
+mod EveryForms
 mod TaskForms
 mod TaskReading
 mod TaskLaws
@@ -59,3 +60,4 @@ mod DescriptionForms
 mod DescribedLaws
 pub mod DescribedTexts
 mod MeasuredSteps
+mod DatedPaths

@@ -1,6 +1,6 @@
 -- Where targets are, as lines of a text say it, and what follows for the tasks of a target and for an answer.
-use Rattle.std.proofs.Common.{◌≡◌, ℕ, zero, suc, ◌+◌, take, drop, ◌<◌, get_or, slice_set, arith, ◌==◌, ◌||◌, ◌⊎◌, inl, inr, not, nat_lt, List, [], ◌∷◌, ◌++◌, length, map, Option, Some, None, Bool, true, false, cond, refl, sym, ap, ◌∙◌, subst, append_assoc, append-nil}
-use Rattle.std.proofs.lemmas.Bool.{eq-eqb, eqb-true, and_parts, or_parts, or_cases, not-true, not-false, both_ways}
+use Rattle.std.proofs.Common.{◌≡◌, ℕ, zero, suc, ◌+◌, take, drop, ◌<◌, get_or, slice_set, arith, ◌==◌, ◌&&◌, ◌||◌, ◌⊎◌, inl, inr, not, nat_le, nat_lt, List, [], ◌∷◌, ◌++◌, length, map, Option, Some, None, Bool, true, false, cond, refl, sym, ap, ◌∙◌, subst, append_assoc, append-nil}
+use Rattle.std.proofs.lemmas.Bool.{eq-eqb, eqb-true, lt-leb, leb-false, and_parts, and_right, and_cases, or_parts, or_cases, not-true, not-false, both_ways}
 use Rattle.std.proofs.Math.Bool.{or-true}
 use Rattle.std.proofs.lemmas.List.Concat.{flat_map-append}
 use Rattle.gc_catalogue.specs.declared.answer.Answer.{Answer}
@@ -61,14 +61,15 @@ places_hold text deadline chained all is front later near at earlier others task
     each_has_its_place all.nears all.unwatched all.described (tasks_of (first_mode deadline chained) is.said) earlier others task (sym is.tasks_are ∙ among)
     ∙ ap (λ t. near_of t all.nears) same ∙ ap (near_of near.target) places ∙ found_near (nears_of front) (nears_of later) near (no_place_before [] [] [] [] no_standing front later near follow)
 
--- where a text gives these tasks their places (`placed`), each of them is watched unless its target is one of `unwatched`
+-- where a text gives these tasks their places (`placed`), each of them is watched unless its target is one of `unwatched` or it hasn't its
+-- turn in each cycle
 each_is_watched : (nears : List Near) (unwatched : List ℕ) (described : List Description) (tasks earlier others : List Task) (task : Task)
-    → map (placed nears unwatched described) tasks ≡ earlier ++ task ∷ others → task.watched ≡ not (is_unwatched task.command.target unwatched)
+    → map (placed nears unwatched described) tasks ≡ earlier ++ task ∷ others → task.watched ≡ (not (is_unwatched task.command.target unwatched) && nat_le task.every 1)
 each_is_watched nears unwatched described [] [] others task e = cc
 each_is_watched nears unwatched described [] (t ∷ ts) others task e = cc
 each_is_watched nears unwatched described (t ∷ tasks) [] others task e =
     let same = cons_head (placed nears unwatched described t) task (map (placed nears unwatched described) tasks) others e in
-    ap (λ (u : Task). u.watched) (sym same) ∙ ap (λ (u : Task). not (is_unwatched u.command.target unwatched)) same
+    ap (λ (u : Task). u.watched) (sym same) ∙ ap (λ (u : Task). not (is_unwatched u.command.target unwatched) && nat_le u.every 1) same
 each_is_watched nears unwatched described (t ∷ tasks) (u ∷ earlier) others task e =
     each_is_watched nears unwatched described tasks earlier others task (cons_tail (placed nears unwatched described t) u (map (placed nears unwatched described) tasks) (earlier ++ task ∷ others) e)
 
@@ -91,17 +92,26 @@ unwatched_by_line (says.Unwatching t ∷ said) target is =
       by_target (inr more) others = let among = others more in (says.Unwatching t ∷ among.0, among.1, ap (λ l. says.Unwatching t ∷ l) among.2)
 unwatched_by_line (line ∷ said) target is = let among = unwatched_by_line said target is in (line ∷ among.0, among.1, ap (λ l. line ∷ l) among.2)
 
--- the law: a target's tasks are unwatched exactly where a line says so, before them or after them
+-- the law: a target's tasks are unwatched where a line says so, before them or after them, and so are those that haven't their turn in each
+-- cycle; all others are watched
 pub unwatched_hold : UnwatchedHoldForAll
 unwatched_hold text deadline chained all is earlier others task among =
     let watched = each_is_watched all.nears all.unwatched all.described (tasks_of (first_mode deadline chained) is.said) earlier others task (sym is.tasks_are ∙ among) in (
       λ front later at.
           let apart : all.unwatched ≡ unwatched_of front ++ task.command.target ∷ unwatched_of later =
           is.unwatched_are ∙ ap unwatched_of at ∙ flat_map-append unwatched_at front (says.Unwatching task.command.target ∷ later) in
-          watched ∙ ap (λ us. not (is_unwatched task.command.target us)) apart ∙ ap not (is_among (unwatched_of front) (unwatched_of later) task.command.target),
-      λ isnt. unwatched_by_line is.said task.command.target
-          (ap (is_unwatched task.command.target) (sym is.unwatched_are) ∙ not-false (is_unwatched task.command.target all.unwatched) (sym watched ∙ isnt)),
-    )
+          watched ∙ ap (λ us. not (is_unwatched task.command.target us) && nat_le task.every 1) apart
+          ∙ ap (λ b. not b && nat_le task.every 1) (is_among (unwatched_of front) (unwatched_of later) task.command.target),
+      λ many. watched ∙ and_right (not (is_unwatched task.command.target all.unwatched)) (nat_le task.every 1) (lt-leb task.every 1 many),
+      λ isnt. by_which (and_cases (not (is_unwatched task.command.target all.unwatched)) (nat_le task.every 1) (sym watched ∙ isnt)),
+    ) where
+      -- the last claim, by which of the two conditions of a watched task doesn't hold
+      by_which : (not (is_unwatched task.command.target all.unwatched) ≡ false) ⊎ (nat_le task.every 1 ≡ false)
+          → (1 < task.every) ⊎ ((front : List TaskLine) × (later : List TaskLine) × (is.said ≡ front ++ says.Unwatching task.command.target ∷ later))
+      by_which (inl apart) =
+          inr (unwatched_by_line is.said task.command.target
+          (ap (is_unwatched task.command.target) (sym is.unwatched_are) ∙ not-false (is_unwatched task.command.target all.unwatched) apart))
+      by_which (inr many) = inl (leb-false task.every 1 many)
 
 -- an answer that isn't elsewhere is neither in another direction nor at another distance, as the tests of both say
 not_elsewhere : (near : Near) (answer : Answer) → is_elsewhere (Some near) answer ≡ false

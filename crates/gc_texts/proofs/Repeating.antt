@@ -1,5 +1,5 @@
 -- The attempts of the chains of a station's text.
-use Rattle.std.proofs.Common.{subst, ◌≡◌, ◌+◌, ◌*◌, inr, inl, ℕ, zero, suc, Bool, true, false, not, List, [], ◌∷◌, ◌++◌, length, map, Option, Some, None, refl, ap, sym, ◌∙◌, append_assoc, append-nil, if◌then◌else◌}
+use Rattle.std.proofs.Common.{subst, ◌≡◌, ◌+◌, ◌*◌, inr, inl, ℕ, zero, suc, ◌&&◌, nat_le, Bool, true, false, not, List, [], ◌∷◌, ◌++◌, length, map, Option, Some, None, refl, ap, sym, ◌∙◌, append_assoc, append-nil, if◌then◌else◌}
 use Rattle.std.specs.List.{AllByRecursion, flat_map}
 use Rattle.std.proofs.lemmas.List.{length-map, map-append}
 use Rattle.std.proofs.SliceLists.{all_by_recursion_push}
@@ -60,7 +60,7 @@ module _ (nears : List Near) (unwatched : List ℕ) (described : List Descriptio
   one_as_planned : (attempt : ℕ) (again : Again) (n : ℕ) (t : Task) → IsAsPlanned t → as_planned (placed nears unwatched described (in_attempt attempt again n t)) ≡ placed nears unwatched described t
   one_as_planned attempt again n t h =
       let near = near_of t.command.target nears in
-      let watched = not (is_unwatched t.command.target unwatched) in
+      let watched = not (is_unwatched t.command.target unwatched) && nat_le t.every 1 in
       let form = form_of_asked described t.command.call in
       ap (λ a. record t { near = near; watched = watched; form = form; again = a; turn = record { place = t.turn.place; attempt = 1; link = t.turn.link }; others = 0 }) (sym h.again)
       ∙ ap (λ k. record t { near = near; watched = watched; form = form; turn = record { place = t.turn.place; attempt = k; link = t.turn.link }; others = 0 }) (sym h.attempt)

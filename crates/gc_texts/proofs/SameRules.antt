@@ -54,4 +54,5 @@ same_rules mode retry agree (says.Retrying r ∷ later) h = same_rules (mode_aft
 same_rules mode retry agree (says.Agreeing a ∷ later) h = same_rules (mode_after mode (says.Agreeing a)) retry agree later (inr (inl refl))
 same_rules mode retry agree (says.AtStart ∷ later) h = same_rules (mode_after mode says.AtStart) retry agree later (inr (inl refl))
 same_rules mode retry agree (says.EachCycle ∷ later) h = same_rules (mode_after mode says.EachCycle) retry agree later (inr (inl refl))
+same_rules mode retry agree (says.Every n ∷ later) h = same_rules (mode_after mode (says.Every n)) retry agree later (inr (inl refl))
 same_rules mode retry agree (line ∷ later) h = same_rules (mode_after mode line) retry agree later h

@@ -30,6 +30,7 @@ use Rattle.gc_texts.proofs.Cutting.{read_alike, holds_of_rest, cut_once, cut_fou
 use Rattle.gc_texts.proofs.AgreeForms.{one_agreeing, accept_is_no_agree, agree_is_no_start}
 use Rattle.gc_texts.proofs.ClockForms.{one_clock, wish_is_no_clock}
 use Rattle.gc_texts.proofs.CodeForms.{one_accepting, one_busy}
+use Rattle.gc_texts.proofs.EveryForms.{one_every, each_is_no_every}
 use Rattle.gc_texts.proofs.DescribedForms.{described_is_no_clock, one_worded}
 use Rattle.gc_texts.proofs.DescribedLaws.{one_description, same_described}
 use Rattle.gc_texts.proofs.ReasonForms.{one_retrying}
@@ -69,7 +70,7 @@ module _ (line rest : List ℕ) (name : Name) (e : line ≡ codes "name " ++ res
 
 -- the kinds of lines, distinguished by the first byte: 0 a command, 1 `deadline`, 2 `chained`, 3 `unchained` or `unwatched`, which
 -- begin alike, 4 `name` or `near`, which begin alike, too, 5 `accept`, `agree` or `at start`, which begin alike, too, 6 `retry`, 7 `each
--- cycle`, 8 `busy`, 9 `procedure`
+-- cycle` or `every N cycles`, which begin alike, too, 8 `busy`, 9 `procedure`
 abbrev said_kind : TaskLine → ℕ
 said_kind (says.Command command wording expects) = 0
 said_kind (says.Deadline deadline) = 1
@@ -85,6 +86,7 @@ said_kind (says.Retrying retry) = 6
 said_kind (says.Agreeing agree) = 5
 said_kind says.AtStart = 5
 said_kind says.EachCycle = 7
+said_kind (says.Every every) = 7
 
 -- the kind of a line with this first byte: 100 is d, 99 c, 117 u, 110 n, 97 a, 114 r, 101 e, 98 b and 112 p; any other byte
 -- is of the kind of a command (0)
@@ -161,6 +163,7 @@ first_byte_shows_kind line (says.Agreeing None) is = ap line_kind is
 first_byte_shows_kind line (says.Agreeing (Some agree)) is = ap line_kind is.line_is
 first_byte_shows_kind line says.AtStart is = ap line_kind is
 first_byte_shows_kind line says.EachCycle is = ap line_kind is
+first_byte_shows_kind line (says.Every every) is = ap line_kind is.line_is
 
 -- a line gives one deadline at most
 one_deadline : (line : List ℕ) (m n : ℕ) → IsDeadlineLine line m → IsDeadlineLine line n → m ≡ n
@@ -349,12 +352,15 @@ same_said line (says.Retrying a) (says.Retrying b) x y h = ap says.Retrying (one
 same_said line (says.Agreeing a) (says.Agreeing b) x y h = ap says.Agreeing (one_agreeing line a b x y)
 same_said line says.AtStart says.AtStart x y h = refl
 same_said line says.EachCycle says.EachCycle x y h = refl
+same_said line (says.Every m) (says.Every n) x y h = ap says.Every (one_every line m n x y)
 same_said line (says.Accepting a) says.AtStart x y h = absurd (accept_is_no_start line a x y)
 same_said line says.AtStart (says.Accepting a) x y h = absurd (accept_is_no_start line a y x)
 same_said line (says.Accepting a) (says.Agreeing b) x y h = absurd (accept_is_no_agree line a b x y)
 same_said line (says.Agreeing b) (says.Accepting a) x y h = absurd (accept_is_no_agree line a b y x)
 same_said line (says.Agreeing a) says.AtStart x y h = absurd (agree_is_no_start line a x y)
 same_said line says.AtStart (says.Agreeing a) x y h = absurd (agree_is_no_start line a y x)
+same_said line says.EachCycle (says.Every n) x y h = absurd (each_is_no_every line n x y)
+same_said line (says.Every n) says.EachCycle x y h = absurd (each_is_no_every line n y x)
 same_said line (says.Naming m) (says.Locating n) x y h = absurd (name_is_no_near line m n x y)
 same_said line (says.Locating m) (says.Naming n) x y h = absurd (name_is_no_near line n m y x)
 same_said line says.Unchained (says.Unwatching n) x y h = absurd (unchained_is_no_unwatched line n x y)

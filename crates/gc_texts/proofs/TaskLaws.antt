@@ -5,7 +5,7 @@ use Rattle.std.specs.Prelude.{filter}
 use Rattle.std.specs.List.{AllByRecursion, flat_map}
 use Rattle.std.proofs.lemmas.List.{length-map, map-append}
 use Rattle.std.proofs.SliceLists.{all_by_recursion_push}
-use Rattle.std.proofs.lemmas.Bool.{eqb-true, and_from, and_parts, both_ways}
+use Rattle.std.proofs.lemmas.Bool.{eqb-true, le-leb, and_from, and_parts, both_ways}
 use Rattle.std.proofs.Math.Bool.{or-true}
 use Rattle.std.proofs.lemmas.Bool.Decides.{nat_tests}
 use Rattle.std.proofs.lemmas.Option.{same_Some}
@@ -152,23 +152,25 @@ laid_once retry agree chain (p ∷ later) none once all rest =
           ap (λ ts. ts ++ laid_from p.retry p.agree (p ∷ []) later) (attempts_are_tasks retry agree chain none once all)
           ∙ ap (λ ts. tasks_planned chain ++ ts) anew
 
--- this task has no place of its target, is watched, and has no form of its answers
+-- this task has no place of its target, is watched, has no form of its answers, and has its turn in each cycle
 record IsUnplaced (task : Task) : Type 0 where
   near : task.near ≡ None
   watched : task.watched ≡ true
   form : task.form ≡ None
+  every : task.every ≡ 1
 
 -- without descriptions no answer has a form
 formless : (asked : Asked) → form_of_asked [] asked ≡ None
 formless (Table call) = refl
 formless (Raw raw) = refl
 
--- tasks without places and forms that are watched stay as they are where the text says no place, leaves no target unwatched, and describes
--- no procedure
+-- tasks without places and forms that are watched, and have their turn in each cycle, stay as they are where the text says no place, leaves
+-- no target unwatched, and describes no procedure
 unplaced_stay : (tasks : List Task) → AllByRecursion IsUnplaced tasks → map (placed [] [] []) tasks ≡ tasks
 unplaced_stay [] all = refl
 unplaced_stay (t ∷ ts) all =
-    ap (λ f. record t { near = None; watched = true; form = f } ∷ map (placed [] [] []) ts) (formless t.command.call ∙ sym all.0.form)
+    ap (λ w. record t { near = None; watched = w; form = form_of_asked [] t.command.call } ∷ map (placed [] [] []) ts) (le-leb t.every 1 (omega (arith, all.0.every)))
+    ∙ ap (λ f. record t { near = None; watched = true; form = f } ∷ map (placed [] [] []) ts) (formless t.command.call ∙ sym all.0.form)
     ∙ ap (λ n. record t { near = n; watched = true } ∷ map (placed [] [] []) ts) (sym all.0.near) ∙ ap (λ w. record t { watched = w } ∷ map (placed [] [] []) ts) (sym all.0.watched)
     ∙ ap (λ us. t ∷ us) (unplaced_stay ts all.1)
 
@@ -187,6 +189,7 @@ module _ (deadline : ℕ) (chained : Bool) where
         retry = no_retry;
         agree = None;
         setup = false;
+        every = 1;
         begun = 0;
         place = place;
         link = link;
@@ -210,11 +213,12 @@ module _ (deadline : ℕ) (chained : Bool) where
   each_is_sent_once group place link (c ∷ cs) =
       (record { retry = refl; agree = refl; twice = refl; task = record { near = refl; again = refl; attempt = refl; others = refl } }, each_is_sent_once (Some c.target) (place + 1) (next_link group link c.target) cs)
 
-  -- no task of commands that are read in such a mode (`mode_in_cycle`) has a place of its target, and all are watched
+  -- no task of commands that are read in such a mode (`mode_in_cycle`) has a place of its target, all are watched, and have their turn in each
+  -- cycle
   none_placed : (group : Option ℕ) (place link : ℕ) (commands : List Command)
       → AllByRecursion IsUnplaced (map (λ p. p.task) (planned_of (mode_in_cycle group place link) (lines_of commands)))
   none_placed group place link [] = tt
-  none_placed group place link (c ∷ cs) = (record { near = refl; watched = refl; form = refl }, none_placed (Some c.target) (place + 1) (next_link group link c.target) cs)
+  none_placed group place link (c ∷ cs) = (record { near = refl; watched = refl; form = refl; every = refl }, none_placed (Some c.target) (place + 1) (next_link group link c.target) cs)
 
   -- the tasks of commands that are read in such a mode (`mode_in_cycle`) ask for these commands, in order
   asked_tasks : (group : Option ℕ) (place link : ℕ) (commands : List Command)
@@ -269,6 +273,7 @@ unchained_are_plain deadline group place link (c ∷ cs) =
       again = no_again;
       turn = record { place = place; attempt = 1; link = 0 };
       others = 0;
+      every = 1;
       now = false;
       needs = no_needs;
       twice = Once;
@@ -335,6 +340,7 @@ commands_keep_targets mode before (says.Retrying r ∷ later) h = commands_keep_
 commands_keep_targets mode before (says.Agreeing a ∷ later) h = commands_keep_targets (mode_after mode (says.Agreeing a)) before later (inr (inl refl))
 commands_keep_targets mode before (says.AtStart ∷ later) h = commands_keep_targets (mode_after mode says.AtStart) before later (inr (inl refl))
 commands_keep_targets mode before (says.EachCycle ∷ later) h = commands_keep_targets (mode_after mode says.EachCycle) before later (inr (inl refl))
+commands_keep_targets mode before (says.Every n ∷ later) h = commands_keep_targets (mode_after mode (says.Every n)) before later (inr (inl refl))
 commands_keep_targets mode before (line ∷ later) h = commands_keep_targets (mode_after mode line) before later h
 
 -- if tasks keep targets with no task before them, so that their first isn't chained, they do so after a task for any target, too

@@ -62,6 +62,7 @@ standing_of_one_more : (mode : Mode) (line : TaskLine) → standing_in (mode_aft
 standing_of_one_more mode (says.Command c w x) = refl
 standing_of_one_more mode says.AtStart = refl
 standing_of_one_more mode says.EachCycle = refl
+standing_of_one_more mode (says.Every every) = refl
 standing_of_one_more mode line = refl
 
 -- and after lines

@@ -1,5 +1,5 @@
 -- What holds of a command in a station's text, by the lines before it: this project's own.
-use Rattle.std.specs.Prelude.{◌≡◌, ◌⊎◌, ℕ, ◌+◌, ◌≤◌, nat_lt, ◌||◌, if◌then◌else◌, Bool, not, true, false, List, [], ◌∷◌, ◌++◌, length, Option, None, Some}
+use Rattle.std.specs.Prelude.{◌≡◌, ◌⊎◌, ℕ, ◌+◌, ◌<◌, ◌≤◌, nat_le, nat_lt, ◌&&◌, ◌||◌, if◌then◌else◌, Bool, not, true, false, List, [], ◌∷◌, ◌++◌, length, Option, None, Some}
 use Rattle.std.specs.List.{AllByRecursion}
 use Rattle.gc_texts.specs.Codes.{no_codes}
 use Rattle.gc_texts.specs.Expectations.{counts}
@@ -22,17 +22,31 @@ use Rattle.gc_texts.specs.declared.task_line.TaskLine.{TaskLine}
 use Rattle.gc_texts.specs.declared.task_line.TaskLine.TheVariants as says
 use Rattle.gc_texts.specs.declared.tasks.Task.{Task}
 
--- whether the commands after this line are setup, where `setup` says whether those before it are: `at start` and `each cycle` set that,
--- and any other line leaves it as it is
+-- whether the commands after this line are setup, where `setup` says whether those before it are: `at start`, `each cycle` and
+-- `every N cycles` set that, and any other line leaves it as it is
 abbrev pub section_by : (setup : Bool) → TaskLine → Bool
 section_by setup says.AtStart = true
 section_by setup says.EachCycle = false
+section_by setup (says.Every every) = false
 section_by setup _ = setup
 
 -- whether the commands after these lines are setup, where `setup` says whether those before them are
 abbrev pub section_after : (setup : Bool) → List TaskLine → Bool
 section_after setup [] = setup
 section_after setup (line ∷ later) = section_after (section_by setup line) later
+
+-- in every how many cycles the commands after this line have their turn, where `every` says so of those before it: `every N cycles` sets
+-- that to N, `each cycle` and `at start` set it to 1, and any other line leaves it as it is
+abbrev pub every_by : (every : ℕ) → TaskLine → ℕ
+every_by every says.AtStart = 1
+every_by every says.EachCycle = 1
+every_by every (says.Every n) = n
+every_by every _ = every
+
+-- in every how many cycles the commands after these lines have their turn, where `every` says so of those before them
+abbrev pub every_after : (every : ℕ) → List TaskLine → ℕ
+every_after every [] = every
+every_after every (line ∷ later) = every_after (every_by every line) later
 
 -- the commands among these lines, counted: one of the setup counts as `of_setup`, and one of each cycle as `of_cycle`. `setup` says
 -- whether the setup holds before the lines
@@ -146,20 +160,23 @@ IsSentAfter front twice = (IsAgreeAfter front None × (twice ≡ Once)) ⊎ ((ag
 
 -- the task of a command of the cycle that follows the lines `front`: its place counts the cycle's commands among them, and
 -- it is chained exactly where commands are chained there and the command before is for the same target, with no line between
--- the two that ends their group (`KeepsGroup`). It is the only sending, or the first of two, as the lines say. `chained` says whether
--- commands are chained where no line says so
+-- the two that ends their group (`KeepsGroup`). It is the only sending, or the first of two, as the lines say, and has its turn in every
+-- so many cycles as the last of their lines `each cycle`, `every N cycles` and `at start` says, in each where there is none. `chained` says
+-- whether commands are chained where no line says so
 pub record IsTaskInCycle (chained : Bool) (front : List TaskLine) (command : Wish) (task : Task) : Type 0 where
   pub place : task.turn.place ≡ cycle_commands false front
   pub only : task.chained ≡ true → IsChainingAfter chained front true × EndsInGroupOf front command.target
   pub found : IsChainingAfter chained front true → EndsInGroupOf front command.target → task.chained ≡ true
   pub sent : IsSentAfter front task.twice
+  pub turns : task.every ≡ every_after 1 front
 
 -- the task of a command of the setup that follows the lines `front`: its place counts the setup's commands among them, and
--- it is chained exactly where there is one. The setup is sent once
+-- it is chained exactly where there is one. The setup is sent once, and its commands have no cycles to wait for
 pub record IsTaskOfSetUp (front : List TaskLine) (task : Task) : Type 0 where
   pub place : task.turn.place ≡ setup_commands false front
   pub chained : task.chained ≡ nat_lt 0 (setup_commands false front)
   pub once : task.twice ≡ Once
+  pub turns : task.every ≡ 1
 
 -- the task of a command that follows the lines `front`, in the first attempt of its chain, by what holds there. `deadline` and
 -- `chained` hold where no line says otherwise; `wording` is how its line says what to ask for, and
@@ -179,7 +196,7 @@ pub record IsTaskOf (deadline : ℕ) (chained : Bool) (front : List TaskLine) (c
   pub in_cycle : section_after false front ≡ false → IsTaskInCycle chained front command task
 
 -- each command of a text is sent as the lines before it say, and its task has the place that the text gives its target, if
--- any, is watched unless the text leaves its target unwatched, and has the form of answers that the text's description of its procedure
+-- any, is watched unless the text leaves its target unwatched or it hasn't its turn in each cycle, and has the form of answers that the text's description of its procedure
 -- says, if there is one. Before the task of a command of the setup there are as many tasks as the text has commands of the setup before
 -- that command, and before the task of one of the cycle there are at least all those of the setup
 abbrev pub TasksFollowTheirLines : Type 0
@@ -189,7 +206,7 @@ TasksFollowTheirLines =
     → (earlier : List Task) × (task : Task) × (others : List Task) × (all.tasks ≡ earlier ++ task ∷ others)
     × (section_after false front ≡ true → length earlier ≡ setup_commands false front) × (section_after false front ≡ false → all.setup ≤ length earlier)
     × IsTaskOf deadline chained front command wording expects task × (task.near ≡ near_of command.target all.nears)
-    × (task.watched ≡ not (is_unwatched command.target all.unwatched)) × (task.form ≡ form_of_asked all.described command.call)
+    × (task.watched ≡ (not (is_unwatched command.target all.unwatched) && nat_le task.every 1)) × (task.form ≡ form_of_asked all.described command.call)
 
 -- where a line says where a target is, it says so of each command of that target, before it and after it
 abbrev pub PlacesHoldForAll : Type 0
@@ -198,11 +215,14 @@ PlacesHoldForAll =
     (front later : List TaskLine) (near : Near) → is.said ≡ front ++ says.Locating near ∷ later
     → (earlier others : List Task) (task : Task) → all.tasks ≡ earlier ++ task ∷ others → task.command.target ≡ near.target → task.near ≡ Some near
 
--- the commands that aren't watched are those of the targets for which a line says so, wherever that line is: where a line says so of the
--- target of a task, the task isn't watched; and where no line does, it is
+-- the commands that aren't watched are those of the targets for which a line says so, wherever that line is, and those that haven't their
+-- turn in each cycle: where a line says so of the target of a task, the task isn't watched, nor is it where it has its turn in every so many
+-- cycles, above 1; and where neither holds, it is
 abbrev pub UnwatchedHoldForAll : Type 0
 UnwatchedHoldForAll =
     (text : List ℕ) (deadline : ℕ) (chained : Bool) (all : TasksSeen) (is : IsTasks text deadline chained all)
     (earlier others : List Task) (task : Task) → all.tasks ≡ earlier ++ task ∷ others
     → ((front later : List TaskLine) → is.said ≡ front ++ says.Unwatching task.command.target ∷ later → task.watched ≡ false)
-    × (task.watched ≡ false → (front : List TaskLine) × (later : List TaskLine) × (is.said ≡ front ++ says.Unwatching task.command.target ∷ later))
+    × (1 < task.every → task.watched ≡ false)
+    × (task.watched ≡ false
+    → (1 < task.every) ⊎ ((front : List TaskLine) × (later : List TaskLine) × (is.said ≡ front ++ says.Unwatching task.command.target ∷ later)))

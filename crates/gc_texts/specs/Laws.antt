@@ -40,8 +40,8 @@ CommandsAreTasks =
     (text : List ℕ) (commands : List Command) (deadline : ℕ) (chained : Bool) → IsCommands text commands →
     (tasks : List Task) × IsTasks text deadline chained (tasks_alone tasks) × (map (λ task. task.command) tasks ≡ map wish_of commands)
 
--- the tasks of these commands, numbered from `place` on: each is in its first attempt, is sent once in it, has this deadline, isn't chained,
--- neither sets the clock to the moment at which it is sent nor takes values of files, is watched, and has no place of its target, no form of its answers, no accepted
+-- the tasks of these commands, numbered from `place` on: each is in its first attempt, is sent once in it, in each cycle, has this deadline,
+-- isn't chained, neither sets the clock to the moment at which it is sent nor takes values of files, is watched, and has no place of its target, no form of its answers, no accepted
 -- code, none that says busy, no expectation and no rule of repetition
 abbrev pub plain_tasks : (deadline place : ℕ) → List Command → List Task
 plain_tasks deadline place [] = []
@@ -60,6 +60,7 @@ plain_tasks deadline place (command ∷ others) =
       again = no_again;
       turn = record { place = place; attempt = 1; link = 0 };
       others = 0;
+      every = 1;
       now = false;
       needs = no_needs;
       twice = Once;

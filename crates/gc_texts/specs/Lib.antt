@@ -51,3 +51,4 @@ pub mod KindFacts
 pub mod Forms
 pub mod NewColumns
 pub mod DescribedTexts
+pub mod DatedPaths

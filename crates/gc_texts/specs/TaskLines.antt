@@ -40,6 +40,13 @@ pub record IsDeadlineLine (line : List ℕ) (deadline : ℕ) : Type 0 where
   pub number : IsNumber digits deadline 86400000
   pub some : 1 ≤ deadline
 
+-- `every N cycles`, from 1 to 65535
+pub record IsEveryLine (line : List ℕ) (every : ℕ) : Type 0 where
+  pub digits : List ℕ
+  pub line_is : line ≡ codes "every " ++ (digits ++ codes " cycles")
+  pub number : IsNumber digits every 65535
+  pub some : 1 ≤ every
+
 -- `name T TEXT`: a target and its name
 pub record IsNameLine (line : List ℕ) (name : Name) : Type 0 where
   pub target_text : List ℕ
@@ -112,7 +119,8 @@ IsCommandLine line wish wording (Some expectation) = IsExpectLine line wish word
 
 -- what a line says: a command, a deadline, that commands are chained or that they aren't, a name, where a target is, that a
 -- target isn't watched, what a procedure outside the table is, which return codes are accepted, which say that the instrument is busy,
--- how often chains are repeated, whether they are sent twice, or that the commands after it are setup or those of each cycle
+-- how often chains are repeated, whether they are sent twice, or that the commands after it are setup, those of each cycle, or those of
+-- every so many cycles
 abbrev pub IsTaskLine : List ℕ → TaskLine → Type 0
 IsTaskLine line (says.Command wish wording expects) = IsCommandLine line wish wording expects
 IsTaskLine line (says.Deadline deadline) = IsDeadlineLine line deadline
@@ -128,3 +136,4 @@ IsTaskLine line (says.Retrying retry) = SetsRetry line retry
 IsTaskLine line (says.Agreeing agree) = SetsAgree line agree
 IsTaskLine line says.AtStart = line ≡ codes "at start"
 IsTaskLine line says.EachCycle = line ≡ codes "each cycle"
+IsTaskLine line (says.Every every) = IsEveryLine line every

@@ -2,9 +2,9 @@
 -- procedures it describes: this project's own. The mode at a
 -- line is what holds for a command there: its deadline, whether commands are chained, the target of the group that it may
 -- continue, the codes that are accepted and those that say busy, how often its chain is repeated and whether it is sent twice, whether it
--- is setup, how many commands of each section are in front, how many of those in front are in the last chain, how many have an item `>`,
--- and how many values of files these take. A group is a run of commands for one target, with no line `chained`, `unchained`, `retry`, `agree`, `at start` or `each cycle`
--- between them.
+-- is setup, in every how many cycles it has its turn, how many commands of each section are in front, how many of those in front are in the
+-- last chain, how many have an item `>`, and how many values of files these take. A group is a run of commands for one target, with no line
+-- `chained`, `unchained`, `retry`, `agree`, `at start`, `each cycle` or `every N cycles` between them.
 use Rattle.std.specs.Prelude.{◌≡◌, ℕ, ◌+◌, ◌*◌, ◌≤◌, ◌<◌, ◌⊎◌, ◌==◌, ◌&&◌, ◌||◌, Bool, true, false, not, nat_le, nat_lt, List, [], ◌∷◌, ◌++◌, length, map, filter, drop, Option, None, Some, Vec, vec_capacity, vec_len, if◌then◌else◌}
 use Rattle.std.specs.List.{flat_map}
 use Rattle.arrayvec.specs.ArrayVec.{ArrayVec}
@@ -69,6 +69,7 @@ first_mode deadline chained =
       retry = no_retry;
       agree = None;
       setup = false;
+      every = 1;
       begun = 0;
       place = 0;
       link = 0;
@@ -129,8 +130,9 @@ mode_after_command mode target taken expects =
 
 -- the mode after a line. After a command the group is of its target, and the command is counted. A line `deadline` sets the deadline, and
 -- `accept` the return codes that are accepted, and `busy` those that say busy. `chained` and `unchained` set whether commands are chained,
--- `retry` how often chains are repeated, `agree` whether they are sent twice, and `at start` and `each cycle` the section; these lines also
--- end the group. A name, a place, a target that isn't watched or a description of a procedure changes nothing
+-- `retry` how often chains are repeated, `agree` whether they are sent twice, `at start`, `each cycle` and `every N cycles` the section, the
+-- last of which also says in every how many cycles commands have their turn; these lines also end the group. A name, a place, a target that
+-- isn't watched or a description of a procedure changes nothing
 abbrev pub mode_after : Mode → TaskLine → Mode
 mode_after mode (says.Command command wording expects) = mode_after_command mode command.target (values_asked wording command.call) expects
 mode_after mode (says.Deadline deadline) = record mode { deadline = deadline }
@@ -144,10 +146,12 @@ mode_after mode (says.Accepting accepted) = record mode { accepted = accepted }
 mode_after mode (says.Busy busy) = record mode { busy = busy }
 mode_after mode (says.Retrying retry) = record mode { retry = retry; group = None }
 mode_after mode (says.Agreeing agree) = record mode { agree = agree; group = None }
-mode_after mode says.AtStart = record mode { setup = true; group = None }
-mode_after mode says.EachCycle = record mode { setup = false; group = None }
+mode_after mode says.AtStart = record mode { setup = true; every = 1; group = None }
+mode_after mode says.EachCycle = record mode { setup = false; every = 1; group = None }
+mode_after mode (says.Every every) = record mode { setup = false; every = every; group = None }
 
 -- the task of a command in its first attempt; `wording` is how its line says what to ask for, and `expects` what is expected of its answer.
+-- One of the setup has no cycles to wait for.
 -- The place of its target is set later (`placed`), and whether it is watched, and the form of its answers; so are the rule of its chain
 -- and its sending, if the command is one of the cycle (`laid_out`)
 abbrev pub task_at : Mode → Wish → Wording → Option Expectation → Task
@@ -166,6 +170,7 @@ task_at mode command wording expects =
       again = no_again;
       turn = turn_at mode (chained_at mode command.target);
       others = 0;
+      every = if mode.setup then 1 else mode.every;
       now = sets_clock wording || nat_lt 0 (values_asked wording command.call);
       needs = needs_from mode.values (values_asked wording command.call);
       twice = Once;
@@ -254,6 +259,7 @@ abbrev pub standing_by : Standing → TaskLine → Standing
 standing_by s (says.Command command wording expects) = record s { counters = counters_with s.counters expects; values = s.values + values_asked wording command.call }
 standing_by s says.AtStart = record s { setup = true }
 standing_by s says.EachCycle = record s { setup = false }
+standing_by s (says.Every every) = record s { setup = false }
 standing_by s _ = s
 
 -- this after these lines
@@ -318,12 +324,12 @@ form_of_asked described (Table call) = None
 form_of_asked described (Raw raw) = form_for raw.rpc described
 
 -- a task with the place of its target: the first of `nears` that is of that target, and none where there is none. It is watched
--- unless its target is one of `unwatched`, and its answers have the form that `described` says
+-- unless its target is one of `unwatched` or it hasn't its turn in each cycle, and its answers have the form that `described` says
 abbrev pub placed : List Near → (unwatched : List ℕ) → List Description → Task → Task
 placed nears unwatched described task =
     record task {
       near = near_of task.command.target nears;
-      watched = not (is_unwatched task.command.target unwatched);
+      watched = not (is_unwatched task.command.target unwatched) && nat_le task.every 1;
       form = form_of_asked described task.command.call;
     }
 

@@ -115,8 +115,8 @@ pub record IsRawRequestTrouble (request : List ℕ) (t : Trouble) : Type 0 where
   pub number : IsRpc (second_word request) rpc
   pub is : IsRawTrouble rpc (after_two_words request) t
 
--- the first word of a line is none of `deadline`, `name`, `near`, `unwatched`, `accept`, `busy`, `retry`, `agree`, `at`, `each` and
--- `procedure`
+-- the first word of a line is none of `deadline`, `name`, `near`, `unwatched`, `accept`, `busy`, `retry`, `agree`, `at`, `each`, `every`
+-- and `procedure`
 pub record BeginsNoSetting (line : List ℕ) : Type 0 where
   pub no_deadline : first_word line ≢ codes "deadline"
   pub no_name : first_word line ≢ codes "name"
@@ -128,6 +128,7 @@ pub record BeginsNoSetting (line : List ℕ) : Type 0 where
   pub no_agree : first_word line ≢ codes "agree"
   pub no_at : first_word line ≢ codes "at"
   pub no_each : first_word line ≢ codes "each"
+  pub no_every : first_word line ≢ codes "every"
   pub no_procedure : first_word line ≢ codes "procedure"
 
 -- a line is taken for a command: its first word is none of these, and its second isn't `expect`
@@ -276,8 +277,8 @@ pub record IsExpectLineTrouble (line : List ℕ) (t : Trouble) : Type 0 where
   pub word : second_word line ≡ codes "expect"
   pub is : IsExpectTrouble line t
 
--- a line whose first word is `deadline`, `name`, `near`, `unwatched`, `accept`, `busy`, `retry`, `agree`, `at`, `each` or `procedure` is at
--- fault in its target, or in what it sets
+-- a line whose first word is `deadline`, `name`, `near`, `unwatched`, `accept`, `busy`, `retry`, `agree`, `at`, `each`, `every` or
+-- `procedure` is at fault in its target, or in what it sets
 abbrev pub IsWordTrouble : List ℕ → Trouble → Type 0
 IsWordTrouble line trouble.Deadline = first_word line ≡ codes "deadline"
 IsWordTrouble line trouble.Name = (first_word line ≡ codes "name") × HasTarget (second_word line)
@@ -297,6 +298,7 @@ IsWordTrouble line trouble.AgreeDistance = IsAgreeLineTrouble line trouble.Agree
 IsWordTrouble line trouble.Agree = IsAgreeLineTrouble line trouble.Agree
 IsWordTrouble line trouble.AtStart = first_word line ≡ codes "at"
 IsWordTrouble line trouble.EachCycle = first_word line ≡ codes "each"
+IsWordTrouble line trouble.Every = first_word line ≡ codes "every"
 IsWordTrouble line trouble.ProcedureNumber = IsDescribingTrouble line trouble.ProcedureNumber
 IsWordTrouble line (trouble.ProcedureInTable rpc) = IsDescribingTrouble line (trouble.ProcedureInTable rpc)
 IsWordTrouble line trouble.ProcedureForm = IsDescribingTrouble line trouble.ProcedureForm
@@ -429,6 +431,7 @@ trouble_text trouble.AgreeDistance = codes "agree: D is no decimal from 0 to 100
 trouble_text trouble.Agree = codes "agree: the form is agree HZ V D, or agree alone"
 trouble_text trouble.AtStart = codes "at start"
 trouble_text trouble.EachCycle = codes "each cycle"
+trouble_text trouble.Every = codes "every: the form is every N cycles, with N from 1 to 65535"
 trouble_text trouble.ExpectForm = codes "expect: the form is T expect REQUEST = ITEMS, with one space on both sides of ="
 trouble_text trouble.ExpectLong = codes "expect: ITEMS has more than 128 bytes"
 trouble_text trouble.ExpectMany = codes "expect: more than 16 items"

@@ -89,8 +89,9 @@ pub fn faults_have_their_numbers()
 /// last line `accept` before it, or else none, those of the last line `busy` before it, or else none, and the expectation of its own line `expect`, or else none; an item `>` there has the number
 /// of commands with such an item before it. One of the cycle is chained exactly if two things hold: the last line `chained` or
 /// `unchained` before it says `chained`, or there is none and the caller says so; and the command before it is for the same target, with no
-/// line `chained`, `unchained`, `retry`, `at start` or `each cycle` between the two. One of the setup is chained exactly if another is
-/// before it, and all of the setup is sent before the cycle, once. The task of one of the cycle is the only sending of the command in the
+/// line `chained`, `unchained`, `retry`, `agree`, `at start`, `each cycle` or `every N cycles` between the two. It has its turn in every so
+/// many cycles as the last line `each cycle` or `every N cycles` before it says, or else in each. One of the setup is chained exactly if
+/// another is before it, and all of the setup is sent before the cycle, once. The task of one of the cycle is the only sending of the command in the
 /// first attempt of its chain, or the first of two, as the last line `agree` before it says. Its answers have the form that the text's
 /// description of its procedure says, if there is one.
 pub fn commands_go_out_as_their_lines_say()
@@ -102,8 +103,8 @@ pub fn places_hold_for_all_commands_of_a_target()
     ensures { PlacesHoldForAll }
 {}
 
-/// A line `unwatched`, which says that a target isn't watched, holds for each command of that target, before the line and after it; and
-/// every other command is watched.
+/// A line `unwatched`, which says that a target isn't watched, holds for each command of that target, before the line and after it; a
+/// command that hasn't its turn in each cycle isn't watched; and every other command is.
 pub fn unwatched_targets_are_so_in_all_their_commands()
     ensures { UnwatchedHoldForAll }
 {}

@@ -31,7 +31,7 @@ pub enum LogMark {
     Came,
     /// `<|`: these bytes came, as with `>|`.
     CamePart,
-    /// `-`: words on what became of the connection, or that the log is full.
+    /// `-`: words on what became of the connection.
     Link,
 }
 

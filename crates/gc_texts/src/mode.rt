@@ -1,8 +1,8 @@
 //! The mode at a line of a station's text: the settings for the next command, and the counts of the commands so far.
 //!
-//! A group is a run of commands for one target, with no line `chained`, `unchained`, `retry`, `agree`, `at start` or
-//! `each cycle` between them. Where commands are chained, each command of a group but the first is chained to the one before it. All
-//! commands of the setup are one chain.
+//! A group is a run of commands for one target, with no line `chained`, `unchained`, `retry`, `agree`, `at start`,
+//! `each cycle` or `every N cycles` between them. Where commands are chained, each command of a group but the first is chained to the one
+//! before it. All commands of the setup are one chain.
 
 ghost use Rattle.std.specs.Prelude.{◌≡◌, ◌≤◌};
 ghost use Rattle.gc_texts.specs.Tasks.{CountsAtMost, first_mode, mode_after, mode_after_command, continues_group, chained_at, counter_at, counters_with, needs_from, place_in_chain, standing_in, task_at};
@@ -38,8 +38,10 @@ pub(crate) struct Mode {
     pub(crate) retry: Retry,
     // How far apart the answers of a chain may be, which is sent twice then. `None`: a chain is sent once.
     pub(crate) agree: Option<Agree>,
-    // Whether the next command is one of the setup; if not, it is one of each cycle.
+    // Whether the next command is one of the setup; if not, it is one of the cycle.
     pub(crate) setup: bool,
+    // In every how many cycles the next command has its turn, if it is one of the cycle.
+    pub(crate) every: u64,
     // How many commands of the setup are before the line.
     pub(crate) begun: usize,
     // How many commands of the cycle are before the line.
@@ -89,6 +91,7 @@ pub(crate) fn first_mode(deadline: u64, chained: bool) -> Mode
         retry: Retry::none(),
         agree: None,
         setup: false,
+        every: 1,
         begun: 0,
         place: 0,
         link: 0,
@@ -202,8 +205,8 @@ fn mode_after_command(mode: Mode, target: u32, taken: usize, expects: &Option<Ex
 // The mode after a line, if `mode` holds before it. After a command the group is of its target, and the command is counted. A line
 // `deadline` sets the deadline, `accept` the return codes that are accepted, and `busy` those that say that the instrument is busy.
 // `chained` and `unchained` set whether commands are chained, `retry` how often chains are repeated, `agree` whether they are sent twice,
-// and `at start` and `each cycle` the section; these lines also end the group. A name, a place, a target that isn't watched or a
-// description of a procedure changes nothing.
+// `at start`, `each cycle` and `every N cycles` the section, the last of which also says in every how many cycles commands have their
+// turn; these lines also end the group. A name, a place, a target that isn't watched or a description of a procedure changes nothing.
 pub(crate) fn mode_after(mode: Mode, said: &TaskLine) -> Mode
     requires { CountsAtMost mode 4294967295 }
     ensures { result ≡ mode_after mode said.now }
@@ -251,11 +254,19 @@ pub(crate) fn mode_after(mode: Mode, said: &TaskLine) -> Mode
         },
         TaskLine::AtStart => Mode {
             setup: true,
+            every: 1,
             group: None,
             ..mode
         },
         TaskLine::EachCycle => Mode {
             setup: false,
+            every: 1,
+            group: None,
+            ..mode
+        },
+        TaskLine::Every(every) => Mode {
+            setup: false,
+            every: *every,
             group: None,
             ..mode
         },
@@ -274,8 +285,8 @@ fn continues_group(group: Option<u32>, target: u32) -> bool
 }
 
 // The task of a command in the first attempt of its chain; `wording` says how its line says what to ask for, and `expects` what is expected
-// of its answer. It has no place of its target yet, is watched, and its answers have no form (`place_tasks` sets these), and it has no rule
-// of its chain nor is sent twice (`lay_out` sets both in the cycle).
+// of its answer. One of the setup has no cycles to wait for. The task has no place of its target yet, is watched, and its answers have no
+// form (`place_tasks` sets these), and it has no rule of its chain nor is sent twice (`lay_out` sets both in the cycle).
 pub(crate) fn task_at(
     mode: Mode,
     command: Wish,
@@ -304,6 +315,7 @@ pub(crate) fn task_at(
             link: place_in_chain(mode, chained),
         },
         others: 0,
+        every: if mode.setup { 1 } else { mode.every },
         now: wording.sets_clock() || count > 0,
         needs: needs_from(mode.values, count),
         twice: Twice::Once,

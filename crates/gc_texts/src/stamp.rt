@@ -2,7 +2,7 @@
 
 ghost use Rattle.std.specs.Prelude.{◌≡◌, ℕ, ◌+◌, ◌^◌, ◌<◌, ◌≤◌, ◌++◌, if◌then◌else◌};
 ghost use Rattle.arrayvec.specs.ArrayVec.{array_vec_len};
-ghost use Rattle.gc_texts.specs.Stamps.{year_days, days_after, date_of, two_digits, three_digits, date_text, time_text, stamp_text, date_time};
+ghost use Rattle.gc_texts.specs.Stamps.{year_days, days_after, date_of, two_digits, three_digits, date_at, date_text, hours_at, since_midnight, time_text, stamp_text, date_time};
 
 use crate::turn::Turn;
 use arrayvec::ArrayVec;
@@ -40,12 +40,12 @@ const TIME_ROOM: usize = 2 + 2 + 2 + 3 + 3;
 
 // A day of the Gregorian calendar.
 #[derive(Clone, Copy)]
-struct Date {
-    year: u64,
+pub(crate) struct Date {
+    pub(crate) year: u64,
     // 1 to 12.
-    month: u64,
+    pub(crate) month: u64,
     // From 1 on.
-    day: u64,
+    pub(crate) day: u64,
 }
 
 // How many days a year has.
@@ -92,7 +92,7 @@ fn date_in_year(year: u64, days: u64) -> Date
 }
 
 // A number below 100, in two ASCII digits.
-fn two_digits(n: u64) -> [u8; 2]
+pub(crate) fn two_digits(n: u64) -> [u8; 2]
     requires { n < 100 }
     ensures { result ≡ two_digits n }
 {
@@ -168,6 +168,17 @@ pub fn date_time(utc: u64) -> DateTime
         minute: (millis / 60_000 % 60) as u8,
         second: (millis / 1_000 % 60) as u8,
     }
+}
+
+// The date and the hour of the day at the moment `utc` milliseconds after the beginning of 1970.
+pub(crate) fn date_and_hour(utc: u64) -> (Date, u64)
+    ensures date { result.0 ≡ date_at utc }
+    ensures month { result.0.month ≤ 12 }
+    ensures day { result.0.day ≤ 31 }
+    ensures hour { result.1 ≡ hours_at (since_midnight utc) }
+    ensures hours { result.1 < 24 }
+{
+    (date_of(utc / DAY), utc % DAY / 3_600_000)
 }
 
 /// Room for the bytes of a moment as text (`stamp_text`): a date, `T`, a time and `Z`.

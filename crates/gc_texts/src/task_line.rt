@@ -2,7 +2,7 @@
 
 ghost use Rattle.std.specs.Prelude.{ℕ, List, IfSome, IfNone};
 ghost use Rattle.gc_texts.specs.LineForms.{IsReadAs};
-ghost use Rattle.gc_texts.specs.TaskLines.{AreRequestAndItems, IsDeadlineLine, IsDescribingLine, IsExpectLine, IsNameLine, IsNearLine, IsUnwatchedLine, SetsAccepted, SetsBusy, SetsRetry, SetsAgree, SetsClock, IsTaskLine};
+ghost use Rattle.gc_texts.specs.TaskLines.{AreRequestAndItems, IsDeadlineLine, IsDescribingLine, IsEveryLine, IsExpectLine, IsNameLine, IsNearLine, IsUnwatchedLine, SetsAccepted, SetsBusy, SetsRetry, SetsAgree, SetsClock, IsTaskLine};
 ghost use Rattle.gc_texts.specs.declared.expectation.Expectation.{Expectation};
 ghost use Rattle.gc_texts.specs.declared.wish.Wish.{Wish};
 ghost use Rattle.gc_texts.specs.declared.wording.Wording.{Wording};
@@ -25,10 +25,13 @@ use gc_catalogue::{Asked, Call};
 // The greatest deadline of a line, in milliseconds: a day.
 const DEADLINE_MAX: u64 = 86400000;
 
+// The greatest number of a line `every N cycles`.
+const EVERY_MAX: u64 = 65535;
+
 // What a line of a station's text says.
 #[derive(Drop)]
 pub(crate) enum TaskLine {
-    // A command, for every cycle or the setup, and how the line says what to ask for. `Some`: what is expected of its answer.
+    // A command, for the cycle or the setup, and how the line says what to ask for. `Some`: what is expected of its answer.
     Command(Wish, Wording, Option<Expectation>),
     // The deadline of the commands after it, in milliseconds.
     Deadline(u64),
@@ -56,6 +59,8 @@ pub(crate) enum TaskLine {
     AtStart,
     // The commands after it are those of each cycle.
     EachCycle,
+    // The commands after it are those of every so many cycles, from the first on.
+    Every(u64),
 }
 
 // Reads `deadline MS`: from 1 millisecond to a day. `None`: the line has no such form, or the number lies outside.
@@ -68,6 +73,23 @@ fn read_deadline(line: &[u8]) -> Option<u64>
         return None;
     }
     Some(deadline)
+}
+
+// Reads `every N cycles`: from 1 cycle to 65535. `None`: the line has no such form, or the number lies outside.
+fn read_every(line: &[u8]) -> Option<u64>
+    ensures { IsReadAs (IsEveryLine line.now) result }
+{
+    let rest = after_prefix(b"every ", line)?;
+    let (digits, word) = cut_at(b' ', rest);
+    let word = word?;
+    if !is_word(b"cycles", word) {
+        return None;
+    }
+    let every = number_of(digits, EVERY_MAX)?;
+    if every == 0 {
+        return None;
+    }
+    Some(every)
 }
 
 // Reads `name T TEXT`: a target and its name. `None`: the line has no such form, the target's number is above 4294967295, or TEXT is
@@ -251,6 +273,9 @@ pub(crate) fn read_task_line(line: &[u8]) -> Option<TaskLine>
     }
     if is_word(b"each cycle", line) {
         return Some(TaskLine::EachCycle);
+    }
+    if let Some(every) = read_every(line) {
+        return Some(TaskLine::Every(every));
     }
     if let Some(wish) = read_clock_setting(line) {
         return Some(TaskLine::Command(wish, Wording::Now, None));

@@ -55,7 +55,7 @@ pub struct Task {
     pub chained: bool,
     /// Where its target is, if the text says so.
     pub near: Option<Near>,
-    /// Whether its answers are watched: `false` where the text leaves its target unwatched.
+    /// Whether its answers are watched: `false` where the text leaves its target unwatched, and where `every` is above 1.
     pub watched: bool,
     /// How its answers are read, if its procedure isn't in the table and the text describes it.
     pub form: Option<Form>,
@@ -74,6 +74,9 @@ pub struct Task {
     /// For the first command of an attempt other than the first: how many commands this attempt and those after it have together. 0 for
     /// any other task.
     pub others: usize,
+    /// In every how many cycles it has its turn, from the first on, as the line `every N cycles` says: 1 for a command of each cycle, and for
+    /// one of the setup.
+    pub every: u64,
     /// Whether its request is made anew each time that it is sent: it sets the instrument's clock to that moment, or takes values of files.
     pub now: bool,
     /// Which of the text's values of files its request takes.
@@ -378,13 +381,13 @@ fn form_of_asked(asked: &Asked, described: &[Description]) -> Option<Form>
 }
 
 // A task with the place of its target: the first of `nears` that is of that target, and none if there is none. It is watched unless
-// its target is one of `unwatched`, and its answers have the form that `described` says.
+// its target is one of `unwatched` or it hasn't its turn in each cycle, and its answers have the form that `described` says.
 fn placed(task: Task, nears: &[Near], unwatched: &[u32], described: &[Description]) -> Task
     ensures { result ≡ placed nears.now unwatched.now described.now task }
 {
     Task {
         near: near_of(task.command.target, nears),
-        watched: !is_unwatched(task.command.target, unwatched),
+        watched: !is_unwatched(task.command.target, unwatched) && task.every <= 1,
         form: form_of_asked(&task.command.call, described),
         ..task
     }

@@ -89,6 +89,8 @@ pub enum Trouble {
     AtStart,
     /// The line's first word is `each`, and the line isn't `each cycle`.
     EachCycle,
+    /// The line's first word is `every`, and the line isn't `every N cycles` with a number from 1 to 65535.
+    Every,
     /// A line `T expect ..` isn't `T expect REQUEST = ITEMS`, with one space before its first `=` and one behind it.
     ExpectForm,
     /// The items of a line `expect` have more than 128 bytes.
@@ -193,6 +195,10 @@ impl Trouble {
             Trouble::Agree => writeln!(messages, "agree: the form is agree HZ V D, or agree alone"),
             Trouble::AtStart => writeln!(messages, "at start"),
             Trouble::EachCycle => writeln!(messages, "each cycle"),
+            Trouble::Every => writeln!(
+                messages,
+                "every: the form is every N cycles, with N from 1 to 65535"
+            ),
             Trouble::ExpectForm => writeln!(
                 messages,
                 "expect: the form is T expect REQUEST = ITEMS, with one space on both sides of ="
@@ -440,7 +446,7 @@ fn has_target(line: &[u8]) -> bool
 }
 
 // Which field is at fault of a line whose first word is `deadline`, `name`, `near`, `unwatched`, `accept`, `busy`, `retry`, `agree`, `at`,
-// `each` or `procedure`. `None`: the first word is none of these.
+// `each`, `every` or `procedure`. `None`: the first word is none of these.
 fn word_trouble(line: &[u8]) -> Option<Trouble>
     ensures { MatchOption result (BeginsNoSetting line.now) (λ t. IsWordTrouble line.now t) }
 {
@@ -486,6 +492,9 @@ fn word_trouble(line: &[u8]) -> Option<Trouble>
     }
     if is_word(b"each", first) {
         return Some(Trouble::EachCycle);
+    }
+    if is_word(b"every", first) {
+        return Some(Trouble::Every);
     }
     if is_word(b"procedure", first) {
         return Some(description_trouble(behind(b' ', line)));
@@ -552,7 +561,7 @@ fn unmarked_trouble(line: &[u8]) -> Trouble
 
 /// Which field of a line is at fault, if the line is a faulty one of a station's text. A line that begins with a byte order mark has
 /// that as its trouble. A line whose first word is `deadline`, `name`, `near`, `unwatched`, `accept`, `busy`, `retry`, `agree`, `at`,
-/// `each` or `procedure` is at fault in its target or in what it sets. A line whose second word is `expect` is at fault in its form, in its
+/// `each`, `every` or `procedure` is at fault in its target or in what it sets. A line whose second word is `expect` is at fault in its form, in its
 /// target, in its request or in its items. Any other line is taken for a command, or, if its second word is `raw`, for a request of a
 /// procedure that isn't in the table. Of these a line whose first three words are `T 5007 now`, with a target's number T, gives `Now`; one
 /// that is one word, with or without a space after it, or each of whose fields reads, gives `NoForm`; and any other is at fault in its

@@ -1,7 +1,8 @@
 -- What the words of `station` and of `rehearse` choose, each value by the name of its option: this project's own.
-use Rattle.std.specs.Prelude.{◌≡◌, ℕ, ◌*◌, ◌/◌, ◌^◌, ◌-◌, Bool, true, false, not, List, Option, Some, None, min, is_some, option_map, if◌then◌else◌, nat_eq, codes}
+use Rattle.std.specs.Prelude.{◌≡◌, ℕ, ◌*◌, ◌/◌, ◌^◌, ◌-◌, ◌||◌, Bool, true, false, not, List, Option, Some, None, min, is_some, IfSome, IsSome, option_map, if◌then◌else◌, nat_eq, codes}
 use Rattle.gc_links.specs.Places.{NamesPlace}
 use Rattle.gc_links.specs.declared.place.Place.{Place}
+use Rattle.gc_links.specs.declared.signals.Signals.{Signals}
 use Rattle.gc_rows.specs.declared.record.Form.{Form}
 use Rattle.gc_rows.specs.declared.record.Form.TheVariants as form
 use Rattle.gc_words.specs.Words.{Words, text_in, has_flag, GivesNumber, HasNumber, IsNumberOr}
@@ -18,6 +19,11 @@ pub record GivesSeconds (words : Words) (name : List ℕ) (milliseconds : ℕ) :
   pub seconds : ℕ
   pub gives : GivesNumber words name seconds
   pub is : milliseconds ≡ min (seconds * 1000) (2 ^ 64 - 1)
+
+-- what is read for an option that gives seconds: so many milliseconds, if the words give it
+pub record ReadsSeconds (words : Words) (name : List ℕ) (r : Option ℕ) : Type 0 where
+  pub found : IfSome r (λ milliseconds. GivesSeconds words name milliseconds)
+  pub only : HasNumber words name 64 → IsSome r
 
 -- how many times something is done for this number: 0 stands for no end, which is the greatest number, `endless`
 abbrev pub times_for : (endless number : ℕ) → ℕ
@@ -47,7 +53,8 @@ pub record IsChosen (words : Words) (station : Settings) : Type 0 where
   pub quiet : GivesNumber words (codes "quiet") station.choice.quiet
   pub retries : GivesTimes words (codes "retries") (2 ^ 32 - 1) station.choice.retries
   pub stale : GivesSeconds words (codes "stale") station.choice.stale
-  pub until : station.choice.watched ≡ is_some (text_in words (codes "until"))
+  pub at : ReadsSeconds words (codes "at") station.choice.at
+  pub watched : station.choice.watched ≡ (is_some (text_in words (codes "until")) || is_some (text_in words (codes "now")))
   pub silent : station.choice.watch ≡ watch_for (has_flag words (codes "silent"))
   pub form : station.layout.form ≡ form_for (has_flag words (codes "json")) (has_flag words (codes "columns")) (has_flag words (codes "csv"))
   pub headed : station.layout.headed ≡ false
@@ -78,11 +85,16 @@ abbrev pub IsLog : Words → Option LogPlace → Type 0
 IsLog words None = text_in words (codes "log") ≡ None
 IsLog words (Some log) = (text_in words (codes "log") ≡ Some log.path.now) × IsLogBound words log.most
 
--- the words name this site: the place by WHERE, the log by `--log`, and the file that asks for the end by `--until`
+-- the words name these files: the one that asks for the end by `--until`, and the one that asks for a cycle by `--now`
+pub record AreSignals (words : Words) (signals : Signals) : Type 0 where
+  pub until : option_map (λ path. path.now) signals.until ≡ text_in words (codes "until")
+  pub now : option_map (λ path. path.now) signals.now ≡ text_in words (codes "now")
+
+-- the words name this site: the place by WHERE, the log by `--log`, and the files that ask for something (`AreSignals`)
 pub record IsSite (words : Words) (site : Site) : Type 0 where
   pub place : GivesPlace words site.place
   pub log : IsLog words site.log
-  pub until : option_map (λ path. path.now) site.until ≡ text_in words (codes "until")
+  pub signals : AreSignals words site.signals
 
 -- the words ask for this file of records: the path is that of `--append`, and none is written without it; with `--sync` each row
 -- is on the disk before the next command

@@ -1,5 +1,5 @@
 -- The settings of a station whose rows go into a file, of one whose run begins, and of one that is refused: this project's own.
-use Rattle.std.specs.Prelude.{ℕ, Bool, true, ◌&&◌, nat_lt, if◌then◌else◌}
+use Rattle.std.specs.Prelude.{ℕ, Bool, true, false, ◌&&◌, nat_le, nat_lt, Option, Some, None, if◌then◌else◌}
 use Rattle.gc_rows.specs.declared.record.Form.{Form}
 use Rattle.gc_rows.specs.declared.record.Form.TheVariants.{Lines, Csv, Columns, Json}
 use Rattle.gc_words.specs.declared.choice.Choice.{Choice}
@@ -26,6 +26,15 @@ begun_at run station = record station { layout = record station.layout { run = r
 -- whether the run would end for want of an answer before a second cycle is due: `stale` isn't 0, and is below `every`
 abbrev pub is_stale_too_soon : Choice → Bool
 is_stale_too_soon choice = nat_lt 0 choice.stale && nat_lt choice.stale choice.every
+
+-- whether there is a time `at`, and it isn't below `every`
+abbrev pub is_not_below : (every : ℕ) → Option ℕ → Bool
+is_not_below every None = false
+is_not_below every (Some at) = nat_le every at
+
+-- whether cycles are to be due by the clock, but not before the next whole multiple of `every`: `at` isn't below it
+abbrev pub is_at_without_multiple : Choice → Bool
+is_at_without_multiple choice = is_not_below choice.every choice.at
 
 -- who watches, if somebody reads the messages at a terminal (`at_terminal`): who reads lines then sits there
 abbrev pub watch_shown : (at_terminal : Bool) → Watch → Watch

@@ -1,11 +1,11 @@
 //! The choice: what an operator chooses beside the text, and by which options.
 
-ghost use Rattle.std.specs.Prelude.{◌≡◌, ◌^◌, ◌-◌, codes, IfOk, IfSome, IsSome};
+ghost use Rattle.std.specs.Prelude.{◌≡◌, ◌^◌, ◌-◌, ◌||◌, codes, is_some, IfOk, IfSome, IsSome};
 ghost use Rattle.gc_words.specs.Chosen.{GivesSeconds, GivesTimes, HasNumbers, IsChosen, form_for};
-ghost use Rattle.gc_words.specs.Stations.{is_stale_too_soon, watch_shown};
+ghost use Rattle.gc_words.specs.Stations.{is_at_without_multiple, is_stale_too_soon, watch_shown};
 ghost use Rattle.gc_words.specs.Options.{station_rules};
 ghost use Rattle.gc_words.specs.Tables.{HasArguments};
-ghost use Rattle.gc_words.specs.Words.{words_of, has_flag, HasNumber};
+ghost use Rattle.gc_words.specs.Words.{words_of, has_flag, text_in, HasNumber};
 
 use crate::arguments::{Argument, FLAG, PLACE, Takes, command_of};
 use crate::given::{byte_in, has_flag, text_in, u32_in, u64_in};
@@ -36,6 +36,14 @@ const ARGUMENTS: &[Argument<'static>] = &[
         ..FLAG
     },
     Argument {
+        name: "at",
+        takes: Takes::Unsigned(0, 86_399),
+        value_name: &["SECONDS"],
+        needs: &["every"],
+        help: "With --every: begins cycles SECONDS after whole multiples of it, counted in UTC from 1970 (0: on the hour with --every 3600)",
+        ..FLAG
+    },
+    Argument {
         name: "cycles",
         takes: Takes::Unsigned(0, u64::MAX),
         value_name: &["N"],
@@ -51,6 +59,13 @@ const ARGUMENTS: &[Argument<'static>] = &[
         takes: Takes::Text,
         value_name: &["FILE"],
         help: "Ends the run with status 0 once this file exists: between two chains, after what was sent is settled; looks at least each second",
+        ..FLAG
+    },
+    Argument {
+        name: "now",
+        takes: Takes::Text,
+        value_name: &["FILE"],
+        help: "Begins a cycle between two others whenever this file is changed (`touch FILE`); looks at least each second",
         ..FLAG
     },
     CSV,
@@ -155,7 +170,10 @@ pub struct Choice {
     pub retries: u32,
     /// For how long the run goes on without an answer of quality `ok` or `warning`. 0: without limit.
     pub stale: u64,
-    /// Whether the station looks for a file (`--until`) that asks for the end of the run.
+    /// How long after whole multiples of `every`, counted from the beginning of 1970, UTC, the cycles are due. `None`: `every` after the last
+    /// was due, and the first at once.
+    pub at: Option<u64>,
+    /// Whether the station looks for a file that asks for the end of the run (`--until`), or for a cycle (`--now`).
     pub watched: bool,
     /// Who watches, and so which signs of life are printed.
     pub watch: Watch,
@@ -168,6 +186,16 @@ impl Choice {
         ensures { result ≡ is_stale_too_soon self }
     {
         self.stale > 0 && self.stale < self.every
+    }
+
+    /// Whether cycles are to be due by the clock, but not before the next whole multiple of `every`: `at` isn't below it.
+    pub fn is_at_without_multiple(self) -> bool
+        ensures { result ≡ is_at_without_multiple self }
+    {
+        match self.at {
+            Some(at) => self.every <= at,
+            None => false,
+        }
     }
 }
 
@@ -193,7 +221,8 @@ pub fn station_of(words: &ArgMatches) -> Option<Settings>
             quiet: u64_in(words, "quiet")?,
             retries: retries_in(words)?,
             stale: seconds_in(words, "stale")?,
-            watched: text_in(words, "until").is_some(),
+            at: seconds_in(words, "at"),
+            watched: is_watched(words),
             watch: if has_flag(words, "silent") {
                 Watch::Nobody
             } else {
@@ -201,6 +230,13 @@ pub fn station_of(words: &ArgMatches) -> Option<Settings>
             },
         },
     })
+}
+
+// Whether a file is named by which somebody asks for the end of the run, or for a cycle.
+fn is_watched(words: &ArgMatches) -> bool
+    ensures { result ≡ (is_some (text_in (words_of words.now) (codes "until")) || is_some (text_in (words_of words.now) (codes "now"))) }
+{
+    text_in(words, "until").is_some() || text_in(words, "now").is_some()
 }
 
 // The form of records that the options ask for; lines without such an option. `columns` includes what `csv` asks for.

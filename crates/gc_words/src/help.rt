@@ -173,6 +173,9 @@ sent, what a target is called, and where it is:
   at start      the commands after it are the setup: they are sent before the first cycle, and again on each new connection and
                 after each resynchronization, each once the one before it was answered well. Their rows have cycle 0
   each cycle    the commands after it are the cycle's, as without such a line
+  every N cycles
+                N 1 to 65535: the commands after it have their turn in cycles 1, N + 1, 2N + 1 and so on; in the others they are left
+                out, without a row. Unless N is 1 they don't count for --stale
 
 Where a command of the setup isn't answered well, the connection is closed, and after a pause the setup starts again on the next
 one. This takes a try of --retries; all tries are available again once a command of a cycle is settled. Cycles are missed meanwhile.
@@ -195,6 +198,14 @@ A request that timed out keeps its id and doesn't hold up others. The station re
 where something is outstanding and no reply came for twice the longest deadline; ids continue. At the start, and once all that is
 outstanding has timed out and there is no room for more (at six, or fewer after a reply that settled several), it resynchronizes:
 eight null procedures are answered, one after the other, and then one more, before any command is sent.
+
+With --at cycles are due by the clock: each time a cycle begins, the next one is due at the next moment that is so many seconds after a
+whole multiple of --every, and the first one waits for such a moment, too. With --now somebody asks for a cycle between two others: it
+begins at once, or as soon as the cycle that goes on is done, and the next one stays due when it was. The file is a regular file of at
+most 64 bytes; one that was there before the first cycle asks for none.
+
+In the names of --append and --log %Y, %m, %d and %H stand for the year, month, day and hour, UTC, and %% for a percent sign. Rows go on in
+the file of the date, and so do lines.
 
 With --append FILE each command gets a row in the file, as --csv writes it, after the file's complete rows. An incomplete last
 line, which a crash may leave, is cut off and reported. A file that begins with something other than the header is refused and not

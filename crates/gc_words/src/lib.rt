@@ -19,6 +19,6 @@ pub use given::{byte_in, byte_or, has_flag, text_in, u32_in, u32_or, u64_in, u64
 pub use layout::Layout;
 pub use rehearsal::{DAY, Rehearsal, rehearsal_of, rehearse_command};
 pub use settings::Settings;
-pub use site::{LogPlace, Recording, Site, log_of, recording_of};
+pub use site::{LogPlace, Recording, Site, log_of, recording_of, signals_of};
 pub use unit::{Unit, unit_of};
 pub use version::VERSION;

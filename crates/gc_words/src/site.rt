@@ -1,21 +1,21 @@
 //! Where a station works: the place, and the files of its log and of its records.
 
 ghost use Rattle.std.specs.Prelude.{codes};
-ghost use Rattle.gc_words.specs.Chosen.{IsLog, IsLogBound, IsRecording};
+ghost use Rattle.gc_words.specs.Chosen.{AreSignals, IsLog, IsLogBound, IsRecording};
 ghost use Rattle.gc_words.specs.Words.{words_of};
 
 use crate::arguments::{Argument, FLAG, Takes};
 use crate::given::{has_flag, text_in, u64_or};
 use clap::ArgMatches;
-use gc_links::Place;
+use gc_links::{Place, Signals};
 
-/// Where a station measures; where it logs what was on the link, if anywhere; and the path of the file by which somebody asks for
-/// the run's end, if any.
+/// Where a station measures; where it logs what was on the link, if anywhere; and the files by which somebody asks for the run's end, and
+/// for a cycle, if any.
 #[derive(Clone, Copy)]
 pub struct Site<'a> {
     pub place: Place<'a>,
     pub log: Option<LogPlace<'a>>,
-    pub until: Option<&'a str>,
+    pub signals: Signals<'a>,
 }
 
 /// The option that bounds a log.
@@ -24,7 +24,7 @@ pub(crate) const LOG_BYTES: Argument<'static> = Argument {
     takes: Takes::Unsigned(1000, u64::MAX),
     value_name: &["N"],
     needs: &["log"],
-    help: "With --log: limits the file to N bytes, 1000 or more; a last line says that the rest is left out",
+    help: "With --log: keeps the newest lines: a file that would grow above N bytes, 1000 or more, is renamed FILE.1 (an older FILE.1 goes), and a new one begun",
     ..FLAG
 };
 
@@ -34,6 +34,16 @@ pub(crate) const LOG_BYTES: Argument<'static> = Argument {
 pub struct LogPlace<'a> {
     pub path: &'a str,
     pub most: u64,
+}
+
+/// The files by which somebody asks for the run's end (`--until`), and for a cycle (`--now`), as the words of `station` name them.
+pub fn signals_of<'a>(words: &ArgMatches<'a>) -> Signals<'a>
+    ensures { AreSignals (words_of words.now) result }
+{
+    Signals {
+        until: text_in(words, "until"),
+        now: text_in(words, "now"),
+    }
 }
 
 /// The log that the words of `station` ask for. `None`: they ask for none. Without `--log-bytes` it has no bound.

@@ -9,8 +9,8 @@ use gc_lines::ToWriter;
 use gc_links::place_of;
 use gc_texts::{
     Codes, Command, LogBytes, LogLine, LogMark, Occasion, RunFault, Task, Tasks, Trouble, Twice,
-    command_trouble_of, count_in, line_at, meets, read_commands, read_double, read_log_line,
-    read_tasks, trouble_of, write_log_line,
+    command_trouble_of, count_in, has_date, is_dated_path, line_at, meets, path_at, read_commands,
+    read_double, read_log_line, read_tasks, trouble_of, write_log_line,
 };
 use gc_values::{FILE_VALUES, filled_up};
 use gc_world::Event;
@@ -62,7 +62,7 @@ impl TextCase<'_, '_> {
     // Appends what comes of the text, as the case's `as` says: its line with the number under `line`, counted from 1; what is
     // printed of it as a faulty line; the line that a log has of it; the fault that it names; what it reads as; or, of a
     // station's text under `call`, what its first task asks for if it is sent at the case's `utc`, in milliseconds since 1970, 0
-    // if it has none, and under `expected`, whether the case's reply is what its first task expects. For any other word `no such text`. `Err`: the fault for which the text doesn't read as commands, a schedule
+    // if it has none, or, under `path`, what a path with a date is then; and under `expected`, whether the case's reply is what its first task expects. For any other word `no such text`. `Err`: the fault for which the text doesn't read as commands, a schedule
     // or a station's text.
     fn read_as_said(&self, came: &mut Told) -> Result<(), RunFault> {
         match self.case.value("as") {
@@ -81,6 +81,7 @@ impl TextCase<'_, '_> {
             ),
             "expected" => append_met(&self.case, self.tasks(came.alloc)?.tasks.as_slice(), came),
             "place" => read_as_place(self.text, came),
+            "path" => append_dated_path(self.text, self.case.number("utc", 0), came),
             "log line" => read_as_log_line(self.text, came),
             _ => came.text("no such text"),
         }
@@ -122,6 +123,20 @@ fn append_commands(commands: &[Command], came: &mut Told) {
     }
 }
 
+// Appends what a path with a date is at the moment `utc`, or `refused` if a `%` in it begins no part of one.
+fn append_dated_path(text: &[u8], utc: u64, came: &mut Told) {
+    let path = text_of(text);
+    if !is_dated_path(path) {
+        came.text("refused");
+        return;
+    }
+    match path_at(came.alloc, path, utc) {
+        Ok(made) => came.text(made.as_str()),
+        Err(_) => came.lack(),
+    }
+    came.text_if(!has_date(path), ", without a date");
+}
+
 // Appends each event in a line, as `Debug` prints it.
 fn append_events(events: &[Event], came: &mut Told) {
     for event in events {
@@ -157,18 +172,27 @@ fn append_tasks(case: &Case<'_>, all: &Tasks, came: &mut Told) {
 }
 
 // Appends a task's turn: its place, its attempt and its link; its `others`, which is how many tasks this attempt and those after
-// it have together if the task is the first of an attempt other than the first, and else 0; after which return codes and other
+// it have together if the task is the first of an attempt other than the first, and else 0; in every how many cycles it has its turn, unless
+// it has it in each; after which return codes and other
 // outcomes it is asked again; whether its request is made anew each time, and which values of files it takes; and its sending.
 fn append_turn(task: &Task, came: &mut Told) {
     came.titled(" place ", &task.turn.place);
     came.titled(" attempt ", &task.turn.attempt);
     came.titled(" link ", &task.turn.link);
     came.titled(" others ", &task.others);
+    append_every(task, came);
     append_codes(" again ", &task.again.codes, came);
     append_outcomes(task, came);
     came.text_if(task.now, " now");
     append_needs(task, came);
     append_sending(task, came);
+}
+
+// Appends in every how many cycles a task has its turn, if it hasn't it in each.
+fn append_every(task: &Task, came: &mut Told) {
+    if task.every != 1 {
+        came.titled(" every ", &task.every);
+    }
 }
 
 // Appends which values of files a task takes, if it takes any: the number of the first, and how many there are.

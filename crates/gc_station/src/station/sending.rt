@@ -150,7 +150,7 @@ impl Station {
         let requests = self.commands_before(plan, commands);
         let mark = self.mark_sent(plan, commands);
         let task = &commands[self.place(commands)];
-        let next = self.upcoming_after(1, commands);
+        let next = self.upcoming_after(plan, 1, commands);
         let asking = request_for(task, mark);
         let put = self.ask(link, &asking);
         self.progress.note_sent(next);

@@ -62,7 +62,7 @@ impl Station {
         ensures { self.new ≡ station_advancing plan.now commands.now count moment self.old }
     {
         let waiting = self.commands_waiting();
-        let next = self.upcoming_after(count, commands);
+        let next = self.upcoming_after(plan, count, commands);
         self.progress.note_moment_meanwhile(moment);
         self.progress.advance(count, next, false);
         self.progress.note_early(plan, waiting);

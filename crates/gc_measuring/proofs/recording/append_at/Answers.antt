@@ -4,7 +4,7 @@ use Rattle.std.proofs.lemmas.Result.{IfOk-weaker}
 use Rattle.std.specs.Prelude.{IfSome}
 use Rattle.gc_links.specs.LinksMeant.{IsMeantAt}
 use Rattle.gc_links.specs.Placed.{place_seen}
-use Rattle.gc_links.specs.Seeing.{path_at}
+use Rattle.gc_links.specs.Seeing.{signals_at}
 use Rattle.gc_messages.specs.Following.{bytes_in}
 use Rattle.gc_measuring.specs.Recording.{IsBegunAt}
 use Rattle.gc_measuring.proofs.Both.{if_ok_both}
@@ -78,7 +78,7 @@ pub returns-in-Ok-clause-place : goal.returns-in-Ok-clause-place
 returns-in-Ok-clause-place g c =
     IfSome_then c.hand_back-ended.result.1 c.hand_back-ended.ensures.given
     (λ kept is.
-    subst (λ left. IfSome left.link (λ link. ∥ IsMeantAt (place_seen c.args.spot.site.place) (path_at c.args.spot.site.until) link ∥₁)) (sym is)
+    subst (λ left. IfSome left.link (λ link. ∥ IsMeantAt (place_seen c.args.spot.site.place) (signals_at c.args.spot.site.signals) link ∥₁)) (sym is)
     c.measure_at-filed.ensures.place)
 
 pub returns-in-Err-clause-told : goal.returns-in-Err-clause-told

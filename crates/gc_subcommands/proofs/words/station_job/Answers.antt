@@ -7,5 +7,5 @@ use Rattle.gc_subcommands.proofs.words.station_job.Goals as goal
 pub returns : goal.returns
 returns c =
     subst (λ job. IsJobOf (Some (codes "station", words_of c.args.words.now)) job) (sym c.station_job_at.ensures)
-    (station_asked (words_of c.args.words.now) _ _ _ _ _ (record { place = c.in-Some.ensures; log = c.log_of.ensures; until = c.text_in.ensures })
+    (station_asked (words_of c.args.words.now) _ _ _ _ _ (record { place = c.in-Some.ensures; log = c.log_of.ensures; signals = c.signals_of.ensures })
     c.in-Some-station_of.ensures.chosen c.recording_of.ensures (sym c.has_flag-checks.ensures) (sym c.unit_of.ensures ∙ c.in-Some-unit_of.is))

@@ -17,6 +17,7 @@ returns-in-None c (says.Retrying retry) is = c.in_default-read_retrying.ensures 
 returns-in-None c (says.Agreeing agree) is = c.in_default-read_agreeing.ensures agree is
 returns-in-None c says.AtStart is = let both : true ≡ false = sym (c.is_word-3.ensures.1 is) ∙ c.if-is_word-3.false in cc
 returns-in-None c says.EachCycle is = let both : true ≡ false = sym (c.is_word-4.ensures.1 is) ∙ c.if-is_word-4.false in cc
+returns-in-None c (says.Every every) is = c.in_default-read_every.ensures every is
 returns-in-None c (says.Command wish Now None) is = c.in_default-read_clock_setting.ensures wish is
 returns-in-None c (says.Command wish Now (Some e)) is = absurd is
 returns-in-None c (says.Command wish Plain (Some e)) is = c.in_default-read_expecting.ensures (wish, Plain, e) is

@@ -21,8 +21,8 @@ returns-then-is_word-8 c =
     agree_is_setting c.args.line.now c.agree_trouble.result first
     (subst (λ (numbers : List ℕ). IsAgreeTrouble numbers c.agree_trouble.result) c.behind-then-is_word-8.ensures.is c.agree_trouble.ensures)
 
-pub returns-then-is_word-11 : goal.returns-then-is_word-11
-returns-then-is_word-11 c =
+pub returns-then-is_word-12 : goal.returns-then-is_word-12
+returns-then-is_word-12 c =
     let first : first_word c.args.line.now ≡ codes "procedure" = search rules in
     described_is_setting c.args.line.now c.description_trouble.result first
-    (subst (λ (text : List ℕ). IsDescriptionTrouble text c.description_trouble.result) c.behind-then-is_word-11.ensures.is c.description_trouble.ensures)
+    (subst (λ (text : List ℕ). IsDescriptionTrouble text c.description_trouble.result) c.behind-then-is_word-12.ensures.is c.description_trouble.ensures)

@@ -1,7 +1,7 @@
 use Rattle.std.proofs.Common.{◌≡◌, sym}
 use Rattle.std.proofs.lemmas.Result.{IfOk-weaker}
 use Rattle.gc_links.specs.Placed.{place_seen}
-use Rattle.gc_links.specs.Seeing.{path_at}
+use Rattle.gc_links.specs.Seeing.{signals_at}
 use Rattle.gc_files.specs.Sinks.{asks_sync}
 use Rattle.gc_measuring.specs.Appending.{file_of}
 use Rattle.gc_messages.specs.Following.{path_of}
@@ -15,7 +15,7 @@ returns-clause-told g c =
     (λ status t. record {
       file = file_of c.append_text_at-streams.result.2;
       ran = t;
-      place = left.meant (place_seen c.args.spot.site.place) (path_at c.args.spot.site.until) c.append_text_at-streams.ensures.place;
+      place = left.meant (place_seen c.args.spot.site.place) (signals_at c.args.spot.site.signals) c.append_text_at-streams.ensures.place;
       path = of_file (λ file. path_of file ≡ c.args.recording.path.now) c.append_text_at-streams.result.2 c.append_text_at-streams.ensures.path;
       sync = of_file (λ file. asks_sync file.rows ≡ c.args.recording.sync) c.append_text_at-streams.result.2 c.append_text_at-streams.ensures.sync;
       rows = left.rows;

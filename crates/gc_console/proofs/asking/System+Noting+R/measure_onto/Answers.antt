@@ -1,7 +1,7 @@
 use Rattle.std.proofs.Common.{refl, sym}
 use Rattle.std.proofs.lemmas.Result.{IfOk-weaker}
 use Rattle.gc_links.specs.Placed.{place_seen}
-use Rattle.gc_links.specs.Seeing.{path_at}
+use Rattle.gc_links.specs.Seeing.{signals_at}
 use Rattle.gc_console.proofs.asking.System+Noting+R.measure_onto.Goals as goal
 
 pub returns-clause-told : goal.returns-clause-told
@@ -10,7 +10,7 @@ returns-clause-told g c =
     IfOk-weaker c.measure_text_at-streams.result.1 _ _
     (λ status t. record {
       ran = t;
-      place = left.meant (place_seen c.args.spot.site.place) (path_at c.args.spot.site.until) c.measure_text_at-streams.ensures.place;
+      place = left.meant (place_seen c.args.spot.site.place) (signals_at c.args.spot.site.signals) c.measure_text_at-streams.ensures.place;
       file = refl;
     })
     (rw (c.new-kept.ensures, sym left.acts, sym left.began) at c.measure_text_at-streams.ensures.told)

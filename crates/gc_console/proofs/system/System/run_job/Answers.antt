@@ -45,3 +45,13 @@ pub returns-in-StaleTooSoon-clause-done : goal.returns-in-StaleTooSoon-clause-do
 returns-in-StaleTooSoon-clause-done g c =
     rw (c.in-StaleTooSoon.is, c.said_of-in-StaleTooSoon.ensures.said) (IfOk-weaker c.refuse_stale-ended.result _ _
     (λ status refuses. (refuses, c.said_of-in-StaleTooSoon.ensures.none)) c.refuse_stale-ended.ensures.told)
+
+pub returns-in-AtWithoutMultiple-clause-done : goal.returns-in-AtWithoutMultiple-clause-done
+returns-in-AtWithoutMultiple-clause-done g c =
+    rw (c.in-AtWithoutMultiple.is, c.said_of-in-AtWithoutMultiple.ensures.said) (IfOk-weaker c.refuse_at-ended.result _ _
+    (λ status refuses. (refuses, c.said_of-in-AtWithoutMultiple.ensures.none)) c.refuse_at-ended.ensures.told)
+
+pub returns-in-NoDate-clause-done : goal.returns-in-NoDate-clause-done
+returns-in-NoDate-clause-done g c =
+    rw (c.in-NoDate.is, c.said_of-in-NoDate.ensures.said) (IfOk-weaker c.refuse_date-ended.result _ _
+    (λ status refuses. (refuses, c.said_of-in-NoDate.ensures.none)) c.refuse_date-ended.ensures.told)

@@ -1,5 +1,5 @@
-use Rattle.std.proofs.Common.{ap, sym, ◌∙◌, refl}
-use Rattle.gc_files.specs.Rows.{cuts_none, appended}
+use Rattle.std.proofs.Common.{◌≡◌, ℕ, List, ap, sym, subst, ◌∙◌, refl}
+use Rattle.gc_files.specs.Rows.{cuts_none, appended, whole}
 use Rattle.gc_files.specs.Runs.{synced}
 use Rattle.gc_files.proofs.Adding.{content_same, cuts_two, appended_sync, synced_all}
 use Rattle.gc_files.proofs.rows_file.RowsFileDurable.sync.Goals as goal
@@ -7,6 +7,7 @@ use Rattle.gc_files.proofs.rows_file.RowsFileDurable.sync.Goals as goal
 pub invariant_of-self-in-Ok : goal.invariant_of-self-in-Ok
 invariant_of-self-in-Ok g c = record {
   only_appends = ap cuts_none c.then-self.ensures ∙ cuts_two c.args.self.now.past.steps _ c.args.self.now.only_appends refl;
+  whole_rows = λ e. subst (λ (l : List ℕ). whole l ≡ l) (sym (ap appended c.then-self.ensures ∙ appended_sync c.args.self.now.past.steps)) (c.args.self.now.whole_rows e);
   kept = λ _. ap synced c.then-self.ensures ∙ synced_all c.args.self.now.past.steps ∙ sym (ap appended c.then-self.ensures ∙ appended_sync c.args.self.now.past.steps);
   durable = λ _. c.in-Ok.ensures.durable (sym c.if-is_doubted.ensures);
 }

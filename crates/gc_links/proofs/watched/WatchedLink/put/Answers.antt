@@ -1,15 +1,15 @@
 use Rattle.gc_links.specs.Acts.{put_act}
 use Rattle.gc_links.specs.Noted.{act_of}
-use Rattle.gc_links.specs.Seeing.{path_at}
+use Rattle.gc_links.specs.Seeing.{signals_at}
 use Rattle.gc_links.proofs.Seeing.{same_then, put_same}
 use Rattle.gc_links.proofs.watched.WatchedLink.put.Goals as goal
 
 pub invariant_of-self : goal.invariant_of-self
 invariant_of-self g c =
     let w = c.args.self.now in
-    let until = path_at w.until in
+    let signals = signals_at w.signals in
     record {
       seen =
-          same_then until w.files.items w.began (put_act c.put-put.result c.args.bytes.now) (act_of c.note_of_put.result) w.seen c.put-put.ensures.tells
-          (put_same until w.files.items w.began c.put-put.result c.args.bytes.now) c.then-self.ensures c.note_of_put.ensures;
+          same_then signals w.files.items w.began (put_act c.put-put.result c.args.bytes.now) (act_of c.note_of_put.result) w.seen c.put-put.ensures.tells
+          (put_same signals w.files.items w.began c.put-put.result c.args.bytes.now) c.then-self.ensures c.note_of_put.ensures;
     }

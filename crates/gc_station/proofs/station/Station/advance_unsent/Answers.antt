@@ -14,6 +14,6 @@ returns c =
     let count = c.args.count in
     let past =
     c.advance.ensures ∙ ap (λ (u : Upcoming). advanced count u false c.note_moment_meanwhile.new.self) c.upcoming_after-next.ensures
-    ∙ ap (advanced count (upcoming_after count commands old.progress) false) c.note_moment_meanwhile.ensures in
+    ∙ ap (advanced count (upcoming_after plan count commands old.progress) false) c.note_moment_meanwhile.ensures in
     ap (λ (p : Progress). record old { progress = p }) (c.note_early.ensures ∙ ap (λ n. early_noted plan n c.advance.new.self) c.commands_waiting-waiting.ensures
     ∙ ap (early_noted plan (commands_in old.marks.items)) past)

@@ -1,7 +1,8 @@
-use Rattle.std.proofs.Common.{drop, refl, ap, ◌∙◌}
+use Rattle.std.proofs.Common.{refl, ap, ◌∙◌}
 use Rattle.gc_links.specs.Acts.{Told}
 use Rattle.gc_station.specs.Model.{cycle_length, with_moment}
-use Rattle.gc_station.specs.NextCommand.{needs_first}
+use Rattle.gc_station.specs.NextCommand.{first_upcoming}
+use Rattle.gc_station.specs.declared.progress.Progress.{Progress}
 use Rattle.gc_station.specs.Progressing.{cycle_begun}
 use Rattle.gc_station.proofs.Hearing.{refines_timed_out, untold_does}
 use Rattle.gc_station.proofs.Making.{refines_with}
@@ -12,16 +13,17 @@ returns-in-Some g c text known =
     let m = c.in-Some.moment in
     let plan = c.args.plan.now in
     let mid = c.read_moment.new.self in
-    let needs = needs_first (drop plan.setup c.args.commands.now) in
     record {
       act = Told m;
       tells = c.in-Some.ensures.0;
       goes = λ s start stands so. (
         tt,
-        refines_with mid c.begin_cycle.new.self (cycle_begun plan (cycle_length plan c.args.commands.now) needs m) (with_moment m s)
+        refines_with mid c.begin_cycle.new.self (cycle_begun plan (cycle_length plan c.args.commands.now) (first_upcoming plan c.args.commands.now s.progress) m) (with_moment m s)
             (refines_timed_out c.args.self.now mid m s stands c.in-Some.ensures.1)
-            (c.begin_cycle.ensures ∙ ap (λ n. cycle_begun plan n c.needs_at-needs.result m mid.progress) c.saturating_sub-count.ensures
-            ∙ ap (λ n. cycle_begun plan (cycle_length plan c.args.commands.now) n m mid.progress) c.needs_at-needs.ensures),
+            (c.begin_cycle.ensures ∙ ap (λ n. cycle_begun plan n c.first_upcoming-next.result m mid.progress) c.saturating_sub-count.ensures
+            ∙ ap (λ next. cycle_begun plan (cycle_length plan c.args.commands.now) next m mid.progress) c.first_upcoming-next.ensures
+            ∙ ap (λ (p : Progress). cycle_begun plan (cycle_length plan c.args.commands.now) (first_upcoming plan c.args.commands.now p) m mid.progress)
+            (refines_timed_out c.args.self.now mid m s stands c.in-Some.ensures.1).progress),
         so,
       );
     }

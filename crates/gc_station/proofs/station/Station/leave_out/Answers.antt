@@ -19,7 +19,7 @@ returns-in-Some g c text known =
     let plan = c.args.plan.now in
     let commands = c.args.commands.now in
     let m = c.in-Some.moment in
-    let goes_on : Progress → Progress = λ p. attempts_left_out (upcoming_after p.next_others commands p) m p in
+    let goes_on : Progress → Progress = λ p. attempts_left_out (upcoming_after plan p.next_others commands p) m p in
     record {
       act = Told m;
       tells = c.in-Some.ensures.0;

@@ -39,7 +39,7 @@ returns g c text known =
       goes = λ s start stands so.
           let list = drop (place_next commands s.progress) commands in
           let is : list ≡ task ∷ others = sym (ap (λ n. drop n commands) (at ∙ ap (place_next commands) stands.progress)) ∙ here in
-          let f : Model → Model = λ (x : Model). with_progress (sent (upcoming_after 1 commands x.progress)) (asks_next plan commands x) in
+          let f : Model → Model = λ (x : Model). with_progress (sent (upcoming_after plan 1 commands x.progress)) (asks_next plan commands x) in
           let asked = asks_refines old c.ask-put.new.self s asking (request_for mark task) stands c.requires.ready.1 c.request_for-asking.ensures c.ask-put.ensures.asks in
           let occasion = occasion_at s.progress.moment in
           let values = old.progress.moment.values in
@@ -54,9 +54,9 @@ returns g c text known =
                 ∙ ap (λ (a : Outgoing). next_request_text s.client a.command.call) (c.request_for-asking.ensures ∙ ap (λ (m : Mark). request_for m task) next) ∙ sym
                 (ap (first_text occasion s.client) is)) c.ask-put.ensures.part,
             put_refines put line c.commands_before-requests.result (commands_before plan commands s.progress) f s (record c.ask-put.new.self { progress = c.note_sent.new.self }) c.note_cut.new.self
-                (refines_with c.ask-put.new.self c.note_sent.new.self (sent (upcoming_after 1 commands s.progress)) (asks_next plan commands s) first
+                (refines_with c.ask-put.new.self c.note_sent.new.self (sent (upcoming_after plan 1 commands s.progress)) (asks_next plan commands s) first
                 (c.note_sent.ensures ∙ ap (λ (u : Upcoming). sent u c.ask-put.new.self.progress)
-                (c.upcoming_after-next.ensures ∙ ap (upcoming_after 1 commands) stands.progress))) c.note_cut.ensures
+                (c.upcoming_after-next.ensures ∙ ap (upcoming_after plan 1 commands) stands.progress))) c.note_cut.ensures
                 (c.commands_before-requests.ensures ∙ ap (commands_before plan commands) stands.progress),
             put_took text start known put line (commands_before plan commands s.progress) f s (first_took text start known s (mark_sent plan commands s) list so),
           );

@@ -30,7 +30,7 @@ returns-in_default-clause-does g c =
     let below : place_next commands p < length commands = omega (arith, unsent, within) in
     let some : 0 < length (drop (place_next commands p) commands) =
     omega (arith, length-drop (place_next commands p) commands, below) in
-    let goes_on : Progress → Progress = λ x. skipped (upcoming_after 1 commands x) m x in
+    let goes_on : Progress → Progress = λ x. skipped (upcoming_after plan 1 commands x) m x in
     record {
       act = Told m;
       tells = c.in-Some.ensures.0;
@@ -49,10 +49,10 @@ returns-in_default-clause-does g c =
           let rs' = ap (λ (x : Progress). unsent_record plan commands x (Told m)) is in
           let there : Refines mid (with_listed listed (with_more_records (unsent_record plan commands q (Told m)) (with_moment m s))) = subst
           (λ (xs : List Record). Refines mid (with_listed listed (with_more_records xs (with_moment m s)))) rs' here_stands in
-          let ends : Progress → Progress = λ x. early_noted plan (commands_in s.marks) (skipped (upcoming_after 1 commands q) m x) in
+          let ends : Progress → Progress = λ x. early_noted plan (commands_in s.marks) (skipped (upcoming_after plan 1 commands q) m x) in
           let progress : early_noted plan (commands_in mid.marks.items) (goes_on mid.progress) ≡ ends mid.progress =
           ap (λ n. early_noted plan n (goes_on mid.progress)) (ap commands_in there.marks)
-          ∙ ap (λ (x : Progress). early_noted plan (commands_in s.marks) (skipped (upcoming_after 1 commands x) m mid.progress)) same in (
+          ∙ ap (λ (x : Progress). early_noted plan (commands_in s.marks) (skipped (upcoming_after plan 1 commands x) m mid.progress)) same in (
             tt,
             subst (λ (x : Station). Refines x (with_progress ends (with_listed listed (with_more_records (unsent_record plan commands q (Told m)) (with_moment m s)))))
                 (sym {b = station_advancing plan commands 1 m mid} c.advance_unsent.ensures)
