@@ -7,7 +7,7 @@ from pathlib import Path
 import pytest
 
 # The modules beside the trials that have assertions of their own.
-pytest.register_assert_rewrite("asking", "measuring", "programs", "watched", "stations", "sinks", "killing", "lines", "judge", "held", "stopped", "devices", "pointing", "lining", "judging")
+pytest.register_assert_rewrite("asking", "measuring", "programs", "watched", "stations", "sinks", "killing", "lines", "judge", "held", "stopped", "devices", "pointing", "lining", "judging", "dates")
 
 
 def pytest_addoption(parser):

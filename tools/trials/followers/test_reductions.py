@@ -203,6 +203,22 @@ def test_reduces_as_a_file_grows(folder, note):
     note(f"12 kills, {found.count(chr(10).encode()) - 1} rows")
 
 
+def test_a_cycle_has_all_its_rows():
+    """Where the text's last command has its turn in every third cycle, a cycle that has it is over with it, and any other with the first row of
+    the next one. So is the first of each run."""
+    def taken(rows):
+        cycles = reductions.Cycles()
+        for run, cycle, place in rows:
+            fields = {"run": run, "cycle": str(cycle), "place": str(place), "target": str(place), "attempt": "1", "quality": "ok", "outcome": "answered",
+                      "rc_com": "0", "rc": "0", "values": ""}
+            yield (run, cycle, place), [[(row["run"], int(row["cycle"]), int(row["place"])) for row in over] for over in cycles.take(fields)]
+
+    rows = [("a", cycle, place) for cycle in range(1, 6) for place in (0, 1, 2) if place < 2 or cycle in (1, 4)] + [("b", 1, 0), ("b", 1, 1)]
+    over = [(row, cycle) for row, cycles in taken(rows) for cycle in cycles]
+    assert [cycle for _, cycle in over] == [[row for row in rows if row[:2] == at] for at in (("a", 1), ("a", 2), ("a", 3), ("a", 4), ("a", 5))]
+    assert [row for row, _ in over] == [("a", 2, 0), ("a", 3, 0), ("a", 4, 0), ("a", 4, 2), ("b", 1, 0)]
+
+
 def test_the_last_attempt_is_reduced(folder):
     """Where chains are repeated, and the set-up between them, the rows are those of the last attempts; also as the file grows, where a
     cycle is over with the last attempt of its last chain."""

@@ -1,4 +1,4 @@
-"""Cycles: when they begin, what is missed, and when a run has no end."""
+"""Cycles: when they begin, also by the clock and when somebody asks for one, what is missed, and when a run has no end."""
 
 import re
 import signal
@@ -39,6 +39,61 @@ def test_in_time(program, note):
         if most > 20:
             note(f"the machine isn't idle, so {most} ms are let pass")
         assert worst <= most
+
+
+@pytest.mark.title("--every 2 --at {at}, by the clock")
+@pytest.mark.parametrize("at", [0, 1])
+def test_by_the_clock(program, note, at):
+    """Each cycle begins so many seconds after a whole multiple of the period, UTC: the first one, too."""
+    with standing() as far:
+        with measuring(program, far.port, f"--every 2 --at {at} --cycles 3 --quiet 100 --deadline 100", TWO) as run:
+            rows, messages = finished(run, patience=15)
+        expect_each_once(rows, 2, 3)
+        assert (messages, {row["outcome"] for row in rows}) == ([], {"answered"}), "what was told, and the outcomes"
+        begins = [request.utc for request in far.commands()[::2]]
+        off = [(begin - at + 1) % 2 - 1 for begin in begins]
+        note(f"the worst of {len(off)} begins {1000 * max(map(abs, off)):.1f} ms")
+        assert max(map(abs, off)) < 0.2, f"cycles began {off} s off the clock"
+        assert abs(begins[-1] - begins[0] - 4) < 0.2, "a cycle was left out"
+
+
+@pytest.mark.title("--now, between two cycles")
+def test_asked_for(program, tmp_path):
+    """A change of the file begins a cycle, and the next one stays due when it was. A file that is there at the start asks for none."""
+    path = tmp_path / "now"
+    path.touch()
+    with standing() as far:
+        words = f"--every 4 --cycles 4 --quiet 100 --deadline 100 --now {path}"
+        with measuring(program, far.port, words, TWO) as run:
+            until(lambda: len(far.asked()) == 2, "no cycle began")
+            time.sleep(1)
+            path.touch()
+            rows, messages = finished(run, patience=20)
+        expect_each_once(rows, 2, 4)
+        assert (messages, {row["outcome"] for row in rows}) == ([], {"answered"}), "what was told, and the outcomes"
+        begins = [begin - starts_of(far)[0] for begin in starts_of(far)]
+        assert 0.9 < begins[1] < 2.3, f"the cycle that was asked for began after {begins[1]:.2f} s"
+        assert abs(begins[2] - 4) < 0.2 and abs(begins[3] - 8) < 0.2, f"cycles began after {begins} s"
+
+
+@pytest.mark.title("--now, while a cycle goes on")
+def test_asked_for_meanwhile(program, tmp_path):
+    """Changes of the file while a cycle goes on begin one more once it is done."""
+    path = tmp_path / "now"
+
+    def answers(request):
+        if len(far.asked()) in (1, 2):
+            path.write_text(f"{len(far.asked())}\n", encoding="utf-8")
+            time.sleep(0.05)
+        return good(request)
+
+    with standing(answers) as far:
+        words = f"--every 3 --cycles 3 --quiet 100 --deadline 1000 --now {path}"
+        with measuring(program, far.port, words, TWO) as run:
+            rows, _ = finished(run, patience=20)
+        expect_each_once(rows, 2, 3)
+        begins = [begin - starts_of(far)[0] for begin in starts_of(far)]
+        assert begins[1] < 1.5 and abs(begins[2] - 3) < 0.2, f"cycles began after {begins} s"
 
 
 def expect_missed_when_due(rows, began, why):

@@ -3,6 +3,7 @@
 import os
 import re
 import signal
+from pathlib import Path
 
 import pytest
 
@@ -70,7 +71,7 @@ def test_each_byte(program, folder, width):
 def expect_read_by_check(program, log):
     """`check --log` says of each line what its bytes are."""
     meanings = {
-        b"-": rb"(open|not open|ended|failed|closed|full: what went or came from here on is left out)",
+        b"-": rb"(open|not open|ended|failed|closed)",
         b">": rb"request \d+ ok", b">|": rb"(cleared|part)",
         b"<": rb"(reply 0 0|fault \d|overlong)", b"<|": rb"(cleared|part)",
     }
@@ -200,22 +201,147 @@ def test_torn_line(program, folder):
                 expect_read_by_check(program, log)
 
 
+LOST = "geocom: the log can't be written and ends here: measuring continues"
+MOST = 2000
+# More bytes than any line of these runs has.
+LONGEST = 100
+BOUNDED = f"--log-bytes {MOST} --quiet 100 --deadline 100"
+
+
+def both(log):
+    """The bytes of both files of a log, the older one's first; each file has whole lines alone, and no more bytes than it may have."""
+    older = log.with_name(log.name + ".1")
+    parts = [path.read_bytes() for path in (older, log) if path.exists()]
+    for part in parts:
+        assert len(part) <= MOST, f"it has {len(part)} bytes"
+        assert part.endswith(b"\n") and LINE.match(part), f"no whole lines: {part!r}"
+    return b"".join(parts)
+
+
+def expect_newest(log, far):
+    """What both files say went and came is the last of what the far end saw, byte by byte, and as much as has to be there."""
+    data = both(log)
+    went = b"".join(part for mark, part in entries(data) if mark in (b">", b">|"))
+    came = b"".join(part for mark, part in entries(data) if mark in (b"<", b"<|"))
+    assert b"".join(far.came).endswith(went), f"what went: {went[-200:]!r}"
+    assert b"".join(far.went).endswith(came), f"what came: {came[-200:]!r}"
+    assert went and came and len(data) > MOST - LONGEST, f"{len(data)} bytes are left of it"
+
+
 @pytest.mark.title("--log-bytes")
 def test_bounded_log(program, folder):
-    """A log has no more bytes than it may have, over several runs; its last line says that the rest is left out, and that is reported."""
-    full = "geocom: the log is full: what is sent or received from here on is not in it"
-    with standing() as far:
-        log = folder / "log"
-        for number in range(4):
-            with measuring(program, far.port, f"--log {log} --log-bytes 2000 --quiet 100 --deadline 100 --cycles 20", TWO) as run:
+    """Over several runs a log has its newest lines, whole, in two files, neither with more bytes than it may have; and `check --log` reads
+    both, also where they begin in the middle of a run."""
+    log = folder / "log"
+    for number in range(4):
+        with standing() as far:
+            with measuring(program, far.port, f"--log {log} {BOUNDED} --cycles 20", TWO) as run:
                 rows, messages = finished(run)
             expect_each_once(rows, 2, 20)
-            assert (messages.count(full), messages[-1]) == (1, "geocom: the log could not be written completely"), f"what run {number} told"
-            assert len(log.read_bytes()) <= 2000, f"it has {len(log.read_bytes())} bytes"
-            if number == 0:
-                first = log.read_bytes()
-                assert len(first) > 1500, f"it has {len(first)} bytes alone"
-                assert first.endswith(b"Z - full: what went or came from here on is left out\n"), f"it ends with {first[-100:]!r}"
-            assert log.read_bytes().startswith(first), "a later run changed it"
-            expect_read_by_check(program, log)
-        assert ended([program, "station", "1", "--log-bytes", "2000"])[0] == 2, "the status without --log"
+            assert messages == [], f"what run {number} told"
+            expect_newest(log, far)
+        whole = folder / "whole"
+        whole.write_bytes(both(log))
+        expect_read_by_check(program, whole)
+        assert b"impossible" not in ended([program, "check", "--log"], whole.read_bytes())[1], "a line is called altered for want of those before it"
+    assert ended([program, "station", "1", "--log-bytes", "2000"])[0] == 2, "the status without --log"
+
+
+@pytest.mark.title("--log-bytes, each size")
+def test_each_size(program, folder):
+    """Whichever size a line would have to be split at, it isn't: a line that fills the file to its last byte is in it, too."""
+    line = LOG_LINE
+    for spare in range(0, 100, 7):
+        log = folder / f"log{spare}"
+        log.write_bytes(line * ((MOST - spare) // len(line)))
+        held = log.read_bytes()
+        with standing() as far:
+            with measuring(program, far.port, f"--log {log} {BOUNDED}", TWO) as run:
+                finished(run)
+            data = both(log)
+            assert data.startswith(held), "what was there is gone"
+            assert carried(data[len(held) :]) == (far.came, far.went), "what the log says"
+
+
+@pytest.mark.title("--log-bytes, a log that has more")
+def test_larger_log(program, folder):
+    """A log that has more bytes than it may have, from a run without a bound, is the older file from the first line on."""
+    log = folder / "log"
+    log.write_bytes(LOG_LINE * 100)
+    with standing() as far:
+        with measuring(program, far.port, f"--log {log} {BOUNDED}", TWO) as run:
+            finished(run)
+        assert (folder / "log.1").read_bytes() == LOG_LINE * 100, "what the older file has"
+        assert carried(log.read_bytes()) == (far.came, far.went), "what the log says"
+
+
+@pytest.mark.title("--log-bytes, a link")
+def test_linked_log(program, folder):
+    """Of a log by a symbolic link the older file is beside the file that it leads to, and the link stays."""
+    (folder / "disk").mkdir()
+    log = folder / "log"
+    log.symlink_to(folder / "disk" / "east")
+    with standing() as far:
+        with measuring(program, far.port, f"--log {log} {BOUNDED} --cycles 20", TWO) as run:
+            finished(run)
+        expect_newest(folder / "disk" / "east", far)
+    assert log.is_symlink() and not (folder / "log.1").exists(), "what is beside the link"
+
+
+def ways(folder):
+    """What isn't a file of a log, each made at the path of the older file in a folder of its own, and that folder."""
+    makes = [Path.mkdir, os.mkfifo, lambda path: path.symlink_to("/nowhere"), lambda path: path.write_bytes(HEAD)]
+    for number, make in enumerate(makes):
+        place = folder / f"{number}"
+        place.mkdir()
+        yield place, lambda: make(place / "log.1")
+
+
+@pytest.mark.title("--log-bytes, what is in the way")
+def test_in_the_way(program, folder):
+    """What isn't a file of a log isn't replaced: at the start it is refused."""
+    for place, make in ways(folder):
+        make()
+        with standing() as far:
+            expect_refused(program, far, f"{place / 'log'} --log-bytes {MOST}")
+        assert os.path.lexists(place / "log.1"), "it is gone"
+
+
+@pytest.mark.title("--log-bytes, what gets in the way")
+def test_gets_in_the_way(program, folder):
+    """What gets there later isn't replaced either: the log ends, which is told once, and measuring goes on. So it does without its folder."""
+    for place, make in ways(folder):
+        expect_lost(program, place, make)
+        assert os.path.lexists(place / "log.1"), "it is gone"
+    place = folder / "moved"
+    place.mkdir()
+    expect_lost(program, place, lambda: place.rename(folder / "gone"))
+
+
+def expect_lost(program, place, spoil):
+    """A station whose log can't be rolled measures on, and tells so once."""
+    log = place / "log"
+    # Room for the first cycle, and not for the third.
+    log.write_bytes(LOG_LINE * (800 // len(LOG_LINE)))
+    with standing() as far:
+        with measuring(program, far.port, f"--log {log} {BOUNDED} --every 1 --cycles 0", TWO) as run:
+            until(lambda: run.output().count(b",answered,") >= 2, "nothing is answered")
+            spoil()
+            until(lambda: LOST in run.messages(), "it isn't told")
+            before = run.output().count(b",answered,")
+            until(lambda: run.output().count(b",answered,") > before, "it doesn't go on")
+            assert run.messages().count(LOST) == 1, "how often it is told"
+
+
+@pytest.mark.title("--log-bytes, moved away")
+def test_moved_log(program, folder):
+    """If somebody moves the log away, its lines go on there until it is full, and then in a new one at the path, which they begin."""
+    log, moved = folder / "log", folder / "moved"
+    with standing() as far:
+        with measuring(program, far.port, f"--log {log} {BOUNDED} --cycles 30", TWO) as run:
+            until(lambda: log.exists() and log.read_bytes(), "nothing is logged")
+            log.rename(moved)
+            _, messages = finished(run)
+        assert messages == [], "what was told"
+        assert len(moved.read_bytes()) <= MOST and moved.read_bytes().endswith(b"\n"), "what the moved file has"
+        expect_newest(log, far)

@@ -294,6 +294,7 @@ def test_added(program, folder, text):
 KEPT = {
     "a setup at the end": (b"7 5003\nat start\n9 5004\n", "since its end is setup: write a line `each cycle` there"),
     "unchained": (b"unchained\n7 5003\n", "since its end is unchained: write a line `chained` there"),
+    "a group at the end": (b"7 5003\nevery 2 cycles\n0 5011\n", "since its end is not for each cycle: write a line `each cycle` there"),
     "a fault": (b"7 5003\nrows\n", "since station --check has: geocom: fault 51 line 2"),
     "what looks wrong": (b"7 9027 300,1.5,0,1,0\n", "lies outside one turn in radians"),
     "no command": (b"# nothing\n", "since station --check has: geocom: fault 50"),
