@@ -10,8 +10,10 @@ import statistics
 from dataclasses import dataclass, field
 from pathlib import Path
 
+import dated
 import quantities
 import records
+from faulty import Faulty
 from followed import Refused
 
 NEEDED = ["time", "target", "name", "procedure", "outcome", "rc_com", "rc", "values"]
@@ -109,11 +111,28 @@ def outcome_of(fields):
 
 
 def read(path):
-    """The targets of a file, in the order of their numbers, by the last attempt of each command in a cycle. Half a row at its end is left
-    out, and so are those of the set-up."""
+    """The targets of a file, or of files by date, in the order of their numbers, by the last attempt of each command in a cycle. Half a row
+    at an end is left out, and so are those of the set-up."""
+    try:
+        paths = dated.files_of(path)
+    except Faulty as why:
+        raise Refused(why) from None
+    if not paths:
+        raise Refused(f"{path}: no such file is there")
+    targets = {}
+    files = [rows_of(each, len(paths) > 1) for each in paths]
+    for fields in records.last_attempts(dated.merged(files) if len(paths) > 1 else files[0]):
+        targets.setdefault(fields["target"], Target(fields["target"])).take(fields)
+    return [target for _, target in sorted(targets.items(), key=lambda pair: int(pair[0]))]
+
+
+def rows_of(path, may_be_new):
+    """The rows of a file; none of a new one, that has no line yet."""
     data = Path(path).read_bytes()
     lines = data[: data.rfind(b"\n") + 1].split(b"\n")[:-1]
-    targets, rows = {}, []
+    rows = []
+    if may_be_new and not lines:
+        return rows
     try:
         form = records.form_of(lines[0] if lines else b"", NEEDED)
     except records.NoRow as why:
@@ -125,6 +144,4 @@ def read(path):
             raise Refused(f"{path}: line {number} is no row: {why}") from None
         if fields:
             rows.append(fields)
-    for fields in records.last_attempts(rows):
-        targets.setdefault(fields["target"], Target(fields["target"])).take(fields)
-    return [target for _, target in sorted(targets.items(), key=lambda pair: int(pair[0]))]
+    return rows

@@ -11,6 +11,9 @@ import resource
 import sys
 import time
 
+import dated
+import records
+from faulty import Faulty
 from followed import Followed, Refused, Unread
 
 # How the names of a folder's files of rows end: tables, and objects of JSON.
@@ -28,6 +31,12 @@ class Moved(Exception):
 class Sink:
     """What takes the rows. `place(source)` is how far it has come in a source, and `take(source, rows, before, behind)` books rows
     with the place after them, or neither."""
+
+    # Whether it is made of all rows from the first one on, so that no file by date may be missing.
+    wants_all = False
+
+    def belongs(self, source, station):
+        """Is said, before the place of a source is asked for, of which station's files by date it is: of the only one's where that is none."""
 
     def look(self):
         """Looks whether it is still there, where that can be known without a row."""
@@ -125,6 +134,15 @@ class Following:
                 self.leave(path, Unread(f"{path}: {why.strerror}"))
         return came
 
+    def is_told(self):
+        """Whether something is wrong with one of several files."""
+        return self.is_folder and bool(self.told)
+
+    def close(self):
+        for file in self.files.values():
+            file.close()
+        self.files = {}
+
     def until_away(self, sink):
         """Hands over what is there, and what comes, until the sink is away."""
         try:
@@ -137,21 +155,165 @@ class Following:
                     continue
                 if self.said.once:
                     sink.finish()
-                    if self.is_folder and self.told:
+                    if self.is_told():
                         sys.exit(1)
                     return
                 sink.look()
                 time.sleep(self.said.rest)
         finally:
-            for file in self.files.values():
-                file.close()
-            self.files = {}
+            self.close()
+
+
+class FollowingDates(Following):
+    """All files of a pattern, as `geocom station --append` makes them by date, as if they were one file. New ones are looked for in each
+    round, and an earlier one may go on, as after a clock that was set back."""
+
+    def __init__(self, said, pattern, folder=None, station=None):
+        """Of a station's files below a folder, or of the only ones."""
+        super().__init__(said)
+        self.folder, self.station = folder, station
+        try:
+            self.dated = dated.Dated(pattern)
+        except Faulty as why:
+            raise Refused(why) from None
+        # The next row of each file, as long as its place is the same.
+        self.order, self.heads = dated.Order(), {}
+
+    def source(self, path):
+        below = self.dated.name_of(path) if self.folder is None else os.path.relpath(path, self.folder)
+        name = os.path.abspath(path) if self.said.source is None else f"{self.said.source}/{below}"
+        return os.fsencode(name).decode(errors="backslashreplace")
+
+    def is_told(self):
+        return bool(self.told)
+
+    def close(self):
+        super().close()
+        self.order, self.heads = dated.Order(), {}
+
+    def drop(self, path, sink):
+        """Goes on without a file that was taken away, unless all are wanted."""
+        if sink.wants_all:
+            raise Unread(f"{path} was taken away")
+        self.tell(path, f"{path} was taken away")
+        self.files.pop(path).close()
+        # The numbers of the others change.
+        self.order.last = None
+
+    def look(self, sink):
+        """Opens what is new, and leaves what is gone: the files in the order of their dates."""
+        paths = self.dated.files()
+        for path in [path for path in self.files if path not in paths]:
+            self.drop(path, sink)
+        for path in paths:
+            if path not in self.files:
+                try:
+                    os.stat(path)
+                    sink.belongs(self.source(path), self.station)
+                    self.files[path] = Followed(path, sink.place(self.source(path)))
+                    self.told.pop(path, None)
+                except FileNotFoundError:
+                    pass
+        if not self.files and self.said.once:
+            raise Unread(f"{self.dated.pattern}: no such file is there")
+        if not self.files:
+            self.tell(self.dated.pattern, f"{self.dated.pattern} isn't there yet")
+        else:
+            self.told.pop(self.dated.pattern, None)
+        return [path for path in paths if path in self.files]
+
+    def next_rows(self, paths):
+        """The next row of each file that has more, and how long these are. What follows a line that is no row isn't taken."""
+        heads, sizes, fault = {}, {}, None
+        # The newest first: what it has by then comes after all that the earlier ones have when they are looked at.
+        for number, path in reversed([*enumerate(paths)]):
+            file = self.files[path]
+            try:
+                sizes[number] = file.look()
+            except Unread:
+                # The next round leaves it.
+                continue
+            try:
+                heads[number] = self.head(path, file, sizes[number])
+            except Refused as why:
+                heads, fault = {}, why
+        heads = {number: fields for number, fields in heads.items() if fields is not None}
+        if fault and not heads:
+            raise fault
+        return heads, sizes
+
+    def head(self, path, file, size):
+        """The next row of a file; nothing where it has none. That of the set-up may be followed by one in a cycle."""
+        place, fields = self.heads.get(path, (None, None))
+        if place != file.place or fields is None or records.is_of_setup(fields):
+            fields = file.head(size) if size > file.place.bytes else None
+            self.heads[path] = file.place, fields
+        return fields
+
+    def round(self, sink):
+        """A batch of the file whose row is next; whether there was one."""
+        paths = self.look(sink)
+        heads, sizes = self.next_rows(paths)
+        if not heads:
+            return False
+        number = self.order.first(heads)
+        path = paths[number]
+        file = self.files[path]
+        rows, come = file.next(sizes[number], self.order.goes_on(heads))
+        try:
+            sink.take(self.source(path), rows, file.place, come[0])
+            file.took(come)
+        except Moved:
+            self.files.pop(path).close()
+        return True
+
+
+class FollowingStations(Following):
+    """The stations of a folder by the forms of their files' names, each with its files by date. Where one is refused the others go on."""
+
+    def __init__(self, said):
+        super().__init__(said)
+        self.stations = {}
+
+    def is_told(self):
+        return any(each.told for each in (self, *self.stations.values()))
+
+    def close(self):
+        for each in self.stations.values():
+            each.close()
+
+    def round(self, sink):
+        came = False
+        for name, pattern, *_ in dated.stations(self.said.file, self.said.files, ENDINGS):
+            if pattern in self.refused:
+                continue
+            if pattern not in self.stations:
+                self.stations[pattern] = FollowingDates(self.said, pattern, self.said.file, name)
+            try:
+                came |= self.stations[pattern].round(sink)
+                self.told.pop(pattern, None)
+            except Refused as why:
+                self.tell(pattern, str(why))
+                self.refused.add(pattern)
+                self.stations[pattern].close()
+            except OSError as why:
+                self.tell(pattern, why.strerror)
+        return came
+
+
+def followed_by(said):
+    """What a command line has followed."""
+    if getattr(said, "files", None):
+        if not os.path.isdir(said.file):
+            raise Refused(f"{said.file} is no folder: --files says how the files of one are called")
+        return FollowingStations(said)
+    return FollowingDates(said, said.file) if dated.has_date(said.file) else Following(said)
 
 
 def follow(said, connect):
     """Hands each row over once, over restarts of this program and of the station. A sink that is away is reported once, and tried again;
     with `once` it is the end."""
-    following = Following(said)
+    following = followed_by(said)
     while True:
         sink = None
         try:
@@ -169,12 +331,23 @@ def follow(said, connect):
                 sink.close()
 
 
-def words(does, *others):
+def form(text):
+    """A form of names, as a command line has it."""
+    try:
+        return dated.form_of(text)
+    except Faulty as why:
+        raise argparse.ArgumentTypeError(str(why)) from None
+
+
+def words(does, *others, has_folders=False):
     """The words that all followers have, and the others as `argparse` has them: names and help."""
     said = argparse.ArgumentParser(description=does)
-    said.add_argument("file", help="the file of rows, or a folder of such files, each NAME.csv or NAME.jsonl")
+    said.add_argument("file", help="the file of rows; files by date, as north-%%Y-%%m.csv; or a folder of files, each NAME.csv or NAME.jsonl")
     for name, help_text in others:
         said.add_argument(name, help=help_text)
+    if has_folders:
+        said.add_argument("--files", type=form, nargs="+", metavar="FORM",
+                          help="how the files of a folder are called, without .csv and .jsonl, as NAME-%%Y-%%m: a station's files by date are followed as one")
     said.add_argument("--as", dest="source", metavar="NAME", help="what the sink calls this file; its full path where nothing is said")
     said.add_argument("--once", action="store_true", help="end after the last whole row, in place of waiting for more")
     said.add_argument("--rest", type=float, default=1.0, metavar="SECONDS", help="how long to wait at the end of the file (1)")

@@ -9,6 +9,7 @@ import os
 import stat
 from dataclasses import dataclass
 
+import dated
 import records
 
 # How many rows go into one transaction at most, and how many bytes are read for them.
@@ -123,12 +124,14 @@ class Followed:
         self.close()
         self.file, self.form = other.file, other.form
 
-    def next(self):
-        """The next rows, at most a batch, and the place after them. A line without its line feed is left for later."""
-        if self.look() == self.place.bytes:
+    def next(self, size=None, is_next=None):
+        """The next rows, at most a batch, and the place after them. A line without its line feed is left for later; and so is what came
+        behind so many bytes, and the first row that isn't next, with all that follows it."""
+        size = self.look() if size is None else size
+        if size == self.place.bytes:
             return [], (self.place,)
         begin = self.place.bytes - len(self.last)
-        data = os.pread(self.file.fileno(), PIECE, begin)
+        data = os.pread(self.file.fileno(), min(PIECE, size - begin), begin)
         if not data.startswith(self.last):
             raise Refused(f"{self.path} has other bytes before byte {self.place.bytes} than were taken of it: it was edited")
         *lines, rest = data[len(self.last) :].split(b"\n")
@@ -144,11 +147,18 @@ class Followed:
                 if taken == self.place.bytes:
                     raise
                 break
+            if row and is_next and not is_next(row.fields):
+                break
             rows += [row] if row else []
             last = line + b"\n"
             taken += len(last)
             digest.update(last)
         return rows, (Place(taken, self.place.rows + len(rows), digest.hexdigest()), digest, last)
+
+    def head(self, size):
+        """Of the rows in so many bytes the one by which they are compared with other files'; nothing where there is none."""
+        rows, _ = self.next(size, dated.until_cycle())
+        return dated.head_of([row.fields for row in rows]) if rows else None
 
     def row(self, line, number, end):
         """The row of a line; nothing of a line with the names of the columns."""

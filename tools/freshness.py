@@ -1,4 +1,4 @@
-"""Whether a station measures, from the end of its file of rows alone: how old the last row of a cycle is, and each target's last
+"""Whether a station measures, from the end of its file of rows, or of its files by date, alone: how old the last row of a cycle is, and each target's last
 measurement.
 
 A measurement is a row of a procedure that measures directions, of quality `ok` or `warning`, with a value for each of its quantities. The
@@ -11,8 +11,10 @@ import os
 import stat
 from dataclasses import dataclass, field
 
+import dated
 import quantities
 import records
+from faulty import Faulty
 
 # How much is read at once, how long a line may be, and how far back a target's last measurement is looked for.
 PIECE = 1 << 16
@@ -98,6 +100,10 @@ class File:
         except OSError as why:
             raise Unknown(f"{self.path}: {why.strerror}") from None
 
+    def is_read_whole(self):
+        """Once all rows were asked for: whether these are all that the file has."""
+        return self.stat.st_size <= MOST_BYTES
+
     def form(self):
         """The form of the rows, from the first line; nothing where that isn't complete."""
         if not stat.S_ISREG(self.stat.st_mode):
@@ -130,18 +136,67 @@ class File:
         if begin == 0 and rest:
             yield rest
 
-    def rows(self):
-        """The rows of cycles from the last one back, each with its moment."""
+    def rows(self, most=MOST_BYTES):
+        """The rows of cycles from the last one back, of so many bytes, each with its moment."""
         form = self.form()
         if form is None:
             return
-        for line in self.lines():
+        for line in self.lines(most):
             try:
                 fields = form.row(line)
             except records.NoRow as why:
                 raise Unknown(f"{self.path}: a line near its end is no row: {why}") from None
             if fields and not records.is_of_setup(fields):
                 yield fields, records.moment(fields["time"])
+
+
+class Files:
+    """Files by date, from the newest one back, as if they were one."""
+
+    def __init__(self, pattern, now, within):
+        try:
+            self.paths = dated.Dated(pattern).files()[::-1]
+        except Faulty as why:
+            raise Unknown(str(why)) from None
+        if not self.paths:
+            raise Missing(f"{pattern}: no such file is there")
+        self.paths = self.paths[self.begin(now, within) :]
+        with File(self.paths[0]) as newest:
+            self.path, self.stat = newest.path, newest.stat
+        self.is_whole = False
+
+    def __enter__(self):
+        return self
+
+    def __exit__(self, *_):
+        pass
+
+    def begin(self, now, within):
+        """The first of them to be read: the newest one with rows, unless its last row is ahead of the clock, and an earlier one has a row of
+        just now that isn't of an earlier cycle. Rows go on there where the clock was set back."""
+        newest = None
+        for number, path in enumerate(self.paths):
+            with File(path) as file:
+                fields, moment = next(file.rows(), (None, None))
+            if fields and newest is None:
+                newest = number, fields
+            if fields and -AHEAD <= (now - moment).total_seconds():
+                is_young = (now - moment).total_seconds() <= within
+                return number if is_young and not dated.is_before(fields, newest[1]) else newest[0]
+        return newest[0] if newest else 0
+
+    def rows(self):
+        left = MOST_BYTES
+        for path in self.paths:
+            with File(path) as file:
+                yield from file.rows(left)
+            left -= file.stat.st_size
+            if left <= 0:
+                return
+        self.is_whole = True
+
+    def is_read_whole(self):
+        return self.is_whole
 
 
 class Due:
@@ -184,7 +239,7 @@ def end_of(file, now, limit):
         if target and not target.measured and (moment - now).total_seconds() <= AHEAD and quantities.measures(fields) and quantities.is_whole(fields):
             target.measured = moment
     if end:
-        end.is_whole = file.stat.st_size <= MOST_BYTES
+        end.is_whole = file.is_read_whole()
     return end
 
 
@@ -221,7 +276,7 @@ def judged_start(file, now, within):
 def judged(path, now, within, measured, left_out=()):
     """The status of the file that is at a path now, what is to be said, figures for a monitor, and its last row."""
     try:
-        with File(path) as file:
+        with Files(path, now, within) if dated.has_date(path) else File(path) as file:
             end = end_of(file, now, max(within, measured))
             if end is None:
                 return (*judged_start(file, now, within), None)

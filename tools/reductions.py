@@ -259,7 +259,8 @@ class Reducer:
 
 class Cycles:
     """Parts rows into cycles. One is over with the row of the text's last command, which is known once a cycle of the same run was
-    followed by another one, where its chain can't be repeated; and else with the first row of the next. Rows of the set-up are in none."""
+    followed by another one, where its chain can't be repeated; and else with the first row of the next. The last command is that of all
+    cycles of the run so far: it may have its turn in some cycles alone. Rows of the set-up are in none."""
 
     def __init__(self):
         self.at, self.rows, self.last_place = None, [], None
@@ -272,7 +273,7 @@ class Cycles:
         if at != self.at:
             over += [self.rows] if self.rows else []
             is_same_run = self.at is not None and self.at[0] == at[0]
-            self.last_place = self.last_row_place if is_same_run else None
+            self.last_place = max(self.last_row_place, self.last_place or 0) if is_same_run else None
             self.at, self.rows = at, []
         self.rows.append(fields)
         self.last_row_place = int(fields["place"])

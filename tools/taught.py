@@ -42,7 +42,7 @@ class Text:
 
     def __init__(self, data):
         self.data, self.names, self.places, self.targets = data, {}, {}, {0}
-        self.is_setup, self.is_chained, self.has_deadline = False, True, False
+        self.is_setup, self.is_each, self.is_chained, self.has_deadline = False, True, True, False
         for line in data.decode("latin-1").split("\n"):
             if line and not line.startswith("#"):
                 self.take(line.removesuffix("\r").split(" "))
@@ -57,8 +57,8 @@ class Text:
             self.targets.add(int(words[0]))
         elif words[0] in ("chained", "unchained"):
             self.is_chained = words[0] == "chained"
-        elif words[0] in ("at", "each"):
-            self.is_setup = words[0] == "at"
+        elif words[0] in ("at", "each", "every"):
+            self.is_setup, self.is_each = words[0] == "at", words[0] != "every" or words[1] == "1"
         self.has_deadline |= words[0] == "deadline"
 
     def next(self):
@@ -124,9 +124,10 @@ class TextFile:
         if data and (found := self.program.found(data)):
             raise Refused(f"{self} isn't added to, since station --check has: {found}")
         text = Text(data)
-        if text.is_setup or not text.is_chained:
-            wants = "each cycle" if text.is_setup else "chained"
-            raise Refused(f"{self} isn't added to, since its end is {'setup' if text.is_setup else 'unchained'}: write a line `{wants}` there")
+        if text.is_setup or not text.is_each or not text.is_chained:
+            wants = "chained" if text.is_each and not text.is_setup else "each cycle"
+            end = "setup" if text.is_setup else "unchained" if text.is_each else "not for each cycle"
+            raise Refused(f"{self} isn't added to, since its end is {end}: write a line `{wants}` there")
         return text
 
     def look(self):

@@ -11,6 +11,7 @@ from bisect import bisect_left, insort
 from dataclasses import dataclass, field
 from pathlib import Path
 
+import dated
 import drawn
 import freshness
 import limits
@@ -90,6 +91,54 @@ class Growing:
             self.key = None
             raise freshness.Unknown(f"{self.path}: a line near its end is no row: {why}") from None
         return None if fields is None or records.is_of_setup(fields) else fields
+
+
+class GrowingDates:
+    """Files of rows by date, of which the newest grows, as if they were one."""
+
+    def __init__(self, pattern):
+        self.path, self.key, self.order = pattern, None, dated.Order()
+        # The files that are read, in the order of their dates, and how long the earlier ones are.
+        self.files, self.earlier = {}, {}
+
+    def look(self, is_enough):
+        """As that of one file. Where an earlier file goes on, as after a clock that was set back, all is read again."""
+        paths = dated.files_of(self.path)
+        if not paths:
+            raise freshness.Missing(f"{self.path}: no such file is there")
+        if self.key and self.earlier == {path: size_of(path) for path in paths if path in self.earlier}:
+            found = [self.more(path) for path in paths if path not in self.earlier]
+            if all(rows is not None for rows in found) and all(path in paths for path in self.files):
+                return dated.merged(found, self.order), False
+        self.key, self.order = self.path, dated.Order()
+        return dated.merged(self.first(paths, is_enough), self.order), True
+
+    def first(self, paths, is_enough):
+        """The rows of the last files, from the newest one back."""
+        self.files, self.earlier, found = {}, {}, []
+        done = []
+        for path in reversed(paths):
+            if done:
+                self.earlier[path] = size_of(path)
+                continue
+            file = self.files[path] = Growing(path)
+            found.insert(0, file.look(lambda fields: is_enough(fields) and not done.append(path))[0])
+        return found
+
+    def more(self, path):
+        """What came in a file; nothing where another one took its place."""
+        is_new = path not in self.files
+        file = self.files.setdefault(path, Growing(path))
+        had_none = file.form is None
+        rows, is_all = file.look(lambda fields: False)
+        return None if is_all and not (is_new or had_none) else rows
+
+
+def size_of(path):
+    try:
+        return os.stat(path).st_size
+    except OSError:
+        return None
 
 
 @dataclass
@@ -204,7 +253,7 @@ class Station:
 
     def __init__(self, name, rows, reduced, table, site, days):
         self.name, self.days = name, days
-        self.rows, self.reduced = Growing(rows), Growing(reduced)
+        self.rows, self.reduced = GrowingDates(rows) if dated.has_date(rows) else Growing(rows), Growing(reduced)
         self.table_path, self.site_path = table, site
         self.begin_again()
         self.limits, self.within, self.within_metres = [], None, None
