@@ -6,11 +6,13 @@ _geocom_tools() {
     _init_completion || return
     local given='--as --once --rest --help'
     case ${1##*/} in
-    geocom-to-mqtt) given="--host --port --user --password-file $given" ;;
+    geocom-to-sqlite) given="--files $given" ;;
+    geocom-to-postgres) given="--files $given" ;;
+    geocom-to-mqtt) given="--files --host --port --user --password-file $given" ;;
     geocom-reduce) given="--append --gama --free $given" ;;
     geocom-alarm) given="--run --repeat --apart --patience $given" ;;
     geocom-alive) given='--within --measured --except --notify --help' ;;
-    geocom-page) given='--rows --reduced --limits --days --within --except --every --once --at --help' ;;
+    geocom-page) given='--rows --files --reduced --limits --days --within --except --every --once --at --help' ;;
     geocom-plot) given='--help' ;;
     geocom-bad-line) given='--line --seed --connections --log --far-log --decided --drill --deadline --help' ;;
     geocom-teach) given='--unit --near --within --search --sets --one-face --deadline --geocom --help' ;;
@@ -32,7 +34,7 @@ _geocom_tools() {
         _known_hosts_real -- "$cur"
         return
         ;;
-    --as | --rest | --within | --measured | --except | --port | --user | --run | --apart | --patience | --seed | --connections | --deadline | --days | --every | --at | --near | --search | --sets) return ;;
+    --as | --rest | --within | --measured | --except | --port | --user | --run | --apart | --patience | --seed | --connections | --deadline | --days | --every | --files | --at | --near | --search | --sets) return ;;
     esac
     case $cur in
     -*) mapfile -t COMPREPLY < <(compgen -W "$given" -- "$cur") ;;

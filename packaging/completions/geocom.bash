@@ -9,7 +9,7 @@ _geocom() {
         return
     fi
     case $prev in
-    --scene | --line | --log | --append | --until)
+    --scene | --line | --log | --append | --until | --now)
         # `check --log` takes no file.
         if [ "$command" != check ]; then
             _filedir
@@ -24,7 +24,7 @@ _geocom() {
         mapfile -t COMPREPLY < <(compgen -W 'gon degree' -- "$cur")
         return
         ;;
-    --connections | --idle | --nights | --seed | --deadline | --every | --cycles | --quiet | --retries | --stale | --log-bytes) return ;;
+    --connections | --idle | --nights | --seed | --deadline | --every | --at | --cycles | --quiet | --retries | --stale | --log-bytes) return ;;
     esac
     case $command in
     exec | loop) given='--scene --help' ;;
@@ -32,7 +32,7 @@ _geocom() {
     drill) given='--scene --totals --width --help' ;;
     serve) given='--any-address --connections --keep --idle --scene --help' ;;
     ask) given='--help' ;;
-    station) given='--width --deadline --every --cycles --quiet --retries --stale --until --csv --columns --json --append --sync --unchained --silent --check --unit --log --log-bytes --help' ;;
+    station) given='--width --deadline --every --at --cycles --quiet --retries --stale --until --now --csv --columns --json --append --sync --unchained --silent --check --unit --log --log-bytes --help' ;;
     rehearse) given='--nights --every --cycles --scene --line --seed --width --deadline --quiet --retries --stale --csv --columns --json --unchained --help' ;;
     *) return ;;
     esac
