@@ -333,14 +333,27 @@ def expect_lost(program, place, spoil):
             assert run.messages().count(LOST) == 1, "how often it is told"
 
 
+def is_moved(path, other):
+    """Moves a file away; whether it was there: between two files of a log there is none for a moment."""
+    try:
+        path.rename(other)
+    except FileNotFoundError:
+        return False
+    return True
+
+
 @pytest.mark.title("--log-bytes, moved away")
 def test_moved_log(program, folder):
     """If somebody moves the log away, its lines go on there until it is full, and then in a new one at the path, which they begin."""
-    log, moved = folder / "log", folder / "moved"
+    log, older, moved, stop = folder / "log", folder / "log.1", folder / "moved", folder / "stop"
     with standing() as far:
-        with measuring(program, far.port, f"--log {log} {BOUNDED} --cycles 30", TWO) as run:
+        with measuring(program, far.port, f"--log {log} {BOUNDED} --cycles 0 --until {stop}", TWO) as run:
             until(lambda: log.exists() and log.read_bytes(), "nothing is logged")
-            log.rename(moved)
+            until(lambda: is_moved(log, moved), "there is no log to be moved away")
+            # One that was full before is of lines before those that were moved away.
+            older.unlink(missing_ok=True)
+            until(older.exists, "no new file at the path was full")
+            stop.touch()
             _, messages = finished(run)
         assert messages == [], "what was told"
         assert len(moved.read_bytes()) <= MOST and moved.read_bytes().endswith(b"\n"), "what the moved file has"
