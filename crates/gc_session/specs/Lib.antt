@@ -1,0 +1,7 @@
+pub mod Lines
+pub mod Exchange
+pub mod Sessions
+pub mod Events
+pub mod Calls
+pub mod Laws
+pub mod Witness
