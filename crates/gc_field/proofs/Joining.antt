@@ -187,7 +187,7 @@ module _ {State : Type 0} (ends : Ends State) (Good : State → Type 0) (kept : 
       let size : length (course 7 begun p.steps).sent ≡ length (map asked (own_sent ends s)) = ap length (course_sent p.steps begun ∙ fit_sent p s f) in
       let low : n < length (map asked (own_sent ends s)) = slice_get_within (map asked (own_sent ends s)) n a.0 a.1 in
       inr (inr (goes_out ends Good kept is s f.sound p.steps f.steps n (omega (arith, size, low))
-      (λ front later target call deadline e count. rule front later target call deadline mark e (subst (λ k. slice_get p.marks k ≡ Some (Some mark)) (sym count) at))))
+      (λ front later target call deadline e count at_send. rule front later target call deadline mark e (subst (λ k. slice_get p.marks k ≡ Some (Some mark)) (sym count) at))))
 
   -- if the station's rule holds of each part, and the requests of the stretches are those of the parts (`AreSentAs`), each of
   -- these requests that is a command is safe

@@ -52,3 +52,10 @@ pub mod CountingChain
 pub mod LateAnswer
 pub mod BeginsAnew
 pub mod SceneField
+pub mod Owning
+pub mod Parting
+pub mod InTable
+pub mod SentNear
+mod Sessions
+pub mod Killed
+mod SessionWitness

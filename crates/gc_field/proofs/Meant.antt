@@ -50,7 +50,7 @@ gave_means_sync_steps true rest behind piece m e = inl (refl, e)
 gave_means_sync_steps false rest behind piece m e = inr (refl, e)
 
 -- where bytes that are sent while the station synchronizes mean the part p to it, they mean p's steps of the synchronization
-put_means_sync_steps : (s : Model) (bytes : List ℕ) (p : Part) → IsPutBySync s bytes p → IsNullOrLineFeed s.progress.word bytes p.sync_steps
+put_means_sync_steps : (s : Model) (bytes : List ℕ) (p : Part) → IsPutBySync s bytes p → IsNullOrLineFeed s.progress.exchange.word bytes p.sync_steps
 put_means_sync_steps s bytes p (inl e) = inl (e.0, ap (λ (x : Part). x.sync_steps) e.1)
 put_means_sync_steps s bytes p (inr e) = inr (e.0, ap (λ (x : Part). x.sync_steps) e.1)
 
@@ -108,7 +108,7 @@ module _ (plan : Plan) (commands : List Task) where
 
   -- while a station synchronizes, an act that it performs means the steps of its part (`MeansSyncSteps`)
   sync_steps_mean : (s : Model) (act : Act) → has_begun s.progress ≡ false → Performs commands s (action_at plan s) act
-      → MeansSyncSteps s.progress.word s.rest act (sync_part s (action_at plan s) act).sync_steps (after plan commands s act).rest
+      → MeansSyncSteps s.progress.exchange.word s.rest act (sync_part s (action_at plan s) act).sync_steps (after plan commands s act).rest
   sync_steps_mean s (Gave piece m) begins obeys =
       subst (λ steps. IsHeardOrDiscarded s.rest piece steps (after plan commands s (Gave piece m)).rest) (sym (sync_steps_gave commands s (action_at plan s) piece m obeys))
       (gave_means_sync_steps (is_heard s.progress.phase) s.rest (after plan commands s (Gave piece m)).rest piece m (after_rest plan commands s (Gave piece m) obeys))

@@ -8,7 +8,6 @@ use Rattle.gc_client.specs.declared.pending.Pending.{Pending}
 use Rattle.gc_client.specs.Rule.{heard}
 use Rattle.gc_instrument.specs.State.{KeptReply}
 use Rattle.gc_texts.specs.Strays.{is_impossible}
-use Rattle.gc_station.specs.Lines.{raises_doubt}
 use Rattle.gc_world.specs.Clients.{by_ids, by_numbers}
 use Rattle.gc_world.specs.Order.{Rising, numbers}
 use Rattle.gc_world.proofs.Ids.{place_within, place_before}
@@ -25,6 +24,7 @@ use Rattle.gc_field.proofs.InTime.{IsSoundStretch, clean_of}
 use Rattle.gc_field.proofs.Moving.{both_all}
 use Rattle.gc_field.proofs.BegunFaithful.{both_begun}
 use Rattle.gc_field.proofs.Possible.{front_possible, later_possible}
+use Rattle.gc_session.specs.Lines.{raises_doubt}
 
 -- where `total` requests were sent, `since` of them before the client's last start, `count` of them are settled, and at most seven aren't:
 -- a reply to request `number`, which isn't one of those settled before the last, can be

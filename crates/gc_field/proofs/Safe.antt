@@ -1,5 +1,5 @@
 -- Each command of a station is safe in its stretch: it is sent after the table, as the station's rule says.
-use Rattle.std.proofs.Common.{◌≡◌, inl, inr, ℕ, ◌+◌, ◌<◌, ◌≤◌, Bool, true, false, List, [], ◌∷◌, ◌++◌, length, map, Option, Some, None, refl, sym, ◌∙◌, ap, subst, arith, ltb}
+use Rattle.std.proofs.Common.{◌≡◌, inr, ℕ, ◌+◌, ◌<◌, ◌≤◌, Bool, true, false, List, [], ◌∷◌, ◌++◌, length, map, Option, Some, None, refl, sym, ◌∙◌, ap, subst, arith, ltb}
 use Rattle.std.proofs.lemmas.Bool.{ltb-true, ltb-false}
 use Rattle.std.specs.Prelude.{slice_get}
 use Rattle.std.proofs.lemmas.List.{length-append, length-map, length_push}
@@ -21,12 +21,12 @@ use Rattle.gc_field.specs.Shown.{Stretch}
 use Rattle.gc_field.proofs.BegunFaithful.{sent_is}
 use Rattle.gc_field.proofs.InTime.{IsSoundStretch, faithful_throughout}
 use Rattle.gc_field.proofs.Possible.{front_possible}
-use Rattle.gc_station.proofs.Lists.{cons_head, cons_tail, get_behind}
+use Rattle.gc_station.proofs.Booking.{course_sent, sent_by}
+use Rattle.gc_station.proofs.Lists.{cons_head, cons_tail, get_behind, get_more}
 
 -- The step at which a request is sent.
 
--- these steps, split at a send before which n requests were sent, where x is the course before the steps. The client may refuse
--- that send
+-- these steps, split at the send at which request n is sent, where x is the course before the steps
 pub record IsSplit (steps : List (Step Asked)) (x : Course Asked) (n : ℕ) : Type 0 where
   pub front : List (Step Asked)
   pub later : List (Step Asked)
@@ -35,11 +35,18 @@ pub record IsSplit (steps : List (Step Asked)) (x : Course Asked) (n : ℕ) : Ty
   pub deadline : ℕ
   pub split : steps ≡ front ++ step.Send target call deadline ∷ later
   pub number : length (course 7 x front).sent ≡ n
+  pub sent : slice_get (course 7 x steps).sent n ≡ Some (record { target = target; call = call })
 
 -- after a send, refused or not, at most one more request was sent
 sent_few : (x : Course Asked) (target : ℕ) (call : Asked) (o : Option (Sending (ById Asked))) → length (sent_on x target call o).sent ≤ length x.sent + 1
 sent_few x target call None = omega arith
 sent_few x target call (Some s) = omega (arith, length_push x.sent (record { target = target; call = call }))
+
+-- a send after which more requests were sent than before sent its request as the last one
+sent_last : (x : Course Asked) (target : ℕ) (call : Asked) (o : Option (Sending (ById Asked))) → length x.sent < length (sent_on x target call o).sent
+    → slice_get (sent_on x target call o).sent (length x.sent) ≡ Some (record { target = target; call = call })
+sent_last x target call None low = absurd (omega (arith, low))
+sent_last x target call (Some s) low = get_behind x.sent (record { target = target; call = call } ∷ []) (length x.sent) 0 (omega arith)
 
 -- if the course x has sent at most n requests, and more than n after these steps, the steps have a send before which n requests
 -- were sent (`IsSplit`)
@@ -54,7 +61,20 @@ split_at (step.Send target call deadline ∷ steps) x n low high =
     by_case others true e =
         let l : n < length (course_after 7 x (step.Send target call deadline)).sent = ltb-true n (length (course_after 7 x (step.Send target call deadline)).sent) e in
         let few = sent_few x target call (sends 7 x.client target call deadline) in
-        record { front = []; later = steps; target = target; call = call; deadline = deadline; split = refl; number = omega (arith, l, few, low) }
+        let count : length x.sent ≡ n = omega (arith, l, few, low) in
+        let y = course_after 7 x (step.Send target call deadline) in
+        record {
+          front = [];
+          later = steps;
+          target = target;
+          call = call;
+          deadline = deadline;
+          split = refl;
+          number = count;
+          sent = ap (λ xs. slice_get xs n) (course_sent steps y)
+              ∙ get_more y.sent (sent_by y.client steps) n (record { target = target; call = call })
+              (subst (λ k. slice_get y.sent k ≡ Some (record { target = target; call = call })) count (sent_last x target call (sends 7 x.client target call deadline) (omega (arith, l, count))));
+        }
     by_case others false e =
         let r = others (ltb-false n (length (course_after 7 x (step.Send target call deadline)).sent) e) in
         record {
@@ -65,16 +85,17 @@ split_at (step.Send target call deadline ∷ steps) x n low high =
           deadline = r.deadline;
           split = ap (λ l. step.Send target call deadline ∷ l) r.split;
           number = r.number;
+          sent = r.sent;
         }
 split_at (step.Hear line ∷ steps) x n low high =
     let r = split_at steps (course_after 7 x (step.Hear line)) n low high in
-    record { front = step.Hear line ∷ r.front; later = r.later; target = r.target; call = r.call; deadline = r.deadline; split = ap (λ l. step.Hear line ∷ l) r.split; number = r.number }
+    record { front = step.Hear line ∷ r.front; later = r.later; target = r.target; call = r.call; deadline = r.deadline; split = ap (λ l. step.Hear line ∷ l) r.split; number = r.number; sent = r.sent }
 split_at (step.Expire now ∷ steps) x n low high =
     let r = split_at steps (course_after 7 x (step.Expire now)) n low high in
-    record { front = step.Expire now ∷ r.front; later = r.later; target = r.target; call = r.call; deadline = r.deadline; split = ap (λ l. step.Expire now ∷ l) r.split; number = r.number }
+    record { front = step.Expire now ∷ r.front; later = r.later; target = r.target; call = r.call; deadline = r.deadline; split = ap (λ l. step.Expire now ∷ l) r.split; number = r.number; sent = r.sent }
 split_at (step.Restart ∷ steps) x n low high =
     let r = split_at steps (course_after 7 x step.Restart) n low high in
-    record { front = step.Restart ∷ r.front; later = r.later; target = r.target; call = r.call; deadline = r.deadline; split = ap (λ l. step.Restart ∷ l) r.split; number = r.number }
+    record { front = step.Restart ∷ r.front; later = r.later; target = r.target; call = r.call; deadline = r.deadline; split = ap (λ l. step.Restart ∷ l) r.split; number = r.number; sent = r.sent }
 
 -- these moves, split at a send with this target, call and deadline: the client sees the steps `front` of the moves before it
 pub record IsSeen {State : Type 0} (ms : List (Move State)) (front : List (Step Asked)) (target : ℕ) (call : Asked) (deadline : ℕ) : Type 0 where
@@ -166,11 +187,11 @@ module _ {State : Type 0} (ends : Ends State) (Good : State → Type 0) (kept : 
       let same : near.1.call ≡ r.0.call = (f.one_for_one.same (8 + near.0) near.1 r.0 got r.1).1 in
       (8 + near.0, omega (arith, low, many), omega (arith, count, near.4), inr (r.0, near.1, r.1, sym (ap is_of_table same) ∙ near.3.0, got, by_reply near.1.outcome near.3.1))
 
-  -- if a sound stretch shows steps in which more than n requests are sent, and each send before which n of them were sent is near
-  -- the table, request 8 + n of the stretch is sent after the table (`WentOutBehindTheTable`)
+  -- if a sound stretch shows steps in which more than n requests are sent, and the send at which request n is sent is near the table,
+  -- request 8 + n of the stretch is sent after the table (`WentOutBehindTheTable`)
   pub goes_out : (s : Stretch State) → IsSoundStretch ends Good kept is s → (steps : List (Step Asked)) → seen s.moves ≡ steps → (n : ℕ) → n < length (course 7 begun steps).sent
       → ((front later : List (Step Asked)) (target : ℕ) (call : Asked) (deadline : ℕ) → steps ≡ front ++ step.Send target call deadline ∷ later → length (course 7 begun front).sent ≡ n
-      → IsNearTheTable (course 7 begun front)) → WentOutBehindTheTable 7 ends s.from s.moves (8 + n)
+      → slice_get (course 7 begun steps).sent n ≡ Some (record { target = target; call = call }) → IsNearTheTable (course 7 begun front)) → WentOutBehindTheTable 7 ends s.from s.moves (8 + n)
   goes_out s sound steps shown n low near =
       let at = split_at steps begun n (omega arith) low in
       let m = seen_at s.moves at.front at.later at.target at.call at.deadline (shown ∙ at.split) in
@@ -185,5 +206,5 @@ module _ {State : Type 0} (ends : Ends State) (Good : State → Type 0) (kept : 
         split = m.split;
         number = sent_count s sound m.before rest m.split ∙ ap (λ k. 8 + k) count;
         behind_table = near_is s sound m.before rest m.split
-            (subst (λ l. IsNearTheTable (course 7 begun l)) (sym m.seen_before) (near at.front at.later at.target at.call at.deadline at.split at.number));
+            (subst (λ l. IsNearTheTable (course 7 begun l)) (sym m.seen_before) (near at.front at.later at.target at.call at.deadline at.split at.number at.sent));
       }

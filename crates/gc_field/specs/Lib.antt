@@ -30,3 +30,7 @@ pub mod CountingChain
 pub mod LateAnswer
 pub mod BeginsAnew
 pub mod SceneField
+pub mod ClientRuns
+pub mod Owned
+pub mod Sessions
+pub mod SessionWitness

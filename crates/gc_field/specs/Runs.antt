@@ -14,6 +14,7 @@ use Rattle.gc_texts.specs.declared.near.Expected.{Expected}
 use Rattle.gc_texts.specs.Tasks.{call_at}
 use Rattle.gc_texts.specs.declared.tasks.Task.{Task}
 use Rattle.gc_texts.specs.Endings as end
+use Rattle.gc_session.specs.Lines.{raises_doubt}
 use Rattle.gc_station.specs.declared.plan.Plan.{Plan}
 use Rattle.gc_links.specs.Acts.{Act}
 use Rattle.gc_texts.specs.Endings.{line_of}
@@ -21,7 +22,6 @@ use Rattle.gc_station.specs.Beginnings.{unanswered_after}
 use Rattle.gc_station.specs.Begun.{AreBegun, heard_in}
 use Rattle.gc_station.specs.Deciding.{has_begun}
 use Rattle.gc_station.specs.EachOnce.{EachOnce}
-use Rattle.gc_station.specs.Lines.{raises_doubt}
 use Rattle.gc_station.specs.Links.{parts}
 use Rattle.gc_station.specs.Marks.{records_of}
 use Rattle.gc_station.specs.Parts.{Part, MarksAsk, part_of_act, mark_of, occasion_in, sent_of, timeless}
@@ -127,7 +127,7 @@ module _ {State : Type 0} (ends : Ends State) where
 -- of its line
 abbrev pub IsMeant : Bool → Model → Act → Part → Model → Type 0
 IsMeant true s act p t = (p.sync_steps ≡ []) × Means s.client s.rest act p.steps t.rest
-IsMeant false s act p t = (p.steps ≡ []) × MeansSyncSteps s.progress.word s.rest act p.sync_steps t.rest × (t.progress.word ≡ unanswered_after s.progress.word (heard_in p.sync_steps))
+IsMeant false s act p t = (p.steps ≡ []) × MeansSyncSteps s.progress.exchange.word s.rest act p.sync_steps t.rest × (t.progress.exchange.word ≡ unanswered_after s.progress.exchange.word (heard_in p.sync_steps))
 
 -- each act of a run, from the model s on, means what the parts of the run count for it (`part_of_act`, `IsMeant`)
 abbrev pub AreMeant : Plan → List Task → Model → List Act → Type 0

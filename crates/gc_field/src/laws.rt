@@ -17,9 +17,12 @@ ghost use Rattle.gc_field.specs.Laws.{AnswersAreTheirOwn, SimulatorIsAnInstrumen
 ghost use Rattle.gc_field.specs.Drifting.{SomeRunIsOverADriftingInstrument};
 ghost use Rattle.gc_field.specs.LostLineFeed.{IsBookedJoined};
 ghost use Rattle.gc_field.specs.Needed.{IsAllNeeded};
+ghost use Rattle.gc_field.specs.Owned.{ClientsAnswersAreTheirOwn, FewKilledMayBegin, SimulatorsClientsAnswersAreTheirOwn};
 ghost use Rattle.gc_field.specs.Pointing.{ChainsAreMeasuredWhereTheyPointed, SimulatorHasItsEffect};
 ghost use Rattle.gc_field.specs.Runs.{RunsAreFaithful, SimulatorsRunsAreFaithful};
 ghost use Rattle.gc_field.specs.SecondExecution.{IsExecutedAgain};
+ghost use Rattle.gc_field.specs.SessionWitness.{SomeSessionIsInField};
+ghost use Rattle.gc_field.specs.Sessions.{SessionsAnswersAreTheirOwn, SessionsInARowAreTheirOwn, SimulatorsSessionsAnswersAreTheirOwn, SimulatorsSessionsInARowAreTheirOwn};
 ghost use Rattle.gc_field.specs.Witness.{SomeRunIsInField};
 
 /// For any instrument, and a client that doesn't synchronize, as that of `geocom ask`, with nothing in flight, over any number
@@ -37,6 +40,58 @@ pub fn answers_are_their_own<State>()
 /// eighth null procedure (`IsSafe`).
 pub fn stations_answers_are_their_own<State>()
     ensures { StationsAnswersAreTheirOwn State }
+{}
+
+/// For any instrument, which may restart and change by itself at any time, and over any number of connections and synchronizations: what
+/// happens to a client is one list of events, those of runs one after the other, from one synchronization to the next. The client settles
+/// what the world's client settles, and reaches the same state. Each settlement by a reply is of one request of one run, with its target
+/// and its call; and if that request is safe (`IsSafe`), the answer was made by the instrument on executing that very request, and the
+/// instrument executed the request if it is late. When the client was made, anything may have been in flight, except the ids
+/// 6 5 4 3 2 1 0 7 in this order. The laws of a session and of the library's calls are instances.
+pub fn clients_answers_are_their_own<State>()
+    ensures { ClientsAnswersAreTheirOwn State }
+{}
+
+/// `clients_answers_are_their_own` of the simulator, in any state whose values lie in their types (`IsFittingState`).
+pub fn simulators_clients_answers_are_their_own()
+    ensures { SimulatorsClientsAnswersAreTheirOwn }
+{}
+
+/// For any instrument, any settings and any calls on a session, over any number of connections and synchronizations: each answer that the
+/// session settles for its caller was made by the instrument on executing that very request, from the first one on; and the instrument
+/// executed each of the caller's requests that is late. The session settles what the world's client settles, and reaches the same state;
+/// and each run from one synchronization to the next is faithful. When the session was made, anything may have been in flight, except the
+/// ids 6 5 4 3 2 1 0 7 in this order. Whatever the caller asks, also requests that aren't in the table, and whenever it asks: the session
+/// sends no request of its caller's that isn't safe. Of the null procedures that it sends by itself (their target is `OWN`) this isn't
+/// said.
+pub fn sessions_answers_are_their_own<State>()
+    ensures { SessionsAnswersAreTheirOwn State }
+{}
+
+/// `sessions_answers_are_their_own` of the simulator, in any state whose values lie in their types (`IsFittingState`).
+pub fn simulators_sessions_answers_are_their_own()
+    ensures { SimulatorsSessionsAnswersAreTheirOwn }
+{}
+
+/// For any instrument: sessions follow each other over a line that outlives them, each with its own settings and calls, and each ended at
+/// any time. At the start nothing is in flight, or what a run that had synchronized may leave (`HasRisingIds`). As long as fewer than six
+/// runs in a row end while they synchronize, all that `sessions_answers_are_their_own` says holds of each session, without the premise on
+/// the ids in flight. A synchronization during which no null procedure was answered doesn't count.
+pub fn sessions_in_a_row_are_their_own<State>()
+    ensures { SessionsInARowAreTheirOwn State }
+{}
+
+/// `sessions_in_a_row_are_their_own` of the simulator, in any state whose values lie in their types (`IsFittingState`).
+pub fn simulators_sessions_in_a_row_are_their_own()
+    ensures { SimulatorsSessionsInARowAreTheirOwn }
+{}
+
+/// Runs follow each other over one line, each from one synchronization to the next, and each may end at any time. If the first finds
+/// nothing in flight, or what a run that had synchronized may leave, the ids 6 5 4 3 2 1 0 7 are never in flight in this order when the
+/// next one begins, as long as fewer than six in a row end while they synchronize. A run doesn't count if none of its null procedures was
+/// answered.
+pub fn few_killed_may_begin<State>()
+    ensures { FewKilledMayBegin State }
 {}
 
 /// What holds of every run of a station, for any instrument, which may restart and change by itself at any time, over any number
@@ -194,4 +249,10 @@ pub fn some_chain_is_over_a_counting_instrument()
 /// Some request is executed twice, with a restart of the instrument between, and its answer is the second execution's.
 pub fn some_answer_is_of_a_second_execution()
     ensures { IsExecutedAgain }
+{}
+
+/// Some calls on a session meet every premise of `sessions_answers_are_their_own`, over an instrument that counts what it executes and with
+/// a request for any procedure that isn't in the table; and some every premise of `simulators_sessions_answers_are_their_own`.
+pub fn some_session_is_in_the_field()
+    ensures { SomeSessionIsInField }
 {}

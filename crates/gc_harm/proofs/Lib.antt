@@ -14,7 +14,9 @@ pub mod Recorded
 mod FewRecords
 pub mod Lacking
 pub mod Undamaged
+mod Local
 pub mod Runs
+pub mod Sessions
 pub mod Agreed
 pub mod InOrder
 pub mod Chains

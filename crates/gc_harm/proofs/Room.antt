@@ -8,10 +8,10 @@ use Rattle.gc_client.specs.OneForOne.{Course, Step, Send, Wanted, course_after, 
 use Rattle.gc_client.specs.Rule.{ById, Settlement, heard, hears, send_unless_full}
 use Rattle.gc_client.specs.declared.window.TheConstants.{WINDOW}
 use Rattle.gc_instrument.specs.State.{KeptReply}
+use Rattle.gc_session.specs.Exchange.{ended_last}
 use Rattle.gc_station.proofs.Booking.{sent_by}
 use Rattle.gc_station.specs.HoldingBack.{last_ended, last_ended_at}
 use Rattle.gc_station.specs.Parts.{client_after, client_stepped, course_at}
-use Rattle.gc_station.specs.Progressing.{ended_last}
 use Rattle.gc_world.specs.Clients.{by_ids}
 use Rattle.gc_field.specs.World.{Numbered, Ends, down_delivered}
 use Rattle.gc_field.specs.Field.{Move, Sends, Tells, Comes, Foreign, OnLine, Anew, Changes, Joins, IsPossible}

@@ -1,11 +1,11 @@
 -- A station's run over a line that damages: each record goes with a request of one of the stretches, and where damage is apart in that
 -- stretch, the record is of the request's own reply, or of a damaged line.
-use Rattle.std.proofs.Common.{◌≡◌, ◌⊎◌, inl, inr, ℕ, suc, ◌+◌, ◌<◌, ◌≤◌, Bool, true, false, List, [], ◌∷◌, ◌++◌, length, map, Option, Some, None, zero, drop, refl, sym, ◌∙◌, ap, subst, arith}
+use Rattle.std.proofs.Common.{◌≡◌, ◌⊎◌, inl, inr, ℕ, suc, ◌+◌, ◌≤◌, true, false, List, [], ◌∷◌, ◌++◌, length, map, Option, Some, None, zero, drop, refl, sym, ◌∙◌, ap, subst, arith}
 use Rattle.std.specs.Prelude.{slice_get, unwrap_or}
 use Rattle.std.specs.List.{AllByRecursion, AllZip}
-use Rattle.std.proofs.lemmas.List.{drop-map, length-map, length-append}
+use Rattle.std.proofs.lemmas.List.{drop-map}
 use Rattle.std.proofs.lemmas.Bool.{true≢false}
-use Rattle.std.proofs.lemmas.Option.{none-some, same_Some, slice_get_within}
+use Rattle.std.proofs.lemmas.Option.{none-some, same_Some}
 use Rattle.gc_lines.proofs.Lists.{all_at}
 use Rattle.gc_values.proofs.Every.{every_weaker as all_on}
 use Rattle.gc_catalogue.specs.declared.asked.Asked.{Asked}
@@ -47,22 +47,17 @@ use Rattle.gc_field.specs.Instrument.{IsAnInstrument, TreatsRawsAlike}
 use Rattle.gc_field.proofs.Among.{among_first}
 use Rattle.gc_field.proofs.BeginLists.{each_all}
 use Rattle.gc_field.proofs.Meant.{are_meant}
-use Rattle.gc_harm.specs.Harm.{AllMayHarm, AreOwnOr, IsByDamage, IsCleanBut, KeepsItsOwnAfter, IsOwn, WasMadeAmid, damaged_lines, harm_begun}
-use Rattle.gc_harm.specs.HoldingBack.{holding_begun}
+use Rattle.gc_harm.specs.Harm.{IsByDamage, KeepsItsOwnAfter, IsOwn, WasMadeAmid, damaged_lines}
 use Rattle.gc_harm.specs.Runs.{AnswerIsOwnOrDamaged, AreFewByDamagedLines, AreOfTable, AreSentInStretches, HarmedProgram, HasItsRequest, IsInHarmedField, IsLocal, IsOwnOrByDamage, IsRunLocal, LateIsOwnOrDamaged, count_in, damaged_lines_in, parts_of_program, sent_until, written_in_stretches}
-use Rattle.gc_harm.specs.Stretch.{left_by_sync}
-use Rattle.gc_harm.specs.Stretches.{AreInARow, ArePossibleIfSynchronized, HarmedStretch, HasDamageApart, IsDamagedOnceSynchronized, IsPossibleStretch, IsSeenAs, IsSynchronizedUndamaged, at_its_end, client_sent, client_settled, left_by_stretch, left_if_synchronized, once_synchronized, seen_harms, synchronized}
-use Rattle.gc_harm.specs.Synchronizing.{AllMaySyncHarm, OwnEighthComes, WasStruck, sync_harmed}
-use Rattle.gc_harm.proofs.HoldingBack.{fresh_if_held_back, order_if_held_back}
+use Rattle.gc_harm.specs.Stretches.{AreInARow, HarmedStretch, HasDamageApart, IsDamagedOnceSynchronized, IsPossibleStretch, IsSeenAs, at_its_end, client_sent, client_settled, left_by_stretch, once_synchronized, synchronized}
+use Rattle.gc_harm.specs.Synchronizing.{WasStruck}
 use Rattle.gc_harm.proofs.Counting.{few_by_damage}
-use Rattle.gc_harm.proofs.Lacking.{order_lacks}
-use Rattle.gc_harm.proofs.Own.{own_or_broken}
+use Rattle.gc_harm.proofs.Local.{local_if_held_back}
 use Rattle.gc_harm.proofs.FewRecords.{few_records}
 use Rattle.gc_harm.proofs.Recorded.{IsOfPart, Mark, all_ask, all_of_parts, all_recorded, recorded}
-use Rattle.gc_harm.proofs.Room.{HoldsBackFrom, SendsOnly, all_have_room}
+use Rattle.gc_harm.proofs.Room.{HoldsBackFrom, SendsOnly}
 use Rattle.gc_harm.proofs.SeenHarms.{IsSeenBy, seen_by_steps}
-use Rattle.gc_harm.proofs.Stretch.{left_clean}
-use Rattle.gc_harm.proofs.Undamaged.{left_harmed, undamaged_clean}
+use Rattle.gc_harm.proofs.Undamaged.{left_harmed}
 use Rattle.gc_harm.proofs.WellFormed.{left_well_formed, possible_steps}
 
 -- Lists.
@@ -110,21 +105,6 @@ table_all commands table [] (a ∷ asked) h = absurd h
 table_all commands table (mark ∷ marks) [] h = absurd h
 table_all commands table (mark ∷ marks) (a ∷ asked) h = (table_marked commands table mark a h.0, table_all commands table marks asked h.1)
 
--- No steps.
-
--- with no steps after a synchronization, none of the client's requests was settled
-own_of_none : {State : Type 0} (ends : Ends State) (u : UnderWay State) (Old : List ℕ → Type 0) → AreOwnOr 7 ends Old (harm_begun 7 ends u) []
-own_of_none ends u Old = record {
-  answered = λ m x line ge e out. let low : m < 8 = slice_get_within nulls_settled m x e in absurd (omega (arith, low, ge));
-  late = λ m x ge e out. let low : m < 8 = slice_get_within nulls_settled m x e in absurd (omega (arith, low, ge));
-  few = few_by_damage 7 ends Old (harm_begun 7 ends u) [];
-  one_each = λ m n line other a b e. absurd (not_nil a.front a.step a.later a.split);
-} where
-  -- a list with a step isn't empty
-  not_nil : {A : Type 0} (front : List A) (x : A) (later : List A) → [] ≡ front ++ x ∷ later → ⊥
-  not_nil [] x later e = cc
-  not_nil (y ∷ front) x later e = cc
-
 -- Marks.
 
 -- the moment at which the command of a record was sent is that of its mark
@@ -164,66 +144,11 @@ module _ {State : Type 0} (ends : Ends State) (Good : State → Type 0) (kept : 
       all_on (λ (a : Wanted Asked). is_of_table a.call ≡ true) (λ (a : Wanted Asked). KeepsItsOwnAfter ends Good kept a.call) asked (λ a t. inl t) (table_all commands table marks asked h)
   own_all commands (inr alike) marks asked h = each_all (λ (a : Wanted Asked). KeepsItsOwnAfter ends Good kept a.call) (λ a. inr alike) asked
 
-  -- what a stretch's synchronization leaves is clean, but for a kept reply to a request that damage made
-  abbrev IsCleanStretch : HarmedStretch State → Type 0
-  IsCleanStretch s = IsCleanBut (λ made. WasStruck ends s.over s.turns made) Good kept (left_by_sync ends s.over s.turns)
-
-  -- nothing happens in a stretch that hasn't synchronized
-  record IsUnsynchronized (s : HarmedStretch State) : Type 0 where
-    none : s.steps ≡ []
-    left : (synchronized ends s).left ≡ [] → ⊥
-
-  -- a synchronization without damage, over lines that lack the word, is clean, or not over, by the ids that it leaves of the word
-  undamaged_by : (s : HarmedStretch State) (left : List ℕ) → (synchronized ends s).left ≡ left → IsWellFormed Good s.over → AllMaySyncHarm ends Good kept s.turns (begins s.over)
-      → ArePossibleIfSynchronized ends Good kept left s → IsSynchronizedUndamaged ends s → IsCleanStretch s ⊎ IsUnsynchronized s
-  undamaged_by s [] e well turns steps h =
-      inl (subst (λ ts. IsCleanBut (λ made. WasStruck ends s.over s.turns made) Good kept (left_by_sync ends s.over ts)) (sym h.undamaged)
-      (undamaged_clean ends Good kept is s.over h.turns (λ made. WasStruck ends s.over s.turns made) well (subst (λ ts. AllMaySyncHarm ends Good kept ts (begins s.over)) h.undamaged turns) h.lacks
-      (subst (λ ts. (sync_harmed ends ts (begins s.over)).left ≡ []) h.undamaged e)))
-  undamaged_by s (asked ∷ rest) e well turns steps h = inr (record { none = steps; left = λ done. let both : asked ∷ rest ≡ [] = sym e ∙ done in cc })
-
-  -- a stretch in which damage is apart is clean once it has synchronized
-  clean_if_begun : (s : HarmedStretch State) → IsWellFormed Good s.over → IsPossibleStretch ends Good kept s → OwnEighthComes ends s.over s.turns ⊎ IsSynchronizedUndamaged ends s
-      → IsCleanStretch s ⊎ IsUnsynchronized s
-  clean_if_begun s well possible (inl own) = inl (left_clean 7 (omega arith) ends Good kept is s.over s.turns well possible.turns own)
-  clean_if_begun s well possible (inr h) = undamaged_by s (synchronized ends s).left refl well possible.turns possible.steps h
-
-  -- a stretch with a clean synchronization is local, if damage is apart after it, and its part holds back and asks for calls of the table
-  local_if_clean : (commands : List Task) → AreOfTable commands ⊎ TreatsRawsAlike ends Good kept → (p : Part) (s : HarmedStretch State) → IsRuled commands p s → HasDamageApart ends s → IsCleanStretch s → IsLocal ends Good kept s
-  local_if_clean commands table p s h apart clean =
-      let from = left_by_sync ends s.over s.turns in
-      let steps = possible_steps ends Good kept is s h.possible in
-      let room = all_have_room ends Good kept is s.steps (holding_begun 7 ends from) 1 (omega arith) steps apart.apart
-      (subst (λ l. HoldsBackFrom fresh 1 l) (sym h.seen.1) h.held)
-      (subst (λ l. SendsOnly (KeepsItsOwnAfter ends Good kept) fresh l) (sym h.seen.1) (own_all commands table p.marks (sent_by fresh p.steps) h.asks)) in
-      let may = fresh_if_held_back 7 (omega arith) ends Good kept is (λ made. WasStruck ends s.over s.turns made) from clean s.steps room in
-      let sent = (seen_by_steps ends Good kept is s steps).sent in
-      let same : length (map of_sent (at_its_end ends s).world.wire.sent) ≡ length (map of_sent nulls ++ sent_by fresh (seen_harms s.steps)) = ap length sent in
-      let mapped = length-map (at_its_end ends s).world.wire.sent of_sent in
-      let joined = length-append (map of_sent nulls) (sent_by fresh (seen_harms s.steps)) in
-      let eight : length (map of_sent nulls) ≡ 8 = refl in
-      let order = order_if_held_back 7 (omega arith) ends Good kept is (λ made. WasStruck ends s.over s.turns made) from clean s.steps room in
-      let lacks = order_lacks ends Good kept is (at_its_end ends s) order (omega (arith, same, mapped, joined, eight)) in
-      record {
-        fresh = may;
-        own = own_or_broken 7 (omega arith) ends Good kept is (λ made. WasStruck ends s.over s.turns made) from s.steps clean may;
-        lacks = λ done. subst (λ left. LacksTheWord (left_if_synchronized ends left s)) (sym done) lacks;
-      }
-
-  -- a stretch that hasn't synchronized is local
-  local_if_none : (s : HarmedStretch State) → IsUnsynchronized s → IsLocal ends Good kept s
-  local_if_none s h = record {
-    fresh = subst (λ ms. AllMayHarm 7 ends Good kept ms (once_synchronized ends s)) (sym h.none) tt;
-    own = subst (λ ms. AreOwnOr 7 ends (λ made. WasStruck ends s.over s.turns made) (once_synchronized ends s) ms) (sym h.none) (own_of_none ends (left_by_sync ends s.over s.turns) (λ made. WasStruck ends s.over s.turns made));
-    lacks = λ done. absurd (h.left done);
-  }
-
   -- a stretch in which damage is apart is local, if its part holds back, and asks for calls of the table
   local_if_apart : (commands : List Task) → AreOfTable commands ⊎ TreatsRawsAlike ends Good kept → (p : Part) (s : HarmedStretch State) → IsRuled commands p s → HasDamageApart ends s → IsLocal ends Good kept s
-  local_if_apart commands table p s h apart = elim (clean_if_begun s h.well h.possible apart.begun) [
-    | inl clean ↦ local_if_clean commands table p s h apart clean
-    | inr none ↦ local_if_none s none
-  ]
+  local_if_apart commands table p s h apart =
+      local_if_held_back ends Good kept is s h.well h.possible (subst (λ l. HoldsBackFrom fresh 1 l) (sym h.seen.1) h.held)
+      (subst (λ l. SendsOnly (KeepsItsOwnAfter ends Good kept) fresh l) (sym h.seen.1) (own_all commands table p.marks (sent_by fresh p.steps) h.asks)) apart
 
   -- a part fits its stretch
   fits_part : (commands : List Task) → AreOfTable commands ⊎ TreatsRawsAlike ends Good kept → (p : Part) (s : HarmedStretch State) → IsRuled commands p s → CountUp 0 p.marks → FitsPart p s
@@ -387,7 +312,7 @@ module _ {State : Type 0} (ends : Ends State) (Good : State → Type 0) (kept : 
       ∙ ap (λ l. records_of reads 0 p.marks (client_settled ends s ++ map lost (at_its_end ends s).world.client.waiting) ++ l) (all_written reads commands (q ∷ ps) (t ∷ ss) fit.1)
 
   -- of these stretches no more requests were settled by lines that came damaged than such lines came
-  all_few : (ss : List (HarmedStretch State)) → AreFewByDamagedLines ends ss
+  pub all_few : (ss : List (HarmedStretch State)) → AreFewByDamagedLines ends ss
   all_few [] [] h = omega arith
   all_few [] (requests ∷ chosen) h = absurd h
   all_few (s ∷ ss) [] h = absurd h

@@ -11,3 +11,4 @@ pub mod Agreed
 pub mod Chains
 pub mod UndamagedRuns
 pub mod DamagedStation
+pub mod Sessions

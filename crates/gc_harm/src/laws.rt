@@ -14,6 +14,7 @@ ghost use Rattle.gc_harm.specs.Harm.{AnswersAreOwnOrDamaged};
 ghost use Rattle.gc_harm.specs.HoldingBack.{HeldBackDamageIsLocalInField};
 ghost use Rattle.gc_harm.specs.Rarely.{RareDamageIsLocalInField};
 ghost use Rattle.gc_harm.specs.Runs.{DamageOnceSynchronizedIsApart, RunsWithDamageAreLocal, SimulatorsRunsWithDamageAreLocal};
+ghost use Rattle.gc_harm.specs.Sessions.{SessionsWithDamageAreLocal, SimulatorsSessionsWithDamageAreLocal};
 ghost use Rattle.gc_harm.specs.Stretch.{StretchesAreLocal};
 ghost use Rattle.gc_harm.specs.Synchronizing.{OwnEighthIsClean};
 ghost use Rattle.gc_harm.specs.UndamagedRuns.{UndamagedRunsAreInstances};
@@ -115,4 +116,19 @@ pub fn simulators_runs_with_damage_are_local()
 /// command's was made on executing the command's own request.
 pub fn some_station_is_damaged()
     ensures { IsDamagedStation }
+{}
+
+/// Over a line that damages, the line of each answer that a session settles, and of each late reply, was made on executing that very request,
+/// or is a damaged one. This is of any instrument, any settings and any calls, whatever is lost, repeated or damaged in both directions, and
+/// whatever is in flight at the start, be it the word, if the caller asks only for calls of the table, unless the instrument keeps after each
+/// request its own reply or none. It is so in each stretch in which damage is apart, as `runs_with_damage_are_local` says of a station's. And
+/// in no run more requests are settled by lines that came damaged than such lines came. The session does its part by
+/// `requests_are_held_back` of gc_session.
+pub fn sessions_with_damage_are_local<State>()
+    ensures { SessionsWithDamageAreLocal State }
+{}
+
+/// `sessions_with_damage_are_local` of the simulator, in any state whose values lie in their types (`IsFittingState`).
+pub fn simulators_sessions_with_damage_are_local()
+    ensures { SimulatorsSessionsWithDamageAreLocal }
 {}

@@ -136,7 +136,7 @@ goes_in_a_row n (x ∷ xs) hs before u l m quiet holds all told lives few =
     idle_first one.front (begins u) l one.middle (first_part ps).sync_steps (first_part ps).steps (sequel (other_parts ps) two.middle left ran)
     (subst (AllByRecursion CarriesNothing) (sym one.fronts) quiet)
     (subst (λ v. Holds v l) (sym (begins_in_flight u)) holds) one.leads
-    (λ c at. subst (λ acts. OnBegin c two.middle (parts_of x.plan x.commands s acts) (after_all x.plan x.commands s acts).progress.word ran) two.fronts
+    (λ c at. subst (λ acts. OnBegin c two.middle (parts_of x.plan x.commands s acts) (after_all x.plan x.commands s acts).progress.exchange.word ran) two.fronts
     ((shows_the_run x.plan x.commands lives.0.askable two.front two.middle).0 s c one.middle (invariant_opening x.plan x.commands x.scope) refl refl at
     word_small two.leads (subst (Runs x.plan x.commands s) (sym two.fronts) lives.0.runs))) in
     let rs = run f.ts f.ms ∷ f.rs in

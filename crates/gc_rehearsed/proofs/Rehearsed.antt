@@ -5,13 +5,14 @@ use Rattle.gc_catalogue.specs.declared.asked.Asked.{Asked}
 use Rattle.gc_client.specs.OneForOne as client
 use Rattle.gc_client.specs.OneForOne.{Wanted}
 use Rattle.gc_client.specs.Rule.{ById, fresh}
+use Rattle.gc_session.specs.Exchange.{is_none_left}
 use Rattle.gc_links.specs.Acts.{Act, Told, Untold, Put, Cut, Gave, Silent, Ended, Broke, Closed, Opened, Unopened}
 use Rattle.gc_scenes.specs.SceneState.{SceneState}
 use Rattle.gc_texts.specs.declared.tasks.Task.{Task}
 use Rattle.gc_station.specs.declared.plan.Plan.{Plan}
 use Rattle.gc_station.specs.Beginnings.{unanswered_after}
 use Rattle.gc_station.specs.Begun.{heard_in}
-use Rattle.gc_station.specs.Deciding.{has_begun, is_none_left}
+use Rattle.gc_station.specs.Deciding.{has_begun}
 use Rattle.gc_station.specs.Marks.{occasion_of}
 use Rattle.gc_station.specs.Model.{Model, Performs, Runs, action_at, after, after_all, losing, moved, opening, waiting_of, with_progress}
 use Rattle.gc_station.specs.Parts as part
@@ -279,9 +280,9 @@ module _ (plan : Plan) (commands : List Task) (askable : AreAskable commands) wh
   -- happens on the line shows the parts of the station's run by these acts, with the exchanges of what happens
   abbrev FromBeginOf : List Happening → Lines → Type 0
   FromBeginOf hs m =
-      (s : Model) (b : begin.SyncModel SceneState) (l : Lines) → Invariant plan commands s → s.rest ≡ [] → has_begun s.progress ≡ false → BeginIsAt b s.progress.word l
-      → AreSmall s.progress.word → (all : LeadAll l hs m) → Runs plan commands s (acts_of hs)
-      → OnBegin b m (parts_of plan commands s (acts_of hs)) (after_all plan commands s (acts_of hs)).progress.word (exchanges_of l hs m all)
+      (s : Model) (b : begin.SyncModel SceneState) (l : Lines) → Invariant plan commands s → s.rest ≡ [] → has_begun s.progress ≡ false → BeginIsAt b s.progress.exchange.word l
+      → AreSmall s.progress.exchange.word → (all : LeadAll l hs m) → Runs plan commands s (acts_of hs)
+      → OnBegin b m (parts_of plan commands s (acts_of hs)) (after_all plan commands s (acts_of hs)).progress.exchange.word (exchanges_of l hs m all)
 
   -- from each world w of a client on that agrees with the station's model s, which has synchronized, and with the line: what
   -- happens on the line shows the parts of the station's run by these acts, with the exchanges of what happens
@@ -289,7 +290,7 @@ module _ (plan : Plan) (commands : List Task) (askable : AreAskable commands) wh
   FromClientOf hs m =
       (s : Model) (w : SceneWorld) (l : Lines) → Invariant plan commands s → s.rest ≡ [] → has_begun s.progress ≡ true → WorldIsAt w s.client l
       → (all : LeadAll l hs m) → Runs plan commands s (acts_of hs)
-      → OnClient w m (parts_of plan commands s (acts_of hs)) (after_all plan commands s (acts_of hs)).progress.word (exchanges_of l hs m all)
+      → OnClient w m (parts_of plan commands s (acts_of hs)) (after_all plan commands s (acts_of hs)).progress.exchange.word (exchanges_of l hs m all)
 
   -- if what happens later is `FromBeginOf` and `FromClientOf`, it is `FromBeginOf` with one more act before it
   act_begin : (act : Act) (hs : List Happening) (m : Lines) → FromBeginOf hs m → FromClientOf hs m → FromBeginOf (Acts act ∷ hs) m
@@ -297,9 +298,9 @@ module _ (plan : Plan) (commands : List Task) (askable : AreAskable commands) wh
       let o = action_at plan s in
       let t = after plan commands s act in
       let p = sync_part s o act in
-      let left = (after_all plan commands t (acts_of hs)).progress.word in
+      let left = (after_all plan commands t (acts_of hs)).progress.exchange.word in
       subst (λ x. OnBegin b m (in_front (if x then client_part plan commands s o act else sync_part s o act) (x && loses_all t.progress) (parts_of plan commands t (acts_of hs))) left (exchanges_of all.0 hs m all.2)) (sym begins)
-      (begin_first b p (unanswered_after s.progress.word (heard_in p.sync_steps)) all.0 m (parts_of plan commands t (acts_of hs)) left (exchanges_of all.0 hs m all.2) (some_parts plan commands t (acts_of hs)) means.0 to.1
+      (begin_first b p (unanswered_after s.progress.exchange.word (heard_in p.sync_steps)) all.0 m (parts_of plan commands t (acts_of hs)) left (exchanges_of all.0 hs m all.2) (some_parts plan commands t (acts_of hs)) means.0 to.1
       (λ c later. next c (subst (λ word. BeginIsAt c word all.0) (sym means.2) later) (has_begun t.progress) refl)) where
         -- the act means its part
         means : IsMeant false s act (sync_part s (action_at plan s) act) (after plan commands s act)
@@ -307,22 +308,22 @@ module _ (plan : Plan) (commands : List Task) (askable : AreAskable commands) wh
 
         -- no bytes of an unfinished line are left, and the act comes to the steps of its part
         to : ((after plan commands s act).rest ≡ [])
-            × TurnsTo b (sync_part s (action_at plan s) act).sync_steps (unanswered_after s.progress.word (heard_in (sync_part s (action_at plan s) act).sync_steps)) all.0
-        to = turns_act b s.progress.word act (sync_part s (action_at plan s) act).sync_steps (after plan commands s act).rest l all.0 at ids (some_left s.progress.word begins)
-            (subst (λ r. MeansSyncSteps s.progress.word r act (sync_part s (action_at plan s) act).sync_steps (after plan commands s act).rest) rest means.1) all.1
+            × TurnsTo b (sync_part s (action_at plan s) act).sync_steps (unanswered_after s.progress.exchange.word (heard_in (sync_part s (action_at plan s) act).sync_steps)) all.0
+        to = turns_act b s.progress.exchange.word act (sync_part s (action_at plan s) act).sync_steps (after plan commands s act).rest l all.0 at ids (some_left s.progress.exchange.word begins)
+            (subst (λ r. MeansSyncSteps s.progress.exchange.word r act (sync_part s (action_at plan s) act).sync_steps (after plan commands s act).rest) rest means.1) all.1
 
         -- what happens later, from the state after the act, by whether the station has synchronized then (`x`)
-        next : (c : begin.SyncModel SceneState) → BeginIsAt c (after plan commands s act).progress.word all.0 → (x : Bool) → has_begun (after plan commands s act).progress ≡ x
-            → OnBegin c m (parts_of plan commands (after plan commands s act) (acts_of hs)) (after_all plan commands (after plan commands s act) (acts_of hs)).progress.word
+        next : (c : begin.SyncModel SceneState) → BeginIsAt c (after plan commands s act).progress.exchange.word all.0 → (x : Bool) → has_begun (after plan commands s act).progress ≡ x
+            → OnBegin c m (parts_of plan commands (after plan commands s act) (acts_of hs)) (after_all plan commands (after plan commands s act) (acts_of hs)).progress.exchange.word
             (exchanges_of all.0 hs m all.2)
         next c later false e =
             later_begin (after plan commands s act) c all.0 (invariant_after plan commands s act fine) to.0 e later
-            (subst AreSmall (sym means.2) (left_ids_are_small s.progress.word (heard_in (sync_part s (action_at plan s) act).sync_steps) ids)) all.2 runs.1
+            (subst AreSmall (sym means.2) (left_ids_are_small s.progress.exchange.word (heard_in (sync_part s (action_at plan s) act).sync_steps) ids)) all.2 runs.1
         next c later true e =
             let u = after plan commands s act in
             let ps = parts_of plan commands u (acts_of hs) in
-            begun_from c (first_part ps).sync_steps (first_part ps).steps (sequel (other_parts ps) m (after_all plan commands u (acts_of hs)).progress.word (exchanges_of all.0 hs m all.2))
-            (later.0 ∙ word_empty u.progress.word e) (first_none ps (first_part_no_sync_steps plan commands u (acts_of hs) e))
+            begun_from c (first_part ps).sync_steps (first_part ps).steps (sequel (other_parts ps) m (after_all plan commands u (acts_of hs)).progress.exchange.word (exchanges_of all.0 hs m all.2))
+            (later.0 ∙ word_empty u.progress.exchange.word e) (first_none ps (first_part_no_sync_steps plan commands u (acts_of hs) e))
             (later_client u (ids_begun (leaves c)) all.0 (invariant_after plan commands s act fine) to.0 e
             (sym (client_new s act fine runs.0 begins), subst (λ v. Holds v all.0) (sym (begun_in_flight (leaves c))) later.1) all.2 runs.1)
 
@@ -331,7 +332,7 @@ module _ (plan : Plan) (commands : List Task) (askable : AreAskable commands) wh
   act_client act hs m later_begin later_client s w l fine rest begun at all runs =
       let o = action_at plan s in
       let t = after plan commands s act in
-      let left = (after_all plan commands t (acts_of hs)).progress.word in
+      let left = (after_all plan commands t (acts_of hs)).progress.exchange.word in
       subst (λ x. OnClient w m (in_front (if x then client_part plan commands s o act else sync_part s o act) (x && loses_all t.progress) (parts_of plan commands t (acts_of hs))) left (exchanges_of all.0 hs m all.2)) (sym begun)
       (by_loss (loses_all t.progress) refl) where
         -- no bytes of an unfinished line are left, and the act comes to its steps
@@ -348,11 +349,11 @@ module _ (plan : Plan) (commands : List Task) (askable : AreAskable commands) wh
         -- the run is over
         anew : (v : SceneWorld) → Holds (under_way_on v.wire) all.0 → loses_all (after plan commands s act).progress ≡ true → (x : Bool) → has_begun (after plan commands s act).progress ≡ x
             → FromClient v []
-            (sequel (parts_of plan commands (after plan commands s act) (acts_of hs)) m (after_all plan commands (after plan commands s act) (acts_of hs)).progress.word (exchanges_of all.0 hs m all.2))
+            (sequel (parts_of plan commands (after plan commands s act) (acts_of hs)) m (after_all plan commands (after plan commands s act) (acts_of hs)).progress.exchange.word (exchanges_of all.0 hs m all.2))
         anew v h lost false e =
             let u = after plan commands s act in
             let word = word_if_resynchronizing plan commands s act runs.0 begun e in
-            client_anew v m (parts_of plan commands u (acts_of hs)) (after_all plan commands u (acts_of hs)).progress.word (exchanges_of all.0 hs m all.2)
+            client_anew v m (parts_of plan commands u (acts_of hs)) (after_all plan commands u (acts_of hs)).progress.exchange.word (exchanges_of all.0 hs m all.2)
             (some_parts plan commands u (acts_of hs))
             (later_begin u (begins (under_way_on v.wire)) all.0 (invariant_after plan commands s act fine) to.0 e
             (sym word, subst (λ q. Holds q all.0) (sym (begins_in_flight (under_way_on v.wire))) h) (subst AreSmall (sym word) word_small) all.2 runs.1)
@@ -360,26 +361,26 @@ module _ (plan : Plan) (commands : List Task) (askable : AreAskable commands) wh
             let u = after plan commands s act in
             let none = none_over u (acts_of hs) (over_of e lost) runs.1 in
             let es = exchanges_of all.0 hs m all.2 in
-            subst (λ acts. FromClient v [] (sequel (parts_of plan commands u acts) m (after_all plan commands u (acts_of hs)).progress.word es)) (sym none)
-            (subst (λ l. FromClient v [] (sequel (idle_part ∷ []) m (after_all plan commands u (acts_of hs)).progress.word l)) (append-nil es)
-            (goes_idly hs v all.0 m [] (sequel (idle_part ∷ []) m (after_all plan commands u (acts_of hs)).progress.word []) none h all.2
-            (λ x g. ends_client_idly x m (after_all plan commands u (acts_of hs)).progress.word g)))
+            subst (λ acts. FromClient v [] (sequel (parts_of plan commands u acts) m (after_all plan commands u (acts_of hs)).progress.exchange.word es)) (sym none)
+            (subst (λ l. FromClient v [] (sequel (idle_part ∷ []) m (after_all plan commands u (acts_of hs)).progress.exchange.word l)) (append-nil es)
+            (goes_idly hs v all.0 m [] (sequel (idle_part ∷ []) m (after_all plan commands u (acts_of hs)).progress.exchange.word []) none h all.2
+            (λ x g. ends_client_idly x m (after_all plan commands u (acts_of hs)).progress.exchange.word g)))
 
         -- `OnClient` holds from w with the act, whether the part ends with it (`x` is true) or goes on
         by_loss : (x : Bool) → loses_all (after plan commands s act).progress ≡ x
             → OnClient w m (in_front (client_part plan commands s (action_at plan s) act) x (parts_of plan commands (after plan commands s act) (acts_of hs)))
-            (after_all plan commands (after plan commands s act) (acts_of hs)).progress.word (exchanges_of all.0 hs m all.2)
+            (after_all plan commands (after plan commands s act) (acts_of hs)).progress.exchange.word (exchanges_of all.0 hs m all.2)
         by_loss false e =
             let u = after plan commands s act in
             let p = client_part plan commands s (action_at plan s) act in
-            client_first w p (client_after s.client p.steps) all.0 m (parts_of plan commands u (acts_of hs)) (after_all plan commands u (acts_of hs)).progress.word
+            client_first w p (client_after s.client p.steps) all.0 m (parts_of plan commands u (acts_of hs)) (after_all plan commands u (acts_of hs)).progress.exchange.word
             (exchanges_of all.0 hs m all.2) (some_parts plan commands u (acts_of hs)) to.1
             (λ v later. later_client u v all.0 (invariant_after plan commands s act fine) to.0 (begun_if_nothing_lost u e)
             (subst (λ c. WorldIsAt v c all.0) (sym (client_on s act fine runs.0 begun e)) later) all.2 runs.1)
         by_loss true e =
             let u = after plan commands s act in
             let p = client_part plan commands s (action_at plan s) act in
-            client_last w p (client_after s.client p.steps) all.0 m (parts_of plan commands u (acts_of hs)) (after_all plan commands u (acts_of hs)).progress.word
+            client_last w p (client_after s.client p.steps) all.0 m (parts_of plan commands u (acts_of hs)) (after_all plan commands u (acts_of hs)).progress.exchange.word
             (exchanges_of all.0 hs m all.2) to.1
             (λ v h. anew v h e (has_begun u.progress) refl)
 
@@ -387,8 +388,8 @@ module _ (plan : Plan) (commands : List Task) (askable : AreAskable commands) wh
   pub shows_the_run : (hs : List Happening) (m : Lines) → FromBeginOf hs m × FromClientOf hs m
   shows_the_run [] m = (
     λ s b l fine rest begins at ids all runs.
-        subst (λ left. FromBegin b [] [] (sequel [] m left [])) at.0 (ends_begin b m (λ e. some_left s.progress.word begins (sym at.0 ∙ e)) (subst (Holds (leaves b)) (sym all) at.1)),
-    λ s w l fine rest begun at all runs. ends_client w m s.progress.word (subst (Holds (under_way_on w.wire)) (sym all) at.1),
+        subst (λ left. FromBegin b [] [] (sequel [] m left [])) at.0 (ends_begin b m (λ e. some_left s.progress.exchange.word begins (sym at.0 ∙ e)) (subst (Holds (leaves b)) (sym all) at.1)),
+    λ s w l fine rest begun at all runs. ends_client w m s.progress.exchange.word (subst (Holds (under_way_on w.wire)) (sym all) at.1),
   )
   shows_the_run (Acts act ∷ hs) m = let later = shows_the_run hs m in (act_begin act hs m later.0 later.1, act_client act hs m later.0 later.1)
   shows_the_run (h ∷ hs) m =
@@ -396,12 +397,12 @@ module _ (plan : Plan) (commands : List Task) (askable : AreAskable commands) wh
         λ s b l fine rest begins at ids all runs.
             let ps = parts_of plan commands s (acts_of hs) in
             begin_happens h (λ act e. cc) b l all.0 (first_part ps).sync_steps (first_part ps).steps
-            (sequel (other_parts ps) m (after_all plan commands s (acts_of hs)).progress.word (exchanges_of all.0 hs m all.2)) at.1 all.1
+            (sequel (other_parts ps) m (after_all plan commands s (acts_of hs)).progress.exchange.word (exchanges_of all.0 hs m all.2)) at.1 all.1
             (λ c holds k. later.0 s c all.0 fine rest begins (k ∙ at.0, holds) ids all.2 runs),
         λ s w l fine rest begun at all runs.
             let ps = parts_of plan commands s (acts_of hs) in
             client_happens h (λ act e. cc) w l all.0 (first_part ps).steps
-            (sequel (other_parts ps) m (after_all plan commands s (acts_of hs)).progress.word (exchanges_of all.0 hs m all.2)) at.1 all.1
+            (sequel (other_parts ps) m (after_all plan commands s (acts_of hs)).progress.exchange.word (exchanges_of all.0 hs m all.2)) at.1 all.1
             (λ v holds k. later.1 s v all.0 fine rest begun (k ∙ at.0, holds) all.2 runs),
       )
 
@@ -419,7 +420,7 @@ rehearsed_runs_are_faithful x lines c askable runs =
     let s = opening x.plan x.scope in
     let g = (shows_the_run x.plan x.commands askable c.happened lines).0 s (begins u) start (invariant_opening x.plan x.commands x.scope) refl refl
     (refl, record { up = tt; down = refl; one = tt; state = refl; good = good }) word_small c.leads (subst (Runs x.plan x.commands s) (sym c.acts_are) runs) in
-    let f = subst (λ told. OnBegin (begins u) lines (parts_of x.plan x.commands s told) (after_all x.plan x.commands s told).progress.word es) c.acts_are g in
+    let f = subst (λ told. OnBegin (begins u) lines (parts_of x.plan x.commands s told) (after_all x.plan x.commands s told).progress.exchange.word es) c.acts_are g in
     let parts = first_and_others (parts_of x.plan x.commands s x.acts) (some_parts x.plan x.commands s x.acts) in
     let program = as_program x (run f.ts f.ms ∷ f.rs) in
     let field : IsInField scene_ends KeptReplyReads scene_kept u program = record {

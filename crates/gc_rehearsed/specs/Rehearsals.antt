@@ -92,7 +92,7 @@ programs _ _ = []
 
 -- which ids of its last synchronization's word a station leaves unanswered at the end of its acts; none, if it has synchronized
 abbrev pub left_at_its_end : RehearsedStation → List ℕ
-left_at_its_end x = (state_after x.plan x.commands x.scope x.acts).progress.word
+left_at_its_end x = (state_after x.plan x.commands x.scope x.acts).progress.exchange.word
 
 -- fewer than six of these stations in a row end while they synchronize, counted with the `n` that ended so directly before the
 -- first. One during whose last synchronization no null procedure was answered leaves the count as it was (`killed_unless_begun`),

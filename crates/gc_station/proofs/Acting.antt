@@ -156,7 +156,7 @@ piece_noted_came plan commands s until before false word piece is mid = (mid.0, 
 -- a piece preserves `HoldsMidAct`, whether it is heard or discarded
 pub mid_piece : (plan : Plan) (commands : List Task) (s : Model) (until : Until) (piece : List ℕ) (m : Moment) → HoldsMidAct plan commands s → HoldsMidAct plan commands (piece_at plan until piece m s)
 mid_piece plan commands s until piece m mid =
-    piece_noted_came plan commands (with_moment m (with_progress (moment_noted m) s)) until (commands_in s.marks) (is_heard s.progress.phase) s.progress.word piece refl
+    piece_noted_came plan commands (with_moment m (with_progress (moment_noted m) s)) until (commands_in s.marks) (is_heard s.progress.phase) s.progress.exchange.word piece refl
     (mid_moment plan commands (with_progress (moment_noted m) s) m mid)
 
 -- Nothing came.
@@ -174,7 +174,7 @@ drained_mid plan commands s p false mid = mid
 
 -- the end of a pause or a drain, if one ends, preserves `HoldsMidActAt`
 quieted_mid : (plan : Plan) (commands : List Task) (s : Model) (phase : Phase) (p : Progress) → p.phase ≡ phase → HoldsMidActAt plan commands s p → HoldsMidActAt plan commands s (quieted plan phase p)
-quieted_mid plan commands s Pausing p is mid = (mid.0, pause_fits (is_past p.pause p && not (is_idle plan p)) p.phase p.left p.unsent s.rest s.marks is mid.1)
+quieted_mid plan commands s Pausing p is mid = (mid.0, pause_fits (is_past p.exchange.pause p && not (is_idle plan p)) p.phase p.left p.unsent s.rest s.marks is mid.1)
 quieted_mid plan commands s Draining p is mid = drained_mid plan commands s p (is_quiet plan p) mid
 quieted_mid plan commands s phase p is mid = mid
 

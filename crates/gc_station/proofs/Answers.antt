@@ -238,7 +238,7 @@ module _ (plan : Plan) (commands : List Task) (scope : Scope) (acts : List Act) 
       → HonestAfter act (after_read plan until (with_progress turned here) act)
   read_honest until Untold tail fine h o ends = honest_without_moment plan commands scope acts Untold _ _ _ refl h
   read_honest until (Gave bytes m) tail fine h o ends =
-      piece_honest plan commands scope acts bytes m (is_heard here.progress.phase) here.progress.word tail ends (record { digit = fine.digit; few = fine.window }) h
+      piece_honest plan commands scope acts bytes m (is_heard here.progress.phase) here.progress.exchange.word tail ends (record { digit = fine.digit; few = fine.window }) h
   read_honest until (Silent m) tail fine h o ends = honest_after_moment plan commands scope acts (Silent m) m _ _ _ refl h
   read_honest until Ended tail fine h o ends = honest_without_moment plan commands scope acts Ended _ _ _ refl h
   read_honest until Broke tail fine h o ends = honest_without_moment plan commands scope acts Broke _ _ _ refl h
@@ -261,7 +261,7 @@ module _ (plan : Plan) (commands : List Task) (scope : Scope) (acts : List Act) 
   moved_honest actions.Ask act tail fine h is needs o ends =
       let s = here in
       put_honest plan commands scope (acts ++ act ∷ []) _ (with_progress (null_sent plan)) (with_progress turned s) act
-      (honest_without_moment plan commands scope acts act _ _ _ (puts_read_none (null_text s.progress.word) act o) h)
+      (honest_without_moment plan commands scope acts act _ _ _ (puts_read_none (null_text s.progress.exchange.word) act o) h)
   moved_honest actions.Prepare act tail fine h is needs o ends =
       let s = here in
       put_honest plan commands scope (acts ++ act ∷ []) _ (λ (x : Model). with_progress (setup_sent plan) (asks_setup plan commands x)) (with_progress turned s) act

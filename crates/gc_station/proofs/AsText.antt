@@ -423,7 +423,7 @@ module _ (plan : Plan) (commands : List Task) (scope : Scope) where
     agreed = after_append IsFullyConfirmed [] s.records [] k.agreed tt;
   }
   moved_keeps (actions.Read until) s (Gave bytes m) some k =
-      let n = came_keeps (is_heard s.progress.phase) s.progress.word bytes (with_moment m (with_progress (moment_noted m) s))
+      let n = came_keeps (is_heard s.progress.phase) s.progress.exchange.word bytes (with_moment m (with_progress (moment_noted m) s))
       (record { reads = k.reads; marks = k.marks; records = k.records; listed = k.listed; firsts = k.firsts; agreed = k.agreed }) in
       record { reads = n.reads; marks = n.marks; records = n.records; listed = n.listed; firsts = n.firsts; agreed = n.agreed }
   moved_keeps (actions.Read until) s act some k = record { reads = k.reads; marks = k.marks; records = k.records; listed = k.listed; firsts = k.firsts; agreed = k.agreed }

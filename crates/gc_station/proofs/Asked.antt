@@ -6,6 +6,7 @@
 use Rattle.std.proofs.Common.{◌≡◌, inl, inr, ℕ, ◌||◌, ◌&&◌, Bool, true, false, not, List, [], ◌∷◌, ◌++◌, drop, map, if◌then◌else◌, refl, sym, ◌∙◌, ap, subst}
 use Rattle.gc_client.specs.Beginning.{the_word, left_by}
 use Rattle.gc_client.specs.Rule.{heard}
+use Rattle.gc_session.specs.Exchange.{is_none_left}
 use Rattle.gc_links.specs.declared.link.Moment.{Moment}
 use Rattle.gc_links.specs.Acts.{Act, Told, Put, Cut, Gave}
 use Rattle.gc_texts.specs.declared.tasks.Task.{Task}
@@ -15,7 +16,7 @@ use Rattle.gc_station.specs.declared.progress.Action.{Action}
 use Rattle.gc_station.specs.declared.progress.Action.TheVariants as action
 use Rattle.gc_station.specs.Beginnings.{lines_heard_at, unanswered_after}
 use Rattle.gc_station.specs.Begun.{AreBegun, heard_in}
-use Rattle.gc_station.specs.Deciding.{has_begun, is_none_left}
+use Rattle.gc_station.specs.Deciding.{has_begun}
 use Rattle.gc_station.specs.Parts as part
 use Rattle.gc_station.specs.Parts.{Part, only_sync_steps, sync_part, client_part, in_front, parts_of}
 use Rattle.gc_station.specs.Progressing.{is_over, loses_all}
@@ -91,9 +92,9 @@ sync_steps_none s o act h = refl
 module _ (plan : Plan) (commands : List Task) where
   -- after an act while the station synchronizes, the ids that are left are those that the lines of the act leave
   pub word_after_sync_steps : (s : Model) (act : Act) → Performs commands s (action_at plan s) act → has_begun s.progress ≡ false
-      → (after plan commands s act).progress.word ≡ unanswered_after s.progress.word (heard_in (sync_part s (action_at plan s) act).sync_steps)
+      → (after plan commands s act).progress.exchange.word ≡ unanswered_after s.progress.exchange.word (heard_in (sync_part s (action_at plan s) act).sync_steps)
   word_after_sync_steps s act obeys begins = word_after plan commands s act obeys begins
-      ∙ ap (λ l. unanswered_after s.progress.word l) (sym (heard_in_sync_part commands s (action_at plan s) act obeys))
+      ∙ ap (λ l. unanswered_after s.progress.exchange.word l) (sym (heard_in_sync_part commands s (action_at plan s) act obeys))
 
 -- Each part synchronizes first.
 
@@ -169,8 +170,8 @@ module _ (plan : Plan) (commands : List Task) where
   -- let all that is outstanding be lost at the model t (`loses_all`), and all eight ids be left in t unless the station has
   -- synchronized. If the parts of the acts after t have synchronized from the ids left in t, they have synchronized from all
   -- eight: where the station has synchronized, the run is over, and no act follows
-  next_begun : (t : Model) (acts : List Act) → loses_all t.progress ≡ true → (has_begun t.progress ≡ false → t.progress.word ≡ the_word)
-      → Runs plan commands t acts → AreBegun t.progress.word (parts_of plan commands t acts)
+  next_begun : (t : Model) (acts : List Act) → loses_all t.progress ≡ true → (has_begun t.progress ≡ false → t.progress.exchange.word ≡ the_word)
+      → Runs plan commands t acts → AreBegun t.progress.exchange.word (parts_of plan commands t acts)
       → AreBegun the_word (parts_of plan commands t acts)
   next_begun t acts loses anew runs h = by_case (has_begun t.progress) refl loses where
     -- if the run is over, the parts have synchronized from all eight ids: no act follows, so nothing happens in them
@@ -196,23 +197,23 @@ module _ (plan : Plan) (commands : List Task) where
     -- ids left before it. `begun` is whether the station had synchronized before the act, and `lost` whether all that is
     -- outstanding is lost at its end
     parts_begun_with : (begun lost : Bool) → (is_begun : has_begun s.progress ≡ begun) → (is_lost : loses_all t.progress ≡ lost) → (performs : Performs commands s (action_at plan s) act)
-        → (runs : Runs plan commands t acts) → AreBegun t.progress.word ps
-        → AreBegun s.progress.word (in_front (if begun then client_part plan commands s (action_at plan s) act else sync_part s (action_at plan s) act) (begun && lost) ps)
+        → (runs : Runs plan commands t acts) → AreBegun t.progress.exchange.word ps
+        → AreBegun s.progress.exchange.word (in_front (if begun then client_part plan commands s (action_at plan s) act else sync_part s (action_at plan s) act) (begun && lost) ps)
     parts_begun_with false lost e f obeys runs h =
-        begun_in_front s.progress.word (sync_part s (action_at plan s) act) ps (steps_none s (action_at plan s) act)
+        begun_in_front s.progress.exchange.word (sync_part s (action_at plan s) act) ps (steps_none s (action_at plan s) act)
         (subst (λ w. AreBegun w ps) (word_after_sync_steps plan commands s act obeys e) h)
     parts_begun_with true false e f obeys runs h =
         let p = client_part plan commands s (action_at plan s) act in
         let goes : has_begun t.progress ≡ true = begun_if_nothing_lost t f in
-        subst (λ w. AreBegun w (in_front p false ps)) (sym (word_empty s.progress.word e))
-        (begun_joined p ps (subst (λ w. AreBegun w ps) (word_empty t.progress.word goes) h))
+        subst (λ w. AreBegun w (in_front p false ps)) (sym (word_empty s.progress.exchange.word e))
+        (begun_joined p ps (subst (λ w. AreBegun w ps) (word_empty t.progress.exchange.word goes) h))
     parts_begun_with true true e f obeys runs h =
         let p = client_part plan commands s (action_at plan s) act in
-        subst (λ w. AreBegun w (p ∷ ps)) (sym (word_empty s.progress.word e))
+        subst (λ w. AreBegun w (p ∷ ps)) (sym (word_empty s.progress.exchange.word e))
         (begun_with_more p ps (next_begun t acts f (λ begins. word_if_resynchronizing plan commands s act obeys e begins) runs h))
 
   -- the parts of a run from the model s on have synchronized from the ids left in s, as `AreBegun` says
-  pub parts_begun : (s : Model) (acts : List Act) → Runs plan commands s acts → AreBegun s.progress.word (parts_of plan commands s acts)
+  pub parts_begun : (s : Model) (acts : List Act) → Runs plan commands s acts → AreBegun s.progress.exchange.word (parts_of plan commands s acts)
   parts_begun s [] runs = inl refl
   parts_begun s (act ∷ acts) runs =
       parts_begun_with s act acts (has_begun s.progress) (loses_all (after plan commands s act).progress) refl refl runs.0 runs.1 (parts_begun (after plan commands s act) acts runs.1)

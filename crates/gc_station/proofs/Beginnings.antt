@@ -10,13 +10,14 @@ use Rattle.gc_catalogue.specs.declared.asked.Asked.{Asked}
 use Rattle.gc_client.specs.Beginning.{IsSubsequence, the_word, left_by, left_when}
 use Rattle.gc_client.specs.Rule.{ById, heard}
 use Rattle.gc_texts.specs.declared.tasks.Task.{Task}
+use Rattle.gc_session.specs.Exchange.{is_none_left}
 use Rattle.gc_station.specs.declared.plan.Plan.{Plan}
 use Rattle.gc_station.specs.declared.progress.Action.{Action}
 use Rattle.gc_station.specs.declared.progress.Action.TheVariants as actions
 use Rattle.gc_station.specs.declared.progress.Progress.{Progress}
 use Rattle.gc_links.specs.Acts.{Act}
 use Rattle.gc_station.specs.Beginnings.{lines_heard_at, lines_heard, unanswered_after, NoneBeforeTheLastAnswer, IsSynchronizing, SynchronizesAnew, SynchronizesInOrder}
-use Rattle.gc_station.specs.Deciding.{has_begun, is_none_left}
+use Rattle.gc_station.specs.Deciding.{has_begun}
 use Rattle.gc_station.specs.Progressing.{turned}
 use Rattle.gc_station.specs.Quiet.{IsAsking}
 use Rattle.gc_station.specs.Reasons.{HoldsBefore}
@@ -67,38 +68,38 @@ module _ (plan : Plan) (commands : List Task) where
 
   -- while the station synchronizes, the ids that an act leaves unanswered are those that its lines leave
   pub word_after : (s : Model) (act : Act) → Performs commands s (action_at plan s) act → has_begun s.progress ≡ false
-      → (after plan commands s act).progress.word ≡ unanswered_after s.progress.word (lines_heard_at s act)
+      → (after plan commands s act).progress.exchange.word ≡ unanswered_after s.progress.exchange.word (lines_heard_at s act)
   word_after s act obeys begins =
-      ap (λ (p : Progress). p.word) (with_losses_progress (moved plan commands (action_at plan s) (with_progress turned s) act))
+      ap (λ (p : Progress). p.exchange.word) (with_losses_progress (moved plan commands (action_at plan s) (with_progress turned s) act))
       ∙ word_moved plan commands s (action_at plan s) act obeys (not_renew s (action_at plan s) (action_for plan s.progress (waiting_of s)) begins)
 
   -- if the station resynchronizes, all ids of the word are left
   pub word_if_resynchronizing : (s : Model) (act : Act) → Performs commands s (action_at plan s) act → has_begun s.progress ≡ true
-      → has_begun (after plan commands s act).progress ≡ false → (after plan commands s act).progress.word ≡ the_word
+      → has_begun (after plan commands s act).progress ≡ false → (after plan commands s act).progress.exchange.word ≡ the_word
   word_if_resynchronizing s act obeys begun begins =
       let o = action_at plan s in
       let far = with_losses_progress (moved plan commands o (with_progress turned s) act) in
       let it = renews_only plan commands s o act obeys begun (ap has_begun (sym far) ∙ begins) in
-      ap (λ (p : Progress). p.word) far ∙ ap (λ (x : Action). (moved plan commands x (with_progress turned s) act).progress.word) it.0
-      ∙ ap (λ (x : Act). (moved plan commands actions.Renew (with_progress turned s) x).progress.word) it.2
+      ap (λ (p : Progress). p.exchange.word) far ∙ ap (λ (x : Action). (moved plan commands x (with_progress turned s) act).progress.exchange.word) it.0
+      ∙ ap (λ (x : Act). (moved plan commands actions.Renew (with_progress turned s) x).progress.exchange.word) it.2
 
   -- if the word after an act is a subsequence of `ids`, the word before it is a subsequence of the ids of the act's lines and
   -- then `ids`; `begun` is whether the station had synchronized before the act
   word_before_act : (s : Model) (act : Act) (ids : List ℕ) (begun : Bool) → has_begun s.progress ≡ begun → Performs commands s (action_at plan s) act
-      → IsSubsequence (after plan commands s act).progress.word ids
-      → IsSubsequence s.progress.word (filter_map heard (lines_heard_at s act) ++ ids)
-  word_before_act s act ids true begun obeys h = empty_word_among s.progress.word _ begun
-  word_before_act s act ids false begins obeys h = lines_answered s.progress.word (lines_heard_at s act) ids (subst (λ (w : List ℕ). IsSubsequence w ids) (word_after s act obeys begins) h)
+      → IsSubsequence (after plan commands s act).progress.exchange.word ids
+      → IsSubsequence s.progress.exchange.word (filter_map heard (lines_heard_at s act) ++ ids)
+  word_before_act s act ids true begun obeys h = empty_word_among s.progress.exchange.word _ begun
+  word_before_act s act ids false begins obeys h = lines_answered s.progress.exchange.word (lines_heard_at s act) ids (subst (λ (w : List ℕ). IsSubsequence w ids) (word_after s act obeys begins) h)
 
   -- if the station has synchronized after these acts, the word before them is a subsequence of the ids of the lines that are
   -- heard at them
   word_among_heard : (s : Model) (acts : List Act) → Runs plan commands s acts → has_begun (after_all plan commands s acts).progress ≡ true
-      → IsSubsequence s.progress.word (filter_map heard (lines_heard plan commands s acts))
-  word_among_heard s [] runs begun = empty_word_among s.progress.word [] begun
+      → IsSubsequence s.progress.exchange.word (filter_map heard (lines_heard plan commands s acts))
+  word_among_heard s [] runs begun = empty_word_among s.progress.exchange.word [] begun
   word_among_heard s (act ∷ acts) runs begun =
       let u = after plan commands s act in
       let ids = filter_map heard (lines_heard plan commands u acts) in
-      subst (λ (all : List ℕ). IsSubsequence s.progress.word all) (sym (filter_map-append heard (lines_heard_at s act) (lines_heard plan commands u acts)))
+      subst (λ (all : List ℕ). IsSubsequence s.progress.exchange.word all) (sym (filter_map-append heard (lines_heard_at s act) (lines_heard plan commands u acts)))
       (word_before_act s act ids (has_begun s.progress) refl runs.0 (word_among_heard u acts runs.1 begun))
 
 -- if a command is next, or a null procedure that isn't of a synchronization, the station has synchronized
@@ -139,7 +140,7 @@ module _ (plan : Plan) (commands : List Task) (scope : Scope) (acts : List Act) 
         client = new;
         marks = nil_from_length here.marks (fine.paired ∙ ap (λ (c : ById Asked). length c.waiting) new);
         asks = λ asks. subst (λ (o : Action). Performs commands here o act) (only_ask_sends plan commands (action_at plan here) here act obeys asks needs begins) obeys;
-        left = ap (λ (x : Model). x.progress.word) (after_all-append plan commands (opening plan scope) acts (act ∷ [])) ∙ word_after plan commands here act obeys begins;
+        left = ap (λ (x : Model). x.progress.exchange.word) (after_all-append plan commands (opening plan scope) acts (act ∷ [])) ∙ word_after plan commands here act obeys begins;
       }
 
   -- `SynchronizesAnew` holds of an act of a run at which the station resynchronizes: it reads the clock where all outstanding
@@ -152,7 +153,7 @@ module _ (plan : Plan) (commands : List Task) (scope : Scope) (acts : List Act) 
       let full = renews_needs plan commands here (action_at plan here) (invariant_holds plan commands scope acts) it.0 (action_for plan here.progress (waiting_of here)) in
       record {
         resynchronizes = record { renews = it.0; moment = it.1; told = it.2; why = full.0; given_up = full.1 };
-        word = ap (λ (x : Model). x.progress.word) on ∙ word_if_resynchronizing plan commands here act obeys begun (ap (λ (x : Model). has_begun x.progress) (sym on) ∙ begins);
+        word = ap (λ (x : Model). x.progress.exchange.word) on ∙ word_if_resynchronizing plan commands here act obeys begun (ap (λ (x : Model). has_begun x.progress) (sym on) ∙ begins);
         client = (invariant_holds plan commands scope (acts ++ act ∷ [])).begins begins;
       }
 

@@ -13,10 +13,10 @@ use Rattle.gc_client.specs.Rule.{ById, Sending, Settlement, Lost, heard, hears, 
 use Rattle.gc_client.specs.declared.pending.Pending.{Pending}
 use Rattle.gc_client.specs.declared.window.TheConstants.{WINDOW}
 use Rattle.gc_client.proofs.OneForOne.{accounts_for_sends, length-settle}
+use Rattle.gc_session.specs.Exchange.{one_more_in_window}
+use Rattle.gc_session.specs.Lines.{is_some_of_table, ends_with_table}
 use Rattle.gc_station.specs.Parts.{client_stepped}
 use Rattle.gc_station.specs.Behind.{IsRepliedTableCall, IsNearTheTable}
-use Rattle.gc_station.specs.Model.{is_some_of_table, ends_with_table}
-use Rattle.gc_station.specs.Progressing.{one_more_in_window}
 use Rattle.gc_station.proofs.Booking.{course_client}
 use Rattle.gc_station.proofs.Meets.{met_lost}
 use Rattle.gc_station.proofs.Lists.{get_more, get_behind}

@@ -15,9 +15,9 @@ use Rattle.gc_client.specs.declared.pending.Pending.{Pending}
 use Rattle.gc_client.specs.declared.window.TheConstants.{WINDOW}
 use Rattle.gc_texts.specs.declared.occasion.Occasion.{Occasion}
 use Rattle.gc_texts.specs.declared.tasks.Task.{Task}
+use Rattle.gc_session.specs.Exchange.{one_more_in_window}
 use Rattle.gc_station.specs.Deciding.{later}
 use Rattle.gc_station.specs.Model.{Model, asks_for, null_request}
-use Rattle.gc_station.specs.Progressing.{one_more_in_window}
 use Rattle.gc_station.specs.RecordedInTime.{raw_count}
 use Rattle.gc_station.specs.Requests.{command_at}
 use Rattle.gc_station.specs.declared.plan.Plan.{Plan}
@@ -77,7 +77,7 @@ module _ (plan : Plan) (longest call turn loss : ℕ) (commands : List Task) (fe
     pub soon : (s.progress.moment.elapsed + turn) + left * turn < limit
 
   -- it is so where the next command of the setup waits for a null procedure
-  pub may_flush : WINDOW ≤ s.progress.behind → length s.client.waiting < WINDOW → GoesNext plan longest call turn loss commands s → MayFlush
+  pub may_flush : WINDOW ≤ s.progress.exchange.behind → length s.client.waiting < WINDOW → GoesNext plan longest call turn loss commands s → MayFlush
   may_flush far room (inl (empty, read, inl (near, soon))) = absurd (omega (arith, near, far))
   may_flush far room (inl (empty, read, inr (raw, soon))) =
       record {
@@ -106,8 +106,8 @@ module _ (plan : Plan) (longest call turn loss : ℕ) (commands : List Task) (fe
       }
 
   -- after another null procedure was sent
-  pub flushed_again : WINDOW ≤ s.progress.behind → (room : length s.client.waiting < WINDOW) → MayFlush
-      → IsFlushing (raw_count (take (plan.setup - 1) commands)) call turn limit (one_more_in_window s.progress.behind) s.progress.moment.elapsed true (asks_for (null_request plan) s).client.waiting
+  pub flushed_again : WINDOW ≤ s.progress.exchange.behind → (room : length s.client.waiting < WINDOW) → MayFlush
+      → IsFlushing (raw_count (take (plan.setup - 1) commands)) call turn limit (one_more_in_window s.progress.exchange.behind) s.progress.moment.elapsed true (asks_for (null_request plan) s).client.waiting
   flushed_again far room f =
       let now = s.progress.moment.elapsed in
       let one = pending_of 0 (Table NullProc) (later now plan.deadline) in
@@ -116,7 +116,7 @@ module _ (plan : Plan) (longest call turn loss : ℕ) (commands : List Task) (fe
       let soon = f.soon in
       let early : EndsEarly (suc (call + f.left * turn)) limit one = λ e. omega (arith, soon, turns, few) in
       subst (λ (ws : List (Pending Asked)).
-      IsFlushing (raw_count (take (plan.setup - 1) commands)) call turn limit (one_more_in_window s.progress.behind) now true ws)
+      IsFlushing (raw_count (take (plan.setup - 1) commands)) call turn limit (one_more_in_window s.progress.exchange.behind) now true ws)
       (sym (sent_with_room s.client (null_request plan).command now plan.deadline room))
       (record {
         raw = f.raw;

@@ -164,7 +164,7 @@ sent_last plan commands s o act obeys = by_action o obeys where
   read : (until : Until) (bytes : List ℕ) (m : Moment) → (piece_at plan until bytes m u).progress.clock_due ≡ false
   read until bytes m =
       let mid = with_moment m (with_progress (moment_noted m) u) in
-      came_along (λ (x : Model). x.progress.clock_due ≡ false) (λ x line e. e) (is_heard u.progress.phase) u.progress.word bytes mid refl
+      came_along (λ (x : Model). x.progress.clock_due ≡ false) (λ x line e. e) (is_heard u.progress.phase) u.progress.exchange.word bytes mid refl
       (asked_along (λ (q : Progress). q.clock_due ≡ false) (λ q line e. e) mid.progress (lines_completed mid.rest bytes) refl) refl
 
   -- a phase after a clearing isn't `Ready` if the station has synchronized

@@ -88,7 +88,7 @@ paused_same at false c e = refl
 quiet_same : (plan : Plan) (phase : Phase) (p : Progress) (c : Cause) → cause_in (quieted plan phase p).phase ≡ Some c → (quieted plan phase p).phase ≡ p.phase
 quiet_same plan phase p c =
     quieted_along (λ (q : Progress). cause_in q.phase ≡ Some c → q.phase ≡ p.phase) plan phase p
-    (λ e. paused_same p.phase (is_past p.pause p && not (is_idle plan p)) c e) (λ e. cc) (λ e. refl)
+    (λ e. paused_same p.phase (is_past p.exchange.pause p && not (is_idle plan p)) c e) (λ e. cc) (λ e. refl)
 
 -- a piece, whether it is heard or discarded, leaves the phase
 pub came_phase : (heard : Bool) (word piece : List ℕ) (s : Model) → (after_piece heard word piece s).progress.phase ≡ s.progress.phase
@@ -170,7 +170,7 @@ moved_decides plan commands action.Clear s act c o done e =
 moved_decides plan commands action.Ask s act c o done e =
     let t = with_progress turned s in
     walk plan commands (DecidesIfEnded plan s action.Ask c) action.Ask t act o
-    (put_decides plan s action.Ask c (commands_before plan commands t.progress) (null_text s.progress.word) (with_progress (null_sent plan) t) refl) e
+    (put_decides plan s action.Ask c (commands_before plan commands t.progress) (null_text s.progress.exchange.word) (with_progress (null_sent plan) t) refl) e
 moved_decides plan commands action.Prepare s act c o done e =
     let t = with_progress turned s in
     let text = text_or_null (occasion_at s.progress.moment) s.client (drop s.progress.prepared commands) in
@@ -188,7 +188,7 @@ moved_decides plan commands action.Flush s act c o done e =
 moved_decides plan commands (action.Read until) s act c o done e =
     let t = with_progress turned s in
     walk plan commands (DecidesIfEnded plan s (action.Read until) c) (action.Read until) t act o (
-      λ bytes m g. inr (inr (came_phase (is_heard s.progress.phase) s.progress.word bytes (with_moment m (with_progress (moment_noted m) t)))),
+      λ bytes m g. inr (inr (came_phase (is_heard s.progress.phase) s.progress.exchange.word bytes (with_moment m (with_progress (moment_noted m) t)))),
       λ m g. inr (inr (quiet_same plan s.progress.phase (time_passed until m t.progress) c g)),
       λ g. noted_failure_decides t cause.End c Ended refl g,
       λ g. noted_failure_decides t cause.Read c Broke refl g,

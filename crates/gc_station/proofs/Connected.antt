@@ -70,7 +70,7 @@ HoldsInUse plan commands F actions.Renew s acts = (m : Moment) → F (early_note
 HoldsInUse plan commands F actions.Begin s acts = (m : Moment) → F (cycle_begun plan (cycle_length plan commands) (first_upcoming plan commands s.progress) m s.progress) (acts ++ Told m ∷ [])
 HoldsInUse plan commands F actions.Open s acts = (m : Moment) → F (opened s.progress) (acts ++ Opened ∷ [])
 HoldsInUse plan commands F actions.Clear s acts = (m : Moment) → F (cleared s.progress) (acts ++ Put (10 ∷ []) ∷ [])
-HoldsInUse plan commands F actions.Ask s acts = (m : Moment) → F (null_sent plan s.progress) (acts ++ Put (null_text s.progress.word) ∷ [])
+HoldsInUse plan commands F actions.Ask s acts = (m : Moment) → F (null_sent plan s.progress) (acts ++ Put (null_text s.progress.exchange.word) ∷ [])
 HoldsInUse plan commands F actions.Prepare s acts = (m : Moment) → F (setup_sent plan s.progress) (acts ++ Put (text_or_null (occasion_at s.progress.moment) s.client (drop s.progress.prepared commands)) ∷ [])
 HoldsInUse plan commands F actions.Send s acts = (m : Moment) → F (sent (upcoming_after plan 1 commands s.progress) s.progress)
     (acts ++ Put (first_text (occasion_at s.progress.moment) s.client (commands_left commands s.progress)) ∷ [])
@@ -96,7 +96,7 @@ module _ (plan : Plan) (commands : List Task) (F : Progress → List Act → Typ
   holds_if_silent : (until : Until) (m : Moment) (p : Progress) (at : Phase) (acts : List Act) → p.phase ≡ at → HoldsIfSilent plan F until m p acts
       → F (quieted plan at (time_passed until m p)) (acts ++ Silent m ∷ [])
   holds_if_silent until m p phase.Pausing acts is h =
-      unused _ (acts ++ Silent m ∷ []) (paused_alike is_in_use (is_past p.pause (time_passed until m p) && not (is_idle plan (time_passed until m p))) p.phase is refl)
+      unused _ (acts ++ Silent m ∷ []) (paused_alike is_in_use (is_past p.exchange.pause (time_passed until m p) && not (is_idle plan (time_passed until m p))) p.phase is refl)
   holds_if_silent until m p phase.Draining acts is h = by_test (is_quiet plan (time_passed until m p)) refl where
     -- the lemma above for a drain, whether it was long enough (`true`) or not
     by_test : (b : Bool) → is_quiet plan (time_passed until m p) ≡ b → F (if b then drained (time_passed until m p) else time_passed until m p) (acts ++ Silent m ∷ [])

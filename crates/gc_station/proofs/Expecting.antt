@@ -8,6 +8,7 @@ use Rattle.gc_client.specs.declared.pending.Pending.{Pending}
 use Rattle.gc_client.specs.Rule.{lost}
 use Rattle.gc_texts.specs.Endings.{End, Unexpected}
 use Rattle.gc_texts.specs.declared.tasks.Task.{Task}
+use Rattle.gc_session.specs.Lines.{calls_for_renewal}
 use Rattle.gc_links.specs.Acts.{Act, Told, Gave}
 use Rattle.gc_links.specs.declared.link.Moment.{Moment}
 use Rattle.gc_station.specs.declared.mark.Mark.{Mark}
@@ -16,7 +17,6 @@ use Rattle.gc_station.specs.declared.progress.Action.{Action}
 use Rattle.gc_station.specs.declared.progress.Action.TheVariants as action
 use Rattle.gc_station.specs.declared.progress.Progress.{Progress}
 use Rattle.gc_station.specs.Expecting.{IsByExpectation, TheSetUpIsAsExpected, ChainsAreAsExpected, BringsUnexpected, RenewsAfterAnUnexpectedAnswer}
-use Rattle.gc_station.specs.Lines.{calls_for_renewal}
 use Rattle.gc_station.specs.Marks.{any_unexpected, is_well, records_of, unexpected_noted}
 use Rattle.gc_station.specs.Model.{Model, opening, action_at, waiting_of, is_heard, after_piece, first_unsent_record, line_busy, line_came, line_news, losing, moved, after, with_moment, with_progress}
 use Rattle.gc_station.specs.NextCommand.{commands_left, mark_next}
@@ -76,7 +76,7 @@ unsent_as_expected p m mark (task ∷ others) = unsent_along (λ (end : End). un
 record AddsDoubt (old : List Record) (t : Model) : Type 0 where
   news : List Record
   added : t.records ≡ old ++ news
-  doubt : any_unexpected false news ≡ true → t.progress.doubtful ≡ true
+  doubt : any_unexpected false news ≡ true → t.progress.exchange.doubtful ≡ true
 
 -- a line that is heard keeps it so
 line_doubts : (old : List Record) (s : Model) (line : List ℕ) → AddsDoubt old s → AddsDoubt old (line_came s line)
@@ -86,7 +86,7 @@ line_doubts old s line a = record {
   doubt = λ one.
       let either = either_unexpected (any_unexpected false a.news) (line_news line s) (sym (unexpected-append false a.news (line_news line s)) ∙ one) in
       ap (λ (d : Bool). d || nat_lt 0 (line_busy line s))
-      (noted (any_unexpected false a.news) s.progress.doubtful (calls_for_renewal s.client line) (any_unexpected false (line_news line s)) a.doubt either);
+      (noted (any_unexpected false a.news) s.progress.exchange.doubtful (calls_for_renewal s.client line) (any_unexpected false (line_news line s)) a.doubt either);
 } where
   -- if one of two alternatives holds, so does one of three, the first of which follows from that of the two
   noted : (a b call new : Bool) → (a ≡ true → b ≡ true) → (a || new) ≡ true → ((b || call) || new) ≡ true
@@ -138,7 +138,7 @@ module _ (plan : Plan) (commands : List Task) where
   }
   moved_doubts action.Skip s act = none_new s (moved plan commands action.Skip s act) (append-nil s.records)
   moved_doubts (action.Read until) s (Gave bytes m) =
-      let came = came_doubts s.records (is_heard s.progress.phase) s.progress.word bytes (with_moment m (with_progress (moment_noted m) s)) refl in
+      let came = came_doubts s.records (is_heard s.progress.phase) s.progress.exchange.word bytes (with_moment m (with_progress (moment_noted m) s)) refl in
       record { news = came.news; added = came.added; doubt = came.doubt }
   moved_doubts (action.Read until) s act = none_new s (moved plan commands (action.Read until) s act) refl
   moved_doubts o s act = none_new s (moved plan commands o s act) (ap (λ (x : Model). x.records) (moved_changed plan commands o s act))
@@ -151,7 +151,7 @@ module _ (plan : Plan) (commands : List Task) where
 
   module _ (scope : Scope) where
     -- an act that brings an unexpected answer leaves the station in doubt
-    unexpected_doubts : (acts : List Act) (act : Act) → BringsUnexpected plan commands scope acts act → (after plan commands (state_after plan commands scope acts) act).progress.doubtful ≡ true
+    unexpected_doubts : (acts : List Act) (act : Act) → BringsUnexpected plan commands scope acts act → (after plan commands (state_after plan commands scope acts) act).progress.exchange.doubtful ≡ true
     unexpected_doubts acts act b =
         let s = state_after plan commands scope acts in
         let a = after_doubts s act in
@@ -161,10 +161,10 @@ module _ (plan : Plan) (commands : List Task) where
         a.doubt (ap (any_unexpected false) (append_cancel_left s.records a.news (w.earlier ++ b.answer ∷ w.later) same) ∙ one_unexpected false w.earlier b.answer w.later b.line b.unexpected)
 
 -- no request of the client is sent in doubt
-pub none_asked : (plan : Plan) (s : Model) (o : Action) → HoldsBefore plan s.progress (waiting_of s) o → IsAsking o → s.progress.doubtful ≡ true → ⊥
-none_asked plan s action.Prepare needs asks doubt = both_ways s.progress.doubtful needs.3.2 doubt
-none_asked plan s action.Send needs asks doubt = both_ways s.progress.doubtful needs.3.2 doubt
-none_asked plan s action.Flush needs asks doubt = both_ways s.progress.doubtful needs.4.2 doubt
+pub none_asked : (plan : Plan) (s : Model) (o : Action) → HoldsBefore plan s.progress (waiting_of s) o → IsAsking o → s.progress.exchange.doubtful ≡ true → ⊥
+none_asked plan s action.Prepare needs asks doubt = both_ways s.progress.exchange.doubtful needs.3.2 doubt
+none_asked plan s action.Send needs asks doubt = both_ways s.progress.exchange.doubtful needs.3.2 doubt
+none_asked plan s action.Flush needs asks doubt = both_ways s.progress.exchange.doubtful needs.4.2 doubt
 none_asked plan s o needs asks doubt = absurd asks
 
 -- The laws.

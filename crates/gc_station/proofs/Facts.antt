@@ -106,16 +106,16 @@ beginning_for plan p w awake begun =
     cond_both (is_finished w.commands p) (action.Close cause.Done) _ P (λ none. ((awake_up p awake, inr (finished_by_test w.commands p none)), tt, tt))
     (λ more. cond_both (is_idle plan p) (action.Read Due) _ P (λ idle. ((awake.1, inl (idle, inl begun)), awake_reads p awake, tt))
     (λ busy. cond_both (may_ask p) _ (action.Read Limit) P
-    (λ may. let free = and_parts (nat_eq p.hold 0) (nat_le p.again p.moment.elapsed) may in
-    let past = leb-true p.again p.moment.elapsed free.1 in
+    (λ may. let free = and_parts (nat_eq p.exchange.hold 0) (nat_le p.exchange.again p.moment.elapsed) may in
+    let past = leb-true p.exchange.again p.moment.elapsed free.1 in
     cond_both (is_dead plan p w) (action.Close cause.Dead) action.Ask P
     (λ d. let it = dead_parts plan p w d in ((awake_up p awake, inr (it.0, it.1, λ not_begun. past)), tt, inr awake))
-    (λ alive. ((awake.1, begun, past, busy, alive, eqb-true p.hold 0 free.0), tt, awake)))
-    (λ e. (inr (inr (awake.1, inl (begun, waits (and_cases (nat_eq p.hold 0) (nat_le p.again p.moment.elapsed) e)))), awake_reads p awake, tt)))) where
+    (λ alive. ((awake.1, begun, past, busy, alive, eqb-true p.exchange.hold 0 free.0), tt, awake)))
+    (λ e. (inr (inr (awake.1, inl (begun, waits (and_cases (nat_eq p.exchange.hold 0) (nat_le p.exchange.again p.moment.elapsed) e)))), awake_reads p awake, tt)))) where
       -- a busy answer has the station wait, or the null procedure that was sent last hasn't timed out
-      waits : ((nat_eq p.hold 0 ≡ false) ⊎ (nat_le p.again p.moment.elapsed ≡ false)) → (0 < p.hold) ⊎ (p.moment.elapsed < p.again)
-      waits (inl held) = inl (above_zero p.hold held)
-      waits (inr early) = inr (leb-false p.again p.moment.elapsed early)
+      waits : ((nat_eq p.exchange.hold 0 ≡ false) ⊎ (nat_le p.exchange.again p.moment.elapsed ≡ false)) → (0 < p.exchange.hold) ⊎ (p.moment.elapsed < p.exchange.again)
+      waits (inl held) = inl (above_zero p.exchange.hold held)
+      waits (inr early) = inr (leb-false p.exchange.again p.moment.elapsed early)
 
 -- for a station that is `Awake`, `Holds` is true of `action_ready`, unless the run ends because that was asked for
 -- (`is_stopping`)

@@ -158,7 +158,7 @@ module _ (plan : Plan) (commands : List Task) where
   moved_same actions.Flush k s (Cut bytes n) = refl
   moved_same actions.Flush k s act = refl
   moved_same (actions.Read until) k s (Gave bytes m) =
-      ap (piece_noted plan until (commands_in s.marks)) (piece_same k (is_heard s.progress.phase) s.progress.word bytes (with_moment m (with_progress (moment_noted m) s)))
+      ap (piece_noted plan until (commands_in s.marks)) (piece_same k (is_heard s.progress.phase) s.progress.exchange.word bytes (with_moment m (with_progress (moment_noted m) s)))
   moved_same (actions.Read until) k s (Silent m) =
       ap (λ (p : Progress). with_moment m (record s { progress = p })) (quiet_same plan s.progress.phase k (time_passed until m s.progress))
   moved_same (actions.Read until) k s act = refl

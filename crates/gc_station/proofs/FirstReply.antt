@@ -13,10 +13,10 @@ use Rattle.gc_client.specs.Rule.{ById, Settlement, Lost, heard, hears, settles_a
 use Rattle.gc_client.specs.declared.pending.Pending.{Pending}
 use Rattle.gc_client.specs.declared.window.TheConstants.{WINDOW}
 use Rattle.gc_client.proofs.OneForOne.{accounts_for_sends}
-use Rattle.gc_station.specs.Model.{ends_with_table}
+use Rattle.gc_session.specs.Exchange.{one_more_in_window}
+use Rattle.gc_session.specs.Lines.{ends_with_table}
 use Rattle.gc_station.specs.NullFirst.{HasEndedANull}
 use Rattle.gc_station.specs.Parts.{client_stepped}
-use Rattle.gc_station.specs.Progressing.{one_more_in_window}
 use Rattle.gc_station.proofs.Behind.{behind_step, behind_by, course_of, course_append, settled_and_waiting}
 use Rattle.gc_station.proofs.Booking.{course_settled, course_sent, course_client, settled_by, sent_by}
 use Rattle.gc_station.proofs.Lists.{get_more, all_append}

@@ -34,7 +34,7 @@ LeavesRest s act t = t.rest ≡ rest_with (is_heard s.progress.phase) act s.rest
 moved_rest : (plan : Plan) (commands : List Task) (next : Action) (s : Model) (act : Act) → Performs commands s next act → LeavesRest s act (moved plan commands next (with_progress turned s) act)
 moved_rest plan commands (actions.Read until) s act o =
     walk plan commands (LeavesRest s) (actions.Read until) (with_progress turned s) act o
-    (λ bytes m. came_rest (is_heard s.progress.phase) s.progress.word bytes (piece_before m s), λ m. refl, refl, refl, refl)
+    (λ bytes m. came_rest (is_heard s.progress.phase) s.progress.exchange.word bytes (piece_before m s), λ m. refl, refl, refl, refl)
 moved_rest plan commands (actions.Close why) s act o = walk plan commands (LeavesRest s) (actions.Close why) (with_progress turned s) act o refl
 moved_rest plan commands (actions.Stop why) s act o = absurd o
 moved_rest plan commands next s act o = walk plan commands (LeavesRest s) next (with_progress turned s) act o (λ m. refl, λ n. refl)

@@ -14,15 +14,16 @@ use Rattle.gc_client.specs.OneForOne.{Step, Send, Hear, Expire, begun}
 use Rattle.gc_client.specs.declared.window.TheConstants.{WINDOW}
 use Rattle.gc_client.specs.Rule.{ById}
 use Rattle.gc_texts.specs.declared.tasks.Task.{Task}
+use Rattle.gc_session.specs.Exchange.{is_none_left, one_more_in_window}
 use Rattle.gc_links.specs.Acts.{Act, Told, Untold, Put, Cut, Gave, Silent}
 use Rattle.gc_station.specs.declared.mark.Mark.{Mark}
 use Rattle.gc_station.specs.declared.plan.Plan.{Plan}
 use Rattle.gc_station.specs.declared.progress.Action.{Action}
 use Rattle.gc_station.specs.declared.progress.Action.TheVariants as action
 use Rattle.gc_station.specs.declared.progress.Progress.{Progress}
-use Rattle.gc_station.specs.Deciding.{has_begun, is_none_left}
+use Rattle.gc_station.specs.Deciding.{has_begun}
 use Rattle.gc_station.specs.Parts.{Part, put_part, first_request_part, heard_steps, client_part, sync_part}
-use Rattle.gc_station.specs.Progressing.{one_more_in_window, turned, time_passed}
+use Rattle.gc_station.specs.Progressing.{turned, time_passed}
 use Rattle.gc_station.specs.Reasons.{HoldsBefore}
 use Rattle.gc_station.specs.Model.{Model, waiting_of, is_heard, with_progress, with_rest, line_came, lines_came, lines_completed, after_piece, moved, Performs, mark_sent}
 use Rattle.gc_station.specs.NextCommand.{place_next}
@@ -36,13 +37,13 @@ use Rattle.gc_station.proofs.Asked.{steps_none}
 -- What an act does.
 
 -- lines that are heard change the count (`behind`) as the steps that hear them do
-lines_counted : (s : Model) (lines : List (List ℕ)) → (lines_came s lines).progress.behind ≡ behind_by s.client s.progress.behind (map Hear lines)
+lines_counted : (s : Model) (lines : List (List ℕ)) → (lines_came s lines).progress.exchange.behind ≡ behind_by s.client s.progress.exchange.behind (map Hear lines)
 lines_counted s [] = refl
 lines_counted s (line ∷ others) = lines_counted (line_came s line) others
 
 -- once the station has synchronized, a piece changes the count as the steps that hear its lines do
 came_counted : (heard : Bool) (word piece : List ℕ) (s : Model) → is_none_left word ≡ true
-    → (after_piece heard word piece s).progress.behind ≡ behind_by s.client s.progress.behind (heard_steps heard s.rest piece)
+    → (after_piece heard word piece s).progress.exchange.behind ≡ behind_by s.client s.progress.exchange.behind (heard_steps heard s.rest piece)
 came_counted true (asked ∷ others) piece s begun = cc
 came_counted true [] piece s begun = lines_counted (with_rest (rest_behind s.rest piece) s) (lines_completed s.rest piece)
 came_counted false word piece s begun = refl
@@ -55,7 +56,7 @@ first_counted c b now mark (task ∷ others) some = refl
 module _ (plan : Plan) (commands : List Task) where
   -- from s to t an act changes the count as the steps of its part do
   abbrev IsCounted : Action → Model → Act → Model → Type 0
-  IsCounted o s act t = t.progress.behind ≡ behind_by s.client s.progress.behind (client_part plan commands s o act).steps
+  IsCounted o s act t = t.progress.exchange.behind ≡ behind_by s.client s.progress.exchange.behind (client_part plan commands s o act).steps
 
   -- once the station has synchronized, each act changes the count as the steps of its part do, unless the station resynchronizes
   pub behind_counted : (s : Model) (o : Action) (act : Act) → Invariant plan commands s → (needs : HoldsBefore plan s.progress (waiting_of s) o) → (performs : Performs commands s o act)
@@ -68,19 +69,19 @@ module _ (plan : Plan) (commands : List Task) where
   behind_counted s action.Send act fine is obeys begun still =
       let left = drop (place_next commands s.progress) commands in
       let many : length left ≡ length commands - place_next commands s.progress = length-drop (place_next commands s.progress) commands in
-      let one = first_counted s.client s.progress.behind s.progress.moment.elapsed (mark_sent plan commands s) left (omega (arith, many, is.2, fine.unsent)) in
+      let one = first_counted s.client s.progress.exchange.behind s.progress.moment.elapsed (mark_sent plan commands s) left (omega (arith, many, is.2, fine.unsent)) in
       walk plan commands (IsCounted action.Send s) action.Send (with_progress turned s) act obeys (λ m. one, λ n. one)
   behind_counted s (action.Read until) act fine is obeys begun still =
       walk plan commands (IsCounted (action.Read until) s) (action.Read until) (with_progress turned s) act obeys (
-        λ bytes m. came_counted (is_heard s.progress.phase) s.progress.word bytes (piece_before m s) begun,
-        λ m. quieted_along (λ (q : Progress). q.behind ≡ s.progress.behind) plan s.progress.phase (time_passed until m (turned s.progress)) refl refl refl,
+        λ bytes m. came_counted (is_heard s.progress.phase) s.progress.exchange.word bytes (piece_before m s) begun,
+        λ m. quieted_along (λ (q : Progress). q.exchange.behind ≡ s.progress.exchange.behind) plan s.progress.phase (time_passed until m (turned s.progress)) refl refl refl,
         refl,
         refl,
         refl,
       )
   behind_counted s (action.Close why) act fine is obeys begun still =
       walk plan commands (IsCounted (action.Close why) s) (action.Close why) (with_progress turned s) act obeys
-      (closed_along (λ (q : Progress). q.behind ≡ s.progress.behind) plan (waiting_of (with_rest [] (with_progress turned s))) why (turned s.progress) refl refl)
+      (closed_along (λ (q : Progress). q.exchange.behind ≡ s.progress.exchange.behind) plan (waiting_of (with_rest [] (with_progress turned s))) why (turned s.progress) refl refl)
   behind_counted s (action.Stop why) act fine is obeys begun still = absurd obeys
   behind_counted s o act fine is obeys begun still = walk plan commands (IsCounted o s) o (with_progress turned s) act obeys (λ m. refl, λ n. refl)
 
@@ -170,7 +171,7 @@ module _ (plan : Plan) (commands : List Task) (s : Model) (k : ById Asked) (more
   act_goes_out o act false h = absurd (sync_sends_none o act h)
 
 -- with seven requests behind the last call of the table, only null procedures are sent
-module _ (plan : Plan) (commands : List Task) (s : Model) (far : s.progress.behind ≡ WINDOW) where
+module _ (plan : Plan) (commands : List Task) (s : Model) (far : s.progress.exchange.behind ≡ WINDOW) where
   -- by an act that puts bytes
   put_nulls : (o : Action) → HoldsBefore plan s.progress (waiting_of s) o → AllByRecursion SendsNulls (put_part plan commands s o).steps
   put_nulls action.Flush is = (refl, tt)

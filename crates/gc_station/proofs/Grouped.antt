@@ -136,7 +136,7 @@ module _ (plan : Plan) (commands : List Task) where
   moved_in_turn actions.Skip s act sends skips k = record { marks = k.marks; records = all_append IsAwakeRecord s.records [] k.records tt }
   moved_in_turn (actions.Read until) s (Gave bytes m) sends skips k =
       let mid = with_moment m (with_progress (moment_noted m) s) in
-      let n = came_in_turn (is_heard s.progress.phase) s.progress.word bytes mid (record { marks = k.marks; records = k.records }) in record { marks = n.marks; records = n.records }
+      let n = came_in_turn (is_heard s.progress.phase) s.progress.exchange.word bytes mid (record { marks = k.marks; records = k.records }) in record { marks = n.marks; records = n.records }
   moved_in_turn (actions.Read until) s act sends skips k = record { marks = k.marks; records = k.records }
   moved_in_turn o s act sends skips k =
       let is = moved_changed plan commands o s act in

@@ -37,6 +37,6 @@ came_grew heard word piece s =
 pub moved_grew : (plan : Plan) (commands : List Task) (action : Action) (s : Model) (act : Act) → Grew s.records (moved plan commands action s act).records
 moved_grew plan commands actions.Skip s (Told m) = (unsent_record plan commands s.progress (Told m), refl)
 moved_grew plan commands actions.Skip s act = ([], refl)
-moved_grew plan commands (actions.Read until) s (Gave bytes m) = came_grew (is_heard s.progress.phase) s.progress.word bytes (with_moment m (with_progress (moment_noted m) s))
+moved_grew plan commands (actions.Read until) s (Gave bytes m) = came_grew (is_heard s.progress.phase) s.progress.exchange.word bytes (with_moment m (with_progress (moment_noted m) s))
 moved_grew plan commands (actions.Read until) s act = grew_none s.records
 moved_grew plan commands action s act = subst (λ (t : Model). Grew s.records t.records) (sym (moved_changed plan commands action s act)) (grew_none s.records)

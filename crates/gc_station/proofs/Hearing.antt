@@ -21,6 +21,7 @@ use Rattle.gc_lines.proofs.Passing.{Takes}
 use Rattle.gc_catalogue.specs.declared.asked.Asked.{Asked}
 use Rattle.gc_client.specs.declared.pending.Pending.{Pending}
 use Rattle.gc_client.specs.Rule.{ById, Settled, Settlement, hears, settles_at, settle, lost, restarts, place_in, expires, expired}
+use Rattle.gc_session.specs.Lines.{calls_for_renewal}
 use Rattle.gc_links.specs.Acts.{Act, Untold, AddsActs}
 use Rattle.gc_links.specs.declared.link.Moment.{Moment}
 use Rattle.gc_texts.specs.declared.tasks.Task.{Task}
@@ -41,7 +42,7 @@ use Rattle.gc_station.specs.Marks.{commands_in, records_of, last_well, any_unexp
 use Rattle.gc_station.specs.Watching.{fresh_after, cut_to}
 use Rattle.gc_station.specs.Progressing.{behind_noted, ended_noted, doubt_noted, hold_noted, line_noted, bytes_noted, early_noted, after_failure, closed, failing, lines_synchronizing, line_synchronizing}
 use Rattle.gc_station.specs.Records.{Record, Grew, texts_of, WritesPart, WritesBy}
-use Rattle.gc_station.specs.Model.{Model, Performs, calls_for_renewal, line_called, line_came, lines_came, lines_completed, lines_taken, with_rest, with_progress, with_moment, waiting_of, settles, piece_heard}
+use Rattle.gc_station.specs.Model.{Model, Performs, line_called, line_came, lines_came, lines_completed, lines_taken, with_rest, with_progress, with_moment, waiting_of, settles, piece_heard}
 use Rattle.gc_station.specs.Stations.{waiting_of_station, Refines, Took, TookPart, RefinesOrTookPart, Makes, ReadsMoment, DropsMarks, as_seen, station_expiring}
 use Rattle.gc_station.specs.Scopes.{AreReadings, ForEachReadings}
 use Rattle.gc_station.specs.Tallies.{empty_counts, tallied}

@@ -20,6 +20,8 @@ use Rattle.gc_texts.specs.Tasks.{call_at}
 use Rattle.gc_texts.specs.declared.occasion.Occasion.{Occasion}
 use Rattle.gc_texts.specs.declared.tasks.Task.{Task}
 use Rattle.gc_texts.proofs.TaskMoments.{at_any_moment}
+use Rattle.gc_session.specs.Exchange.{one_more_in_window}
+use Rattle.gc_session.specs.Lines.{is_some_of_table, ends_with_table}
 use Rattle.gc_links.specs.declared.link.Moment.{Moment}
 use Rattle.gc_links.specs.Acts.{Act, Told, Put, Cut, Gave, Silent}
 use Rattle.gc_station.specs.declared.mark.Mark.{Mark}
@@ -32,10 +34,10 @@ use Rattle.gc_station.specs.Behind.{AreOfTable, AwaitsFirstReply, IsNotHeldUp, T
 use Rattle.gc_station.specs.Deciding.{has_begun, has_room_to_ask, is_dead, action_to_send, action_room, action_waiting, width_of}
 use Rattle.gc_station.specs.Marks.{commands_in, occasion_of}
 use Rattle.gc_station.specs.Parts.{put_part, request_part, first_request_part, client_part, sync_part, part_of_act, client_stepped, client_after, course_at}
-use Rattle.gc_station.specs.Progressing.{one_more_in_window, turned, time_passed, is_over, loses_all}
+use Rattle.gc_station.specs.Progressing.{turned, time_passed, is_over, loses_all}
 use Rattle.gc_station.specs.Reasons.{HoldsBefore}
 use Rattle.gc_station.specs.Runs.{state_after}
-use Rattle.gc_station.specs.Model.{Model, opening, action_at, waiting_of, is_some_of_table, ends_with_table, is_heard, with_progress, with_rest, lines_completed, moved, losing, after, Performs, with_losses, request_or_null, mark_sent, mark_setup_sent}
+use Rattle.gc_station.specs.Model.{Model, opening, action_at, waiting_of, is_heard, with_progress, with_rest, lines_completed, moved, losing, after, Performs, with_losses, request_or_null, mark_sent, mark_setup_sent}
 use Rattle.gc_station.specs.NextCommand.{place_next}
 use Rattle.gc_station.proofs.Always.{always}
 use Rattle.gc_station.proofs.Behind.{behind_by, behind_step}
@@ -230,7 +232,7 @@ NothingSent s = (commands_in s.marks ≡ 0) × NothingBegun s.progress
 -- procedures was sent, or `behind` is the number of outstanding requests
 record CountsWaiting (s : Model) : Type 0 where
   begins : has_begun s.progress ≡ false → NothingBegun s.progress
-  level : has_begun s.progress ≡ true → is_over s.progress ≡ false → (Unended s.client s.progress.behind × NothingSent s) ⊎ Level s.client s.progress.behind
+  level : has_begun s.progress ≡ true → is_over s.progress ≡ false → (Unended s.client s.progress.exchange.behind × NothingSent s) ⊎ Level s.client s.progress.exchange.behind
 
 -- if the station has synchronized, and the run isn't over, the model stays at the end of an act, as nothing is lost
 kept_model : (t : Model) → has_begun t.progress ≡ true → is_over t.progress ≡ false → with_losses t ≡ t
@@ -262,7 +264,7 @@ module _ (plan : Plan) (commands : List Task) where
   nothing_sent s (action.Read until) act is obeys far h =
       walk plan commands (λ a. NothingSent) (action.Read until) (with_progress turned s) act obeys (
         λ bytes m. came_along NothingSent (λ t line h. (none_dropped (length (hears t.client line (heard line)).settlements) t.marks h.0, h.1))
-            (is_heard s.progress.phase) s.progress.word bytes (piece_before m s) h
+            (is_heard s.progress.phase) s.progress.exchange.word bytes (piece_before m s) h
             (asked_along (λ (q : Progress). (commands_in s.marks ≡ 0) × NothingBegun q) (λ q line h. h) (piece_before m s).progress (lines_completed s.rest bytes) h) h,
         λ m. quieted_along (λ (q : Progress). (commands_in s.marks ≡ 0) × NothingBegun q) plan s.progress.phase (time_passed until m (turned s.progress)) h h h,
         h,
@@ -341,18 +343,18 @@ module _ (plan : Plan) (commands : List Task) (all : AreOfTable commands) where
 
     -- it holds after the act, before what is outstanding is lost, if the station has synchronized before it and after it, and the run
     -- wasn't over before it
-    level_moved : has_begun s.progress ≡ true → has_begun t.progress ≡ true → is_over s.progress ≡ false → Claim t.client t.progress.behind
+    level_moved : has_begun s.progress ≡ true → has_begun t.progress ≡ true → is_over s.progress ≡ false → Claim t.client t.progress.exchange.behind
     level_moved begun still going =
-        subst (λ (c : ById Asked). Claim c t.progress.behind) (steps_client begun)
+        subst (λ (c : ById Asked). Claim c t.progress.exchange.behind) (steps_client begun)
         (subst (λ (n : ℕ). Claim (client_after s.client steps) n) (sym (behind_counted plan commands s o act fine its obeys begun still))
         (by_case (h.level begun going))) where
           -- the claim, by what holds before the act
-          by_case : (Unended s.client s.progress.behind × NothingSent s) ⊎ Level s.client s.progress.behind → Claim (client_after s.client steps) (behind_by s.client s.progress.behind steps)
-          by_case (inr level) = inr (level_steps s.client s.progress.behind steps (client_tables s o act) level)
-          by_case (inl (none, sent)) = on (unended_steps s.client s.progress.behind steps (client_tables s o act) none) where
+          by_case : (Unended s.client s.progress.exchange.behind × NothingSent s) ⊎ Level s.client s.progress.exchange.behind → Claim (client_after s.client steps) (behind_by s.client s.progress.exchange.behind steps)
+          by_case (inr level) = inr (level_steps s.client s.progress.exchange.behind steps (client_tables s o act) level)
+          by_case (inl (none, sent)) = on (unended_steps s.client s.progress.exchange.behind steps (client_tables s o act) none) where
             -- then nothing is begun by the act
-            on : Unended (client_after s.client steps) (behind_by s.client s.progress.behind steps) ⊎ Level (client_after s.client steps) (behind_by s.client s.progress.behind steps)
-                → Claim (client_after s.client steps) (behind_by s.client s.progress.behind steps)
+            on : Unended (client_after s.client steps) (behind_by s.client s.progress.exchange.behind steps) ⊎ Level (client_after s.client steps) (behind_by s.client s.progress.exchange.behind steps)
+                → Claim (client_after s.client steps) (behind_by s.client s.progress.exchange.behind steps)
             on (inl still) = inl (still, nothing_sent plan commands s o act its obeys none.far sent)
             on (inr level) = inr level
 
@@ -372,7 +374,7 @@ module _ (plan : Plan) (commands : List Task) (all : AreOfTable commands) where
           let it = renews_only plan commands s o act obeys begun (sym (ap has_begun same_progress) ∙ anew) in
           subst NothingBegun (sym same_progress) (nothing_begun_anew plan commands s o act it.1 it.0 it.2);
       level = λ still going.
-          subst (λ (x : Model). (Unended x.client x.progress.behind × NothingSent x) ⊎ Level x.client x.progress.behind) (not_lost still going)
+          subst (λ (x : Model). (Unended x.client x.progress.exchange.behind × NothingSent x) ⊎ Level x.client x.progress.exchange.behind) (not_lost still going)
           (level_moved begun (sym (ap has_begun same_progress) ∙ still) (wasnt_over (is_over s.progress) refl));
     }
     counts_waiting_by_begun false begins =
@@ -382,8 +384,8 @@ module _ (plan : Plan) (commands : List Task) (all : AreOfTable commands) where
         record {
           begins = λ anew. subst NothingBegun (sym same_progress) sent.1;
           level = λ still going.
-              subst (λ (x : Model). (Unended x.client x.progress.behind × NothingSent x) ⊎ Level x.client x.progress.behind) (not_lost still going)
-              (inl (subst (λ (c : ById Asked). Unended c t.progress.behind) (sym kept.0) (record { tables = tt; few = omega arith; far = far }), sent));
+              subst (λ (x : Model). (Unended x.client x.progress.exchange.behind × NothingSent x) ⊎ Level x.client x.progress.exchange.behind) (not_lost still going)
+              (inl (subst (λ (c : ById Asked). Unended c t.progress.exchange.behind) (sym kept.0) (record { tables = tt; few = omega arith; far = far }), sent));
         } where
           -- while the station synchronizes no command is outstanding
           none_waits : has_begun s.progress ≡ false → commands_in s.marks ≡ 0
@@ -404,16 +406,16 @@ not_less n m least = grind (arith, nat_tests, least)
 full_waits : (plan : Plan) (p : Progress) (w : Waiting) (o : Action) → nat_lt w.all WINDOW ≡ false → action_room plan p w o ≡ action_waiting plan p w
 full_waits plan p w o full =
     let all : WINDOW ≤ w.all = ltb-false w.all WINDOW full in
-    let more : nat_lt (w.all + p.last_ended) WINDOW ≡ false = not_less (w.all + p.last_ended) WINDOW (omega (arith, all)) in
-    let lacks : has_room_to_ask plan p w ≡ false = ap (λ (b : Bool). b && not p.doubtful && nat_eq p.hold 0) (and_right (nat_lt w.current (width_of plan)) (nat_lt (w.all + p.last_ended) WINDOW) more) in
+    let more : nat_lt (w.all + p.exchange.last_ended) WINDOW ≡ false = not_less (w.all + p.exchange.last_ended) WINDOW (omega (arith, all)) in
+    let lacks : has_room_to_ask plan p w ≡ false = ap (λ (b : Bool). b && not p.exchange.doubtful && nat_eq p.exchange.hold 0) (and_right (nat_lt w.current (width_of plan)) (nat_lt (w.all + p.exchange.last_ended) WINDOW) more) in
     ap (λ (b : Bool). if b && not (is_dead plan p w) then o else action_waiting plan p w) lacks
 
 -- if as many requests were sent after the last call of the table that a reply ended (`behind`) as are outstanding,
 -- `action_to_send` is the action o as soon as there is room (`action_room`)
-to_send_is_room : (plan : Plan) (p : Progress) (w : Waiting) (o : Action) → p.behind ≡ w.all → action_to_send plan p w o ≡ action_room plan p w o
-to_send_is_room plan p w o e = by_test (nat_lt p.behind WINDOW) refl where
+to_send_is_room : (plan : Plan) (p : Progress) (w : Waiting) (o : Action) → p.exchange.behind ≡ w.all → action_to_send plan p w o ≡ action_room plan p w o
+to_send_is_room plan p w o e = by_test (nat_lt p.exchange.behind WINDOW) refl where
   -- the lemma above, by whether the count is below seven
-  by_test : (b : Bool) → nat_lt p.behind WINDOW ≡ b
+  by_test : (b : Bool) → nat_lt p.exchange.behind WINDOW ≡ b
       → (if b then action_room plan p w o else (if nat_eq w.current 0 then action_room plan p w action.Flush else action_waiting plan p w)) ≡ action_room plan p w o
   by_test true is = refl
   by_test false is =
@@ -440,7 +442,7 @@ never_held_up plan commands scope acts runs all begun going = by_case (free.leve
       (record { begins = λ e. (refl, refl); level = λ e f. cc }) acts runs
 
   -- the lemma above, whether a reply has ended a request
-  by_case : (Unended s.client s.progress.behind × NothingSent s) ⊎ Level s.client s.progress.behind → AwaitsFirstReply s ⊎ IsNotHeldUp plan s
+  by_case : (Unended s.client s.progress.exchange.behind × NothingSent s) ⊎ Level s.client s.progress.exchange.behind → AwaitsFirstReply s ⊎ IsNotHeldUp plan s
   by_case (inl (none, sent)) = inl (none.far, sent.0, sent.1.0, sent.1.1)
   by_case (inr level) =
       inr (level.same, to_send_is_room plan s.progress (waiting_of s) action.Send level.same, to_send_is_room plan s.progress (waiting_of s) action.Prepare level.same)

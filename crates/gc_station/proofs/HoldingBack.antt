@@ -12,6 +12,8 @@ use Rattle.gc_client.specs.OneForOne.{Step, Send, Hear, Expire, Restart}
 use Rattle.gc_client.specs.declared.window.TheConstants.{WINDOW}
 use Rattle.gc_client.specs.Rule.{ById, fresh, heard, hears}
 use Rattle.gc_texts.specs.declared.tasks.Task.{Task}
+use Rattle.gc_session.specs.Exchange.{is_none_left, ended_last}
+use Rattle.gc_session.specs.Lines.{calls_for_renewal}
 use Rattle.gc_links.specs.Acts.{Act, Told, Untold, Put, Cut, Gave, Silent}
 use Rattle.gc_links.specs.declared.link.Moment.{Moment}
 use Rattle.gc_station.specs.declared.mark.Mark.{Mark}
@@ -19,14 +21,13 @@ use Rattle.gc_station.specs.declared.plan.Plan.{Plan}
 use Rattle.gc_station.specs.declared.progress.Action.{Action}
 use Rattle.gc_station.specs.declared.progress.Action.TheVariants as action
 use Rattle.gc_station.specs.declared.progress.Progress.{Progress}
-use Rattle.gc_station.specs.Deciding.{has_begun, is_none_left}
+use Rattle.gc_station.specs.Deciding.{has_begun}
 use Rattle.gc_station.specs.HoldingBack.{last_ended, RequestsAreHeldBack}
 use Rattle.gc_station.specs.InDoubt.{NothingIsSentInDoubt}
-use Rattle.gc_station.specs.Lines.{calls_for_renewal}
 use Rattle.gc_station.specs.Links.{parts}
 use Rattle.gc_station.specs.Marks.{any_unexpected}
 use Rattle.gc_station.specs.Parts.{Part, parts_joined, put_part, first_request_part, heard_steps, client_part, sync_part, part_of_act, in_front, parts_of, client_after, client_stepped}
-use Rattle.gc_station.specs.Progressing.{turned, time_passed, ended_last, is_over, loses_all}
+use Rattle.gc_station.specs.Progressing.{turned, time_passed, is_over, loses_all}
 use Rattle.gc_station.specs.Reasons.{HoldsBefore}
 use Rattle.gc_station.specs.Model.{Model, opening, action_at, waiting_of, is_heard, with_progress, with_rest, line_came, lines_came, line_busy, line_news, lines_completed, after_piece, moved, losing, after, Performs, Runs, with_losses, mark_sent}
 use Rattle.gc_station.specs.NextCommand.{place_next}
@@ -57,7 +58,7 @@ none_noted = record { ended = 1; doubtful = false }
 
 -- what this progress has
 abbrev pub noted_in : Progress → Noted
-noted_in p = record { ended = p.last_ended; doubtful = p.doubtful }
+noted_in p = record { ended = p.exchange.last_ended; doubtful = p.exchange.doubtful }
 
 -- what is noted after a step of this client; `n` before it
 abbrev pub noted_at : ById Asked → (n : Noted) → Step Asked → Noted
@@ -117,7 +118,7 @@ lines_noted s n (line ∷ others) is =
     lines_noted (line_came s line) (noted_at s.client n (Hear line)) others (
       ap (ended_last (length (hears s.client line (heard line)).settlements)) is.0,
       λ d. ap (λ (x : Bool). (x || any_unexpected false (line_news line s)) || nat_lt 0 (line_busy line s))
-          (either_way n.doubtful s.progress.doubtful (calls_for_renewal s.client line) is.1 d),
+          (either_way n.doubtful s.progress.exchange.doubtful (calls_for_renewal s.client line) is.1 d),
     )
 
 -- once the station has synchronized, a piece changes it at least as the steps that hear its lines do
@@ -167,7 +168,7 @@ module _ (plan : Plan) (commands : List Task) where
       walk plan commands (IsNoted action.Send s) action.Send (with_progress turned s) act obeys (λ m. one, λ n. one)
   acts_noted s (action.Read until) act is obeys begun still =
       walk plan commands (IsNoted (action.Read until) s) (action.Read until) (with_progress turned s) act obeys (
-        λ bytes m. came_noted (is_heard s.progress.phase) s.progress.word bytes (piece_before m s) begun,
+        λ bytes m. came_noted (is_heard s.progress.phase) s.progress.exchange.word bytes (piece_before m s) begun,
         λ m. quieted_along (λ (q : Progress). IsNotedIn (noted_in s.progress) (noted_in q)) plan s.progress.phase (time_passed until m (turned s.progress)) (same s) (same s) (same s),
         same s,
         same s,
@@ -188,7 +189,7 @@ module _ (plan : Plan) (commands : List Task) where
   unchanged_before s action.Flush act is obeys begins = absurd (both_ways (has_begun s.progress) begins is.1)
   unchanged_before s (action.Read until) act is obeys begins =
       walk plan commands (IsUnchanged s) (action.Read until) (with_progress turned s) act obeys (
-        λ bytes m. came_unchanged (noted_in s.progress) (is_heard s.progress.phase) s.progress.word bytes (piece_before m s) begins refl,
+        λ bytes m. came_unchanged (noted_in s.progress) (is_heard s.progress.phase) s.progress.exchange.word bytes (piece_before m s) begins refl,
         λ m. quieted_along (λ (q : Progress). noted_in q ≡ (noted_in s.progress)) plan s.progress.phase (time_passed until m (turned s.progress)) refl refl refl,
         refl,
         refl,

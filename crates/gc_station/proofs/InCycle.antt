@@ -49,10 +49,10 @@ not_zero n some = grind (arith, nat_tests, some)
 -- where `has_room_to_ask` says so, there is room
 room_by_test : (plan : Plan) (p : Progress) (w : Waiting) → has_room_to_ask plan p w ≡ true → HasRoomToAsk plan p w
 room_by_test plan p w e =
-    let free = and_parts (nat_lt w.current (width_of plan) && nat_lt (w.all + p.last_ended) WINDOW && not p.doubtful) (nat_eq p.hold 0) e in
-    let both = and_parts (nat_lt w.current (width_of plan) && nat_lt (w.all + p.last_ended) WINDOW) (not p.doubtful) free.0 in
-    let it = and_parts (nat_lt w.current (width_of plan)) (nat_lt (w.all + p.last_ended) WINDOW) both.0 in
-    (ltb-true w.current (width_of plan) it.0, ltb-true (w.all + p.last_ended) WINDOW it.1, not-true p.doubtful both.1, eqb-true p.hold 0 free.1)
+    let free = and_parts (nat_lt w.current (width_of plan) && nat_lt (w.all + p.exchange.last_ended) WINDOW && not p.exchange.doubtful) (nat_eq p.exchange.hold 0) e in
+    let both = and_parts (nat_lt w.current (width_of plan) && nat_lt (w.all + p.exchange.last_ended) WINDOW) (not p.exchange.doubtful) free.0 in
+    let it = and_parts (nat_lt w.current (width_of plan)) (nat_lt (w.all + p.exchange.last_ended) WINDOW) both.0 in
+    (ltb-true w.current (width_of plan) it.0, ltb-true (w.all + p.exchange.last_ended) WINDOW it.1, not-true p.exchange.doubtful both.1, eqb-true p.exchange.hold 0 free.1)
 
 -- if there is room, fewer than seven requests are outstanding
 pub within_window : (all last : ℕ) → all + last < WINDOW → all < WINDOW
@@ -65,21 +65,21 @@ LacksRoom plan p w = (width_of plan ≤ w.current) ⊎ MayAskNoMore p w
 
 -- so it is where `has_room_to_ask` says so
 lacks_by_test : (plan : Plan) (p : Progress) (w : Waiting) → has_room_to_ask plan p w ≡ false → LacksRoom plan p w
-lacks_by_test plan p w e = by_hold (and_cases (nat_lt w.current (width_of plan) && nat_lt (w.all + p.last_ended) WINDOW && not p.doubtful) (nat_eq p.hold 0) e) where
+lacks_by_test plan p w e = by_hold (and_cases (nat_lt w.current (width_of plan) && nat_lt (w.all + p.exchange.last_ended) WINDOW && not p.exchange.doubtful) (nat_eq p.exchange.hold 0) e) where
   -- the lemma above, by which of the first two tests fails
-  by_test : ((nat_lt w.current (width_of plan) ≡ false) ⊎ (nat_lt (w.all + p.last_ended) WINDOW ≡ false)) → LacksRoom plan p w
+  by_test : ((nat_lt w.current (width_of plan) ≡ false) ⊎ (nat_lt (w.all + p.exchange.last_ended) WINDOW ≡ false)) → LacksRoom plan p w
   by_test (inl full) = inl (ltb-false w.current (width_of plan) full)
-  by_test (inr full) = inr (inl (ltb-false (w.all + p.last_ended) WINDOW full))
+  by_test (inr full) = inr (inl (ltb-false (w.all + p.exchange.last_ended) WINDOW full))
 
   -- the lemma above, whether the third test fails
-  by_doubt : (((nat_lt w.current (width_of plan) && nat_lt (w.all + p.last_ended) WINDOW) ≡ false) ⊎ (not p.doubtful ≡ false)) → LacksRoom plan p w
-  by_doubt (inl full) = by_test (and_cases (nat_lt w.current (width_of plan)) (nat_lt (w.all + p.last_ended) WINDOW) full)
-  by_doubt (inr doubt) = inr (inr (inl (not-false p.doubtful doubt)))
+  by_doubt : (((nat_lt w.current (width_of plan) && nat_lt (w.all + p.exchange.last_ended) WINDOW) ≡ false) ⊎ (not p.exchange.doubtful ≡ false)) → LacksRoom plan p w
+  by_doubt (inl full) = by_test (and_cases (nat_lt w.current (width_of plan)) (nat_lt (w.all + p.exchange.last_ended) WINDOW) full)
+  by_doubt (inr doubt) = inr (inr (inl (not-false p.exchange.doubtful doubt)))
 
   -- the lemma above, whether the last test fails
-  by_hold : (((nat_lt w.current (width_of plan) && nat_lt (w.all + p.last_ended) WINDOW && not p.doubtful) ≡ false) ⊎ (nat_eq p.hold 0 ≡ false)) → LacksRoom plan p w
-  by_hold (inl other) = by_doubt (and_cases (nat_lt w.current (width_of plan) && nat_lt (w.all + p.last_ended) WINDOW) (not p.doubtful) other)
-  by_hold (inr held) = inr (inr (inr (above_zero p.hold held)))
+  by_hold : (((nat_lt w.current (width_of plan) && nat_lt (w.all + p.exchange.last_ended) WINDOW && not p.exchange.doubtful) ≡ false) ⊎ (nat_eq p.exchange.hold 0 ≡ false)) → LacksRoom plan p w
+  by_hold (inl other) = by_doubt (and_cases (nat_lt w.current (width_of plan) && nat_lt (w.all + p.exchange.last_ended) WINDOW) (not p.exchange.doubtful) other)
+  by_hold (inr held) = inr (inr (inr (above_zero p.exchange.hold held)))
 
 -- if the line is dead, it is silent, and all outstanding requests have timed out
 pub dead_parts : (plan : Plan) (p : Progress) (w : Waiting) → is_dead plan p w ≡ true → (is_silent plan p w ≡ true) × (w.current ≡ 0)
@@ -202,12 +202,12 @@ room_for plan p w o work step =
 -- for a station at work, `Holds` is true of `action_to_send` with the action o, if it is true of o
 -- where there is room, the line isn't dead and the count `behind` is below seven, and a null procedure is wanted where that
 -- count isn't
-pub to_send_for : (plan : Plan) (p : Progress) (w : Waiting) (o : Action) → (work : IsAtWork p) → (near : p.behind < WINDOW → HasRoomToAsk plan p w → is_dead plan p w ≡ false → Holds plan p w o)
-    → (far : WINDOW ≤ p.behind → WantsNull plan p w) → Holds plan p w (action_to_send plan p w o)
+pub to_send_for : (plan : Plan) (p : Progress) (w : Waiting) (o : Action) → (work : IsAtWork p) → (near : p.exchange.behind < WINDOW → HasRoomToAsk plan p w → is_dead plan p w ≡ false → Holds plan p w o)
+    → (far : WINDOW ≤ p.exchange.behind → WantsNull plan p w) → Holds plan p w (action_to_send plan p w o)
 to_send_for plan p w o work near far =
     let P = Holds plan p w in
-    cond_both (nat_lt p.behind WINDOW) _ _ P (λ below. room_for plan p w o work (near (ltb-true p.behind WINDOW below)))
-    (λ above. let many = ltb-false p.behind WINDOW above in cond_both (nat_eq w.current 0) _ _ P
+    cond_both (nat_lt p.exchange.behind WINDOW) _ _ P (λ below. room_for plan p w o work (near (ltb-true p.exchange.behind WINDOW below)))
+    (λ above. let many = ltb-false p.exchange.behind WINDOW above in cond_both (nat_eq w.current 0) _ _ P
     (λ given. room_for plan p w action.Flush work (λ room alive. ((work.awake.1, work.begun, far many, eqb-true w.current 0 given, room, alive), tt, work.awake)))
     (λ current. waiting_for_reply plan p w work (above_zero w.current current) (inr (inl many))))
 

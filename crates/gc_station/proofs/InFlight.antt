@@ -165,7 +165,7 @@ module _ (plan : Plan) (longest span : ℕ) where
     out_gave s until bytes m h rises =
         let mid = with_moment m (with_progress (moment_noted m) s) in
         let told = out_noted s.progress m s.client.waiting h rises in
-        came_along TimesOut out_line (is_heard s.progress.phase) s.progress.word bytes mid told
+        came_along TimesOut out_line (is_heard s.progress.phase) s.progress.exchange.word bytes mid told
         (asked_along (λ (q : Progress). TimesOutIn q mid.client.waiting) (λ q line e. e) mid.progress (lines_completed mid.rest bytes) told) told
 
     -- all requests end by `limit` once the first of these commands was sent, if they did before, and `limit` is late enough

@@ -9,9 +9,9 @@ use Rattle.gc_catalogue.specs.Asked.{is_of_table}
 use Rattle.gc_catalogue.specs.declared.asked.Asked.{Asked}
 use Rattle.gc_client.specs.declared.pending.Pending.{Pending}
 use Rattle.gc_client.specs.Rule.{deadlines, expired, settle, Settlement, Answered, Late}
+use Rattle.gc_session.specs.Lines.{is_some_of_table}
 use Rattle.gc_station.specs.declared.mark.Mark.{Mark}
 use Rattle.gc_station.specs.Marks.{commands_in, records_of, end_of, is_well, last_well}
-use Rattle.gc_station.specs.Model.{is_some_of_table}
 use Rattle.gc_station.specs.Scopes.{Reads}
 use Rattle.gc_station.proofs.InFlight.{EndsBy, EndsAfter}
 use Rattle.gc_station.proofs.Records.{commands-append, records-none}

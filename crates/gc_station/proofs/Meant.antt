@@ -64,7 +64,7 @@ never_puts act bytes e h = cc
 -- while the station synchronizes: these bytes are a line feed; or they are the null procedure of the first id that isn't
 -- answered, and the part p is one step, `Asks`
 abbrev pub IsPutBySync : Model → List ℕ → (p : Part) → Type 0
-IsPutBySync s bytes p = IsLineFeed bytes p ⊎ ((bytes ≡ null_text s.progress.word) × (p ≡ only_sync_steps (Asks ∷ [])))
+IsPutBySync s bytes p = IsLineFeed bytes p ⊎ ((bytes ≡ null_text s.progress.exchange.word) × (p ≡ only_sync_steps (Asks ∷ [])))
 
 -- the part of an act of the action `Ask` that puts bytes is one step, `Asks`
 asked_step : (s : Model) (act : Act) (bytes : List ℕ) → put_by act ≡ Some bytes → sync_part s action.Ask act ≡ only_sync_steps (Asks ∷ [])
@@ -131,7 +131,7 @@ module _ (plan : Plan) (commands : List Task) where
   asked_by_action : (s : Model) (o : Action) (act : Act) (bytes : List ℕ) → HoldsBefore plan s.progress (waiting_of s) o → Performs commands s o act
       → put_by act ≡ Some bytes → has_begun s.progress ≡ false → IsPutBySync s bytes (sync_part s o act)
   asked_by_action s action.Clear act bytes is obeys e begins = inl (puts_same (10 ∷ []) bytes act e obeys, refl)
-  asked_by_action s action.Ask act bytes is obeys e begins = inr (puts_same (null_text s.progress.word) bytes act e obeys, asked_step s act bytes e)
+  asked_by_action s action.Ask act bytes is obeys e begins = inr (puts_same (null_text s.progress.exchange.word) bytes act e obeys, asked_step s act bytes e)
   asked_by_action s action.Flush act bytes is obeys e begins = absurd (both_ways (has_begun s.progress) begins is.1)
   asked_by_action s action.Prepare act bytes is obeys e begins = absurd (both_ways (has_begun s.progress) begins is.1)
   asked_by_action s action.Send act bytes is obeys e begins = absurd (both_ways (has_begun s.progress) begins is.1)

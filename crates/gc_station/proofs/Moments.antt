@@ -167,7 +167,7 @@ module _ (plan : Plan) (commands : List Task) where
   moved_adds reads utc (actions.Read until) s (Gave bytes m) reads_so now =
       let mid = with_moment m (with_progress (moment_noted m) s) in
       let is : m.utc ≡ utc = sym (ap (λ (x : Moment). x.utc) (gave_stays plan commands until s bytes m).1.0) ∙ now in
-      let came = came_adds reads utc s.records (is_heard s.progress.phase) s.progress.word bytes mid (none_added reads utc s mid reads_so is refl) in
+      let came = came_adds reads utc s.records (is_heard s.progress.phase) s.progress.exchange.word bytes mid (none_added reads utc s mid reads_so is refl) in
       record { reads_so = came.reads_so; now = now; news = came.news; added = came.added; each = came.each }
   moved_adds reads utc (actions.Read until) s act reads_so now = none_added reads utc s (moved plan commands (actions.Read until) s act) reads_so now refl
   moved_adds reads utc o s act reads_so now =

@@ -14,6 +14,7 @@ use Rattle.gc_client.specs.Rule.{ById, deadlines}
 use Rattle.gc_catalogue.specs.declared.asked.Asked.TheVariants.{Table}
 use Rattle.gc_catalogue.specs.declared.call.Call.TheVariants.{NullProc}
 use Rattle.gc_texts.specs.declared.tasks.Task.{Task}
+use Rattle.gc_session.specs.Exchange.{is_none_left}
 use Rattle.gc_links.specs.declared.link.Moment.{Moment}
 use Rattle.gc_station.specs.declared.plan.Plan.{Plan}
 use Rattle.gc_station.specs.declared.cause.Cause.TheVariants as cause
@@ -23,7 +24,7 @@ use Rattle.gc_station.specs.declared.progress.Action.{Action}
 use Rattle.gc_station.specs.declared.progress.Action.TheVariants as actions
 use Rattle.gc_station.specs.declared.progress.Progress.{Progress}
 use Rattle.gc_links.specs.Acts.{Act, Told, Put, Gave, Silent}
-use Rattle.gc_station.specs.Deciding.{has_begun, is_none_left, goes_on, later, dead_after}
+use Rattle.gc_station.specs.Deciding.{has_begun, goes_on, later, dead_after}
 use Rattle.gc_station.specs.Progressing.{turned, moment_noted, lines_synchronizing}
 use Rattle.gc_station.specs.Quiet.{TellsMoment, IsListening, StaysConnected}
 use Rattle.gc_station.specs.Reasons.{HoldsBefore}
@@ -197,7 +198,7 @@ module _ (plan : Plan) (commands : List Task) (scope : Scope) where
 
   -- `Mute` in this phase, by the fields of a progress
   abbrev MuteIn : Progress → Phase → List Act → Type 0
-  MuteIn p at acts = Mute (is_sought p.word p.again p.asked) p.asked p.alive p.moment.elapsed at acts
+  MuteIn p at acts = Mute (is_sought p.exchange.word p.exchange.again p.exchange.asked) p.exchange.asked p.exchange.alive p.moment.elapsed at acts
 
   -- `MuteIn` in the phase of the progress
   abbrev MuteAt : Progress → List Act → Type 0
@@ -205,7 +206,7 @@ module _ (plan : Plan) (commands : List Task) (scope : Scope) where
 
   -- there has been a silence, by the fields of a progress
   abbrev IsMutedAt : Progress → List Act → Type 0
-  IsMutedAt p acts = IsMuted p.asked p.alive p.moment.elapsed acts
+  IsMutedAt p acts = IsMuted p.exchange.asked p.exchange.alive p.moment.elapsed acts
 
   -- after the acts, at which the progress is p, these lines came at the moment m, after which it is q (`AliveWith`): if none of
   -- them is a reply, there was a silence before them; if one is, q begins a silence at m, in which no request was sent yet
@@ -232,17 +233,17 @@ module _ (plan : Plan) (commands : List Task) (scope : Scope) where
       → SilentOver (lines_completed s.rest bytes) m acts s.progress q → IsMutedAt q (acts ++ Gave bytes m ∷ [])
   heard_mute s bytes m acts q rest now h = by_alive h where
     -- the same silence, with `asked` and `alive` as q has them
-    carried : (b : Bool) (a : ℕ) → q.asked ≡ b → q.alive ≡ a → IsMuted b a m.elapsed (acts ++ Gave bytes m ∷ []) → IsMutedAt q (acts ++ Gave bytes m ∷ [])
+    carried : (b : Bool) (a : ℕ) → q.exchange.asked ≡ b → q.exchange.alive ≡ a → IsMuted b a m.elapsed (acts ++ Gave bytes m ∷ []) → IsMutedAt q (acts ++ Gave bytes m ∷ [])
     carried b a eb ea x =
-        subst (λ c. IsMuted c q.alive q.moment.elapsed (acts ++ Gave bytes m ∷ [])) (sym eb)
+        subst (λ c. IsMuted c q.exchange.alive q.moment.elapsed (acts ++ Gave bytes m ∷ [])) (sym eb)
         (subst (λ c. IsMuted b c q.moment.elapsed (acts ++ Gave bytes m ∷ [])) (sym ea) (subst (λ c. IsMuted b a c (acts ++ Gave bytes m ∷ [])) (sym now) x))
 
     -- the lemma above, by whether a reply line is in the piece
     by_alive : SilentOver (lines_completed s.rest bytes) m acts s.progress q → IsMutedAt q (acts ++ Gave bytes m ∷ [])
     by_alive (inl none) =
         let quiet = subst (λ r. AllByRecursion IsNoReply (lines_completed r bytes)) (sym rest) none.0 in
-        carried s.progress.asked (min s.progress.alive m.elapsed) none.2 none.1
-        (muted_clock s.progress.asked s.progress.alive s.progress.moment.elapsed m acts (Gave bytes m) (nat_le s.progress.alive m.elapsed) refl
+        carried s.progress.exchange.asked (min s.progress.exchange.alive m.elapsed) none.2 none.1
+        (muted_clock s.progress.exchange.asked s.progress.exchange.alive s.progress.moment.elapsed m acts (Gave bytes m) (nat_le s.progress.exchange.alive m.elapsed) refl
         (record { tells = refl; reads_it = refl; stays = tt; listens = refl; none = quiet }) none.3)
     by_alive (inr reply) = carried false m.elapsed reply.1 reply.0 (muted_now m.elapsed acts (Gave bytes m) refl)
 
@@ -253,7 +254,7 @@ module _ (plan : Plan) (commands : List Task) (scope : Scope) where
       (asked_along (λ (q : Progress). q.moment ≡ s.progress.moment) (λ q line e. e) s.progress (lines_completed s.rest bytes) refl) refl
 
   -- `Mute` is preserved by a piece in the phase `Ready`
-  ready_mute : (s : Model) (bytes : List ℕ) (m : Moment) (acts : List Act) (word : List ℕ) → s.progress.word ≡ word → (state_after plan commands scope acts).rest ≡ s.rest
+  ready_mute : (s : Model) (bytes : List ℕ) (m : Moment) (acts : List Act) (word : List ℕ) → s.progress.exchange.word ≡ word → (state_after plan commands scope acts).rest ≡ s.rest
       → MuteIn s.progress phase.Ready acts
       → MuteIn (after_piece true word bytes (with_moment m (with_progress (moment_noted m) s))).progress phase.Ready (acts ++ Gave bytes m ∷ [])
   ready_mute s bytes m acts [] e rest h so = heard_mute s bytes m acts (lines_came mid lines).progress rest
@@ -268,7 +269,7 @@ module _ (plan : Plan) (commands : List Task) (scope : Scope) where
 
         -- `SilentOver` holds of these lines
         by_lines : Alive lines mid.progress (lines_came mid lines).progress → SilentOver lines m acts s.progress (lines_came mid lines).progress
-        by_lines (inl none) = inl (none.0, none.1, none.2, h (sought_begun s.progress.word s.progress.again s.progress.asked (ap is_none_left e)))
+        by_lines (inl none) = inl (none.0, none.1, none.2, h (sought_begun s.progress.exchange.word s.progress.exchange.again s.progress.exchange.asked (ap is_none_left e)))
         by_lines (inr now) = inr now
   ready_mute s bytes m acts (first ∷ others) e rest h so = heard_mute s bytes m acts q rest
       (ap (λ (x : Moment). x.elapsed) (came_moment true (first ∷ others) bytes mid)) (by_lines (asked_alive mid.progress lines)) where
@@ -287,24 +288,24 @@ module _ (plan : Plan) (commands : List Task) (scope : Scope) where
         -- `SilentOver` holds of these lines
         by_lines : AliveAsked lines mid.progress q → SilentOver lines m acts s.progress q
         by_lines (inl none) =
-            let same : is_sought s.progress.word s.progress.again s.progress.asked ≡ is_sought q.word q.again q.asked =
-            ap (λ w. is_sought w s.progress.again s.progress.asked) (sym none.3.0) ∙ ap (λ n. is_sought q.word n s.progress.asked) (sym none.3.1) ∙ ap (λ b. is_sought q.word q.again b) (sym none.2) in
+            let same : is_sought s.progress.exchange.word s.progress.exchange.again s.progress.exchange.asked ≡ is_sought q.exchange.word q.exchange.again q.exchange.asked =
+            ap (λ w. is_sought w s.progress.exchange.again s.progress.exchange.asked) (sym none.3.0) ∙ ap (λ n. is_sought q.exchange.word n s.progress.exchange.asked) (sym none.3.1) ∙ ap (λ b. is_sought q.exchange.word q.exchange.again b) (sym none.2) in
             inl (none.0, none.1, none.2, h (same ∙ so))
         by_lines (inr now) = inr now
 
   -- `Mute` is preserved by a piece in any phase
   gave_mute : (s : Model) (bytes : List ℕ) (m : Moment) (at : Phase) (acts : List Act) → s.progress.phase ≡ at → (state_after plan commands scope acts).rest ≡ s.rest
       → MuteIn s.progress at acts
-      → MuteAt (after_piece (is_heard at) s.progress.word bytes (with_moment m (with_progress (moment_noted m) s))).progress (acts ++ Gave bytes m ∷ [])
+      → MuteAt (after_piece (is_heard at) s.progress.exchange.word bytes (with_moment m (with_progress (moment_noted m) s))).progress (acts ++ Gave bytes m ∷ [])
   gave_mute s bytes m phase.Ready acts is rest h =
-      let q = (after_piece true s.progress.word bytes (with_moment m (with_progress (moment_noted m) s))).progress in
+      let q = (after_piece true s.progress.exchange.word bytes (with_moment m (with_progress (moment_noted m) s))).progress in
       subst (λ (x : Phase). MuteIn q x (acts ++ Gave bytes m ∷ []))
-      (sym (came_phase true s.progress.word bytes (with_moment m (with_progress (moment_noted m) s)) ∙ is))
-      (ready_mute s bytes m acts s.progress.word refl rest h)
+      (sym (came_phase true s.progress.exchange.word bytes (with_moment m (with_progress (moment_noted m) s)) ∙ is))
+      (ready_mute s bytes m acts s.progress.exchange.word refl rest h)
   gave_mute s bytes m at acts is rest h =
-      let q = (after_piece (is_heard at) s.progress.word bytes (with_moment m (with_progress (moment_noted m) s))).progress in
+      let q = (after_piece (is_heard at) s.progress.exchange.word bytes (with_moment m (with_progress (moment_noted m) s))).progress in
       subst (λ (x : Phase). MuteIn q x (acts ++ Gave bytes m ∷ []))
-      (sym (came_phase (is_heard at) s.progress.word bytes (with_moment m (with_progress (moment_noted m) s)) ∙ is)) tt
+      (sym (came_phase (is_heard at) s.progress.exchange.word bytes (with_moment m (with_progress (moment_noted m) s)) ∙ is)) tt
 
   -- after a request the silence goes on, if another one was sent after the last reply line (`asked`); otherwise a silence
   -- begins with the moment read last
@@ -328,26 +329,26 @@ module _ (plan : Plan) (commands : List Task) (scope : Scope) where
   -- where `MuteAt` holds, `Mute` holds after an act that reads the clock, with any `sought` that in the phase `Ready` is true
   -- only where a reply line was waited for before the act
   told_mute : (sought : Bool) (p : Progress) (m : Moment) (acts : List Act)
-      → (p.phase ≡ phase.Ready → sought ≡ true → is_sought p.word p.again p.asked ≡ true) → MuteAt p acts
-      → Mute sought p.asked (min p.alive m.elapsed) m.elapsed p.phase (acts ++ Told m ∷ [])
+      → (p.phase ≡ phase.Ready → sought ≡ true → is_sought p.exchange.word p.exchange.again p.exchange.asked ≡ true) → MuteAt p acts
+      → Mute sought p.exchange.asked (min p.exchange.alive m.elapsed) m.elapsed p.phase (acts ++ Told m ∷ [])
   told_mute sought p m acts back q =
-      mute_told (is_sought p.word p.again p.asked) sought p.asked p.alive p.moment.elapsed m p.phase acts (Told m) back
+      mute_told (is_sought p.exchange.word p.exchange.again p.exchange.asked) sought p.exchange.asked p.exchange.alive p.moment.elapsed m p.phase acts (Told m) back
       (record { tells = refl; reads_it = refl; stays = tt; listens = refl; none = tt }) q
 
   -- after a request that is sent in the phase `Ready`, `Mute` holds, if the last act before it read the progress's moment, and
   -- `MuteAt` held before it
   asks_mute : (sought : Bool) (p : Progress) (acts : List Act) (out : List ℕ) → p.phase ≡ phase.Ready → LastTells p.moment.elapsed acts → MuteAt p acts
-      → Mute sought true (if p.asked then p.alive else p.moment.elapsed) p.moment.elapsed p.phase (acts ++ Put out ∷ [])
+      → Mute sought true (if p.exchange.asked then p.exchange.alive else p.moment.elapsed) p.moment.elapsed p.phase (acts ++ Put out ∷ [])
   asks_mute sought p acts out is tells q =
-      subst (λ (x : Phase). Mute sought true (if p.asked then p.alive else p.moment.elapsed) p.moment.elapsed x (acts ++ Put out ∷ [])) (sym is)
-      (λ so. muted_asks p.asked p.alive p.moment.elapsed acts out tells
-      (λ e. subst (λ b. IsMuted b p.alive p.moment.elapsed acts) e (in_phase p phase.Ready acts is q (sought_asked p.word p.again p.asked e))))
+      subst (λ (x : Phase). Mute sought true (if p.exchange.asked then p.exchange.alive else p.moment.elapsed) p.moment.elapsed x (acts ++ Put out ∷ [])) (sym is)
+      (λ so. muted_asks p.exchange.asked p.exchange.alive p.moment.elapsed acts out tells
+      (λ e. subst (λ b. IsMuted b p.exchange.alive p.moment.elapsed acts) e (in_phase p phase.Ready acts is q (sought_asked p.exchange.word p.exchange.again p.exchange.asked e))))
 
   -- `Mute` holds of a connection that was cleared: if a synchronization goes on with it, no null procedure was sent on it yet
   cleared_mute : (begun : Bool) (p : Progress) (acts : List Act) → has_begun p ≡ begun
-      → Mute (is_sought p.word 0 false) false p.alive p.moment.elapsed (if begun then phase.Draining else phase.Ready) acts
+      → Mute (is_sought p.exchange.word 0 false) false p.exchange.alive p.moment.elapsed (if begun then phase.Draining else phase.Ready) acts
   cleared_mute true p acts e = tt
-  cleared_mute false p acts e = λ so. absurd (both_ways (is_sought p.word 0 false) (ap (λ b. b || false) e) so)
+  cleared_mute false p acts e = λ so. absurd (both_ways (is_sought p.exchange.word 0 false) (ap (λ b. b || false) e) so)
 
   -- `Mute` is preserved if the station resynchronizes, where a request that was sent after the last reply line counts only if
   -- `on`
@@ -366,27 +367,27 @@ module _ (plan : Plan) (commands : List Task) (scope : Scope) where
   mute_line actions.Clear s acts needs tells rest q = λ m. cleared_mute (has_begun s.progress) s.progress (acts ++ Put (10 ∷ []) ∷ []) refl
   mute_line actions.Renew s acts needs tells rest q =
       let p = s.progress in
-      λ m. mute_resynchronizing p.asked (goes_on plan (moment_noted m p)) (min p.alive m.elapsed) m.elapsed p.phase (acts ++ Told m ∷ [])
-      (told_mute (is_sought the_word 0 p.asked) p m acts (λ ready so. sought_begun p.word p.again p.asked needs.1) q)
+      λ m. mute_resynchronizing p.exchange.asked (goes_on plan (moment_noted m p)) (min p.exchange.alive m.elapsed) m.elapsed p.phase (acts ++ Told m ∷ [])
+      (told_mute (is_sought the_word 0 p.exchange.asked) p m acts (λ ready so. sought_begun p.exchange.word p.exchange.again p.exchange.asked needs.1) q)
   mute_line actions.Ask s acts needs tells rest q =
-      let p = s.progress in λ m. asks_mute (is_sought p.word (later p.moment.elapsed plan.deadline) true) p acts (null_text p.word) needs.0 tells q
+      let p = s.progress in λ m. asks_mute (is_sought p.exchange.word (later p.moment.elapsed plan.deadline) true) p acts (null_text p.exchange.word) needs.0 tells q
   mute_line actions.Prepare s acts needs tells rest q =
-      let p = s.progress in λ m. asks_mute (is_sought p.word p.again true) p acts (text_or_null (occasion_at s.progress.moment) s.client (drop p.prepared commands)) needs.0 tells q
+      let p = s.progress in λ m. asks_mute (is_sought p.exchange.word p.exchange.again true) p acts (text_or_null (occasion_at s.progress.moment) s.client (drop p.prepared commands)) needs.0 tells q
   mute_line actions.Send s acts needs tells rest q =
-      let p = s.progress in λ m. asks_mute (is_sought p.word p.again true) p acts (first_text (occasion_at s.progress.moment) s.client (drop (place_next commands p) commands)) needs.0 tells q
-  mute_line actions.Flush s acts needs tells rest q = let p = s.progress in λ m. asks_mute (is_sought p.word p.again true) p acts (next_request_text s.client (Table NullProc)) needs.0 tells q
+      let p = s.progress in λ m. asks_mute (is_sought p.exchange.word p.exchange.again true) p acts (first_text (occasion_at s.progress.moment) s.client (drop (place_next commands p) commands)) needs.0 tells q
+  mute_line actions.Flush s acts needs tells rest q = let p = s.progress in λ m. asks_mute (is_sought p.exchange.word p.exchange.again true) p acts (next_request_text s.client (Table NullProc)) needs.0 tells q
   mute_line (actions.Read until) s acts needs tells rest q =
       let p = s.progress in
-      let sought = is_sought p.word p.again p.asked in (
+      let sought = is_sought p.exchange.word p.exchange.again p.exchange.asked in (
         λ bytes m. gave_mute (with_progress turned s) bytes m p.phase acts refl rest q,
         λ m. (
-          mute_told sought sought p.asked p.alive p.moment.elapsed m p.phase acts (Silent m) (λ ready so. so) (record { tells = refl; reads_it = refl; stays = tt; listens = refl; none = tt }) q,
+          mute_told sought sought p.exchange.asked p.exchange.alive p.moment.elapsed m p.phase acts (Silent m) (λ ready so. so) (record { tells = refl; reads_it = refl; stays = tt; listens = refl; none = tt }) q,
           λ draining past so. muted_now m.elapsed acts (Silent m) refl,
         ),
       )
   mute_line (actions.Close why) s acts needs tells rest q = tt
   mute_line (actions.Stop why) s acts needs tells rest q = tt
-  mute_line next s acts needs tells rest q = let p = s.progress in λ m. told_mute (is_sought p.word p.again p.asked) p m acts (λ ready so. so) q
+  mute_line next s acts needs tells rest q = let p = s.progress in λ m. told_mute (is_sought p.exchange.word p.exchange.again p.exchange.asked) p m acts (λ ready so. so) q
 
   -- Whole runs.
 
@@ -402,32 +403,32 @@ module _ (plan : Plan) (commands : List Task) (scope : Scope) where
   -- `MuteAt` holds after every run
   mute_holds : (acts : List Act) → Runs plan commands (opening plan scope) acts → MuteAt (state_after plan commands scope acts).progress acts
   mute_holds acts runs =
-      holds_in_use_always plan commands MuteAt (λ x acts none. mute_none (is_sought x.word x.again x.asked) x.asked x.alive x.moment.elapsed x.phase acts none) scope (λ done runs q.
+      holds_in_use_always plan commands MuteAt (λ x acts none. mute_none (is_sought x.exchange.word x.exchange.again x.exchange.asked) x.exchange.asked x.exchange.alive x.moment.elapsed x.phase acts none) scope (λ done runs q.
       let s = state_after plan commands scope done in
       let p = s.progress in
       let tells = reads_before_asking p done (action_at plan s) (action_wakes plan p (waiting_of s)) (λ awake. awake_last plan commands scope done runs awake) in
       mute_line (action_at plan s) s done (action_for plan p (waiting_of s)) tells refl q) tt acts runs
 
   -- if a request is outstanding, or a null procedure was sent on this connection, a reply line is waited for
-  outstanding_is_sought : (s : Model) → Invariant plan commands s → (nat_lt 0 (length s.client.waiting) || nat_lt 0 s.progress.again) ≡ true
-      → is_sought s.progress.word s.progress.again s.progress.asked ≡ true
-  outstanding_is_sought s fine e = by_again (nat_lt 0 s.progress.again) refl where
+  outstanding_is_sought : (s : Model) → Invariant plan commands s → (nat_lt 0 (length s.client.waiting) || nat_lt 0 s.progress.exchange.again) ≡ true
+      → is_sought s.progress.exchange.word s.progress.exchange.again s.progress.exchange.asked ≡ true
+  outstanding_is_sought s fine e = by_again (nat_lt 0 s.progress.exchange.again) refl where
     -- the progress after the acts
     p : Progress
     p = s.progress
 
     -- if a request is outstanding, by whether the station has synchronized: no request is outstanding while it synchronizes
-    by_begun : (b : Bool) → has_begun p ≡ b → nat_lt 0 (length s.client.waiting) ≡ true → is_sought p.word p.again p.asked ≡ true
-    by_begun true begun some = sought_begun p.word p.again p.asked begun
+    by_begun : (b : Bool) → has_begun p ≡ b → nat_lt 0 (length s.client.waiting) ≡ true → is_sought p.exchange.word p.exchange.again p.exchange.asked ≡ true
+    by_begun true begun some = sought_begun p.exchange.word p.exchange.again p.exchange.asked begun
     by_begun false begins some =
         let none : length s.client.waiting ≡ 0 = ap (λ (c : ById Asked). length c.waiting) (fine.begins begins) in
         let many = ltb-true 0 (length s.client.waiting) some in
         absurd (omega (arith, none, many))
 
     -- the lemma above, by whether a null procedure of the synchronization was sent on this connection (`true`)
-    by_again : (b : Bool) → nat_lt 0 p.again ≡ b → is_sought p.word p.again p.asked ≡ true
-    by_again true again = sought_again p.word p.again p.asked again
-    by_again false again = by_begun (has_begun p) refl (or_first (nat_lt 0 (length s.client.waiting)) (nat_lt 0 p.again) e again)
+    by_again : (b : Bool) → nat_lt 0 p.exchange.again ≡ b → is_sought p.exchange.word p.exchange.again p.exchange.asked ≡ true
+    by_again true again = sought_again p.exchange.word p.exchange.again p.exchange.asked again
+    by_again false again = by_begun (has_begun p) refl (or_first (nat_lt 0 (length s.client.waiting)) (nat_lt 0 p.exchange.again) e again)
 
   -- a connection is closed for a dead line only after a silence that was long enough
   pub mute_close : (acts : List Act) → Runs plan commands (opening plan scope) acts
@@ -435,14 +436,14 @@ module _ (plan : Plan) (commands : List Task) (scope : Scope) where
   mute_close acts runs is = record {
     before = q.before;
     start = q.start;
-    from = s.progress.alive;
+    from = s.progress.exchange.alive;
     behind = q.behind;
     order = q.order;
     starts = q.holds.0;
     stays = q.holds.1;
     mute = q.holds.2;
-    asked = asks_as_is_mute s.progress.asked s.progress.alive q.before q.behind q.holds.3;
-    long = subst (λ n. dead_after plan ≤ n - s.progress.alive) (sym q.holds.4) (leb-true (dead_after plan) (s.progress.moment.elapsed - s.progress.alive) dead.1);
+    asked = asks_as_is_mute s.progress.exchange.asked s.progress.exchange.alive q.before q.behind q.holds.3;
+    long = subst (λ n. dead_after plan ≤ n - s.progress.exchange.alive) (sym q.holds.4) (leb-true (dead_after plan) (s.progress.moment.elapsed - s.progress.exchange.alive) dead.1);
   } where
     -- the model after the acts
     s : Model
@@ -457,11 +458,11 @@ module _ (plan : Plan) (commands : List Task) (scope : Scope) where
     awake = second_holds (subst (λ (next : Action). Wakes s.progress next) is (action_wakes plan s.progress (waiting_of s))) never
 
     -- a reply line is waited for, and for long enough none came
-    dead : ((nat_lt 0 (length s.client.waiting) || nat_lt 0 s.progress.again) ≡ true) × (nat_le (dead_after plan) (s.progress.moment.elapsed - s.progress.alive) ≡ true)
+    dead : ((nat_lt 0 (length s.client.waiting) || nat_lt 0 s.progress.exchange.again) ≡ true) × (nat_le (dead_after plan) (s.progress.moment.elapsed - s.progress.exchange.alive) ≡ true)
     dead =
-        let long : Bool = nat_le (dead_after plan) (s.progress.moment.elapsed - s.progress.alive) in
-        let sought : Bool = nat_lt 0 (length s.client.waiting) || nat_lt 0 s.progress.again in
-        and_parts sought long (and_parts s.progress.asked (sought && long) (closes_at_its_end plan s cause.Dead is never).0).1
+        let long : Bool = nat_le (dead_after plan) (s.progress.moment.elapsed - s.progress.exchange.alive) in
+        let sought : Bool = nat_lt 0 (length s.client.waiting) || nat_lt 0 s.progress.exchange.again in
+        and_parts sought long (and_parts s.progress.exchange.asked (sought && long) (closes_at_its_end plan s cause.Dead is never).0).1
 
     -- a silence has lasted since `alive`
     q : IsMutedAt s.progress acts

@@ -4,15 +4,16 @@ use Rattle.std.proofs.Common.{◌≡◌, ℕ, Bool, true, false, List, [], ◌�
 use Rattle.std.proofs.lemmas.Bool.{both_ways}
 use Rattle.gc_client.specs.declared.window.TheConstants.{WINDOW}
 use Rattle.gc_texts.specs.declared.tasks.Task.{Task}
+use Rattle.gc_session.specs.Exchange.{is_none_left, one_more_in_window}
 use Rattle.gc_links.specs.declared.link.Moment.{Moment}
 use Rattle.gc_links.specs.Acts.{Act, Told}
 use Rattle.gc_station.specs.declared.plan.Plan.{Plan}
 use Rattle.gc_station.specs.declared.progress.Action.{Action}
 use Rattle.gc_station.specs.declared.progress.Action.TheVariants as action
 use Rattle.gc_station.specs.declared.progress.Progress.{Progress}
-use Rattle.gc_station.specs.Deciding.{has_begun, is_none_left}
+use Rattle.gc_station.specs.Deciding.{has_begun}
 use Rattle.gc_station.specs.Model.{Model, opening, action_at, waiting_of, is_heard, with_progress, with_rest, lines_completed, after_piece, moved, with_losses, after, Performs, Runs}
-use Rattle.gc_station.specs.Progressing.{one_more_in_window, turned, time_passed}
+use Rattle.gc_station.specs.Progressing.{turned, time_passed}
 use Rattle.gc_station.specs.Reasons.{HoldsBefore}
 use Rattle.gc_station.specs.Runs.{state_after}
 use Rattle.gc_station.specs.Scopes.{Scope}
@@ -24,7 +25,7 @@ use Rattle.gc_station.proofs.Words.{renews_only}
 
 -- no request of the client was ended by a reply, by the count of the progress p (`behind`)
 abbrev pub NoneEnded : Progress → Type 0
-NoneEnded p = p.behind ≡ WINDOW
+NoneEnded p = p.exchange.behind ≡ WINDOW
 
 -- it is so while the station synchronizes
 abbrev pub NoneEndedBefore : Progress → Type 0
@@ -55,10 +56,10 @@ module _ (plan : Plan) (commands : List Task) where
   none_ended s action.Skip act is obeys begins e = walk plan commands After action.Skip (with_progress turned s) act obeys (λ m. e, λ n. e)
   none_ended s action.Flush act is obeys begins e = absurd (both_ways (has_begun s.progress) begins is.1)
   none_ended s action.Ask act is obeys begins e =
-      let more = one_more_of_seven s.progress.behind e in walk plan commands After action.Ask (with_progress turned s) act obeys (λ m. more, λ n. more)
+      let more = one_more_of_seven s.progress.exchange.behind e in walk plan commands After action.Ask (with_progress turned s) act obeys (λ m. more, λ n. more)
   none_ended s (action.Read until) act is obeys begins e =
       walk plan commands After (action.Read until) (with_progress turned s) act obeys (
-        λ bytes m. came_none (is_heard s.progress.phase) s.progress.word bytes (piece_before m s) begins e,
+        λ bytes m. came_none (is_heard s.progress.phase) s.progress.exchange.word bytes (piece_before m s) begins e,
         λ m. quieted_along NoneEnded plan s.progress.phase (time_passed until m (turned s.progress)) e e e,
         e,
         e,
@@ -73,8 +74,8 @@ module _ (plan : Plan) (commands : List Task) where
   -- if the station resynchronizes, it is so
   none_ended_anew : (s : Model) (o : Action) (act : Act) (m : Moment) → o ≡ action.Renew → act ≡ Told m → NoneEnded (moved plan commands o (with_progress turned s) act).progress
   none_ended_anew s o act m is told =
-      ap (λ (x : Action). (moved plan commands x (with_progress turned s) act).progress.behind) is
-      ∙ ap (λ (x : Act). (moved plan commands action.Renew (with_progress turned s) x).progress.behind) told
+      ap (λ (x : Action). (moved plan commands x (with_progress turned s) act).progress.exchange.behind) is
+      ∙ ap (λ (x : Act). (moved plan commands action.Renew (with_progress turned s) x).progress.exchange.behind) told
 
   -- each act of a run keeps it so while the station synchronizes
   pub none_ended_after : (s : Model) (act : Act) → Performs commands s (action_at plan s) act → NoneEndedBefore s.progress → NoneEndedBefore (after plan commands s act).progress
@@ -91,8 +92,8 @@ module _ (plan : Plan) (commands : List Task) where
     by_begun : (b : Bool) → has_begun s.progress ≡ b → NoneEnded (with_losses t).progress
     by_begun true begun =
         let it = renews_only plan commands s (action_at plan s) act obeys begun (sym (ap has_begun same) ∙ begins) in
-        ap (λ (p : Progress). p.behind) same ∙ none_ended_anew s (action_at plan s) act it.1 it.0 it.2
-    by_begun false e = ap (λ (p : Progress). p.behind) same ∙ none_ended s (action_at plan s) act (action_for plan s.progress (waiting_of s)) obeys e (h e)
+        ap (λ (p : Progress). p.exchange.behind) same ∙ none_ended_anew s (action_at plan s) act it.1 it.0 it.2
+    by_begun false e = ap (λ (p : Progress). p.exchange.behind) same ∙ none_ended s (action_at plan s) act (action_for plan s.progress (waiting_of s)) obeys e (h e)
 
   -- so it is after each run
   pub none_ended_holds : (scope : Scope) (acts : List Act) → Runs plan commands (opening plan scope) acts → NoneEndedBefore (state_after plan commands scope acts).progress

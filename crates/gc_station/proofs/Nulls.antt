@@ -12,9 +12,10 @@ use Rattle.gc_client.specs.declared.pending.Pending.{Pending}
 use Rattle.gc_client.specs.declared.window.TheConstants.{WINDOW}
 use Rattle.gc_client.proofs.OneForOne.{length-settle}
 use Rattle.gc_texts.specs.declared.tasks.Task.{Task}
+use Rattle.gc_session.specs.Lines.{is_reply, ends_with_table, is_some_of_table}
 use Rattle.gc_station.specs.Deciding.{has_begun}
 use Rattle.gc_station.specs.Marks.{commands_in}
-use Rattle.gc_station.specs.Model.{Model, with_progress, is_reply, line_came, line_doubted, line_settles, ends_with_table, is_some_of_table}
+use Rattle.gc_station.specs.Model.{Model, with_progress, line_came, line_doubted, line_settles}
 use Rattle.gc_station.specs.Parts.{MarksAsk}
 use Rattle.gc_station.specs.Progressing.{line_noted}
 use Rattle.gc_station.specs.declared.mark.Mark.{Mark}
@@ -136,22 +137,22 @@ nulls_left behind marks = if nat_lt 0 (commands_in marks) || nat_le WINDOW behin
 
 -- how many requests may still be sent: eight for each command that is left of the cycle, and those null procedures
 abbrev pub requests_left : Progress → List (Option Mark) → ℕ
-requests_left p marks = 8 * p.unsent + nulls_left p.behind marks
+requests_left p marks = 8 * p.unsent + nulls_left p.exchange.behind marks
 
 -- how many null procedures may still be sent of the model `t` after an act: none while the station synchronizes, since a run whose end was
 -- asked for ends there
 abbrev pub nulls_after : Model → ℕ
-nulls_after t = if has_begun t.progress then nulls_left t.progress.behind t.marks else 0
+nulls_after t = if has_begun t.progress then nulls_left t.progress.exchange.behind t.marks else 0
 
 -- they are at most as many as if it had synchronized
-pub nulls_after_most : (t : Model) → nulls_after t ≤ nulls_left t.progress.behind t.marks
+pub nulls_after_most : (t : Model) → nulls_after t ≤ nulls_left t.progress.exchange.behind t.marks
 nulls_after_most t =
-    let n = nulls_left t.progress.behind t.marks in
+    let n = nulls_left t.progress.exchange.behind t.marks in
     cond_both (has_begun t.progress) n 0 (λ (m : ℕ). m ≤ n) (λ e. omega arith) (λ e. omega arith)
 
 -- and as many if it has
-pub nulls_after_begun : (t : Model) → has_begun t.progress ≡ true → nulls_after t ≡ nulls_left t.progress.behind t.marks
-nulls_after_begun t e = ap (λ (b : Bool). if b then nulls_left t.progress.behind t.marks else 0) e
+pub nulls_after_begun : (t : Model) → has_begun t.progress ≡ true → nulls_after t ≡ nulls_left t.progress.exchange.behind t.marks
+nulls_after_begun t e = ap (λ (b : Bool). if b then nulls_left t.progress.exchange.behind t.marks else 0) e
 
 -- at most seven null procedures are
 pub nulls_few : (behind : ℕ) (marks : List (Option Mark)) → nulls_left behind marks ≤ 7
@@ -186,7 +187,7 @@ nulls_if_neither behind marks none near = by_tests (nat_lt 0 (commands_in marks)
 -- what is so of a model before and after a line: null procedures are calls of the table, marks and requests are one for one, at most
 -- seven requests are outstanding, and at most `n` null procedures may still be sent
 abbrev pub Listens : (n : ℕ) → Model → Type 0
-Listens n x = NullsAreOfTable x.marks x.client.waiting × (length x.marks ≡ length x.client.waiting) × (length x.client.waiting ≤ 7) × (nulls_left x.progress.behind x.marks ≤ n)
+Listens n x = NullsAreOfTable x.marks x.client.waiting × (length x.marks ≡ length x.client.waiting) × (length x.client.waiting ≤ 7) × (nulls_left x.progress.exchange.behind x.marks ≤ n)
 
 -- what a line settles, and the model after it
 abbrev heard_as : (line : List ℕ) → Settled Asked (ById Asked) → Model → Model
@@ -211,39 +212,39 @@ some_heard n x line k below h =
       subst (λ (i : ℕ). NullsAreOfTable (drop i x.marks) (drop (k + 1) ws)) (sym e) (subst (λ (j : ℕ). NullsAreOfTable (drop (suc k) x.marks) (drop j ws)) (sym f) nulls),
       subst (λ (i : ℕ). length (drop i x.marks) ≡ length (drop (k + 1) ws)) (sym e) (subst (λ (j : ℕ). length (drop (suc k) x.marks) ≡ length (drop j ws)) (sym f) paired),
       subst (λ (j : ℕ). length (drop j ws) ≤ 7) (sym f) (omega (arith, few)),
-      subst (λ (i : ℕ). nulls_left (if ends_with_table (settle k line ws) then length (drop (k + 1) ws) else x.progress.behind) (drop i x.marks) ≤ n) (sym e)
-          (subst (λ (j : ℕ). nulls_left (if ends_with_table (settle k line ws) then length (drop j ws) else x.progress.behind) (drop (suc k) x.marks) ≤ n) (sym f)
-          (subst (λ (b : Bool). nulls_left (if b then length (drop (suc k) ws) else x.progress.behind) (drop (suc k) x.marks) ≤ n) (sym ends)
+      subst (λ (i : ℕ). nulls_left (if ends_with_table (settle k line ws) then length (drop (k + 1) ws) else x.progress.exchange.behind) (drop i x.marks) ≤ n) (sym e)
+          (subst (λ (j : ℕ). nulls_left (if ends_with_table (settle k line ws) then length (drop j ws) else x.progress.exchange.behind) (drop (suc k) x.marks) ≤ n) (sym f)
+          (subst (λ (b : Bool). nulls_left (if b then length (drop (suc k) ws) else x.progress.exchange.behind) (drop (suc k) x.marks) ≤ n) (sym ends)
           (by_test few (is_some_of_table (slice_get (settle k line ws) k)) refl (nat_eq (commands_in (drop (suc k) x.marks)) 0) refl))),
     ) where
       -- the last part, whether the line is the reply to a call of the table, and whether commands are left
       by_test : length (drop (suc k) x.client.waiting) ≤ 6 → (b : Bool) → is_some_of_table (slice_get (settle k line x.client.waiting) k) ≡ b → (c : Bool) → nat_eq (commands_in (drop (suc k) x.marks)) 0 ≡ c
-          → nulls_left (if b then length (drop (suc k) x.client.waiting) else x.progress.behind) (drop (suc k) x.marks) ≤ n
+          → nulls_left (if b then length (drop (suc k) x.client.waiting) else x.progress.exchange.behind) (drop (suc k) x.marks) ≤ n
       by_test few b e false f =
           let some : 0 < commands_in (drop (suc k) x.marks) = grind (arith, nat_tests, f) in
           let it = nulls_dropped (suc k) x.marks some in
-          let now = nulls_if_some (if b then length (drop (suc k) x.client.waiting) else x.progress.behind) (drop (suc k) x.marks) some in
-          let was = nulls_if_some x.progress.behind x.marks it.1 in
+          let now = nulls_if_some (if b then length (drop (suc k) x.client.waiting) else x.progress.exchange.behind) (drop (suc k) x.marks) some in
+          let was = nulls_if_some x.progress.exchange.behind x.marks it.1 in
           let same = it.0 in
           let most = h.3 in
           omega (arith, now, was, same, most)
       by_test few true e true f =
           let none = nulls_if_neither (length (drop (suc k) x.client.waiting)) (drop (suc k) x.marks) (eqb-true (commands_in (drop (suc k) x.marks)) 0 f) (omega (arith, few)) in
           omega (arith, none)
-      by_test few false e true f = by_behind (nat_lt x.progress.behind 7) refl where
+      by_test few false e true f = by_behind (nat_lt x.progress.exchange.behind 7) refl where
         -- no command is left
         none : commands_in (drop (suc k) x.marks) ≡ 0
         none = eqb-true (commands_in (drop (suc k) x.marks)) 0 f
 
         -- by whether a null procedure is wanted all the same
-        by_behind : (b : Bool) → nat_lt x.progress.behind 7 ≡ b → nulls_left x.progress.behind (drop (suc k) x.marks) ≤ n
-        by_behind true near = let zero = nulls_if_neither x.progress.behind (drop (suc k) x.marks) none (grind (arith, nat_tests, near)) in omega (arith, zero)
+        by_behind : (b : Bool) → nat_lt x.progress.exchange.behind 7 ≡ b → nulls_left x.progress.exchange.behind (drop (suc k) x.marks) ≤ n
+        by_behind true near = let zero = nulls_if_neither x.progress.exchange.behind (drop (suc k) x.marks) none (grind (arith, nat_tests, near)) in omega (arith, zero)
         by_behind false far =
             let it = raw_was_last line k x.marks x.client.waiting h.0 h.1 below none e in
             let all = all_nulls (drop (suc k) x.marks) none in
-            let many : 7 ≤ x.progress.behind = grind (arith, nat_tests, far) in
-            let now = nulls_if_far x.progress.behind (drop (suc k) x.marks) many in
-            let was = nulls_if_far x.progress.behind x.marks many in
+            let many : 7 ≤ x.progress.exchange.behind = grind (arith, nat_tests, far) in
+            let now = nulls_if_far x.progress.exchange.behind (drop (suc k) x.marks) many in
+            let was = nulls_if_far x.progress.exchange.behind x.marks many in
             let same = it.0 in
             let most = h.3 in
             omega (arith, now, was, same, all, most)

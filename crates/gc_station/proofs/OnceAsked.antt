@@ -9,6 +9,7 @@ use Rattle.gc_client.specs.Rule.{expired}
 use Rattle.gc_client.specs.declared.window.TheConstants.{WINDOW}
 use Rattle.gc_lines.specs.Frames.{rest_behind}
 use Rattle.gc_texts.specs.declared.tasks.Task.{Task}
+use Rattle.gc_session.specs.Exchange.{one_more_in_window}
 use Rattle.gc_links.specs.Acts.{Act, Gave, Silent}
 use Rattle.gc_links.specs.declared.link.Moment.{Moment}
 use Rattle.gc_station.specs.Deciding.{has_begun, is_up, is_unquiet, is_out_of_time, may_abandon, is_resting, is_stopping, is_stale, is_overdue, is_between_chains, is_cut, is_preparing, action_in, action_without_turns}
@@ -16,7 +17,7 @@ use Rattle.gc_station.specs.Marks.{commands_in}
 use Rattle.gc_station.specs.NextCommand.{commands_before}
 use Rattle.gc_station.specs.Model.{Model, opening, action_at, waiting_of, with_progress, with_rest, lines_completed, is_heard, after_piece, moved, losing, with_losses, after, Performs, Runs}
 use Rattle.gc_station.specs.OnceAsked.{requests_by, requests_sent, EndsSoonOnceAsked}
-use Rattle.gc_station.specs.Progressing.{turned, loses_all, is_over, time_passed, quieted, one_more_in_window}
+use Rattle.gc_station.specs.Progressing.{turned, loses_all, is_over, time_passed, quieted}
 use Rattle.gc_station.specs.Reasons.{HoldsBefore, AwaitsSomething, WantsNull}
 use Rattle.gc_station.specs.RecordedInTime.{MayTakeTime}
 use Rattle.gc_station.specs.Runs.{state_after, WhereNext}
@@ -76,7 +77,7 @@ module _ (plan : Plan) (commands : List Task) (s : Model) (act : Act) (fine : In
   sent_fewer behind' marks' some = let few = nulls_few behind' marks' in omega (arith, few, some)
 
   -- after a null procedure was sent
-  flushed_fewer : HoldsBefore plan s.progress (waiting_of s) actions.Flush → 1 + (8 * s.progress.unsent + nulls_left (one_more_in_window s.progress.behind) (s.marks ++ None ∷ [])) ≤ requests_left s.progress s.marks
+  flushed_fewer : HoldsBefore plan s.progress (waiting_of s) actions.Flush → 1 + (8 * s.progress.unsent + nulls_left (one_more_in_window s.progress.exchange.behind) (s.marks ++ None ∷ [])) ≤ requests_left s.progress s.marks
   flushed_fewer needs = by_why needs.2 where
     -- one null procedure more
     more : tail_nulls (s.marks ++ None ∷ []) ≡ suc (tail_nulls s.marks)
@@ -87,31 +88,31 @@ module _ (plan : Plan) (commands : List Task) (s : Model) (act : Act) (fine : In
     few = let within = nulls_within s.marks in let paired = fine.paired in let room = needs.4.1 in omega (arith, within, paired, room)
 
     -- the lemma above, by why it is wanted
-    by_why : WantsNull plan s.progress (waiting_of s) → 1 + (8 * s.progress.unsent + nulls_left (one_more_in_window s.progress.behind) (s.marks ++ None ∷ [])) ≤ requests_left s.progress s.marks
+    by_why : WantsNull plan s.progress (waiting_of s) → 1 + (8 * s.progress.unsent + nulls_left (one_more_in_window s.progress.exchange.behind) (s.marks ++ None ∷ [])) ≤ requests_left s.progress s.marks
     by_why (inl waits) =
         let some : 0 < commands_in s.marks = waits.1 in
         let append = commands-append s.marks (None ∷ []) in
-        let now = nulls_if_some (one_more_in_window s.progress.behind) (s.marks ++ None ∷ []) (omega (arith, append, some)) in
-        let was = nulls_if_some s.progress.behind s.marks some in
+        let now = nulls_if_some (one_more_in_window s.progress.exchange.behind) (s.marks ++ None ∷ []) (omega (arith, append, some)) in
+        let was = nulls_if_some s.progress.exchange.behind s.marks some in
         omega (arith, now, was, more, few)
     by_why (inr wants) =
-        let far : 7 ≤ s.progress.behind = wants.1 in
-        let still : 7 ≤ one_more_in_window s.progress.behind = cond_both (nat_lt s.progress.behind WINDOW) (s.progress.behind + 1) s.progress.behind (λ (n : ℕ). 7 ≤ n) (λ e. omega (arith, far)) (λ e. far) in
-        let now = nulls_if_far (one_more_in_window s.progress.behind) (s.marks ++ None ∷ []) still in
-        let was = nulls_if_far s.progress.behind s.marks far in
+        let far : 7 ≤ s.progress.exchange.behind = wants.1 in
+        let still : 7 ≤ one_more_in_window s.progress.exchange.behind = cond_both (nat_lt s.progress.exchange.behind WINDOW) (s.progress.exchange.behind + 1) s.progress.exchange.behind (λ (n : ℕ). 7 ≤ n) (λ e. omega (arith, far)) (λ e. far) in
+        let now = nulls_if_far (one_more_in_window s.progress.exchange.behind) (s.marks ++ None ∷ []) still in
+        let was = nulls_if_far s.progress.exchange.behind s.marks far in
         omega (arith, now, was, more, few)
 
   -- after a read that gave bytes
   gave_fewer : (until : Until) (bytes : List ℕ) (m : Moment) → let t = moved plan commands (actions.Read until) u (Gave bytes m) in 0 + requests_left t.progress t.marks ≤ requests_left s.progress s.marks
   gave_fewer until bytes m =
       let x = piece_before m s in
-      let n = nulls_left s.progress.behind s.marks in
+      let n = nulls_left s.progress.exchange.behind s.marks in
       let lengths : length (map (expired m.elapsed) s.client.waiting) ≡ length s.client.waiting = length-map s.client.waiting (expired m.elapsed) in
       let paired = fine.paired in
       let window = fine.window in
       let told : Listens n x = (nulls_expired m.elapsed s.marks s.client.waiting nulls, omega (arith, paired, lengths), omega (arith, window, lengths), omega arith) in
       let P : Model → Type 0 = λ (t : Model). Listens n t × (t.progress.unsent ≡ s.progress.unsent) in
-      let it : P (after_piece (is_heard s.progress.phase) s.progress.word bytes x) = came_along P (λ t line h. (line_heard n t line h.0, h.1)) (is_heard s.progress.phase) s.progress.word bytes x
+      let it : P (after_piece (is_heard s.progress.phase) s.progress.exchange.word bytes x) = came_along P (λ t line h. (line_heard n t line h.0, h.1)) (is_heard s.progress.phase) s.progress.exchange.word bytes x
       (told, refl) (asked_along (λ (q : Progress). P (record (with_rest (rest_behind x.rest bytes) x) { progress = q })) (λ q line h. h) x.progress (lines_completed x.rest bytes) (told, refl)) (told, refl) in
       let unsent = it.1 in
       let few = it.0.3 in
@@ -125,13 +126,13 @@ module _ (plan : Plan) (commands : List Task) (s : Model) (act : Act) (fine : In
   others_fewer actions.Renew other b needs asked = absurd (other refl)
   others_fewer actions.Ask other b needs asked =
       let none = before needs.1 in
-      let more : one_more_in_window s.progress.behind ≡ s.progress.behind = ap one_more_in_window none ∙ sym none in
-      let fewer : nulls_left (one_more_in_window s.progress.behind) s.marks ≡ nulls_left s.progress.behind s.marks = ap (λ (n : ℕ). nulls_left n s.marks) more in
+      let more : one_more_in_window s.progress.exchange.behind ≡ s.progress.exchange.behind = ap one_more_in_window none ∙ sym none in
+      let fewer : nulls_left (one_more_in_window s.progress.exchange.behind) s.marks ≡ nulls_left s.progress.exchange.behind s.marks = ap (λ (n : ℕ). nulls_left n s.marks) more in
       walk plan commands (Fewer actions.Ask) actions.Ask u act b (λ m. omega (arith, fewer), λ n. omega (arith, fewer))
   others_fewer actions.Send other b needs asked =
       walk plan commands (Fewer actions.Send) actions.Send u act b (
-        λ m. sent_fewer (model_sent plan commands u).progress.behind (model_sent plan commands u).marks needs.2,
-        λ n. sent_fewer (model_sent plan commands u).progress.behind (model_sent plan commands u).marks needs.2,
+        λ m. sent_fewer (model_sent plan commands u).progress.exchange.behind (model_sent plan commands u).marks needs.2,
+        λ n. sent_fewer (model_sent plan commands u).progress.exchange.behind (model_sent plan commands u).marks needs.2,
       )
   others_fewer actions.Flush other b needs asked = walk plan commands (Fewer actions.Flush) actions.Flush u act b (λ m. flushed_fewer needs, λ n. flushed_fewer needs)
   others_fewer actions.Skip other b needs asked = walk plan commands (Fewer actions.Skip) actions.Skip u act b (λ m. omega arith, λ n. same)
@@ -157,7 +158,7 @@ module _ (plan : Plan) (commands : List Task) (s : Model) (act : Act) (fine : In
   -- once the end of the run was asked for, an act leaves no more that may be sent, and less if it sends a request
   pub acts_fewer : (o : Action) → Performs commands s o act → HoldsBefore plan s.progress (waiting_of s) o → s.progress.stops ≡ true → LeavesFewer o (moved plan commands o u act)
   acts_fewer actions.Renew b needs asked =
-      let n = nulls_left s.progress.behind s.marks in
+      let n = nulls_left s.progress.exchange.behind s.marks in
       let none : 0 + (8 * s.progress.unsent + 0) ≤ 8 * s.progress.unsent + n = omega arith in
       let most = cond_both (has_begun s.progress) n 0 (λ (m : ℕ). 0 + (8 * s.progress.unsent + m) ≤ 8 * s.progress.unsent + n) (λ e. omega arith) (λ e. omega arith) in
       walk plan commands (λ (a : Act). LeavesFewer actions.Renew) actions.Renew u act b (λ m. none, λ x. most)
@@ -254,7 +255,7 @@ module _ (plan : Plan) (commands : List Task) where
       walk plan commands (λ a t. (t ≡ moved plan commands (actions.Read until) u a) → IsQuietIfUnbroken t.progress) (actions.Read until) u act b (
         λ bytes m e c.
             let was : s.progress.chain_unbroken ≡ true = sym (ap (λ (x : Model). x.progress.chain_unbroken) (moved_changed plan commands (actions.Read until) u (Gave bytes m))) ∙ c in
-            ap is_before_requests (came_phase (is_heard s.progress.phase) s.progress.word bytes (piece_before m s)) ∙ h was,
+            ap is_before_requests (came_phase (is_heard s.progress.phase) s.progress.exchange.word bytes (piece_before m s)) ∙ h was,
         λ m e c.
             let was : s.progress.chain_unbroken ≡ true = sym (ap (λ (x : Model). x.progress.chain_unbroken) (moved_changed plan commands (actions.Read until) u (Silent m))) ∙ c in
             ap is_before_requests (quieted_phase plan s.progress.phase (time_passed until m u.progress) (h was)) ∙ h was,
@@ -418,7 +419,7 @@ ends_soon = record {
   sends = λ plan commands scope earlier later runs asked.
       let s = state_after plan commands scope earlier in
       let few = sends_few plan commands scope earlier later runs asked in
-      let nulls = nulls_few s.progress.behind s.marks in
+      let nulls = nulls_few s.progress.exchange.behind s.marks in
       let most : may_send s ≤ 8 * s.progress.unsent + 7 = cond_both (loses_all s.progress) 0 (requests_left s.progress s.marks) (λ (n : ℕ). n ≤ 8 * s.progress.unsent + 7) (λ e. omega arith) (λ e. omega (arith, nulls)) in
       omega (arith, few, most);
 } where

@@ -148,7 +148,7 @@ module _ (plan : Plan) (commands : List Task) where
 
   -- how many requests may be sent within a chain
   abbrev pub left_in_chain : Model → ℕ
-  left_in_chain s = 8 * chain_left commands s.progress + nulls_left s.progress.behind s.marks
+  left_in_chain s = 8 * chain_left commands s.progress + nulls_left s.progress.exchange.behind s.marks
 
   -- a broken chain has none left
   broken_left : (p : Progress) → p.chain_unbroken ≡ false → chain_left commands p ≡ 0
@@ -178,7 +178,7 @@ module _ (plan : Plan) (commands : List Task) where
     abbrev pub LeavesLess : Action → Type 0
     LeavesLess o =
         (chain_left commands (then_is o).progress ≤ chain_left commands s.progress)
-        × (requests_by o + nulls_after (then_is o) ≤ nulls_left s.progress.behind s.marks)
+        × (requests_by o + nulls_after (then_is o) ≤ nulls_left s.progress.exchange.behind s.marks)
 
     -- so it is at the same command
     still_less : (o : Action) → Performs commands s o act → HoldsBefore plan s.progress (waiting_of s) o → Still (turned s.progress) (then_is o).progress → LeavesLess o
@@ -188,7 +188,7 @@ module _ (plan : Plan) (commands : List Task) where
         (still_left (turned s.progress) (then_is o).progress k, omega (arith, fewer, same))
 
     -- and once a chain is broken, if the act sends nothing and leaves the marks
-    broken_less : (o : Action) → requests_by o ≡ 0 → nulls_left (then_is o).progress.behind (then_is o).marks ≡ nulls_left s.progress.behind s.marks
+    broken_less : (o : Action) → requests_by o ≡ 0 → nulls_left (then_is o).progress.exchange.behind (then_is o).marks ≡ nulls_left s.progress.exchange.behind s.marks
         → (then_is o).progress.chain_unbroken ≡ false → LeavesLess o
     broken_less o quiet nulls broken =
         let none = broken_left (then_is o).progress broken in
@@ -206,14 +206,14 @@ module _ (plan : Plan) (commands : List Task) where
           ⊎ (GoesOnBy plan 1 commands (turned s.progress) (then_is actions.Skip).progress × ((then_is actions.Skip).progress.chain_unbroken ≡ false)) → LeavesLess actions.Skip
       by_steps (inl k) = still_less actions.Skip obeys needs k
       by_steps (inr (on, broken)) =
-          broken_less actions.Skip refl (ap (λ (x : Model). nulls_left x.progress.behind x.marks) (moved_changed plan commands actions.Skip (with_progress turned s) act)) broken
+          broken_less actions.Skip refl (ap (λ (x : Model). nulls_left x.progress.exchange.behind x.marks) (moved_changed plan commands actions.Skip (with_progress turned s) act)) broken
     quiet_less actions.Pass obeys needs other = by_steps (moved_steps plan commands actions.Pass (with_progress turned s) act) where
       -- the lemma above, whether the clock could be read
       by_steps : Still (turned s.progress) (then_is actions.Pass).progress
           ⊎ (GoesOnBy plan s.progress.next_others commands (turned s.progress) (then_is actions.Pass).progress × ((then_is actions.Pass).progress.chain_unbroken ≡ false)) → LeavesLess actions.Pass
       by_steps (inl k) = still_less actions.Pass obeys needs k
       by_steps (inr (on, broken)) =
-          broken_less actions.Pass refl (ap (λ (x : Model). nulls_left x.progress.behind x.marks) (moved_changed plan commands actions.Pass (with_progress turned s) act)) broken
+          broken_less actions.Pass refl (ap (λ (x : Model). nulls_left x.progress.exchange.behind x.marks) (moved_changed plan commands actions.Pass (with_progress turned s) act)) broken
     quiet_less actions.Renew obeys needs other = by_steps (moved_steps plan commands actions.Renew (with_progress turned s) act) where
       -- the lemma above, whether the clock could be read
       by_steps : Still (turned s.progress) (then_is actions.Renew).progress
@@ -271,7 +271,7 @@ module _ (plan : Plan) (commands : List Task) where
         → requests_by o + (8 * chain_left commands (then_is o).progress + nulls_after (then_is o)) ≤ left_in_chain s
     chain_fewer actions.Send obeys needs =
         let less = sent_less obeys needs in
-        let few = nulls_few (then_is actions.Send).progress.behind (then_is actions.Send).marks in
+        let few = nulls_few (then_is actions.Send).progress.exchange.behind (then_is actions.Send).marks in
         let most = nulls_after_most (then_is actions.Send) in
         omega (arith, less, few, most)
     chain_fewer o obeys needs =
@@ -354,7 +354,7 @@ pub finishes_its_chain : FinishesItsChainOnceAsked
 finishes_its_chain plan commands scope earlier later runs asked =
     let p = s.progress in
     let few = sends_few_of_chain plan commands scope earlier later runs asked in
-    let nulls = nulls_few p.behind s.marks in
+    let nulls = nulls_few p.exchange.behind s.marks in
     cond_both (is_between_chains p) 0 (8 * chain_left commands p + 7) (λ (n : ℕ). requests_sent plan commands s later ≤ n)
     (λ between.
     let none : may_send_of_chain plan commands scope s ≡ 0 = ap (λ (b : Bool). if b then 0 else left_in_chain plan commands s) (or_left _ _ (or_left _ _ between)) in

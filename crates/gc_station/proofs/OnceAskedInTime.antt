@@ -103,7 +103,7 @@ module _ (limit : ℕ) where
   ends_gave plan s until bytes m h =
       let mid = with_moment m (with_progress (moment_noted m) s) in
       let told = ends_told m.elapsed s.client.waiting h.0 in
-      came_along Ends ends_line (is_heard s.progress.phase) s.progress.word bytes mid told
+      came_along Ends ends_line (is_heard s.progress.phase) s.progress.exchange.word bytes mid told
       (asked_along (λ (q : Progress). EndsIn q mid.client.waiting) (λ q line e. e) mid.progress (lines_completed mid.rest bytes) told) told
 
   -- the loss of what is outstanding preserves `Ends`

@@ -106,7 +106,7 @@ module _ (plan : Plan) (commands : List Task) (scope : Scope) where
 
     -- after an act that isn't a send
     quiet_here : (o ≡ actions.Send → ⊥) → (chain_left commands t.progress ≤ chain_left commands s.progress)
-        × (requests_by o + nulls_after t ≤ nulls_left s.progress.behind s.marks)
+        × (requests_by o + nulls_after t ≤ nulls_left s.progress.exchange.behind s.marks)
     quiet_here other = quiet_less plan commands s act (invariant_holds plan commands scope earlier) (none_ended_holds plan commands scope earlier before.0) (follows_text plan commands scope earlier before.0) stops (rest_holds plan commands scope earlier before.0) o before.1 needs other
 
   -- the chain of the model can't go on, since a command of it has timed out, or since it is broken
@@ -121,7 +121,7 @@ module _ (plan : Plan) (commands : List Task) (scope : Scope) where
 
   -- once the chain can't go on, only null procedures are sent
   cannot_few : (earlier later : List Act) → Runs plan commands (opening plan scope) (earlier ++ later) → asked_after false earlier ≡ true → EndsHere (at earlier)
-      → requests_sent plan commands (at earlier) later ≤ nulls_left (at earlier).progress.behind (at earlier).marks
+      → requests_sent plan commands (at earlier) later ≤ nulls_left (at earlier).progress.exchange.behind (at earlier).marks
   cannot_few earlier [] runs asked h = omega arith
   cannot_few earlier (act ∷ later) runs asked h =
       by_more (λ on. cannot_few (earlier ++ act ∷ []) later (behind earlier later act runs asked) (still earlier later act runs asked) on)
@@ -140,9 +140,9 @@ module _ (plan : Plan) (commands : List Task) (scope : Scope) where
 
         -- the lemma above, whether a request may follow the act
         by_more : (EndsHere (at (earlier ++ act ∷ [])) → requests_sent plan commands (at (earlier ++ act ∷ [])) later
-            ≤ nulls_left (at (earlier ++ act ∷ [])).progress.behind (at (earlier ++ act ∷ [])).marks)
+            ≤ nulls_left (at (earlier ++ act ∷ [])).progress.exchange.behind (at (earlier ++ act ∷ [])).marks)
             → (b : Bool) → sends_no_more (at (earlier ++ act ∷ [])).progress ≡ b
-            → requests_sent plan commands (at earlier) (act ∷ later) ≤ nulls_left (at earlier).progress.behind (at earlier).marks
+            → requests_sent plan commands (at earlier) (act ∷ later) ≤ nulls_left (at earlier).progress.exchange.behind (at earlier).marks
         by_more rest true e =
             let both = sent_both earlier later act runs asked in
             let none = none_behind earlier later act runs asked e in
@@ -154,7 +154,7 @@ module _ (plan : Plan) (commands : List Task) (scope : Scope) where
             let less = (quiet_here earlier later act runs asked other).1 in
             let on = rest (subst (λ (x : Model). EndsHere x) (sym same)
             (ends_still (at earlier) act (before earlier later act runs asked).1 (needs earlier later act runs asked) (stops earlier later act runs asked) other h)) in
-            let nulls = ap (λ (x : Model). nulls_left x.progress.behind x.marks) same in
+            let nulls = ap (λ (x : Model). nulls_left x.progress.exchange.behind x.marks) same in
             let begun = nulls_after_begun (t earlier later act runs asked) (begun_if_nothing_lost (t earlier later act runs asked) (none_lost earlier later act runs asked e)) in
             omega (arith, both, less, on, nulls, begun)
 
@@ -206,7 +206,7 @@ module _ (plan : Plan) (commands : List Task) (scope : Scope) where
             → (o : Action) → action_at plan (at earlier) ≡ o → Claim
         by_action rest actions.Flush is =
             let few = cannot_few earlier (act ∷ later) runs asked (cannot_if_flush all earlier first.0 is) in
-            let nulls = nulls_few (at earlier).progress.behind (at earlier).marks in
+            let nulls = nulls_few (at earlier).progress.exchange.behind (at earlier).marks in
             omega (arith, few, nulls)
         by_action rest actions.Send is =
             let both = sent_both earlier later act runs asked in

@@ -81,7 +81,7 @@ moved_balanced plan commands actions.Flush s act o needs never =
     walk plan commands (IsBalancedAt s) actions.Flush (with_progress turned s) act o (λ m. refl, λ n. failure_balanced s (cause.Write (commands_before plan commands (turned s.progress)) n))
 moved_balanced plan commands (actions.Read until) s act o needs never =
     walk plan commands (IsBalancedAt s) (actions.Read until) (with_progress turned s) act o (
-      λ bytes m. balanced_unchanged (is_up s.progress.phase) _ (ap is_up (came_phase (is_heard s.progress.phase) s.progress.word bytes (piece_before m s))),
+      λ bytes m. balanced_unchanged (is_up s.progress.phase) _ (ap is_up (came_phase (is_heard s.progress.phase) s.progress.exchange.word bytes (piece_before m s))),
       λ m. balanced_unchanged (is_up s.progress.phase) _ (quieted_up plan s.progress.phase (time_passed until m (turned s.progress)) refl),
       failure_balanced s cause.End,
       failure_balanced s cause.Read,

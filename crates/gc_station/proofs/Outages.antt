@@ -410,7 +410,7 @@ no_read_if_sent plan p w until awaits may = by_until until awaits where
   not_nothing : NothingMayGo plan p w → ⊥
   not_nothing (inl full) = let room = may.0.3.0 in omega (arith, full, room)
   not_nothing (inr (inl (inl seven))) = let room = may.0.3.1 in omega (arith, seven, room)
-  not_nothing (inr (inl (inr (inl doubt)))) = both_ways p.doubtful may.0.3.2 doubt
+  not_nothing (inr (inl (inr (inl doubt)))) = both_ways p.exchange.doubtful may.0.3.2 doubt
   not_nothing (inr (inl (inr (inr held)))) = let none = may.0.3.3 in omega (arith, held, none)
   not_nothing (inr (inr (inl held))) = not_held held.0 held.1
   not_nothing (inr (inr (inr (inl far)))) = let few = may.0.5 in omega (arith, few, far)

@@ -12,6 +12,7 @@ use Rattle.gc_client.specs.OneForOne.{Hear, Expire}
 use Rattle.gc_client.specs.Rule.{ById, fresh, heard, hears, expired, expires}
 use Rattle.gc_client.proofs.Lists.{head_of_drop}
 use Rattle.gc_texts.specs.declared.tasks.Task.{Task}
+use Rattle.gc_session.specs.Exchange.{is_none_left}
 use Rattle.gc_links.specs.declared.link.Moment.{Moment}
 use Rattle.gc_station.specs.declared.plan.Plan.{Plan}
 use Rattle.gc_station.specs.declared.progress.Action.{Action}
@@ -19,7 +20,7 @@ use Rattle.gc_station.specs.declared.progress.Action.TheVariants as action
 use Rattle.gc_station.specs.declared.progress.Progress.{Progress}
 use Rattle.gc_station.specs.declared.progress.Until.{Until}
 use Rattle.gc_links.specs.Acts.{Act, Told, Gave}
-use Rattle.gc_station.specs.Deciding.{has_begun, is_none_left}
+use Rattle.gc_station.specs.Deciding.{has_begun}
 use Rattle.gc_station.specs.Parts.{SyncStep, Part, only_sync_steps, only_steps, idle_part, put_part, first_request_part, heard_steps, client_part, sync_part, part_of_act, sent_of, request_part}
 use Rattle.gc_station.specs.Progressing.{turned}
 use Rattle.gc_station.specs.Reasons.{HoldsBefore}
@@ -85,11 +86,11 @@ module _ (plan : Plan) (commands : List Task) where
       → LeadsByPart (action.Read until) s (Gave bytes m) (after_read plan until (with_progress turned s) (Gave bytes m))
   leads_gave s until bytes m begun paired =
       let x = piece_before m s in
-      let t = after_piece (is_heard s.progress.phase) s.progress.word bytes x in
+      let t = after_piece (is_heard s.progress.phase) s.progress.exchange.word bytes x in
       books_both s.reads commands s.client x.client t.client s.marks s.marks t.marks (sent_of s.records) (sent_of s.records) (sent_of t.records)
       (only_steps (Expire m.elapsed ∷ [])) (only_steps (heard_steps (is_heard s.progress.phase) s.rest bytes))
       (books_moment s.reads commands s.client s.marks (sent_of s.records) m.elapsed)
-      (leads_came (is_heard s.progress.phase) s.progress.word bytes x begun (paired_told s m.elapsed paired))
+      (leads_came (is_heard s.progress.phase) s.progress.exchange.word bytes x begun (paired_told s m.elapsed paired))
 
   -- `left` are the commands from the place of this mark on. The first of them, if there is one and room for it, leads on by the
   -- part of its request once it is sent with the mark
@@ -202,7 +203,7 @@ module _ (plan : Plan) (commands : List Task) where
       (λ m. (new_told s m new, refl, refl), λ n. (new, refl, refl))
   keeps_new_client s (action.Read until) act is obeys begins new =
       walk plan commands (λ a. KeepsNewClient s) (action.Read until) (with_progress turned s) act obeys (
-        λ bytes m. keeps_came (is_heard s.progress.phase) s.progress.word bytes (piece_before m s) begins (new_told s m new),
+        λ bytes m. keeps_came (is_heard s.progress.phase) s.progress.exchange.word bytes (piece_before m s) begins (new_told s m new),
         λ m. (new_told s m new, refl, refl),
         (new, refl, refl),
         (new, refl, refl),

@@ -5,10 +5,11 @@
 use Rattle.std.proofs.Common.{◌≡◌, ◌⊎◌, inl, inr, ℕ, zero, suc, ◌+◌, ◌-◌, ◌*◌, ◌<◌, ◌≤◌, ◌||◌, Bool, true, false, List, nat_lt, max, refl, ap, ◌∙◌, arith, ◌&&◌, not}
 use Rattle.std.proofs.lemmas.Bool.{lt-ltb, le-ltb, cond-true, cond-false, and_from, not_from_false}
 use Rattle.gc_texts.specs.declared.tasks.Task.{Task}
+use Rattle.gc_session.specs.Exchange.{pause_within}
 use Rattle.gc_links.specs.Acts.{Act}
 use Rattle.gc_station.specs.Deciding.{later}
 use Rattle.gc_station.specs.Pauses.{doubled, pause_after, LeavesTries, HasTriesAndPause, TriesAndPausesAreCounted}
-use Rattle.gc_station.specs.Progressing.{is_finished, is_spared, pause_within, after_failure, bytes_noted, gives_back}
+use Rattle.gc_station.specs.Progressing.{is_finished, is_spared, after_failure, bytes_noted, gives_back}
 use Rattle.gc_station.specs.Model.{Model, moved}
 use Rattle.gc_station.specs.declared.cause.Cause.{Cause}
 use Rattle.gc_station.specs.declared.cause.Cause.TheVariants as cause
@@ -41,10 +42,10 @@ pause_doubled plan zero = twice_no_pause plan.quiet
 pause_doubled plan (suc n) = twice_pause (doubled n plan.quiet) plan.quiet (doubled_not_shorter n plan.quiet)
 
 -- a failure that isn't spared makes the pause after n failures the one after n + 1
-failure_lengthens_pause : (plan : Plan) (count n : ℕ) (why : Cause) (p : Progress) → is_spared plan why p ≡ false → p.pause ≡ pause_after plan n
-    → (after_failure plan count why p).pause ≡ pause_after plan (suc n)
+failure_lengthens_pause : (plan : Plan) (count n : ℕ) (why : Cause) (p : Progress) → is_spared plan why p ≡ false → p.exchange.pause ≡ pause_after plan n
+    → (after_failure plan count why p).exchange.pause ≡ pause_after plan (suc n)
 failure_lengthens_pause plan count n why p e is =
-    cond-false (is_spared plan why p) (max p.pause plan.quiet) (pause_within plan.quiet (later p.pause p.pause)) e
+    cond-false (is_spared plan why p) (max p.exchange.pause plan.quiet) (pause_within plan.quiet (later p.exchange.pause p.exchange.pause)) e
     ∙ ap (λ x. pause_within plan.quiet (later x x)) is ∙ pause_doubled plan n
 
 -- a failure that isn't spared takes one try, if at least one is left
@@ -69,11 +70,11 @@ spared_stays : (d quiet : ℕ) → max (pause_within quiet d) quiet ≡ pause_wi
 spared_stays d quiet = omega arith
 
 -- a spared close takes no try, and leaves the pause as it is, if that is the pause after n + 1 failures
-spared_leaves_pause : (plan : Plan) (count n : ℕ) (why : Cause) (p : Progress) → is_spared plan why p ≡ true → p.pause ≡ pause_after plan (suc n)
+spared_leaves_pause : (plan : Plan) (count n : ℕ) (why : Cause) (p : Progress) → is_spared plan why p ≡ true → p.exchange.pause ≡ pause_after plan (suc n)
     → HasTriesAndPause (after_failure plan count why p) p.tries (pause_after plan (suc n))
 spared_leaves_pause plan count n why p e is = (
   cond-true (is_spared plan why p) p.tries (p.tries - 1) e,
-  cond-true (is_spared plan why p) (max p.pause plan.quiet) (pause_within plan.quiet (later p.pause p.pause)) e
+  cond-true (is_spared plan why p) (max p.exchange.pause plan.quiet) (pause_within plan.quiet (later p.exchange.pause p.exchange.pause)) e
       ∙ ap (λ x. max x plan.quiet) is ∙ spared_stays (doubled n plan.quiet) plan.quiet,
 )
 
@@ -82,11 +83,11 @@ spared_from_no_pause : (quiet : ℕ) → max 0 quiet ≡ pause_within quiet quie
 spared_from_no_pause quiet = omega arith
 
 -- a spared close takes no try, and makes a pause of 0 that of one failure
-spared_makes_first_pause : (plan : Plan) (count : ℕ) (why : Cause) (p : Progress) → is_spared plan why p ≡ true → p.pause ≡ pause_after plan 0
+spared_makes_first_pause : (plan : Plan) (count : ℕ) (why : Cause) (p : Progress) → is_spared plan why p ≡ true → p.exchange.pause ≡ pause_after plan 0
     → HasTriesAndPause (after_failure plan count why p) p.tries (pause_after plan 1)
 spared_makes_first_pause plan count why p e is = (
   cond-true (is_spared plan why p) p.tries (p.tries - 1) e,
-  cond-true (is_spared plan why p) (max p.pause plan.quiet) (pause_within plan.quiet (later p.pause p.pause)) e
+  cond-true (is_spared plan why p) (max p.exchange.pause plan.quiet) (pause_within plan.quiet (later p.exchange.pause p.exchange.pause)) e
       ∙ ap (λ x. max x plan.quiet) is ∙ spared_from_no_pause plan.quiet,
 )
 
@@ -95,14 +96,14 @@ settling_gives_tries_back : (plan : Plan) (until : Until) (before : ℕ) (after 
     → HasTriesAndPause (bytes_noted plan until before after p) plan.retries (pause_after plan 0)
 settling_gives_tries_back plan until before after p fewer done =
     let e = and_from (nat_lt after.commands before) (not p.preparing) (lt-ltb after.commands before fewer) (not_from_false p.preparing done) in
-    (cond-true (gives_back before after p) plan.retries p.tries e, cond-true (gives_back before after p) 0 p.pause e)
+    (cond-true (gives_back before after p) plan.retries p.tries e, cond-true (gives_back before after p) 0 p.exchange.pause e)
 
 -- a read that settled no command, or after which `preparing` is true, changes neither the tries nor the pause
 unsettled_leaves_tries : (plan : Plan) (until : Until) (before : ℕ) (after : Waiting) (p : Progress) → (before ≤ after.commands) ⊎ (p.preparing ≡ true)
-    → HasTriesAndPause (bytes_noted plan until before after p) p.tries p.pause
+    → HasTriesAndPause (bytes_noted plan until before after p) p.tries p.exchange.pause
 unsettled_leaves_tries plan until before after p why =
     let e = by_cause (nat_lt after.commands before) (p.preparing) refl refl why in
-    (cond-false (gives_back before after p) plan.retries p.tries e, cond-false (gives_back before after p) 0 p.pause e) where
+    (cond-false (gives_back before after p) plan.retries p.tries e, cond-false (gives_back before after p) 0 p.exchange.pause e) where
       -- the first of the tests a and b is false, or the second is true: so `a && not b` is false
       by_cause : (a b : Bool) → nat_lt after.commands before ≡ a → p.preparing ≡ b → (before ≤ after.commands) ⊎ (p.preparing ≡ true) → (a && not b) ≡ false
       by_cause false b x y w = refl
@@ -112,12 +113,12 @@ unsettled_leaves_tries plan until before after p why =
 
 -- an action of `LeavesTries` changes neither the tries nor the pause
 leaves_tries : (plan : Plan) (commands : List Task) (action : Action) (s : Model) (act : Act) → LeavesTries action
-    → HasTriesAndPause (moved plan commands action s act).progress s.progress.tries s.progress.pause
+    → HasTriesAndPause (moved plan commands action s act).progress s.progress.tries s.progress.exchange.pause
 leaves_tries plan commands actions.Open s act leaves = absurd leaves
 leaves_tries plan commands (actions.Read until) s act leaves = absurd leaves
 leaves_tries plan commands (actions.Close why) s act leaves = absurd leaves
 leaves_tries plan commands action s act leaves =
-    let is = moved_changed plan commands action s act in (ap (λ (x : Model). x.progress.tries) is, ap (λ (x : Model). x.progress.pause) is)
+    let is = moved_changed plan commands action s act in (ap (λ (x : Model). x.progress.tries) is, ap (λ (x : Model). x.progress.exchange.pause) is)
 
 -- the law on tries and pauses: what a failure, a spared close, a read and any other act make of them
 pub tries_counted : TriesAndPausesAreCounted

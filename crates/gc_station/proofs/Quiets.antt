@@ -162,7 +162,7 @@ module _ (plan : Plan) (commands : List Task) (scope : Scope) where
 
   -- `Stage`, by the fields of a progress
   abbrev pub StageAt : Progress → List Act → Type 0
-  StageAt p acts = Stage (has_begun p) p.clock_due p.since p.phase acts
+  StageAt p acts = Stage (has_begun p) p.clock_due p.exchange.since p.phase acts
 
 -- One act more.
 
@@ -258,13 +258,13 @@ module _ (plan : Plan) (commands : List Task) (scope : Scope) where
       subst (λ (x : Phase). StageHere begun' due' since' x (acts ++ act ∷ [])) (sym is) (still_cleared acts act stays (subst (λ (x : Phase). StageHere begun due since x acts) is st))
 
   -- `Stage` holds after a read that gave nothing, by whose moment the drained connection was quiet for long enough
-  stage_drained : (until : Until) (m : Moment) (p : Progress) (acts : List Act) → is_quiet plan (time_passed until m p) ≡ true → IsDrained p.since acts
+  stage_drained : (until : Until) (m : Moment) (p : Progress) (acts : List Act) → is_quiet plan (time_passed until m p) ≡ true → IsDrained p.exchange.since acts
       → StageHereAt (drained (time_passed until m p)) (acts ++ Silent m ∷ [])
   stage_drained until m p acts past d =
-      let long = leb-true plan.quiet (m.elapsed - min p.since m.elapsed) past in
-      let same = bounded_as_long m.elapsed p.since (nat_le p.since m.elapsed) refl in
-      let quiet : plan.quiet ≤ m.elapsed - p.since = omega (arith, long, same) in
-      inl (quiet_now plan.quiet p.since acts m quiet d)
+      let long = leb-true plan.quiet (m.elapsed - min p.exchange.since m.elapsed) past in
+      let same = bounded_as_long m.elapsed p.exchange.since (nat_le p.exchange.since m.elapsed) refl in
+      let quiet : plan.quiet ≤ m.elapsed - p.exchange.since = omega (arith, long, same) in
+      inl (quiet_now plan.quiet p.exchange.since acts m quiet d)
 
   -- `Stage` holds after the line feed of a connection that was just made: the connection is drained next, or a synchronization
   -- goes on with it
@@ -274,8 +274,8 @@ module _ (plan : Plan) (commands : List Task) (scope : Scope) where
   stage_cleared false since acts o = inr (since_now (ClearsInSync plan commands scope) acts (Put (10 ∷ [])) (o, refl, tt))
 
   -- what `StageHereAt` says in this phase
-  stage_in : (p : Progress) (at : Phase) (acts : List Act) → p.phase ≡ at → StageHereAt p acts → StageHere (has_begun p) p.clock_due p.since at acts
-  stage_in p at acts is st = subst (λ (x : Phase). StageHere (has_begun p) p.clock_due p.since x acts) is st
+  stage_in : (p : Progress) (at : Phase) (acts : List Act) → p.phase ≡ at → StageHereAt p acts → StageHere (has_begun p) p.clock_due p.exchange.since at acts
+  stage_in p at acts is st = subst (λ (x : Phase). StageHere (has_begun p) p.clock_due p.exchange.since x acts) is st
 
   -- where the phase is `Ready` or the cycle is overdue, the phase isn't `Clearing`
   no_clearing : (plan : Plan) (p : Progress) (w : Waiting) → IsReadyOrOverdue plan p w → p.phase ≡ phase.Clearing → ⊥
@@ -285,10 +285,10 @@ module _ (plan : Plan) (commands : List Task) (scope : Scope) where
   -- `Stage` is preserved by an act that reads the clock to tell of commands, or to resynchronize, if the moment was read before, and
   -- the phase isn't `Clearing`
   stage_told : (begun begun' : Bool) (p : Progress) (acts : List Act) (m : Moment) → p.clock_due ≡ false → (p.phase ≡ phase.Clearing → ⊥)
-      → StageHere begun p.clock_due p.since p.phase acts → StageHere begun' false (min p.since m.elapsed) p.phase (acts ++ Told m ∷ [])
+      → StageHere begun p.clock_due p.exchange.since p.phase acts → StageHere begun' false (min p.exchange.since m.elapsed) p.phase (acts ++ Told m ∷ [])
   stage_told begun begun' p acts m now never st =
-      stage_on begun begun' p.clock_due p.since (min p.since m.elapsed) p.phase acts (Told m) tt (λ is _. never is)
-      (λ d. drained_if_silent p.since m acts (Told m) tt refl (nat_le p.since m.elapsed) refl (draining_read p.clock_due p.since acts now d)) st
+      stage_on begun begun' p.clock_due p.exchange.since (min p.exchange.since m.elapsed) p.phase acts (Told m) tt (λ is _. never is)
+      (λ d. drained_if_silent p.exchange.since m acts (Told m) tt refl (nat_le p.exchange.since m.elapsed) refl (draining_read p.clock_due p.exchange.since acts now d)) st
 
   -- `Stage` is preserved by an act of any action that leaves a connection in use, if `HoldsBefore` and `Timely` hold of the
   -- action
@@ -296,38 +296,38 @@ module _ (plan : Plan) (commands : List Task) (scope : Scope) where
       → HoldsBefore plan s.progress (waiting_of s) next → Timely plan s.progress next → StageHereAt s.progress acts → HoldsInUse plan commands StageHereAt next (with_progress turned s) acts
   stage_line actions.ReadClock s acts there needs time st =
       let p = s.progress in
-      λ m. stage_on (has_begun p) (has_begun p) p.clock_due p.since m.elapsed p.phase acts (Told m) tt (λ is now. both_ways p.clock_due now time) (draining_told p.clock_due p.since m acts time) st
+      λ m. stage_on (has_begun p) (has_begun p) p.clock_due p.exchange.since m.elapsed p.phase acts (Told m) tt (λ is now. both_ways p.clock_due now time) (draining_told p.clock_due p.exchange.since m acts time) st
   stage_line actions.Open s acts there needs time st = λ m. (time, (acts, refl, there))
-  stage_line actions.Clear s acts there needs time st = λ m. stage_cleared (has_begun s.progress) s.progress.since acts (stage_in s.progress phase.Clearing acts needs st).1
+  stage_line actions.Clear s acts there needs time st = λ m. stage_cleared (has_begun s.progress) s.progress.exchange.since acts (stage_in s.progress phase.Clearing acts needs st).1
   stage_line (actions.Read until) s acts there needs time st =
       let p = s.progress in
       let begun = has_begun p in
-      let heard = λ (later : Bool) (bytes : List ℕ) (m : Moment). stage_on begun later p.clock_due p.since m.elapsed p.phase acts (Gave bytes m) tt (λ is now. time.1 is)
-      (λ d. drained_anew p.since m.elapsed acts (Gave bytes m) refl (draining_read p.clock_due p.since acts time.0 d)) st in (
+      let heard = λ (later : Bool) (bytes : List ℕ) (m : Moment). stage_on begun later p.clock_due p.exchange.since m.elapsed p.phase acts (Gave bytes m) tt (λ is now. time.1 is)
+      (λ d. drained_anew p.exchange.since m.elapsed acts (Gave bytes m) refl (draining_read p.clock_due p.exchange.since acts time.0 d)) st in (
         λ bytes m.
             let mid = piece_before m s in
             let always = λ (later : Bool). heard later bytes m in
-            came_along (λ (t : Model). StageHereAt t.progress (acts ++ Gave bytes m ∷ [])) (λ t line on. on) (is_heard p.phase) p.word bytes mid (always begun)
-            ((asked_along (λ (q : Progress). (later : Bool) → StageHere later q.clock_due q.since q.phase (acts ++ Gave bytes m ∷ [])) (λ q line on. on) mid.progress
+            came_along (λ (t : Model). StageHereAt t.progress (acts ++ Gave bytes m ∷ [])) (λ t line on. on) (is_heard p.phase) p.exchange.word bytes mid (always begun)
+            ((asked_along (λ (q : Progress). (later : Bool) → StageHere later q.clock_due q.exchange.since q.phase (acts ++ Gave bytes m ∷ [])) (λ q line on. on) mid.progress
             (lines_completed s.rest bytes) always) _) (always begun),
         λ m. (
-          stage_on begun begun p.clock_due p.since (min p.since m.elapsed) p.phase acts (Silent m) tt (λ is now. time.1 is)
-              (λ d. drained_if_silent p.since m acts (Silent m) tt refl (nat_le p.since m.elapsed) refl (draining_read p.clock_due p.since acts time.0 d)) st,
-          λ is past. stage_drained until m (turned p) acts past (draining_read p.clock_due p.since acts time.0 (stage_in p phase.Draining acts is st)),
+          stage_on begun begun p.clock_due p.exchange.since (min p.exchange.since m.elapsed) p.phase acts (Silent m) tt (λ is now. time.1 is)
+              (λ d. drained_if_silent p.exchange.since m acts (Silent m) tt refl (nat_le p.exchange.since m.elapsed) refl (draining_read p.clock_due p.exchange.since acts time.0 d)) st,
+          λ is past. stage_drained until m (turned p) acts past (draining_read p.clock_due p.exchange.since acts time.0 (stage_in p phase.Draining acts is st)),
         ),
       )
   stage_line (actions.Close why) s acts there needs time st = tt
   stage_line (actions.Stop why) s acts there needs time st = tt
   stage_line actions.Ask s acts there needs time st = let p = s.progress in
-      λ m. stage_ready (has_begun p) (has_begun p) p.clock_due true p.since p.since p.phase acts (Put (null_text p.word)) tt needs.0 st
+      λ m. stage_ready (has_begun p) (has_begun p) p.clock_due true p.exchange.since p.exchange.since p.phase acts (Put (null_text p.exchange.word)) tt needs.0 st
   stage_line actions.Prepare s acts there needs time st =
-      let p = s.progress in λ m. stage_ready (has_begun p) (has_begun p) p.clock_due true p.since p.since p.phase acts
+      let p = s.progress in λ m. stage_ready (has_begun p) (has_begun p) p.clock_due true p.exchange.since p.exchange.since p.phase acts
       (Put (text_or_null (occasion_at s.progress.moment) s.client (drop p.prepared commands))) tt needs.0 st
   stage_line actions.Send s acts there needs time st =
-      let p = s.progress in λ m. stage_ready (has_begun p) (has_begun p) p.clock_due true p.since p.since p.phase acts
+      let p = s.progress in λ m. stage_ready (has_begun p) (has_begun p) p.clock_due true p.exchange.since p.exchange.since p.phase acts
       (Put (first_text (occasion_at s.progress.moment) s.client (drop (place_next commands p) commands))) tt needs.0 st
   stage_line actions.Flush s acts there needs time st = let p = s.progress in
-      λ m. stage_ready (has_begun p) (has_begun p) p.clock_due true p.since p.since p.phase acts (Put (next_request_text s.client (Table NullProc))) tt needs.0 st
+      λ m. stage_ready (has_begun p) (has_begun p) p.clock_due true p.exchange.since p.exchange.since p.phase acts (Put (next_request_text s.client (Table NullProc))) tt needs.0 st
   stage_line actions.Renew s acts there needs time st =
       λ m. stage_told (has_begun s.progress) false s.progress acts m time (no_clearing plan s.progress (waiting_of s) needs.0) st
   stage_line actions.Begin s acts there needs time st =
@@ -342,7 +342,7 @@ module _ (plan : Plan) (commands : List Task) (scope : Scope) where
   -- `Stage` holds after every run
   stage_holds : (acts : List Act) → Runs plan commands (opening plan scope) acts → StageHereAt (state_after plan commands scope acts).progress acts
   stage_holds acts runs =
-      holds_in_use_always plan commands StageHereAt (λ q acts none. stage_none (has_begun q) q.clock_due q.since q.phase acts none) scope (λ done runs st.
+      holds_in_use_always plan commands StageHereAt (λ q acts none. stage_none (has_begun q) q.clock_due q.exchange.since q.phase acts none) scope (λ done runs st.
       let s = state_after plan commands scope done in
       let p = s.progress in
       stage_line (action_at plan s) s done refl (action_for plan p (waiting_of s)) (action_timely plan p (waiting_of s)) st) tt acts runs

@@ -8,10 +8,11 @@ use Rattle.gc_lines.specs.Replies.{ReplyFields}
 use Rattle.gc_lines.specs.Readers.{reply_at}
 use Rattle.gc_client.specs.Beginning.{is_answered, left_by}
 use Rattle.gc_client.specs.Rule.{heard, id_in}
+use Rattle.gc_session.specs.Lines.{is_reply}
 use Rattle.gc_station.specs.declared.progress.Progress.{Progress}
 use Rattle.gc_station.specs.Progressing.{line_synchronizing, lines_synchronizing}
 use Rattle.gc_station.specs.Silences.{IsNoReply}
-use Rattle.gc_station.specs.Model.{Model, line_came, lines_came, is_reply}
+use Rattle.gc_station.specs.Model.{Model, line_came, lines_came}
 use Rattle.gc_station.proofs.Walk.{lines_along}
 
 -- the moment read last is the same after lines that are heard as before them
@@ -21,7 +22,7 @@ lines_moment s lines = lines_along (λ (t : Model). t.progress.moment ≡ s.prog
 -- over these lines, from the progress p to q: none of them is a reply, `alive` and `asked` stay, and `Besides` holds; or one is,
 -- so that `alive` is the moment read last, and no request was sent since
 abbrev pub AliveWith : (Besides : Type 0) → List (List ℕ) → (p q : Progress) → Type 0
-AliveWith Besides lines p q = (AllByRecursion IsNoReply lines × (q.alive ≡ p.alive) × (q.asked ≡ p.asked) × Besides) ⊎ ((q.alive ≡ p.moment.elapsed) × (q.asked ≡ false))
+AliveWith Besides lines p q = (AllByRecursion IsNoReply lines × (q.exchange.alive ≡ p.exchange.alive) × (q.exchange.asked ≡ p.exchange.asked) × Besides) ⊎ ((q.exchange.alive ≡ p.moment.elapsed) × (q.exchange.asked ≡ false))
 
 -- `AliveWith`, for lines that the client hears
 abbrev pub Alive : List (List ℕ) → (p q : Progress) → Type 0
@@ -32,12 +33,12 @@ pub lines_alive : (s : Model) (lines : List (List ℕ)) → Alive lines s.progre
 lines_alive s [] = inl (tt, refl, refl, tt)
 lines_alive s (line ∷ others) = on (is_reply line) refl (lines_alive (line_came s line) others) where
   -- where the line is a reply (`true`), `alive` is this moment; otherwise it stays
-  here : (b : Bool) → is_reply line ≡ b → (line_came s line).progress.alive ≡ (if b then s.progress.moment.elapsed else s.progress.alive)
-  here b e = ap (λ (x : Bool). if x then s.progress.moment.elapsed else s.progress.alive) e
+  here : (b : Bool) → is_reply line ≡ b → (line_came s line).progress.exchange.alive ≡ (if b then s.progress.moment.elapsed else s.progress.exchange.alive)
+  here b e = ap (λ (x : Bool). if x then s.progress.moment.elapsed else s.progress.exchange.alive) e
 
   -- where the line is a reply (`true`), no request was sent since; otherwise `asked` stays
-  asks : (b : Bool) → is_reply line ≡ b → (line_came s line).progress.asked ≡ (if b then false else s.progress.asked)
-  asks b e = ap (λ (x : Bool). if x then false else s.progress.asked) e
+  asks : (b : Bool) → is_reply line ≡ b → (line_came s line).progress.exchange.asked ≡ (if b then false else s.progress.exchange.asked)
+  asks b e = ap (λ (x : Bool). if x then false else s.progress.exchange.asked) e
 
   -- if `Alive` holds of the other lines after this one, it holds of this line and the others
   on : (b : Bool) → is_reply line ≡ b → Alive others (line_came s line).progress (lines_came (line_came s line) others).progress
@@ -67,7 +68,7 @@ again_same (asked ∷ others) id again e = ap (λ (i : Option ℕ). if is_answer
 -- `AliveWith`, for lines that the synchronization hears: if none of them is a reply, the ids that are left (`word`) and the next
 -- null procedure's moment (`again`) stay, too
 abbrev pub AliveAsked : List (List ℕ) → (p q : Progress) → Type 0
-AliveAsked lines p q = AliveWith ((q.word ≡ p.word) × (q.again ≡ p.again)) lines p q
+AliveAsked lines p q = AliveWith ((q.exchange.word ≡ p.exchange.word) × (q.exchange.again ≡ p.exchange.again)) lines p q
 
 -- `AliveAsked` holds after lines that the synchronization hears
 pub asked_alive : (p : Progress) (lines : List (List ℕ)) → AliveAsked lines p (lines_synchronizing p lines)
@@ -78,12 +79,12 @@ asked_alive p (line ∷ others) = on (is_reply line) refl (asked_alive (line_syn
   q = lines_synchronizing (line_synchronizing p line) others
 
   -- where the line is a reply (`true`), `alive` is this moment; otherwise it stays
-  here : (b : Bool) → is_reply line ≡ b → (line_synchronizing p line).alive ≡ (if b then p.moment.elapsed else p.alive)
-  here b e = ap (λ (x : Bool). if x then p.moment.elapsed else p.alive) e
+  here : (b : Bool) → is_reply line ≡ b → (line_synchronizing p line).exchange.alive ≡ (if b then p.moment.elapsed else p.exchange.alive)
+  here b e = ap (λ (x : Bool). if x then p.moment.elapsed else p.exchange.alive) e
 
   -- where the line is a reply (`true`), no request was sent since; otherwise `asked` stays
-  asks : (b : Bool) → is_reply line ≡ b → (line_synchronizing p line).asked ≡ (if b then false else p.asked)
-  asks b e = ap (λ (x : Bool). if x then false else p.asked) e
+  asks : (b : Bool) → is_reply line ≡ b → (line_synchronizing p line).exchange.asked ≡ (if b then false else p.exchange.asked)
+  asks b e = ap (λ (x : Bool). if x then false else p.exchange.asked) e
 
   -- if `AliveAsked` holds of the other lines after this one, it holds of this line and the others
   on : (b : Bool) → is_reply line ≡ b → AliveAsked others (line_synchronizing p line) q → AliveAsked (line ∷ others) p q
@@ -91,4 +92,4 @@ asked_alive p (line ∷ others) = on (is_reply line) refl (asked_alive (line_syn
   on true e (inl none) = inr (none.1 ∙ here true e, none.2 ∙ asks true e)
   on false e (inl none) =
       let silent = no_id_without_reply line e in
-      inl ((e, none.0), none.1 ∙ here false e, none.2 ∙ asks false e, (none.3.0 ∙ left_same p.word (heard line) silent, none.3.1 ∙ again_same p.word (heard line) p.again silent))
+      inl ((e, none.0), none.1 ∙ here false e, none.2 ∙ asks false e, (none.3.0 ∙ left_same p.exchange.word (heard line) silent, none.3.1 ∙ again_same p.exchange.word (heard line) p.exchange.again silent))

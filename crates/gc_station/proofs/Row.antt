@@ -56,7 +56,7 @@ row_came h word piece s = came_along (λ (t : Model). row_of t ≡ row_of s) (λ
 -- a piece that came by the moment m leaves the row as it is
 pub row_gave : (plan : Plan) (until : Until) (s : Model) (bytes : List ℕ) (m : Moment) → row_of (piece_at plan until bytes m s) ≡ row_of s
 row_gave plan until s bytes m =
-    row_came (is_heard s.progress.phase) s.progress.word bytes (with_moment m (with_progress (moment_noted m) s)) ∙ row_moment s.marks s.client.waiting s.records m.elapsed
+    row_came (is_heard s.progress.phase) s.progress.exchange.word bytes (with_moment m (with_progress (moment_noted m) s)) ∙ row_moment s.marks s.client.waiting s.records m.elapsed
 
 -- the loss of what is outstanding leaves the row as it is
 pub row_losing : (all : Bool) (s : Model) → row_of (losing all s) ≡ row_of s

@@ -96,7 +96,7 @@ well_all (p ∷ ps) h = h
 
 module _ (plan : Plan) (commands : List Task) (s : Model) (o : Action) (act : Act) (done : List (Step Asked)) (fine : Invariant plan commands s)
     (is : HoldsBefore plan s.progress (waiting_of s) o) (obeys : Performs commands s o act) (client : s.client ≡ (course_of done).client)
-    (counts : CountsWell (course_of done) s.progress.behind) where
+    (counts : CountsWell (course_of done) s.progress.exchange.behind) where
   -- the client's part of the act
   abbrev p : Part
   p = part_of_act plan commands s o act
@@ -113,10 +113,10 @@ module _ (plan : Plan) (commands : List Task) (s : Model) (o : Action) (act : Ac
       subst (λ (l : List (Step Asked)). IsSentWell (course_of l) target call mark) (sym (ap (λ l. done ++ l) so.0 ∙ append-nil done))
       (by_action o so.1 is) where
         -- a command is sent only if fewer than seven requests were sent after the last call of the table that a reply ended
-        of_command : s.progress.behind < WINDOW → IsSentWell (course_of done) target call mark
-        of_command near = (λ own e. near_by_count (course_of done) s.progress.behind counts.0 near, inl (by_reply counts.1)) where
+        of_command : s.progress.exchange.behind < WINDOW → IsSentWell (course_of done) target call mark
+        of_command near = (λ own e. near_by_count (course_of done) s.progress.exchange.behind counts.0 near, inl (by_reply counts.1)) where
           -- then a reply has ended a null procedure
-          by_reply : AwaitsOrHasReply (course_of done) s.progress.behind → HasEndedANull (course_of done)
+          by_reply : AwaitsOrHasReply (course_of done) s.progress.exchange.behind → HasEndedANull (course_of done)
           by_reply (inl ended) = ended
           by_reply (inr none) = let far = none.0 in absurd (omega (arith, near, far))
 
@@ -124,7 +124,7 @@ module _ (plan : Plan) (commands : List Task) (s : Model) (o : Action) (act : Ac
         of_null : (target ≡ 0) × (call ≡ Table NullProc) × (mark ≡ None) → HoldsBefore plan s.progress (waiting_of s) action.Flush → IsSentWell (course_of done) target call mark
         of_null own needs = (λ other e. let no : ◌≡◌ {A = Option Mark} None (Some other) = sym own.2 ∙ e in cc, by_reply counts.1) where
           -- whether a reply has ended a null procedure
-          by_reply : AwaitsOrHasReply (course_of done) s.progress.behind → IsAfterANull (course_of done) target call mark
+          by_reply : AwaitsOrHasReply (course_of done) s.progress.exchange.behind → IsAfterANull (course_of done) target call mark
           by_reply (inl ended) = inl ended
           by_reply (inr none) =
               let timed : length (deadlines (course_of done).client.waiting) ≡ 0 = ap (λ (c : ById Asked). length (deadlines c.waiting)) (sym client) ∙ needs.3 in
@@ -181,7 +181,7 @@ fresh_client_stays t all e = losing_along (λ (u : Model). u.client ≡ fresh) a
 -- one act more, before the parts `ps` of the acts after it
 module _ (plan : Plan) (commands : List Task) (s : Model) (act : Act) (done : List (Step Asked)) (fine : Invariant plan commands s)
     (obeys : Performs commands s (action_at plan s) act) (client : s.client ≡ (course_of done).client) (new : has_begun s.progress ≡ false → done ≡ [])
-    (none : NoneEndedBefore s.progress) (counts : CountsWell (course_of done) s.progress.behind) (ps : List Part) where
+    (none : NoneEndedBefore s.progress) (counts : CountsWell (course_of done) s.progress.exchange.behind) (ps : List Part) where
   -- the action that the act performs
   abbrev o : Action
   o = action_at plan s
@@ -207,10 +207,10 @@ module _ (plan : Plan) (commands : List Task) (s : Model) (act : Act) (done : Li
   part_is b w = ap (λ (x : Bool). (if x then client_part plan commands s o act else sync_part s o act).steps) w
 
   -- if the station has synchronized before the act and after it, the act changes the count as the steps of its part do
-  part_counted : has_begun s.progress ≡ true → has_begun t.progress ≡ true → t.progress.behind ≡ behind_by (course_of done).client s.progress.behind part.steps
+  part_counted : has_begun s.progress ≡ true → has_begun t.progress ≡ true → t.progress.exchange.behind ≡ behind_by (course_of done).client s.progress.exchange.behind part.steps
   part_counted w still =
       behind_counted plan commands s o act fine its obeys w still
-      ∙ ap (behind_by s.client s.progress.behind) (sym (part_is true w)) ∙ ap (λ (c : ById Asked). behind_by c s.progress.behind part.steps) client
+      ∙ ap (behind_by s.client s.progress.exchange.behind) (sym (part_is true w)) ∙ ap (λ (c : ById Asked). behind_by c s.progress.exchange.behind part.steps) client
 
   -- the client after the act, before what is outstanding is lost, is that of the course after the steps of the act's part
   part_client : (course_of (done ++ part.steps)).client ≡ t.client
@@ -223,20 +223,20 @@ module _ (plan : Plan) (commands : List Task) (s : Model) (act : Act) (done : Li
   same_progress = losing_progress (loses_all t.progress) t
 
   -- if the station has synchronized before the act and after it, the count stays right
-  counts_on : has_begun s.progress ≡ true → has_begun t.progress ≡ true → CountsWell (course_of (done ++ part.steps)) t.progress.behind
+  counts_on : has_begun s.progress ≡ true → has_begun t.progress ≡ true → CountsWell (course_of (done ++ part.steps)) t.progress.exchange.behind
   counts_on w still =
       let counted = sym (part_counted w still) in
-      let nulls : s.progress.behind ≡ WINDOW → AllByRecursion SendsNulls part.steps =
+      let nulls : s.progress.exchange.behind ≡ WINDOW → AllByRecursion SendsNulls part.steps =
       λ far. subst (AllByRecursion SendsNulls) (sym (part_is true w)) (client_nulls plan commands s far o act its) in (
-        subst (λ (n : ℕ). CountsBehind (course_of (done ++ part.steps)) n) counted (counts_steps done part.steps s.progress.behind counts.0),
-        subst (λ (n : ℕ). AwaitsOrHasReply (course_of (done ++ part.steps)) n) counted (awaits_steps done part.steps s.progress.behind nulls counts.1),
+        subst (λ (n : ℕ). CountsBehind (course_of (done ++ part.steps)) n) counted (counts_steps done part.steps s.progress.exchange.behind counts.0),
+        subst (λ (n : ℕ). AwaitsOrHasReply (course_of (done ++ part.steps)) n) counted (awaits_steps done part.steps s.progress.exchange.behind nulls counts.1),
       )
 
   -- what the parts after the act need: the client after it is that of the course after the steps `later`, none if the station has to
   -- synchronize; and unless the run is over, the count is right for that course
   abbrev IsFitFor : (later : List (Step Asked)) → Type 0
   IsFitFor later =
-      (u.client ≡ (course_of later).client) × (has_begun u.progress ≡ false → later ≡ []) × (is_over u.progress ≡ false → CountsWell (course_of later) u.progress.behind)
+      (u.client ≡ (course_of later).client) × (has_begun u.progress ≡ false → later ≡ []) × (is_over u.progress ≡ false → CountsWell (course_of later) u.progress.exchange.behind)
 
   -- if `AreSentWell` holds of the parts after the act, it holds with the act's part before them; by whether the station had
   -- synchronized before the act (`started`), and whether what is outstanding is lost at its end (`all`)
@@ -249,7 +249,7 @@ module _ (plan : Plan) (commands : List Task) (s : Model) (act : Act) (done : Li
       ap (λ b. (losing b t).client) l,
       λ e. refl,
       λ going.
-          new_counts u.progress.behind (none_ended_after plan commands s act obeys none (lost_anew (has_begun u.progress) (is_over u.progress) going (ap loses_all same_progress ∙ l))),
+          new_counts u.progress.exchange.behind (none_ended_after plan commands s act obeys none (lost_anew (has_begun u.progress) (is_over u.progress) going (ap loses_all same_progress ∙ l))),
     )),
   ) where
     -- if all is lost and the run isn't over, the station synchronizes
@@ -263,19 +263,19 @@ module _ (plan : Plan) (commands : List Task) (s : Model) (act : Act) (done : Li
       (next (done ++ part.steps) (
         ap (λ (x : Model). x.client) same ∙ sym part_client,
         λ e. absurd (both_ways (has_begun t.progress) (ap (λ (x : Model). has_begun x.progress) (sym same) ∙ e) still),
-        λ going. subst (λ (x : Model). CountsWell (course_of (done ++ part.steps)) x.progress.behind) (sym same) (counts_on w still),
+        λ going. subst (λ (x : Model). CountsWell (course_of (done ++ part.steps)) x.progress.exchange.behind) (sym same) (counts_on w still),
       ))
   well_with_part false all w l next =
       let kept = keeps_new_client plan commands s o act its obeys w (fine.begins w) in
       let steps : part.steps ≡ [] = part_is false w ∙ steps_none s o act in
       let none_done : done ++ part.steps ≡ [] = ap (λ l. l ++ part.steps) (new w) ∙ steps in
-      let still : t.progress.behind ≡ WINDOW = none_ended plan commands s o act its obeys w (none w) in
+      let still : t.progress.exchange.behind ≡ WINDOW = none_ended plan commands s o act its obeys w (none w) in
       front_well plan commands s o act done fine its obeys client counts ps
       (subst (λ (l : List (Step Asked)). AreSentWell l ps) (sym none_done)
       (next [] (
         fresh_client_stays t (loses_all t.progress) kept.0,
         λ e. refl,
-        λ going. new_counts u.progress.behind (ap (λ (p : Progress). p.behind) same_progress ∙ still),
+        λ going. new_counts u.progress.exchange.behind (ap (λ (p : Progress). p.exchange.behind) same_progress ∙ still),
       )))
 
 module _ (plan : Plan) (commands : List Task) where
@@ -283,7 +283,7 @@ module _ (plan : Plan) (commands : List Task) where
   -- count is right for that course, and `done` is empty if the station hasn't synchronized in s
   well_from : (s : Model) (acts : List Act) (done : List (Step Asked)) → Invariant plan commands s → (runs : Runs plan commands s acts) → NoneEndedBefore s.progress
       → (same : s.client ≡ (course_of done).client) → (none_done : has_begun s.progress ≡ false → done ≡ [])
-      → (is_over s.progress ≡ false → CountsWell (course_of done) s.progress.behind) → AreSentWell done (parts_of plan commands s acts)
+      → (is_over s.progress ≡ false → CountsWell (course_of done) s.progress.exchange.behind) → AreSentWell done (parts_of plan commands s acts)
   well_from s [] done fine runs none client new counts = ((λ front later target call deadline mark e at. absurd (no_send [] front later target call deadline tt e)), tt)
   well_from s (act ∷ acts) done fine runs none client new counts =
       let t = moved plan commands (action_at plan s) (with_progress turned s) act in

@@ -17,11 +17,12 @@ use Rattle.gc_texts.specs.declared.tasks.Task.{Task}
 use Rattle.gc_lines.specs.Frames.{rest_behind}
 use Rattle.gc_catalogue.specs.declared.asked.Asked.TheVariants.{Table}
 use Rattle.gc_catalogue.specs.declared.call.Call.TheVariants.{NullProc}
+use Rattle.gc_session.specs.Exchange.{is_none_left}
 use Rattle.gc_links.specs.Acts.{Act, Told, Untold, Gave, Silent, Ended, Broke}
 use Rattle.gc_links.specs.declared.link.Moment.{Moment}
 use Rattle.gc_station.specs.CallTimes.{IsAskedToWait}
 use Rattle.gc_station.specs.Cycles.{ClockRises}
-use Rattle.gc_station.specs.Deciding.{later, has_begun, is_none_left, is_preparing, setup_permits}
+use Rattle.gc_station.specs.Deciding.{later, has_begun, is_preparing, setup_permits}
 use Rattle.gc_station.specs.Marks.{commands_in, last_well, occasion_of}
 use Rattle.gc_station.specs.Model.{Model, waiting_of, with_progress, with_moment, with_rest, with_more_records, after_piece, asks_for, asks_setup, request_or_null, null_request, lines_completed, is_heard, moved, Performs, mark_setup_sent}
 use Rattle.gc_station.specs.NextCommand.{commands_before}
@@ -66,7 +67,7 @@ module _ (plan : Plan) (longest call turn loss : ℕ) (commands : List Task) (sp
   -- the null procedures of `IsFlushing`, behind a raw command of the setup
   abbrev Flushing : Model → Type 0
   Flushing x =
-      IsFlushing (raw_count (take (plan.setup - 1) commands)) call turn (limit_at x.progress) x.progress.behind x.progress.moment.elapsed x.progress.clock_due x.client.waiting
+      IsFlushing (raw_count (take (plan.setup - 1) commands)) call turn (limit_at x.progress) x.progress.exchange.behind x.progress.moment.elapsed x.progress.clock_due x.client.waiting
 
   -- `IsUnderWay`
   abbrev Under : Model → Type 0
@@ -120,7 +121,7 @@ module _ (plan : Plan) (longest call turn loss : ℕ) (commands : List Task) (sp
 
     -- null procedures behind a raw command stay so at a moment that comes soon enough
     flushing_told : (m : Moment) → ClockRises s.progress.moment.elapsed (Told m ∷ []) → (f : Flushing s) → m.elapsed + f.more * turn < limit_at s.progress
-        → (q : Progress) → q.began ≡ (moment_noted m s.progress).began → q.prepared ≡ s.progress.prepared → q.behind ≡ s.progress.behind → q.moment ≡ m → q.clock_due ≡ false
+        → (q : Progress) → q.began ≡ (moment_noted m s.progress).began → q.prepared ≡ s.progress.prepared → q.exchange.behind ≡ s.progress.exchange.behind → q.moment ≡ m → q.clock_due ≡ false
         → Flushing (with_moment m (record u { progress = q }))
     flushing_told m rises f soon q began prepared behind moment read =
         let low = limit_rises m rises in
@@ -141,7 +142,7 @@ module _ (plan : Plan) (longest call turn loss : ℕ) (commands : List Task) (sp
     -- read of soon enough
     told_under : (m : Moment) → ClockRises s.progress.moment.elapsed (Told m ∷ []) → (s.progress.prepared < plan.setup → JustSettled s → ⊥)
         → (s.progress.prepared < plan.setup → (f : Flushing s) → m.elapsed + f.more * turn < limit_at s.progress) → Under s
-        → (q : Progress) → q.began ≡ (moment_noted m s.progress).began → q.prepared ≡ s.progress.prepared → q.behind ≡ s.progress.behind → q.moment ≡ m → q.clock_due ≡ false
+        → (q : Progress) → q.began ≡ (moment_noted m s.progress).began → q.prepared ≡ s.progress.prepared → q.exchange.behind ≡ s.progress.exchange.behind → q.moment ≡ m → q.clock_due ≡ false
         → Under (with_moment m (record u { progress = q }))
     told_under m rises never timely it q began prepared behind moment read =
         let low : limit_at s.progress ≤ limit_at q = subst (λ (n : ℕ). limit_at s.progress ≤ n) (same_limit m q began prepared) (limit_rises m rises) in (
@@ -215,7 +216,7 @@ module _ (plan : Plan) (longest call turn loss : ℕ) (commands : List Task) (sp
       within on some =
           let was = h.0 (same_flag on) (same_count some) in (
             begun_unless_renewed plan commands s (actions.Read until) (Gave bytes m) obeys (λ e. cc) was.0,
-            ap is_before_requests (came_phase (is_heard s.progress.phase) s.progress.word bytes (piece_before m s)) ∙ was.1,
+            ap is_before_requests (came_phase (is_heard s.progress.phase) s.progress.exchange.word bytes (piece_before m s)) ∙ was.1,
           )
 
       -- the model before the lines
@@ -238,7 +239,7 @@ module _ (plan : Plan) (longest call turn loss : ℕ) (commands : List Task) (sp
             expired_after m.elapsed s.client.waiting,
             refl,
           ) in
-          let after = came (is_heard s.progress.phase) s.progress.word begun told in
+          let after = came (is_heard s.progress.phase) s.progress.exchange.word begun told in
           after.0 (ap (λ (x : Model). x.progress.preparing) (moved_changed plan commands (actions.Read until) u (Gave bytes m)) ∙ on)
           (subst (λ (n : ℕ). 0 < n) (sym (ap (λ (x : Model). x.progress.prepared) (moved_changed plan commands (actions.Read until) u (Gave bytes m)))) some)
     sets_read until (Silent m) obeys awaits rises timely = (within, λ ready on some. under (same_flag on) (same_count some)) where
@@ -392,7 +393,7 @@ module _ (plan : Plan) (longest call turn loss : ℕ) (commands : List Task) (sp
               inr (flushed_again plan longest call turn loss commands few turns losses s far (within_window _ _ needs.4.1) (may_flush plan longest call turn loss commands few turns losses s far (within_window _ _ needs.4.1) (under.2 left settled well))),
         ) where
           -- where no command is outstanding, a null procedure is wanted as seven requests were sent behind the last answered call of the table
-          wanted : commands_in s.marks ≡ 0 → WantsNull plan s.progress (waiting_of s) → WINDOW ≤ s.progress.behind
+          wanted : commands_in s.marks ≡ 0 → WantsNull plan s.progress (waiting_of s) → WINDOW ≤ s.progress.exchange.behind
           wanted none (inl waits) = let some = waits.1 in absurd (omega (arith, none, some))
           wanted none (inr wants) = wants.1
 

@@ -63,7 +63,7 @@ dispatch_row_came h word piece s = came_along (λ (t : Model). dispatch_row t �
 
 -- a read that gave bytes leaves `dispatch_row` as it is
 dispatch_row_gave : (plan : Plan) (until : Until) (s : Model) (bytes : List ℕ) (m : Moment) → dispatch_row (piece_at plan until bytes m s) ≡ dispatch_row s
-dispatch_row_gave plan until s bytes m = dispatch_row_came (is_heard s.progress.phase) s.progress.word bytes (with_moment m (with_progress (moment_noted m) s))
+dispatch_row_gave plan until s bytes m = dispatch_row_came (is_heard s.progress.phase) s.progress.exchange.word bytes (with_moment m (with_progress (moment_noted m) s))
 
 -- the loss of what is outstanding leaves `dispatch_row` as it is
 pub dispatch_row_losing : (all : Bool) (s : Model) → dispatch_row (losing all s) ≡ dispatch_row s

@@ -31,7 +31,7 @@ drained_up false p is = ap is_up is
 
 -- the end of a pause or a drain makes no connection, and closes none
 pub quieted_up : (plan : Plan) (at : Phase) (p : Progress) → p.phase ≡ at → is_up (quieted plan at p).phase ≡ is_up at
-quieted_up plan phase.Pausing p is = paused_alike is_up (is_past p.pause p && not (is_idle plan p)) p.phase is refl
+quieted_up plan phase.Pausing p is = paused_alike is_up (is_past p.exchange.pause p && not (is_idle plan p)) p.phase is refl
 quieted_up plan phase.Draining p is = drained_up (is_quiet plan p) p is
 quieted_up plan at p is = ap is_up is
 
@@ -84,7 +84,7 @@ module _ (plan : Plan) (commands : List Task) where
         λ bytes m.
             let mid = piece_before m s in
             let here = read_last_told false m.elapsed at acts (Gave bytes m) refl in
-            came_along (λ (t : Model). ReadLastAt t.progress (acts ++ Gave bytes m ∷ [])) (λ t line on. on) (is_heard at) s.progress.word bytes mid here
+            came_along (λ (t : Model). ReadLastAt t.progress (acts ++ Gave bytes m ∷ [])) (λ t line on. on) (is_heard at) s.progress.exchange.word bytes mid here
             (asked_along (λ (q : Progress). ReadLastAt q (acts ++ Gave bytes m ∷ [])) (λ q line on. on) mid.progress (lines_completed s.rest bytes) here) here,
         λ m. (read_last_told false m.elapsed at acts (Silent m) refl, λ draining past. read_last_told false m.elapsed phase.Ready acts (Silent m) refl),
       )

@@ -8,12 +8,12 @@ use Rattle.gc_client.specs.OneForOne.{Hear, Expire}
 use Rattle.gc_client.specs.Rule.{ById}
 use Rattle.gc_texts.specs.SignOns.{is_sign_on}
 use Rattle.gc_texts.specs.declared.tasks.Task.{Task}
+use Rattle.gc_session.specs.Lines.{raises_doubt}
 use Rattle.gc_links.specs.Acts.{Act, Gave}
 use Rattle.gc_station.specs.declared.plan.Plan.{Plan}
 use Rattle.gc_station.specs.declared.progress.Action.TheVariants.{Send}
 use Rattle.gc_station.specs.declared.progress.Action.{Action}
 use Rattle.gc_station.specs.Deciding.{has_begun}
-use Rattle.gc_station.specs.Lines.{raises_doubt}
 use Rattle.gc_station.specs.Model.{Model, opening, action_at, waiting_of, is_heard, lines_completed, with_progress, Performs, moved, after, after_all, Runs}
 use Rattle.gc_station.specs.Parts.{client_part, client_stepped}
 use Rattle.gc_station.specs.Progressing.{turned}
@@ -52,19 +52,19 @@ sign_on_noted c n (line ∷ others) some =
 module _ (plan : Plan) (commands : List Task) where
   -- the station has synchronized, and it is noted that a line called for another synchronization
   abbrev IsInDoubt : Model → Type 0
-  IsInDoubt s = (has_begun s.progress ≡ true) × (s.progress.doubtful ≡ true)
+  IsInDoubt s = (has_begun s.progress ≡ true) × (s.progress.exchange.doubtful ≡ true)
 
   -- an act of a run notes a doubt that the steps of its part note, if the station had synchronized before it and has after it
   pub noted_after : (s : Model) (act : Act) → Performs commands s (action_at plan s) act → has_begun s.progress ≡ true → has_begun (after plan commands s act).progress ≡ true
-      → (noted_by s.client (noted_in s.progress) (client_part plan commands s (action_at plan s) act).steps).doubtful ≡ true → (after plan commands s act).progress.doubtful ≡ true
+      → (noted_by s.client (noted_in s.progress) (client_part plan commands s (action_at plan s) act).steps).doubtful ≡ true → (after plan commands s act).progress.exchange.doubtful ≡ true
   noted_after s act performs begun still doubt =
       let t = moved plan commands (action_at plan s) (with_progress turned s) act in
       let same = with_losses_progress t in
-      ap (λ p. p.doubtful) same
+      ap (λ p. p.exchange.doubtful) same
       ∙ (acts_noted plan commands s (action_at plan s) act (action_for plan s.progress (waiting_of s)) performs begun (sym (ap has_begun same) ∙ still)).1 doubt
 
   -- while no connection is closed, and the station doesn't resynchronize, a doubt stays
-  stays_in_doubt : (s : Model) (acts : List Act) → Runs plan commands s acts → StaysUp plan commands s acts → IsInDoubt s → (after_all plan commands s acts).progress.doubtful ≡ true
+  stays_in_doubt : (s : Model) (acts : List Act) → Runs plan commands s acts → StaysUp plan commands s acts → IsInDoubt s → (after_all plan commands s acts).progress.exchange.doubtful ≡ true
   stays_in_doubt s [] runs up doubt = doubt.1
   stays_in_doubt s (act ∷ acts) runs up doubt =
       stays_in_doubt (after plan commands s act) acts runs.1 up.2 (
@@ -74,7 +74,7 @@ module _ (plan : Plan) (commands : List Task) where
 
   -- an act that brings a sign-on leaves the station in doubt
   doubt_begins : (s : Model) (act : Act) → Performs commands s (action_at plan s) act → has_begun s.progress ≡ true → has_begun (after plan commands s act).progress ≡ true
-      → BringsSignOn s act → (after plan commands s act).progress.doubtful ≡ true
+      → BringsSignOn s act → (after plan commands s act).progress.exchange.doubtful ≡ true
   doubt_begins s (Gave piece m) performs begun still brings = noted_after s (Gave piece m) performs begun still (by_phase (is_heard s.progress.phase) refl) where
     -- the lemma above, by whether lines are heard in the phase
     by_phase : (h : Bool) → is_heard s.progress.phase ≡ h
@@ -99,7 +99,7 @@ module _ (plan : Plan) (commands : List Task) (scope : Scope) (earlier behind : 
   -- the act leaves the station in doubt, if it had synchronized before the act, and has after it
   abbrev pub LeavesInDoubt : Type 0
   LeavesInDoubt =
-      has_begun (state earlier).progress ≡ true → has_begun (after plan commands (state earlier) start).progress ≡ true → (after plan commands (state earlier) start).progress.doubtful ≡ true
+      has_begun (state earlier).progress ≡ true → has_begun (after plan commands (state earlier) start).progress ≡ true → (after plan commands (state earlier) start).progress.exchange.doubtful ≡ true
 
   -- the run from the act on
   run : Runs plan commands (state earlier) (start ∷ behind)
@@ -107,10 +107,10 @@ module _ (plan : Plan) (commands : List Task) (scope : Scope) (earlier behind : 
 
   -- the station is in doubt at the end, if it is after the act, and no connection was closed, and the station didn't resynchronize, since
   -- before the act
-  pub in_doubt_at_end : (after plan commands (state earlier) start).progress.doubtful ≡ true → StaysUp plan commands (state earlier) (start ∷ behind)
-      → (state (earlier ++ start ∷ behind)).progress.doubtful ≡ true
+  pub in_doubt_at_end : (after plan commands (state earlier) start).progress.exchange.doubtful ≡ true → StaysUp plan commands (state earlier) (start ∷ behind)
+      → (state (earlier ++ start ∷ behind)).progress.exchange.doubtful ≡ true
   in_doubt_at_end doubt up =
-      ap (λ (t : Model). t.progress.doubtful) (after_all-append plan commands (opening plan scope) earlier (start ∷ behind))
+      ap (λ (t : Model). t.progress.exchange.doubtful) (after_all-append plan commands (opening plan scope) earlier (start ∷ behind))
       ∙ stays_in_doubt plan commands (after plan commands (state earlier) start) behind run.1 up.2 (up.1, doubt)
 
   -- a command of a cycle is sent only once each command of the setup was sent after such an act
@@ -134,7 +134,7 @@ module _ (plan : Plan) (commands : List Task) (scope : Scope) (earlier behind : 
         let up = subst (λ (t : Model). StaysUp plan commands t (start ∷ behind)) (sym here) both.0 in
         let was : has_begun s.progress ≡ true = ap (λ (t : Model). has_begun t.progress) here ∙ both.1 in
         let needs = subst (λ (o : Action). HoldsBefore plan end.progress (waiting_of end) o) sends (action_for plan end.progress (waiting_of end)) in
-        absurd (both_ways end.progress.doubtful needs.3.2 (in_doubt_at_end (leaves was up.1) up))
+        absurd (both_ways end.progress.exchange.doubtful needs.3.2 (in_doubt_at_end (leaves was up.1) up))
 
 -- the law: a command of a cycle is sent only once each command of the setup was sent after the sign-on
 pub set_up_anew_after_a_sign_on : SetsUpAnewAfterASignOn

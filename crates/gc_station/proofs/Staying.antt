@@ -1,6 +1,6 @@
 -- A progress that stays in its cycle, at the same command, and acts that stay in their cycle and read moments as `Ticks` says. An act is
 -- one call on the link, with its result.
-use Rattle.std.proofs.Common.{◌≡◌, ◌⊎◌, inl, inr, false, ℕ, Bool, List, min, refl, ap}
+use Rattle.std.proofs.Common.{◌≡◌, ◌⊎◌, inl, inr, false, ℕ, List, min, refl, ap}
 use Rattle.gc_station.specs.declared.progress.Progress.{Progress}
 use Rattle.gc_station.proofs.ChainSteps.{Still, still, still_but_broken}
 use Rattle.gc_texts.specs.declared.tasks.Task.{Task}
@@ -9,6 +9,7 @@ use Rattle.gc_links.specs.declared.link.Moment.{Moment}
 use Rattle.gc_station.specs.Progressing.{moment_noted, time_passed, quieted, closed}
 use Rattle.gc_station.specs.Model.{Model, waiting_of, is_heard, with_progress, with_moment, lines_completed, piece_at}
 use Rattle.gc_station.specs.declared.cause.Cause.{Cause}
+use Rattle.gc_session.specs.declared.exchange.Exchange.{Exchange}
 use Rattle.gc_station.specs.declared.plan.Plan.{Plan}
 use Rattle.gc_station.specs.declared.progress.Action.TheVariants as actions
 use Rattle.gc_station.specs.declared.progress.Phase.{Phase}
@@ -41,22 +42,22 @@ gave_stays plan commands until s bytes m =
     let is = moved_changed plan commands (actions.Read until) s (Gave bytes m) in (
       stays s.progress _ (ap (λ (x : Model). x.progress.left) is) (ap (λ (x : Model). x.progress.unsent) is) (ap (λ (x : Model). x.progress.missed) is) (ap (λ (x : Model). x.progress.due) is)
           (ap (λ (x : Model). x.progress.next_is_chained) is) (inl (ap (λ (x : Model). x.progress.chain_unbroken) is)),
-      came_along (λ (x : Model). (x.progress.moment ≡ m) × (x.progress.began ≡ min s.progress.began m.elapsed)) (λ x line e. e) heard_there s.progress.word bytes mid (refl, refl)
+      came_along (λ (x : Model). (x.progress.moment ≡ m) × (x.progress.began ≡ min s.progress.began m.elapsed)) (λ x line e. e) heard_there s.progress.exchange.word bytes mid (refl, refl)
           (asked_along (λ (q : Progress). (q.moment ≡ m) × (q.began ≡ min s.progress.began m.elapsed)) (λ q line e. e) mid.progress (lines_completed s.rest bytes) (refl, refl)) (refl, refl),
     )
 
--- `StaysAndTicks` holds once a read that gave nothing is noted, whatever the phase, `alive` and `asked` are then
-noted_silent_stays : (p : Progress) (until : Until) (m : Moment) (phase : Phase) (alive : ℕ) (asked : Bool)
-    → StaysAndTicks p (Silent m) (record (time_passed until m p) { phase = phase; alive = alive; asked = asked })
-noted_silent_stays p until m phase alive asked = (stays p _ refl refl refl refl refl (inl refl), (refl, refl))
+-- `StaysAndTicks` holds once a read that gave nothing is noted, whatever the phase and the exchange are then
+noted_silent_stays : (p : Progress) (until : Until) (m : Moment) (phase : Phase) (exchange : Exchange)
+    → StaysAndTicks p (Silent m) (record (time_passed until m p) { phase = phase; exchange = exchange })
+noted_silent_stays p until m phase exchange = (stays p _ refl refl refl refl refl (inl refl), (refl, refl))
 
 -- a read that gave nothing stays in its cycle, and reads its moment as `Ticks` says
 pub silent_stays : (plan : Plan) (at : Phase) (p : Progress) (until : Until) (m : Moment) → StaysAndTicks p (Silent m) (quieted plan at (time_passed until m p))
 silent_stays plan at p until m =
     quieted_along (λ (q : Progress). StaysAndTicks p (Silent m) q) plan at (time_passed until m p)
-    (noted_silent_stays p until m _ _ _)
-    (noted_silent_stays p until m _ _ _)
-    (noted_silent_stays p until m _ _ _)
+    (noted_silent_stays p until m _ _)
+    (noted_silent_stays p until m _ _)
+    (noted_silent_stays p until m _ _)
 
 -- a close stays in its cycle, and reads no moment, as `Ticks` says
 pub closed_stays : (plan : Plan) (s : Model) (why : Cause) → StaysAndTicks s.progress Closed (closed plan (waiting_of s) why s.progress)

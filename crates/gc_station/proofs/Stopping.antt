@@ -175,10 +175,10 @@ heard_since_piece is_heard word piece mid =
 gave_fresh : (plan : Plan) (until : Until) (s : Model) (bytes : List ℕ) (m : Moment) → TracksFresh s (Gave bytes m) (piece_at plan until bytes m s)
 gave_fresh plan until s bytes m =
     let mid = with_moment m (with_progress (moment_noted m) s) in
-    by_case (heard_since_piece (is_heard s.progress.phase) s.progress.word bytes mid) where
+    by_case (heard_since_piece (is_heard s.progress.phase) s.progress.exchange.word bytes mid) where
       -- the lemma above, by the records that the piece recorded
       by_case : HeardSince (with_moment m (with_progress (moment_noted m) s)) m.elapsed
-          (after_piece (is_heard s.progress.phase) s.progress.word bytes (with_moment m (with_progress (moment_noted m) s)))
+          (after_piece (is_heard s.progress.phase) s.progress.exchange.word bytes (with_moment m (with_progress (moment_noted m) s)))
           → TracksFresh s (Gave bytes m) (piece_at plan until bytes m s)
       by_case (rs, order, fresh, at) = (
         (λ w. watch_after m.elapsed rs (cut_to m.elapsed w)),
@@ -551,7 +551,7 @@ moved_asked plan commands (actions.Read until) s act o =
     let P : Act → Model → Type 0 = λ (a : Act) (t : Model). t.progress.stops ≡ asked_after s.progress.stops (a ∷ []) in
     walk plan commands P (actions.Read until) (with_progress turned s) act o (
       λ bytes m. let mid = piece_before m s in
-          came_along (λ (t : Model). t.progress.stops ≡ (s.progress.stops || m.stops)) (λ t line e. e) (is_heard s.progress.phase) s.progress.word bytes mid refl
+          came_along (λ (t : Model). t.progress.stops ≡ (s.progress.stops || m.stops)) (λ t line e. e) (is_heard s.progress.phase) s.progress.exchange.word bytes mid refl
           (asked_along (λ (q : Progress). q.stops ≡ (s.progress.stops || m.stops)) (λ q line e. e) mid.progress (lines_completed mid.rest bytes) refl) refl,
       λ m. quieted_asked plan s.progress.phase (time_passed until m (turned s.progress)),
       refl,

@@ -13,11 +13,12 @@ use Rattle.gc_client.specs.Rule.{ById, Settled, hears, heard, expired, deadlines
 use Rattle.gc_client.proofs.OneForOne.{length-settle}
 use Rattle.gc_texts.specs.Endings.{End}
 use Rattle.gc_texts.specs.declared.tasks.Task.{Task}
+use Rattle.gc_session.specs.Lines.{is_reply}
 use Rattle.gc_links.specs.Acts.{Act}
 use Rattle.gc_links.specs.declared.link.Moment.{Moment}
 use Rattle.gc_station.specs.Deciding.{later}
 use Rattle.gc_station.specs.Marks.{commands_in, records_of, end_of, is_well, last_well}
-use Rattle.gc_station.specs.Model.{Model, waiting_of, with_progress, with_moment, is_reply, line_came, line_doubted, line_settles, is_heard, client_sent, sent_to, asks_for, null_request, end_unsent, first_unsent_record, moved, Performs}
+use Rattle.gc_station.specs.Model.{Model, waiting_of, with_progress, with_moment, line_came, line_doubted, line_settles, is_heard, client_sent, sent_to, asks_for, null_request, end_unsent, first_unsent_record, moved, Performs}
 use Rattle.gc_station.specs.NextCommand.{mark_next, commands_left}
 use Rattle.gc_station.specs.Progressing.{turned, moment_noted, line_noted}
 use Rattle.gc_station.specs.Reasons.{HoldsBefore, MayGo}
@@ -240,7 +241,7 @@ module _ (plan : Plan) (commands : List Task) where
   goes_not_on s (actions.Read until) act obeys needs stops h =
       walk plan commands (λ (a : Act) (t : Model). CannotGoOn t) (actions.Read until) (with_progress turned s) act obeys (
         λ bytes m. let told = moment_read m s h in
-            came_along CannotGoOn line_heard (is_heard s.progress.phase) s.progress.word bytes (with_moment m (with_progress (moment_noted m) (with_progress turned s))) told told told,
+            came_along CannotGoOn line_heard (is_heard s.progress.phase) s.progress.exchange.word bytes (with_moment m (with_progress (moment_noted m) (with_progress turned s))) told told told,
         λ m. moment_read m s h,
         h,
         h,

@@ -56,13 +56,13 @@ gave_took plan until s bytes m =
     let heard = is_heard s.progress.phase in
     let mid = with_moment m (with_progress (moment_noted m) s) in
     let is = moved_changed plan [] (actions.Read until) s (Gave bytes m) in
-    let t = after_piece heard s.progress.word bytes mid in
+    let t = after_piece heard s.progress.exchange.word bytes mid in
     record {
       left = ap (λ (x : Model). x.progress.left) is;
       unsent = ap (λ (x : Model). x.progress.unsent) is;
-      begins = λ e. was_synchronizing heard s.progress.word bytes mid refl e;
+      begins = λ e. was_synchronizing heard s.progress.exchange.word bytes mid refl e;
       tries = given_back (nat_lt (commands_in t.marks) (commands_in s.marks)) t.progress.preparing (commands_in t.marks) (commands_in s.marks) plan.retries t.progress.tries s.progress.tries refl
-          (came_along (λ (x : Model). x.progress.tries ≡ s.progress.tries) (λ x line e. e) heard s.progress.word bytes mid refl
+          (came_along (λ (x : Model). x.progress.tries ≡ s.progress.tries) (λ x line e. e) heard s.progress.exchange.word bytes mid refl
           (asked_along (λ (q : Progress). q.tries ≡ s.progress.tries) (λ q line e. e) mid.progress (lines_completed s.rest bytes) refl) refl);
     }
 

@@ -58,7 +58,7 @@ module _ (plan : Plan) (commands : List Task) where
       let P : Progress → Type 0 = λ (q : Progress). q.chain_unbroken ≡ true → s.progress.chain_unbroken ≡ true in
       inr (walk plan commands (λ a. WasUnbroken s) (actions.Read until) (with_progress turned s) act obeys (
         λ bytes m. let mid = piece_before m s in
-            came_along (λ (t : Model). P t.progress) (λ t line e. e) (is_heard s.progress.phase) s.progress.word bytes mid (λ d. d)
+            came_along (λ (t : Model). P t.progress) (λ t line e. e) (is_heard s.progress.phase) s.progress.exchange.word bytes mid (λ d. d)
             (asked_along P (λ q line e. e) mid.progress (lines_completed mid.rest bytes) (λ d. d)) (λ d. d),
         λ m. quieted_along P plan s.progress.phase (time_passed until m (turned s.progress)) (λ d. d) (λ d. d) (λ d. d),
         λ d. d,
@@ -87,7 +87,7 @@ module _ (plan : Plan) (commands : List Task) where
       )
   unbroken_up s (actions.Read until) act obeys up =
       walk plan commands (λ a. UpIfUnbroken) (actions.Read until) (with_progress turned s) act obeys (
-        λ bytes m c. ap is_up (came_phase (is_heard s.progress.phase) s.progress.word bytes (piece_before m s)) ∙ up,
+        λ bytes m c. ap is_up (came_phase (is_heard s.progress.phase) s.progress.exchange.word bytes (piece_before m s)) ∙ up,
         λ m c. quieted_up plan s.progress.phase (time_passed until m (turned s.progress)) refl ∙ up,
         λ c. failure_keeps_line s.progress cause.End ∙ up,
         λ c. failure_keeps_line s.progress cause.Read ∙ up,

@@ -15,9 +15,10 @@ use Rattle.gc_client.specs.declared.pending.Pending.{Pending}
 use Rattle.gc_client.proofs.OneForOne.{length-settle}
 use Rattle.gc_texts.specs.declared.tasks.Task.{Task}
 use Rattle.gc_texts.specs.declared.wish.Wish.{Wish}
+use Rattle.gc_session.specs.Lines.{is_reply, ends_with_table, is_some_of_table}
 use Rattle.gc_station.specs.Deciding.{later, has_begun, is_up, is_preparing, setup_permits}
 use Rattle.gc_station.specs.Marks.{commands_in, last_well, records_of}
-use Rattle.gc_station.specs.Model.{Model, waiting_of, with_progress, is_reply, sent_to, client_sent, line_came, line_doubted, line_settles, ends_with_table, is_some_of_table, losing, with_losses}
+use Rattle.gc_station.specs.Model.{Model, waiting_of, with_progress, sent_to, client_sent, line_came, line_doubted, line_settles, losing, with_losses}
 use Rattle.gc_station.specs.Progressing.{failing, is_over, is_over_in, loses_all, line_noted}
 use Rattle.gc_station.specs.RecordedInTime.{raw_count}
 use Rattle.gc_station.specs.Records.{Record}
@@ -126,12 +127,12 @@ module _ (plan : Plan) (longest call turn loss : ℕ) (commands : List Task) whe
   abbrev pub IsSettled : Model → Type 0
   IsSettled x =
       (x.client.waiting ≡ []) × (x.progress.clock_due ≡ false)
-      × (((x.progress.behind < WINDOW) × (x.progress.moment.elapsed < setup_limit x.progress))
+      × (((x.progress.exchange.behind < WINDOW) × (x.progress.moment.elapsed < setup_limit x.progress))
       ⊎ ((0 < raws) × (x.progress.moment.elapsed + loss < setup_limit x.progress)))
 
   -- the last command of the setup was answered, and the next is sent at once, or behind null procedures
   abbrev pub GoesNext : Model → Type 0
-  GoesNext x = IsSettled x ⊎ IsFlushing raws call turn (setup_limit x.progress) x.progress.behind x.progress.moment.elapsed x.progress.clock_due x.client.waiting
+  GoesNext x = IsSettled x ⊎ IsFlushing raws call turn (setup_limit x.progress) x.progress.exchange.behind x.progress.moment.elapsed x.progress.clock_due x.client.waiting
 
   -- of a setup of which something was sent: its last command is alone (`LastIsAlone`), each request ends by `setup_limit`, and if all that
   -- was sent is settled, the last command was answered well, and another one is left, `GoesNext` holds
@@ -206,10 +207,10 @@ module _ (plan : Plan) (longest call turn loss : ℕ) (commands : List Task) whe
 
         -- the count of requests after the last answered call of the table is how many are left, if the last settlement is of such a call
         counts : (b : Bool) → is_some_of_table (slice_get (settle k line x.client.waiting) k) ≡ b
-            → (if ends_with_table (settle k line x.client.waiting) then length (drop (k + 1) x.client.waiting) else x.progress.behind)
-            ≡ (if b then length (drop (k + 1) x.client.waiting) else x.progress.behind)
+            → (if ends_with_table (settle k line x.client.waiting) then length (drop (k + 1) x.client.waiting) else x.progress.exchange.behind)
+            ≡ (if b then length (drop (k + 1) x.client.waiting) else x.progress.exchange.behind)
         counts b e =
-            ap (λ (t : Bool). if t then length (drop (k + 1) x.client.waiting) else x.progress.behind)
+            ap (λ (t : Bool). if t then length (drop (k + 1) x.client.waiting) else x.progress.exchange.behind)
             (ap (λ n. is_some_of_table (slice_get (settle k line x.client.waiting) n)) last_at ∙ e)
 
         -- null procedures that were settled

@@ -234,7 +234,7 @@ module _ (plan : Plan) (commands : List Task) (scope : Scope) (some : 0 < plan.e
   moved_justified acts actions.Skip act runs cycle_begun is all = all_append (Justified (acts ++ act ∷ [])) (state acts).records [] all tt
   moved_justified acts (actions.Read until) (Gave bytes m) runs cycle_begun is all =
       let s = with_progress turned (state acts) in
-      came_justified (acts ++ Gave bytes m ∷ []) (is_heard s.progress.phase) s.progress.word bytes (with_moment m (with_progress (moment_noted m) s)) all
+      came_justified (acts ++ Gave bytes m ∷ []) (is_heard s.progress.phase) s.progress.exchange.word bytes (with_moment m (with_progress (moment_noted m) s)) all
   moved_justified acts (actions.Read until) act runs cycle_begun is all = all
   moved_justified acts next act runs cycle_begun is all =
       let t = with_progress turned (state acts) in

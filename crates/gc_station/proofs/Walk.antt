@@ -141,10 +141,8 @@ abbrev told_of : (p q : Progress) → Progress
 told_of p q = record p {
   phase = q.phase;
   moment = q.moment;
-  since = q.since;
-  alive = q.alive;
+  exchange = record p.exchange { since = q.exchange.since; alive = q.exchange.alive; hold = q.exchange.hold };
   began = q.began;
-  hold = q.hold;
   clock_due = q.clock_due;
   stops = q.stops;
   early = q.early;
@@ -152,7 +150,11 @@ told_of p q = record p {
 
 -- the progress p with those fields of q that sending a request may change, or failing to send all of it
 abbrev asking_of : (p q : Progress) → Progress
-asking_of p q = record p { phase = q.phase; alive = q.alive; asked = q.asked; clock_due = q.clock_due; behind = q.behind }
+asking_of p q = record p {
+  phase = q.phase;
+  exchange = record p.exchange { alive = q.exchange.alive; asked = q.exchange.asked; behind = q.exchange.behind };
+  clock_due = q.clock_due;
+}
 
 -- the progress p with those fields of q that change where another command of the cycle becomes the next one
 abbrev next_of : (p q : Progress) → Progress
@@ -169,9 +171,9 @@ next_of p q = record p {
 abbrev connecting_of : (p q : Progress) → Progress
 connecting_of p q = record p {
   phase = q.phase;
+  exchange = record p.exchange { pause = q.exchange.pause };
   clock_due = q.clock_due;
   tries = q.tries;
-  pause = q.pause;
   chain_unbroken = q.chain_unbroken;
   preparing = q.preparing;
   prepared = q.prepared;
@@ -182,13 +184,8 @@ connecting_of p q = record p {
 abbrev progress_of : Action → (p q : Progress) → Progress
 progress_of ReadClock p q = told_of p q
 progress_of Renew p q = record (told_of p q) {
-  word = q.word;
-  again = q.again;
-  asked = q.asked;
+  exchange = record q.exchange { pause = p.exchange.pause };
   chain_unbroken = q.chain_unbroken;
-  behind = q.behind;
-  last_ended = q.last_ended;
-  doubtful = q.doubtful;
   preparing = q.preparing;
   prepared = q.prepared;
   attempt = q.attempt;
@@ -207,22 +204,16 @@ progress_of Begin p q = record (told_of p q) {
   preparing = q.preparing;
 }
 progress_of Open p q = connecting_of p q
-progress_of Clear p q = record p { phase = q.phase; again = q.again; asked = q.asked; clock_due = q.clock_due }
-progress_of Ask p q = record (asking_of p q) { again = q.again }
+progress_of Clear p q = record p { phase = q.phase; exchange = record p.exchange { again = q.exchange.again; asked = q.exchange.asked }; clock_due = q.clock_due }
+progress_of Ask p q = record (asking_of p q) { exchange = record (asking_of p q).exchange { again = q.exchange.again } }
 progress_of Prepare p q = record (asking_of p q) { prepared = q.prepared; chain_unbroken = q.chain_unbroken }
 progress_of Send p q = next_of (asking_of p q) q
 progress_of Skip p q = next_of (told_of p q) q
 progress_of Pass p q = next_of (told_of p q) q
 progress_of Flush p q = asking_of p q
 progress_of (Read until) p q = record (told_of p q) {
-  word = q.word;
-  again = q.again;
-  asked = q.asked;
+  exchange = q.exchange;
   tries = q.tries;
-  pause = q.pause;
-  behind = q.behind;
-  last_ended = q.last_ended;
-  doubtful = q.doubtful;
 }
 progress_of (Close why) p q = connecting_of p q
 progress_of (Stop why) p q = p
@@ -254,7 +245,7 @@ changed action s t = record (changed_by action s t) {
 
 -- the progress p with those fields of q that lines change which are heard while the station synchronizes
 abbrev asked_of : (p q : Progress) → Progress
-asked_of p q = record p { word = q.word; again = q.again; hold = q.hold; alive = q.alive; asked = q.asked; behind = q.behind; last_ended = q.last_ended; doubtful = q.doubtful }
+asked_of p q = record p { exchange = record q.exchange { since = p.exchange.since; pause = p.exchange.pause } }
 
 -- lines that are heard while the station synchronizes change no other fields than `asked_of` says
 lines_changed : (p : Progress) (lines : List (List ℕ)) → lines_synchronizing p lines ≡ asked_of p (lines_synchronizing p lines)
@@ -281,7 +272,7 @@ gave_changed plan until s bytes m =
     let heard = is_heard s.progress.phase in
     let n = commands_in s.marks in
     let is = came_along (λ (t : Model). t ≡ piece_of mid t) (λ t line e. subst (λ (u : Model). line_came u line ≡ piece_of mid (line_came u line))
-    (sym e) refl) heard s.progress.word bytes mid refl (begins mid (lines_completed s.rest bytes) (rest_behind s.rest bytes)) refl in
+    (sym e) refl) heard s.progress.exchange.word bytes mid refl (begins mid (lines_completed s.rest bytes) (rest_behind s.rest bytes)) refl in
     subst (λ (u : Model). piece_noted plan until n u ≡ changed (Read until) s (piece_noted plan until n u)) (sym is) refl where
       -- the lemma above for a piece that is heard while the station synchronizes
       begins : (t : Model) (lines : List (List ℕ)) (rest : List ℕ) → record t { progress = lines_synchronizing t.progress lines; rest = rest } ≡ piece_of t
@@ -351,7 +342,7 @@ HoldsInEachCase plan commands P Renew s = HoldsAfterClock P (λ m. with_progress
 HoldsInEachCase plan commands P Begin s = HoldsAfterClock P (λ m. with_progress (cycle_begun plan (cycle_length plan commands) (first_upcoming plan commands s.progress) m) s) s
 HoldsInEachCase plan commands P Open s = ((m : Moment) → P Opened (with_progress opened s)) × ((n : ℕ) → P Unopened (with_progress (after_failure plan (commands_in s.marks) cause.Open) s))
 HoldsInEachCase plan commands P Clear s = HoldsAfterPut P (commands_before plan commands s.progress) (10 ∷ []) (with_progress cleared s)
-HoldsInEachCase plan commands P Ask s = HoldsAfterPut P (commands_before plan commands s.progress) (null_text s.progress.word) (with_progress (null_sent plan) s)
+HoldsInEachCase plan commands P Ask s = HoldsAfterPut P (commands_before plan commands s.progress) (null_text s.progress.exchange.word) (with_progress (null_sent plan) s)
 HoldsInEachCase plan commands P Prepare s =
     HoldsAfterPut P (commands_before plan commands s.progress) (text_or_null (occasion_at s.progress.moment) s.client (drop s.progress.prepared commands))
     (with_progress (setup_sent plan) (asks_setup plan commands s))
@@ -397,7 +388,7 @@ walk plan commands P Open s Opened o h = h.0 (no_moment)
 walk plan commands P Open s Unopened o h = h.1 0
 walk plan commands P Open s act o h = absurd o
 walk plan commands P Clear s act o h = put_walk P (commands_before plan commands s.progress) (10 ∷ []) (with_progress cleared) s act o h
-walk plan commands P Ask s act o h = put_walk P (commands_before plan commands s.progress) (null_text s.progress.word) (λ (x : Model). with_progress (null_sent plan) x) s act o h
+walk plan commands P Ask s act o h = put_walk P (commands_before plan commands s.progress) (null_text s.progress.exchange.word) (λ (x : Model). with_progress (null_sent plan) x) s act o h
 walk plan commands P Prepare s act o h =
     let requests = commands_before plan commands s.progress in
     let text = text_or_null (occasion_at s.progress.moment) s.client (drop s.progress.prepared commands) in

@@ -17,6 +17,8 @@ use Rattle.gc_texts.specs.Endings.{line_of, Skipped, NoValue, Missed}
 use Rattle.gc_texts.specs.Zeroed.{as_zero}
 use Rattle.gc_texts.specs.declared.near.Expected.{Expected}
 use Rattle.gc_texts.specs.declared.tasks.Task.{Task}
+use Rattle.gc_session.specs.Exchange.{hold_left}
+use Rattle.gc_session.specs.Lines.{calls_for_renewal}
 use Rattle.gc_links.specs.Acts.{Act, Told, Gave, Silent, Closed}
 use Rattle.gc_links.specs.declared.link.Moment.{Moment}
 use Rattle.gc_station.specs.declared.mark.Mark.{Mark}
@@ -31,7 +33,7 @@ use Rattle.gc_station.specs.Deciding.{has_begun, lacks_value, later}
 use Rattle.gc_station.specs.Marks.{end_of, record_of, records_of, any_unexpected}
 use Rattle.gc_station.specs.Model.{Model, opening, action_at, waiting_of, is_heard, after_piece, first_unsent_record, line_busy, line_came, line_news, losing, moved, after, after_all, with_moment, with_progress, with_rest, Performs, Runs, lines_completed, piece_heard}
 use Rattle.gc_station.specs.NextCommand.{commands_left, expected_at, mark_next}
-use Rattle.gc_station.specs.Progressing.{turned, moment_noted, hold_left, loses_all, time_passed}
+use Rattle.gc_station.specs.Progressing.{turned, moment_noted, loses_all, time_passed}
 use Rattle.gc_station.specs.Parts.{client_part}
 use Rattle.gc_station.specs.Quiet.{SendsRequest}
 use Rattle.gc_station.specs.Reasons.{HoldsBefore}
@@ -51,7 +53,6 @@ use Rattle.gc_station.proofs.Quiets.{others_send_no_request}
 use Rattle.gc_station.proofs.HoldingBack.{doubt_stays, noted_in}
 use Rattle.gc_station.proofs.Starts.{noted_after, set_up_anew_after_a_doubt}
 use Rattle.gc_station.proofs.Walk.{came_along, asked_along, quieted_along, closed_along, moved_changed, walk}
-use Rattle.gc_station.specs.Lines.{calls_for_renewal}
 use Rattle.gc_lines.specs.Frames.{rest_behind}
 use Rattle.gc_station.proofs.Counts.{with_losses_progress}
 use Rattle.gc_station.proofs.Closings.{runs_split}
@@ -142,10 +143,10 @@ module _ (plan : Plan) (commands : List Task) (scope : Scope) where
   -- before that moment and its command's deadline, and that a synchronization is called for
   abbrev HoldsFor : Act → Progress → Record → Type 0
   HoldsFor act p r =
-      IfBusy (λ task. (m : Moment) × (moment_in act ≡ Some m) × (later m.elapsed task.deadline ≤ p.hold) × (0 < p.hold) × (p.doubtful ≡ true)) r
+      IfBusy (λ task. (m : Moment) × (moment_in act ≡ Some m) × (later m.elapsed task.deadline ≤ p.exchange.hold) × (0 < p.exchange.hold) × (p.exchange.doubtful ≡ true)) r
 
   -- it is so by a progress that notes a later moment, or the same, and the doubt, too
-  holds_more : (act : Act) (p q : Progress) (r : Record) → p.hold ≤ q.hold → (p.doubtful ≡ true → q.doubtful ≡ true) → HoldsFor act p r → HoldsFor act q r
+  holds_more : (act : Act) (p q : Progress) (r : Record) → p.exchange.hold ≤ q.exchange.hold → (p.exchange.doubtful ≡ true → q.exchange.doubtful ≡ true) → HoldsFor act p r → HoldsFor act q r
   holds_more act p q r more doubt h task line code at has refuses busy not_accepted =
       let it = h task line code at has refuses busy not_accepted in
       let hold = it.2 in
@@ -189,20 +190,20 @@ module _ (plan : Plan) (commands : List Task) (scope : Scope) where
     n = line_busy line s
 
     -- no earlier moment is noted
-    no_less : p.hold ≤ q.hold
-    no_less = cond_both (nat_lt 0 n) (max p.hold (later p.moment.elapsed n)) p.hold (λ k. p.hold ≤ k) (λ e. omega arith) (λ e. omega arith)
+    no_less : p.exchange.hold ≤ q.exchange.hold
+    no_less = cond_both (nat_lt 0 n) (max p.exchange.hold (later p.moment.elapsed n)) p.exchange.hold (λ k. p.exchange.hold ≤ k) (λ e. omega arith) (λ e. omega arith)
 
     -- a doubt stays
-    still : p.doubtful ≡ true → q.doubtful ≡ true
+    still : p.exchange.doubtful ≡ true → q.exchange.doubtful ≡ true
     still doubt = ap (λ (d : Bool). ((d || calls_for_renewal s.client line) || any_unexpected false (line_news line s)) || nat_lt 0 n) doubt
 
     -- what is noted if the line calls for a wait
-    noted : 0 < n → (q.hold ≡ max p.hold (later p.moment.elapsed n)) × (q.doubtful ≡ true)
+    noted : 0 < n → (q.exchange.hold ≡ max p.exchange.hold (later p.moment.elapsed n)) × (q.exchange.doubtful ≡ true)
     noted some =
         let e : nat_lt 0 n ≡ true = grind (arith, nat_tests, some) in (
-          ap (λ (b : Bool). if b then max p.hold (later p.moment.elapsed n) else p.hold) e,
-          ap (λ (b : Bool). ((p.doubtful || calls_for_renewal s.client line) || any_unexpected false (line_news line s)) || b) e
-              ∙ or_right ((p.doubtful || calls_for_renewal s.client line) || any_unexpected false (line_news line s)) true refl,
+          ap (λ (b : Bool). if b then max p.exchange.hold (later p.moment.elapsed n) else p.exchange.hold) e,
+          ap (λ (b : Bool). ((p.exchange.doubtful || calls_for_renewal s.client line) || any_unexpected false (line_news line s)) || b) e
+              ∙ or_right ((p.exchange.doubtful || calls_for_renewal s.client line) || any_unexpected false (line_news line s)) true refl,
         )
 
     -- each busy answer that the line brings
@@ -286,7 +287,7 @@ module _ (plan : Plan) (commands : List Task) (scope : Scope) where
   moved_holds action.Skip s act k = none_held act s (moved plan commands action.Skip s act) (append-nil s.records)
   moved_holds (action.Read until) s (Gave bytes m) k =
       let mid = with_moment m (with_progress (moment_noted m) s) in
-      let came = came_holds (Gave bytes m) m refl (is_heard s.progress.phase) s.progress.word bytes mid refl
+      let came = came_holds (Gave bytes m) m refl (is_heard s.progress.phase) s.progress.exchange.word bytes mid refl
       (record { reads = k.reads; marks = k.marks; records = k.records; listed = k.listed; firsts = k.firsts; agreed = k.agreed }) in
       record { news = came.news; added = came.added; held = came.held }
   moved_holds (action.Read until) s act k = none_held act s (moved plan commands (action.Read until) s act) refl
@@ -301,7 +302,7 @@ module _ (plan : Plan) (commands : List Task) (scope : Scope) where
 
   -- an act that brings a busy answer
   busy_holds : (acts : List Act) (act : Act) → (b : BringsBusy plan commands scope acts act) → let p = (after plan commands (state_after plan commands scope acts) act).progress in
-      (m : Moment) × (moment_in act ≡ Some m) × (later m.elapsed b.task.deadline ≤ p.hold) × (0 < p.hold) × (p.doubtful ≡ true)
+      (m : Moment) × (moment_in act ≡ Some m) × (later m.elapsed b.task.deadline ≤ p.exchange.hold) × (0 < p.exchange.hold) × (p.exchange.doubtful ≡ true)
   busy_holds acts act b =
       let s = state_after plan commands scope acts in
       let t = after plan commands s act in
@@ -317,7 +318,7 @@ module _ (plan : Plan) (commands : List Task) (scope : Scope) where
 module _ (plan : Plan) (commands : List Task) (moment : ℕ) where
   -- nothing is asked before the moment by this progress
   abbrev IsHeldBy : Progress → Type 0
-  IsHeldBy p = (moment ≤ p.hold) × (0 < p.hold)
+  IsHeldBy p = (moment ≤ p.exchange.hold) × (0 < p.exchange.hold)
 
   -- the act reads the moment, or a later one
   abbrev ReadsIt : Act → Type 0
@@ -342,7 +343,7 @@ module _ (plan : Plan) (commands : List Task) (moment : ℕ) where
       let n = line_busy line s in
       let least = h.0 in
       let some = h.1 in
-      inl (cond_both (nat_lt 0 n) (max s.progress.hold (later s.progress.moment.elapsed n)) s.progress.hold (λ k. (moment ≤ k) × (0 < k))
+      inl (cond_both (nat_lt 0 n) (max s.progress.exchange.hold (later s.progress.moment.elapsed n)) s.progress.exchange.hold (λ k. (moment ≤ k) × (0 < k))
       (λ e. (omega (arith, least), omega (arith, some))) (λ e. h))
 
   -- so does an act of each action
@@ -351,12 +352,12 @@ module _ (plan : Plan) (commands : List Task) (moment : ℕ) where
       walk plan commands (λ a t. Still a t.progress) (action.Read until) s act obeys (
         (λ bytes m.
             let mid = with_moment m (with_progress (moment_noted m) s) in
-            let told = still_told (Gave bytes m) m refl s.progress.hold h in
-            came_along (λ (t : Model). Still (Gave bytes m) t.progress) (line_still (Gave bytes m)) (is_heard s.progress.phase) s.progress.word bytes mid told
+            let told = still_told (Gave bytes m) m refl s.progress.exchange.hold h in
+            came_along (λ (t : Model). Still (Gave bytes m) t.progress) (line_still (Gave bytes m)) (is_heard s.progress.phase) s.progress.exchange.word bytes mid told
             (asked_along (Still (Gave bytes m)) (λ q line e. e) mid.progress (lines_completed mid.rest bytes) told) told),
         (λ m.
             let p = time_passed until m s.progress in
-            let told = still_told (Silent m) m refl s.progress.hold h in
+            let told = still_told (Silent m) m refl s.progress.exchange.hold h in
             quieted_along (Still (Silent m)) plan s.progress.phase p told told told),
         inl h,
         inl h,
@@ -365,11 +366,11 @@ module _ (plan : Plan) (commands : List Task) (moment : ℕ) where
   moved_still (action.Close why) s act obeys h =
       walk plan commands (λ a t. Still a t.progress) (action.Close why) s act obeys
       (closed_along (Still Closed) plan (waiting_of (with_rest [] s)) why s.progress (inl h) (inl h))
-  moved_still action.ReadClock s act obeys h = walk plan commands (λ a t. Still a t.progress) action.ReadClock s act obeys (λ m. still_told (Told m) m refl s.progress.hold h, λ n. inl h)
-  moved_still action.Renew s act obeys h = walk plan commands (λ a t. Still a t.progress) action.Renew s act obeys (λ m. still_told (Told m) m refl s.progress.hold h, λ n. inl h)
-  moved_still action.Begin s act obeys h = walk plan commands (λ a t. Still a t.progress) action.Begin s act obeys (λ m. still_told (Told m) m refl s.progress.hold h, λ n. inl h)
-  moved_still action.Skip s act obeys h = walk plan commands (λ a t. Still a t.progress) action.Skip s act obeys (λ m. still_told (Told m) m refl s.progress.hold h, λ n. inl h)
-  moved_still action.Pass s act obeys h = walk plan commands (λ a t. Still a t.progress) action.Pass s act obeys (λ m. still_told (Told m) m refl s.progress.hold h, λ n. inl h)
+  moved_still action.ReadClock s act obeys h = walk plan commands (λ a t. Still a t.progress) action.ReadClock s act obeys (λ m. still_told (Told m) m refl s.progress.exchange.hold h, λ n. inl h)
+  moved_still action.Renew s act obeys h = walk plan commands (λ a t. Still a t.progress) action.Renew s act obeys (λ m. still_told (Told m) m refl s.progress.exchange.hold h, λ n. inl h)
+  moved_still action.Begin s act obeys h = walk plan commands (λ a t. Still a t.progress) action.Begin s act obeys (λ m. still_told (Told m) m refl s.progress.exchange.hold h, λ n. inl h)
+  moved_still action.Skip s act obeys h = walk plan commands (λ a t. Still a t.progress) action.Skip s act obeys (λ m. still_told (Told m) m refl s.progress.exchange.hold h, λ n. inl h)
+  moved_still action.Pass s act obeys h = walk plan commands (λ a t. Still a t.progress) action.Pass s act obeys (λ m. still_told (Told m) m refl s.progress.exchange.hold h, λ n. inl h)
   moved_still (action.Stop why) s act obeys h = absurd obeys
   moved_still o s act obeys h = walk plan commands (λ a t. Still a t.progress) o s act obeys (λ m. inl h, λ n. inl h)
 
@@ -407,7 +408,7 @@ module _ (plan : Plan) (commands : List Task) (moment : ℕ) where
 
 -- a doubt stays until the station resynchronizes, whatever connections are closed and made
 stays_doubtful : (plan : Plan) (commands : List Task) (s : Model) (acts : List Act) → Runs plan commands s acts → StaysSynchronized plan commands s acts
-    → has_begun s.progress ≡ true → s.progress.doubtful ≡ true → (after_all plan commands s acts).progress.doubtful ≡ true
+    → has_begun s.progress ≡ true → s.progress.exchange.doubtful ≡ true → (after_all plan commands s acts).progress.exchange.doubtful ≡ true
 stays_doubtful plan commands s [] runs stays begun doubt = doubt
 stays_doubtful plan commands s (act ∷ acts) runs stays begun doubt =
     stays_doubtful plan commands (after plan commands s act) acts runs.1 stays.1 stays.0
@@ -415,7 +416,7 @@ stays_doubtful plan commands s (act ∷ acts) runs stays begun doubt =
 
 -- no request is sent while nothing is asked
 none_sent : (plan : Plan) (commands : List Task) (s : Model) (o : Action) (act : Act) → Performs commands s o act → SendsRequest act
-    → HoldsBefore plan s.progress (waiting_of s) o → 0 < s.progress.hold → ⊥
+    → HoldsBefore plan s.progress (waiting_of s) o → 0 < s.progress.exchange.hold → ⊥
 none_sent plan commands s action.Ask act obeys sends needs held = let none = needs.5 in omega (arith, held, none)
 none_sent plan commands s action.Prepare act obeys sends needs held = let none = needs.3.3 in omega (arith, held, none)
 none_sent plan commands s action.Send act obeys sends needs held = let none = needs.3.3 in omega (arith, held, none)
@@ -437,7 +438,7 @@ nothing_is_sent_while_busy = record {
       let end = state_after plan commands scope (earlier ++ act ∷ behind) in
       let t = after plan commands (state_after plan commands scope earlier) act in
       let rest = runs_behind plan commands (opening plan scope) earlier (act ∷ behind) runs in
-      let doubt = ap (λ (u : Model). u.progress.doubtful) (after_all-append plan commands (opening plan scope) earlier (act ∷ behind))
+      let doubt = ap (λ (u : Model). u.progress.exchange.doubtful) (after_all-append plan commands (opening plan scope) earlier (act ∷ behind))
       ∙ stays_doubtful plan commands t behind rest.1 stays.1 stays.0 (busy_holds plan commands scope earlier act brings).4 in
       none_asked plan end (action_at plan end) (action_for plan end.progress (waiting_of end)) asks doubt;
   set_up = λ plan commands scope earlier behind act runs brings.
@@ -445,8 +446,8 @@ nothing_is_sent_while_busy = record {
 } where
   -- the first clause, by whether the moment was read
   by_wait : (plan : Plan) (commands : List Task) (t : Model) (behind : List Act) (request : Act) (m : Moment) (wait : ℕ) (act : Act) → moment_in act ≡ Some m
-      → let u = after_all plan commands t behind in Performs commands u (action_at plan u) request → SendsRequest request → 0 < t.progress.hold
-      → ((later m.elapsed wait ≤ u.progress.hold) × (0 < u.progress.hold)) ⊎ Reaches (later m.elapsed wait) behind → WaitsFor wait act behind
+      → let u = after_all plan commands t behind in Performs commands u (action_at plan u) request → SendsRequest request → 0 < t.progress.exchange.hold
+      → ((later m.elapsed wait ≤ u.progress.exchange.hold) × (0 < u.progress.exchange.hold)) ⊎ Reaches (later m.elapsed wait) behind → WaitsFor wait act behind
   by_wait plan commands t behind request m wait act reads obeys sends some (inr r) = record { m = m; brought = reads; waited = r }
   by_wait plan commands t behind request m wait act reads obeys sends some (inl held) =
       let u = after_all plan commands t behind in

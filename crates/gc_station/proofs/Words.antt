@@ -7,6 +7,7 @@ use Rattle.std.proofs.lemmas.Bool.{both_ways}
 use Rattle.gc_lines.specs.Frames.{rest_behind}
 use Rattle.gc_client.specs.Rule.{deadlines}
 use Rattle.gc_texts.specs.declared.tasks.Task.{Task}
+use Rattle.gc_session.specs.Exchange.{is_none_left}
 use Rattle.gc_links.specs.declared.link.Moment.{Moment}
 use Rattle.gc_links.specs.Acts.{Act, Told}
 use Rattle.gc_station.specs.declared.plan.Plan.{Plan}
@@ -14,7 +15,7 @@ use Rattle.gc_station.specs.declared.progress.Action.{Action}
 use Rattle.gc_station.specs.declared.progress.Action.TheVariants as actions
 use Rattle.gc_station.specs.declared.progress.Progress.{Progress}
 use Rattle.gc_station.specs.Beginnings.{lines_heard_at, unanswered_after}
-use Rattle.gc_station.specs.Deciding.{has_begun, is_none_left}
+use Rattle.gc_station.specs.Deciding.{has_begun}
 use Rattle.gc_station.specs.Progressing.{turned, line_synchronizing, lines_synchronizing, time_passed}
 use Rattle.gc_station.specs.Reasons.{HoldsBefore}
 use Rattle.gc_station.specs.Ends.{MayResynchronize}
@@ -28,20 +29,20 @@ left_none [] = refl
 left_none (line ∷ others) = left_none others
 
 -- lines that are heard while the station synchronizes leave of the ids what `unanswered_after` says
-word_asked : (p : Progress) (lines : List (List ℕ)) → (lines_synchronizing p lines).word ≡ unanswered_after p.word lines
+word_asked : (p : Progress) (lines : List (List ℕ)) → (lines_synchronizing p lines).exchange.word ≡ unanswered_after p.exchange.word lines
 word_asked p [] = refl
 word_asked p (line ∷ others) = word_asked (line_synchronizing p line) others
 
 -- a piece leaves of the ids what its lines leave if it is heard, and all if it is discarded
-word_came : (heard : Bool) (word piece : List ℕ) (s : Model) → s.progress.word ≡ word
-    → (after_piece heard word piece s).progress.word ≡ unanswered_after word (if heard then lines_completed s.rest piece else [])
+word_came : (heard : Bool) (word piece : List ℕ) (s : Model) → s.progress.exchange.word ≡ word
+    → (after_piece heard word piece s).progress.exchange.word ≡ unanswered_after word (if heard then lines_completed s.rest piece else [])
 word_came true [] piece s e =
-    lines_along (λ (t : Model). t.progress.word ≡ []) (λ t line same. same) (with_rest (rest_behind s.rest piece) s) (lines_completed s.rest piece) e ∙ sym (left_none (lines_completed s.rest piece))
+    lines_along (λ (t : Model). t.progress.exchange.word ≡ []) (λ t line same. same) (with_rest (rest_behind s.rest piece) s) (lines_completed s.rest piece) e ∙ sym (left_none (lines_completed s.rest piece))
 word_came true (asked ∷ others) piece s e = word_asked s.progress (lines_completed s.rest piece) ∙ ap (λ (w : List ℕ). unanswered_after w (lines_completed s.rest piece)) e
 word_came false word piece s e = e
 
 -- if a station synchronizes after a piece, it was synchronizing before it
-pub was_synchronizing : (heard : Bool) (word piece : List ℕ) (s : Model) → s.progress.word ≡ word → has_begun (after_piece heard word piece s).progress ≡ false → is_none_left word ≡ false
+pub was_synchronizing : (heard : Bool) (word piece : List ℕ) (s : Model) → s.progress.exchange.word ≡ word → has_begun (after_piece heard word piece s).progress ≡ false → is_none_left word ≡ false
 was_synchronizing h [] piece s e f =
     let lines = if h then lines_completed s.rest piece else [] in absurd (both_ways (has_begun (after_piece h [] piece s).progress) f (ap is_none_left (word_came h [] piece s e ∙ left_none lines)))
 was_synchronizing h (asked ∷ others) piece s e f = refl
@@ -49,7 +50,7 @@ was_synchronizing h (asked ∷ others) piece s e f = refl
 module _ (plan : Plan) (commands : List Task) where
   -- from the model s to t an act leaves of the ids what its lines leave
   abbrev pub LeavesIds : Model → Act → Model → Type 0
-  LeavesIds s act t = t.progress.word ≡ unanswered_after s.progress.word (lines_heard_at s act)
+  LeavesIds s act t = t.progress.exchange.word ≡ unanswered_after s.progress.exchange.word (lines_heard_at s act)
 
   -- an act of each action but `Renew` leaves of the ids what its lines leave (`LeavesIds`)
   pub word_moved : (s : Model) (o : Action) (act : Act) → Performs commands s o act → (o ≡ actions.Renew → ⊥)
@@ -57,24 +58,24 @@ module _ (plan : Plan) (commands : List Task) where
   word_moved s actions.Renew act obeys other = absurd (other refl)
   word_moved s (actions.Read until) act obeys other =
       walk plan commands (LeavesIds s) (actions.Read until) (with_progress turned s) act obeys (
-        λ bytes m. word_came (is_heard s.progress.phase) s.progress.word bytes (piece_before m s) refl,
-        λ m. quieted_along (λ (q : Progress). q.word ≡ s.progress.word) plan s.progress.phase (time_passed until m (turned s.progress)) refl refl refl,
+        λ bytes m. word_came (is_heard s.progress.phase) s.progress.exchange.word bytes (piece_before m s) refl,
+        λ m. quieted_along (λ (q : Progress). q.exchange.word ≡ s.progress.exchange.word) plan s.progress.phase (time_passed until m (turned s.progress)) refl refl refl,
         refl,
         refl,
         refl,
       )
   word_moved s (actions.Close why) act obeys other =
       walk plan commands (LeavesIds s) (actions.Close why) (with_progress turned s) act obeys
-      (closed_along (λ (q : Progress). q.word ≡ s.progress.word) plan (waiting_of (with_rest [] (with_progress turned s))) why (turned s.progress) refl refl)
+      (closed_along (λ (q : Progress). q.exchange.word ≡ s.progress.exchange.word) plan (waiting_of (with_rest [] (with_progress turned s))) why (turned s.progress) refl refl)
   word_moved s (actions.Stop why) act obeys other = absurd obeys
   word_moved s o act obeys other = walk plan commands (LeavesIds s) o (with_progress turned s) act obeys (λ m. refl, λ n. refl)
 
   -- an act of any action but `Renew` leaves a synchronized station synchronized
   pub begun_unless_renewed : (s : Model) (o : Action) (act : Act) → Performs commands s o act → (o ≡ actions.Renew → ⊥) → has_begun s.progress ≡ true
       → has_begun (moved plan commands o (with_progress turned s) act).progress ≡ true
-  begun_unless_renewed s o act obeys other begun = by_word s.progress.word refl begun where
+  begun_unless_renewed s o act obeys other begun = by_word s.progress.exchange.word refl begun where
     -- the lemma above, by the word: no id is left
-    by_word : (word : List ℕ) → s.progress.word ≡ word → is_none_left word ≡ true → has_begun (moved plan commands o (with_progress turned s) act).progress ≡ true
+    by_word : (word : List ℕ) → s.progress.exchange.word ≡ word → is_none_left word ≡ true → has_begun (moved plan commands o (with_progress turned s) act).progress ≡ true
     by_word [] e b = ap is_none_left (word_moved s o act obeys other ∙ ap (λ (w : List ℕ). unanswered_after w (lines_heard_at s act)) e ∙ left_none (lines_heard_at s act))
     by_word (asked ∷ others) e b = cc
 

@@ -37,7 +37,7 @@ abbrev pub NoneBeforeTheLastAnswer : Type 0
 NoneBeforeTheLastAnswer =
     (plan : Plan) (commands : List Task) (scope : Scope) (earlier between : List Act) → Runs plan commands (opening plan scope) (earlier ++ between)
     → IsAsking (action_at plan (state_after plan commands scope (earlier ++ between)))
-    → let s = state_after plan commands scope earlier in IsSubsequence s.progress.word (filter_map heard (lines_heard plan commands s between))
+    → let s = state_after plan commands scope earlier in IsSubsequence s.progress.exchange.word (filter_map heard (lines_heard plan commands s between))
 
 -- what holds of an act while the station synchronizes; it has the model `s` before the act, and `t` after it
 pub record IsSynchronizing (s : Model) (act : Act) (t : Model) : Type 0 where
@@ -45,22 +45,22 @@ pub record IsSynchronizing (s : Model) (act : Act) (t : Model) : Type 0 where
   pub client : s.client ≡ fresh
   pub marks : s.marks ≡ []
   -- a request that is sent is the null procedure of the first id that isn't answered
-  pub asks : SendsRequest act → Puts (null_text s.progress.word) act
+  pub asks : SendsRequest act → Puts (null_text s.progress.exchange.word) act
   -- the ids that are left after the act: each line that it brings answers the first id that is left if it has that id, and
   -- otherwise none
-  pub left : t.progress.word ≡ unanswered_after s.progress.word (lines_heard_at s act)
+  pub left : t.progress.exchange.word ≡ unanswered_after s.progress.exchange.word (lines_heard_at s act)
 
 -- at the act `act`, made after `acts`, the station resynchronizes, as `Resynchronizes` says, and begins anew: after the act no
 -- null procedure is answered, and the client is new
 pub record SynchronizesAnew (plan : Plan) (commands : List Task) (scope : Scope) (acts : List Act) (act : Act) : Type 0 where
   pub resynchronizes : Resynchronizes plan (state_after plan commands scope acts) act
-  pub word : (state_after plan commands scope (acts ++ act ∷ [])).progress.word ≡ the_word
+  pub word : (state_after plan commands scope (acts ++ act ∷ [])).progress.exchange.word ≡ the_word
   pub client : (state_after plan commands scope (acts ++ act ∷ [])).client ≡ fresh
 
 -- a run begins with all eight null procedures (`starts`); `IsSynchronizing` holds of each act while the station synchronizes
 -- (`begins`), and `SynchronizesAnew` of an act after which the station synchronizes, and before which it didn't (`anew`)
 pub record SynchronizesInOrder (plan : Plan) (commands : List Task) (scope : Scope) (acts : List Act) (act : Act) : Type 0 where
-  pub starts : (state_after plan commands scope []).progress.word ≡ the_word
+  pub starts : (state_after plan commands scope []).progress.exchange.word ≡ the_word
   pub begins : has_begun (state_after plan commands scope acts).progress ≡ false
       → IsSynchronizing (state_after plan commands scope acts) act (state_after plan commands scope (acts ++ act ∷ []))
   pub anew : has_begun (state_after plan commands scope acts).progress ≡ true → has_begun (state_after plan commands scope (acts ++ act ∷ [])).progress ≡ false

@@ -54,7 +54,7 @@ AreOfTable tasks = AllByRecursion (λ task. is_of_table task.command.call ≡ tr
 -- first
 abbrev pub IsNotHeldUp : Plan → Model → Type 0
 IsNotHeldUp plan s =
-    (s.progress.behind ≡ length s.client.waiting)
+    (s.progress.exchange.behind ≡ length s.client.waiting)
     × (action_to_send plan s.progress (waiting_of s) action.Send ≡ action_room plan s.progress (waiting_of s) action.Send)
     × (action_to_send plan s.progress (waiting_of s) action.Prepare ≡ action_room plan s.progress (waiting_of s) action.Prepare)
 
@@ -62,7 +62,7 @@ IsNotHeldUp plan s =
 -- a reply (`behind`); it sent nothing but null procedures, so no command is outstanding, no chain goes on, and nothing of the setup
 -- was sent
 abbrev pub AwaitsFirstReply : Model → Type 0
-AwaitsFirstReply s = (s.progress.behind ≡ WINDOW) × (commands_in s.marks ≡ 0) × (s.progress.chain_unbroken ≡ false) × (s.progress.prepared ≡ 0)
+AwaitsFirstReply s = (s.progress.exchange.behind ≡ WINDOW) × (commands_in s.marks ≡ 0) × (s.progress.chain_unbroken ≡ false) × (s.progress.prepared ≡ 0)
 
 -- if all commands are calls of the table, none is held up (`IsNotHeldUp`) once a run has synchronized and a reply has ended the null
 -- procedure that it sends then (until then: `AwaitsFirstReply`), as long as it isn't over

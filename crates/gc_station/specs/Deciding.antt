@@ -4,9 +4,9 @@
 -- (`Clearing`), until a connection is quiet (`Draining`), with a connection for requests (`Ready`), before a close (`Closing`),
 -- and at the end (`Over`). Of the progress, `left` counts the cycles that haven't begun, and `unsent` the commands of the cycle
 -- that are left: neither sent, nor recorded without being sent, nor left out.
-use Rattle.std.specs.Prelude.{◌+◌, ℕ, ◌-◌, ◌&&◌, ◌||◌, Bool, true, false, not, if◌then◌else◌, nat_lt, nat_le, nat_eq, min, max, List, [], ◌∷◌, is_some}
+use Rattle.std.specs.Prelude.{ℕ, ◌-◌, ◌&&◌, ◌||◌, Bool, true, false, not, if◌then◌else◌, nat_lt, nat_le, nat_eq, min, max, is_some}
 pub use Rattle.gc_catalogue.specs.Moments.{later}
-use Rattle.gc_client.specs.declared.window.TheConstants.{WINDOW}
+use Rattle.gc_session.specs.Exchange as exchange
 use Rattle.gc_texts.specs.ValueItems.{lack}
 use Rattle.gc_station.specs.declared.plan.Plan.{Plan}
 use Rattle.gc_station.specs.declared.cause.Cause.TheVariants.{Done, Dead, Turns, Stale, Stopped, SetUp}
@@ -42,36 +42,30 @@ is_unquiet phase.Ready = false
 is_unquiet (phase.Closing cause) = false
 is_unquiet (phase.Over cause) = false
 
--- whether at least `wait` milliseconds lie between `since`, from when a pause or a quiet time counts, and the moment read last
+-- whether at least `wait` milliseconds lie between the moment from which a pause or a quiet time counts, and the moment read last
 abbrev pub is_past : (wait : ℕ) → Progress → Bool
-is_past wait p = nat_le wait (p.moment.elapsed - p.since)
+is_past wait p = exchange.is_past wait p.moment.elapsed p.exchange
 
 -- whether at least the plan's quiet time lies between `since`, from when it counts, and the moment read last
 abbrev pub is_quiet : Plan → Progress → Bool
 is_quiet plan p = is_past plan.quiet p
 
--- whether none is left of the ids of a synchronization's null procedures that aren't answered
-abbrev pub is_none_left : List ℕ → Bool
-is_none_left [] = true
-is_none_left (asked ∷ others) = false
-
 -- whether a synchronization is done: none of its null procedures is left unanswered
 abbrev pub has_begun : Progress → Bool
-has_begun p = is_none_left p.word
+has_begun p = exchange.has_begun p.exchange
 
 -- after how many milliseconds without a reply line the line is silent (`is_silent`): twice the longest deadline, at most the
 -- greatest `u64`
 abbrev pub dead_after : Plan → ℕ
 dead_after plan = later plan.deadline plan.deadline
 
--- whether the line is silent: a request was sent on it, and since then no reply line came (`asked`); a request is outstanding, or a
--- null procedure of the synchronization has a deadline (`again`) other than 0; and `dead_after` has passed since `alive`
+-- whether the line is silent: requests are awaited on it, and for as long as `dead_after` says no reply line came
 abbrev pub is_silent : Plan → Progress → Waiting → Bool
-is_silent plan p w = p.asked && ((nat_lt 0 w.all || nat_lt 0 p.again) && nat_le (dead_after plan) (p.moment.elapsed - p.alive))
+is_silent plan p w = exchange.is_silent (dead_after plan) p.moment.elapsed w.all p.exchange
 
 -- whether the line is dead: it is silent, and all outstanding requests have timed out
 abbrev pub is_dead : Plan → Progress → Waiting → Bool
-is_dead plan p w = nat_eq w.current 0 && is_silent plan p w
+is_dead plan p w = exchange.is_dead (dead_after plan) p.moment.elapsed w.all w.current p.exchange
 
 -- whether the run is stale: no answer of a good quality was recorded for as long as the plan allows, counted from `fresh`; false
 -- if the plan sets no limit (`stale` is 0)
@@ -137,10 +131,10 @@ is_finished count p = nat_eq p.left 0 && nat_eq p.unsent 0 && nat_eq count 0
 abbrev pub action_unless_idle : Plan → Progress → Waiting → Action → Action
 action_unless_idle plan p w action = if is_finished w.commands p then Close Done else if is_idle plan p then Read Due else action
 
--- whether the null procedure of the first id that isn't answered may be sent: no busy answer has the station wait (`hold`), and the deadline
--- of the null procedure that was sent last has come
+-- whether the null procedure of the first id that isn't answered may be sent: no busy answer has the station wait, and the deadline of the
+-- null procedure that was sent last has come
 abbrev pub may_ask : Progress → Bool
-may_ask p = nat_eq p.hold 0 && nat_le p.again p.moment.elapsed
+may_ask p = exchange.may_ask p.moment.elapsed p.exchange
 
 -- the next action while the station synchronizes, unless the run is done or the station idle (`action_unless_idle`): to read until
 -- it may ask (`may_ask`); and else to close the connection if the line is dead, and to send the
@@ -156,7 +150,7 @@ action_done plan p = if nat_eq p.left 0 then Close Done else if is_wanted plan p
 
 -- whether there is room for another request: the test of `HasRoomToAsk`
 abbrev pub has_room_to_ask : Plan → Progress → Waiting → Bool
-has_room_to_ask plan p w = nat_lt w.current (width_of plan) && nat_lt (w.all + p.last_ended) WINDOW && not p.doubtful && nat_eq p.hold 0
+has_room_to_ask plan p w = exchange.has_room (width_of plan) w.all w.current p.exchange
 
 -- `action`, which sends a request, if there is room for one and the line isn't dead; otherwise the action of a station that waits
 abbrev pub action_room : Plan → Progress → Waiting → Action → Action
@@ -171,7 +165,7 @@ action_flush plan p w = if nat_eq w.current 0 then action_room plan p w Flush el
 -- `action_room`, if one of the seven requests before it is a call of the table that a reply ended (`behind`). Else, as after each
 -- synchronization, that of `action_flush`, since a null procedure has to be sent first
 abbrev pub action_to_send : Plan → Progress → Waiting → Action → Action
-action_to_send plan p w action = if nat_lt p.behind WINDOW then action_room plan p w action else action_flush plan p w
+action_to_send plan p w action = if exchange.is_near p.exchange then action_room plan p w action else action_flush plan p w
 
 -- whether a value that the next command takes of a file wasn't there at the moment read last
 abbrev pub lacks_value : Progress → Bool

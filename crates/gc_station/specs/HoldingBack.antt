@@ -7,9 +7,9 @@ use Rattle.gc_catalogue.specs.declared.asked.Asked.{Asked}
 use Rattle.gc_client.specs.OneForOne.{Step, Send, Hear}
 use Rattle.gc_client.specs.Rule.{ById, fresh, heard, hears}
 use Rattle.gc_client.specs.declared.window.TheConstants.{WINDOW}
+use Rattle.gc_session.specs.Exchange.{ended_last}
 use Rattle.gc_station.specs.Links.{parts}
 use Rattle.gc_station.specs.Parts.{Part, client_after, client_stepped}
-use Rattle.gc_station.specs.Progressing.{ended_last}
 use Rattle.gc_station.specs.Runs.{OfEachRun}
 
 -- how many requests the last line ended that ended any, after a step of this client; `last` before it

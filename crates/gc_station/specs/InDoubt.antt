@@ -6,7 +6,7 @@ use Rattle.std.specs.Prelude.{◌≡◌, ℕ, false, List, ◌∷◌, ◌++◌, 
 use Rattle.gc_catalogue.specs.declared.asked.Asked.{Asked}
 use Rattle.gc_client.specs.OneForOne.{Step, Send, Hear}
 use Rattle.gc_client.specs.Rule.{fresh}
-use Rattle.gc_station.specs.Lines.{calls_for_renewal}
+use Rattle.gc_session.specs.Lines.{calls_for_renewal}
 use Rattle.gc_station.specs.Links.{parts}
 use Rattle.gc_station.specs.Parts.{Part, client_after}
 use Rattle.gc_station.specs.Runs.{OfEachRun}

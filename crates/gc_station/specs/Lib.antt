@@ -5,7 +5,6 @@ pub mod Records
 pub mod Marks
 pub mod Firsts
 pub mod Zeros
-pub mod Lines
 pub mod Deciding
 pub mod Periods
 pub mod Progressing

@@ -1,7 +1,7 @@
 -- What a station is after the acts of its link, this project's own: the client's rule over what really happened, and how far
 -- the station is. Each act is the one that the station was to make next. An act is one call on the link, with its result. `until`
 -- says what a read waits for.
-use Rattle.std.specs.Prelude.{◌≡◌, ℕ, ◌-◌, Bool, true, false, List, [], ◌∷◌, ◌++◌, length, drop, take, map, Option, Some, None, if◌then◌else◌, slice_get, ◌⊎◌}
+use Rattle.std.specs.Prelude.{◌≡◌, ℕ, ◌-◌, Bool, true, false, List, [], ◌∷◌, ◌++◌, length, drop, take, map, Option, Some, None, if◌then◌else◌, ◌⊎◌}
 use Rattle.gc_lines.specs.Frames.{rest_behind}
 use Rattle.gc_lines.specs.Lines.{with_end}
 use Rattle.gc_values.specs.declared.decimal.Decimal.{Decimal}
@@ -10,13 +10,15 @@ use Rattle.gc_catalogue.specs.declared.asked.Asked.{Asked}
 use Rattle.gc_catalogue.specs.declared.asked.Asked.TheVariants.{Table}
 use Rattle.gc_catalogue.specs.declared.call.Call.TheVariants.{NullProc}
 use Rattle.gc_catalogue.specs.Texts.{request_line}
-use Rattle.gc_catalogue.specs.Asked.{asked_line, is_of_table}
+use Rattle.gc_catalogue.specs.Asked.{asked_line}
 use Rattle.gc_client.specs.declared.window.TheConstants.{WINDOW}
 use Rattle.gc_client.specs.Rule.{ById, Settlement, Settled, Sending, fresh, sends, hears, heard, expires, restarts, deadlines}
 use Rattle.gc_texts.specs.Tasks.{call_at}
 use Rattle.gc_texts.specs.declared.occasion.Occasion.{Occasion}
 use Rattle.gc_texts.specs.declared.tasks.Task.{Task}
 use Rattle.gc_texts.specs.declared.wish.Wish.{Wish}
+use Rattle.gc_session.specs.Exchange.{is_none_left}
+use Rattle.gc_session.specs.Lines.{is_reply, calls_for_renewal, ends_with_table}
 use Rattle.gc_links.specs.declared.link.Moment.{Moment}
 use Rattle.gc_station.specs.declared.plan.Plan.{Plan}
 use Rattle.gc_station.specs.declared.cause.Cause.{Cause}
@@ -33,8 +35,7 @@ use Rattle.gc_station.specs.declared.mark.Mark.{Mark}
 use Rattle.gc_station.specs.declared.station.sending.Outgoing.{Outgoing}
 use Rattle.gc_links.specs.Acts.{Act, Told, Cut, Gave, Silent, Ended, Broke, Closed, Opened}
 use Rattle.gc_station.specs.ActKinds.{Puts, ReadsClock, IsOpening, ReadsLink}
-use Rattle.gc_station.specs.Deciding.{later, is_none_left, is_preparing, lacks_value, action_of}
-pub use Rattle.gc_station.specs.Lines.{is_reply, calls_for_renewal}
+use Rattle.gc_station.specs.Deciding.{later, is_preparing, lacks_value, action_of}
 use Rattle.gc_station.specs.Attempts.{listed_after, listed_after_settlements}
 use Rattle.gc_station.specs.Busy.{busy_after_settlements}
 use Rattle.gc_station.specs.Counters.{no_counts, with_before, counts_after_settlements}
@@ -164,7 +165,7 @@ Performs commands s Renew act = ReadsClock act
 Performs commands s Begin act = ReadsClock act
 Performs commands s Open act = IsOpening act
 Performs commands s Clear act = Puts (10 ∷ []) act
-Performs commands s Ask act = Puts (null_text s.progress.word) act
+Performs commands s Ask act = Puts (null_text s.progress.exchange.word) act
 Performs commands s Prepare act = Puts (text_or_null (occasion_at s.progress.moment) s.client (drop s.progress.prepared commands)) act
 Performs commands s Send act = Puts (first_text (occasion_at s.progress.moment) s.client (commands_left commands s.progress)) act
 Performs commands s Skip act = ReadsClock act
@@ -308,15 +309,6 @@ records_settled settlements s = record s {
 abbrev pub settles : Settled Asked (ById Asked) → Model → Model
 settles x s = record (records_settled x.settlements s) { client = x.client }
 
--- whether there is a settlement, and its call is one of the table
-abbrev pub is_some_of_table : Option (Settlement Asked) → Bool
-is_some_of_table None = false
-is_some_of_table (Some x) = is_of_table x.call
-
--- whether the last of these settlements is of a call of the table; false if there is none
-abbrev pub ends_with_table : List (Settlement Asked) → Bool
-ends_with_table settlements = is_some_of_table (slice_get settlements (length settlements - 1))
-
 -- the model `s` once a line settled requests, as `x` says: with the records of these settlements, the number of requests sent after
 -- the last call of the table that a reply ended, and how many the last line ended that ended any
 abbrev pub line_settles : Settled Asked (ById Asked) → Model → Model
@@ -378,7 +370,7 @@ after_piece false word piece s = s
 
 -- the model `s` after `piece`, which is heard as `after_piece` says in the phase of `s` and with the ids that aren't answered
 abbrev pub piece_taken : List ℕ → Model → Model
-piece_taken piece s = after_piece (is_heard s.progress.phase) s.progress.word piece s
+piece_taken piece s = after_piece (is_heard s.progress.phase) s.progress.exchange.word piece s
 
 -- the model `s` once a piece was heard: all tries are available again if it settled a command after the setup (`bytes_noted`),
 -- and it is noted if the cycle was done early (`early_noted`). `before` is how many commands were outstanding before the

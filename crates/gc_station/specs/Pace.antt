@@ -16,7 +16,7 @@ use Rattle.gc_station.specs.Progressing.{is_idle, due_at}
 -- the moment of the next attempt to connect: the end of the pause, or, if no connection is wanted before the next cycle is due,
 -- that due moment if it is later
 abbrev pub retry_at : Plan → Progress → ℕ
-retry_at plan p = if is_idle plan p then max (later p.since p.pause) (due_at p) else later p.since p.pause
+retry_at plan p = if is_idle plan p then max (later p.exchange.since p.exchange.pause) (due_at p) else later p.exchange.since p.exchange.pause
 
 -- the moment from which on the run is stale, if no answer of a good quality is recorded until then; the greatest `u64` if it
 -- never is. `fresh` is when such an answer was recorded last; 0 if none was; an earlier moment if the clock went back past it
@@ -33,8 +33,8 @@ longest_timeout plan = if plan.watched then 1000 else 60000
 -- procedure, or the end of the wait after a busy answer if that is later; otherwise the greatest `u64`, since only the deadlines of requests matter
 abbrev pub read_end_in : Phase → Plan → Progress → ℕ
 read_end_in phase.Pausing plan p = retry_at plan p
-read_end_in phase.Draining plan p = later p.since plan.quiet
-read_end_in _ plan p = if has_begun p then 18446744073709551615 else max p.again p.hold
+read_end_in phase.Draining plan p = later p.exchange.since plan.quiet
+read_end_in _ plan p = if has_begun p then 18446744073709551615 else max p.exchange.again p.exchange.hold
 
 -- as `read_end_in` in the phase of `p`, except that a read that only waits for the next cycle ends when that cycle is due
 abbrev pub read_end_without_deadline : Plan → Progress → Until → ℕ
@@ -68,8 +68,8 @@ health_in phase.Down plan p waiting = if is_idle plan p then Idle else Unconnect
 health_in phase.Pausing plan p waiting = if is_idle plan p then Idle else Unconnected
 health_in phase.Clearing plan p waiting = Unquiet
 health_in phase.Draining plan p waiting = Unquiet
-health_in phase.Ready plan p waiting = if p.asked then Unheard else if has_begun p && is_cycle_done p waiting then Idle else Fine
-health_in _ plan p waiting = if p.asked then Unheard else Fine
+health_in phase.Ready plan p waiting = if p.exchange.asked then Unheard else if has_begun p && is_cycle_done p waiting then Idle else Fine
+health_in _ plan p waiting = if p.exchange.asked then Unheard else Fine
 
 -- whether the cycle that began last has overrun: it isn't missed, and wasn't done when the next one, which hasn't begun, was due.
 -- False if no cycle is left, or cycles have no due moments (`every` is 0). Before the first cycle, where it may be true,

@@ -2,8 +2,9 @@
 -- one call on the link, with its result.
 use Rattle.std.specs.Prelude.{◌≡◌, ◌⊎◌, ℕ, zero, suc, ◌+◌, ◌*◌, ◌<◌, ◌≤◌, true, false, List}
 use Rattle.gc_texts.specs.declared.tasks.Task.{Task}
+use Rattle.gc_session.specs.Exchange.{pause_within}
 use Rattle.gc_links.specs.Acts.{Act}
-use Rattle.gc_station.specs.Progressing.{at_start, is_spared, pause_within, after_failure, bytes_noted}
+use Rattle.gc_station.specs.Progressing.{at_start, is_spared, after_failure, bytes_noted}
 use Rattle.gc_station.specs.Model.{Model, moved}
 use Rattle.gc_station.specs.declared.cause.Cause.{Cause}
 use Rattle.gc_station.specs.declared.cause.Cause.TheVariants as cause
@@ -35,7 +36,7 @@ LeavesTries _ = Unit {0}
 
 -- at the progress `p` this many tries are left, and the pause is this long
 abbrev pub HasTriesAndPause : (p : Progress) (tries pause : ℕ) → Type 0
-HasTriesAndPause p tries pause = (p.tries ≡ tries) × (p.pause ≡ pause)
+HasTriesAndPause p tries pause = (p.tries ≡ tries) × (p.exchange.pause ≡ pause)
 
 -- how the tries and the pause change at each act. `plan.retries` tries are there at the start
 pub record TriesAndPausesAreCounted : Type 0 where
@@ -43,8 +44,8 @@ pub record TriesAndPausesAreCounted : Type 0 where
   pub start : (plan : Plan) (turns : ℕ) → HasTriesAndPause (at_start plan turns) plan.retries (pause_after plan 0)
   -- a failure, the loss of a connection that isn't spared (`is_spared`) or an attempt that failed, makes the pause that of one
   -- failure more
-  pub failed : (plan : Plan) (count n : ℕ) (why : Cause) (p : Progress) → is_spared plan why p ≡ false → p.pause ≡ pause_after plan n
-      → (after_failure plan count why p).pause ≡ pause_after plan (suc n)
+  pub failed : (plan : Plan) (count n : ℕ) (why : Cause) (p : Progress) → is_spared plan why p ≡ false → p.exchange.pause ≡ pause_after plan n
+      → (after_failure plan count why p).exchange.pause ≡ pause_after plan (suc n)
   -- a failure takes one try, if one is left
   pub takes : (plan : Plan) (count : ℕ) (why : Cause) (p : Progress) → is_spared plan why p ≡ false → 0 < p.tries
       → (after_failure plan count why p).tries + 1 ≡ p.tries
@@ -52,10 +53,10 @@ pub record TriesAndPausesAreCounted : Type 0 where
   pub none_left : (plan : Plan) (count : ℕ) (why : Cause) (p : Progress) → is_spared plan why p ≡ false → p.tries ≡ 0
       → ((after_failure plan count why p).phase ≡ phase.Over cause.Done) ⊎ ((after_failure plan count why p).phase ≡ phase.Over why)
   -- a close while no connection is wanted (`is_spared`) takes no try, and leaves the pause as it is
-  pub spared : (plan : Plan) (count n : ℕ) (why : Cause) (p : Progress) → is_spared plan why p ≡ true → p.pause ≡ pause_after plan (suc n)
+  pub spared : (plan : Plan) (count n : ℕ) (why : Cause) (p : Progress) → is_spared plan why p ≡ true → p.exchange.pause ≡ pause_after plan (suc n)
       → HasTriesAndPause (after_failure plan count why p) p.tries (pause_after plan (suc n))
   -- but such a close makes a pause of 0 that of one failure
-  pub spared_first : (plan : Plan) (count : ℕ) (why : Cause) (p : Progress) → is_spared plan why p ≡ true → p.pause ≡ pause_after plan 0
+  pub spared_first : (plan : Plan) (count : ℕ) (why : Cause) (p : Progress) → is_spared plan why p ≡ true → p.exchange.pause ≡ pause_after plan 0
       → HasTriesAndPause (after_failure plan count why p) p.tries (pause_after plan 1)
   -- bytes that settle a command give all tries back, and make the pause 0; if there is a setup, only once a cycle began or went
   -- on after it (`preparing` is false)
@@ -63,7 +64,7 @@ pub record TriesAndPausesAreCounted : Type 0 where
       → HasTriesAndPause (bytes_noted plan until before after p) plan.retries (pause_after plan 0)
   -- bytes that settle none, or come before that, change neither
   pub unsettled : (plan : Plan) (until : Until) (before : ℕ) (after : Waiting) (p : Progress) → (before ≤ after.commands) ⊎ (p.preparing ≡ true)
-      → HasTriesAndPause (bytes_noted plan until before after p) p.tries p.pause
+      → HasTriesAndPause (bytes_noted plan until before after p) p.tries p.exchange.pause
   -- nor does an act that makes no connection, reads nothing and closes none
   pub other : (plan : Plan) (commands : List Task) (action : Action) (s : Model) (act : Act) → LeavesTries action
-      → HasTriesAndPause (moved plan commands action s act).progress s.progress.tries s.progress.pause
+      → HasTriesAndPause (moved plan commands action s act).progress s.progress.tries s.progress.exchange.pause

@@ -1,10 +1,9 @@
--- What each act does to how far a station is, this project's own. That is its progress: the phase that it is in, the ids of the
--- null procedures that aren't answered (`word`), the moment read last, and how many cycles, commands of the cycle, tries and
--- turns are left. An act is one call on the link, with its result.
+-- What each act does to how far a station is, this project's own. That is its progress: the phase that it is in, how far its exchange
+-- with the instrument is, the moment read last, and how many cycles, commands of the cycle, tries and turns are left. An act is one call
+-- on the link, with its result.
 use Rattle.std.specs.Prelude.{ℕ, ◌+◌, ◌-◌, ◌&&◌, ◌||◌, Bool, true, false, not, if◌then◌else◌, nat_lt, nat_le, nat_eq, min, max, List, [], ◌∷◌}
-use Rattle.gc_client.specs.Beginning.{the_word, is_answered, left_by}
-use Rattle.gc_client.specs.Rule.{heard}
-use Rattle.gc_client.specs.declared.window.TheConstants.{WINDOW}
+use Rattle.gc_session.specs.Exchange as exchange
+use Rattle.gc_session.specs.declared.exchange.Exchange.{Exchange}
 use Rattle.gc_values.specs.FileValues.{no_values}
 use Rattle.gc_texts.specs.ValueItems.{no_needs}
 use Rattle.gc_links.specs.declared.link.Moment.{Moment}
@@ -20,22 +19,15 @@ use Rattle.gc_station.specs.declared.progress.Upcoming.{Upcoming}
 use Rattle.gc_station.specs.declared.progress.Waiting.{Waiting}
 use Rattle.gc_station.specs.Deciding.{later, is_up, is_past, is_quiet, is_due, goes_on, has_begun}
 pub use Rattle.gc_station.specs.Deciding.{is_idle, is_finished}
-use Rattle.gc_station.specs.Lines.{is_reply}
 use Rattle.gc_station.specs.Periods.{period_from}
 
--- the progress of a station that has done nothing: no null procedure of the synchronization is answered, and no call of the table
--- is ended by a reply (`behind`)
+-- the progress of a station that has done nothing
 abbrev pub at_start : Plan → (turns : ℕ) → Progress
 at_start plan turns = record {
   phase = phase.Down;
-  word = the_word;
-  again = 0;
-  hold = 0;
+  exchange = exchange.new_exchange;
   clock_due = false;
   moment = record { elapsed = 0; utc = 0; stops = false; touched = 0; values = no_values };
-  since = 0;
-  alive = 0;
-  asked = false;
   began = 0;
   period = min plan.first plan.every;
   touched = 0;
@@ -49,11 +41,7 @@ at_start plan turns = record {
   next_needs = no_needs;
   chain_unbroken = false;
   tries = plan.retries;
-  pause = 0;
   turns = turns;
-  behind = WINDOW;
-  last_ended = 1;
-  doubtful = false;
   preparing = nat_lt 0 plan.setup;
   prepared = 0;
   attempt = 1;
@@ -64,29 +52,28 @@ at_start plan turns = record {
 abbrev pub turned : Progress → Progress
 turned p = record p { turns = p.turns - 1 }
 
--- what is left of a hold at the moment `now`: none (0) once it is reached
-abbrev pub hold_left : (hold now : ℕ) → ℕ
-hold_left hold now = if nat_lt now hold then hold else 0
+-- the progress with its exchange changed by `f`
+abbrev pub with_exchange : (Exchange → Exchange) → Progress → Progress
+with_exchange f p = record p { exchange = f p.exchange }
 
--- the progress once the moment `m` was read, by any act but a read that gave nothing: the quiet time counts from `m`. If the
--- clock went back, so that the cycle's beginning (`began`) or the moment from which a dead line counts (`alive`) lies after
--- `m`, it becomes `m`: so the next cycle isn't put off. A hold that is reached is over. If `m` asks for the end of the run, that stays asked for
-abbrev pub moment_noted : Moment → Progress → Progress
-moment_noted m p = record p {
+-- the progress once the moment `m` was read, leaving out what that changes of its exchange. If the clock went back, so that the cycle's
+-- beginning (`began`) lies after `m`, it becomes `m`: so the next cycle isn't put off. If `m` asks for the end of the run, that stays asked for
+abbrev pub moment_set : Moment → Progress → Progress
+moment_set m p = record p {
   moment = m;
-  since = m.elapsed;
-  alive = min p.alive m.elapsed;
   began = min p.began m.elapsed;
-  hold = hold_left p.hold m.elapsed;
   clock_due = false;
   stops = p.stops || m.stops;
 }
 
+-- the progress once the moment `m` was read, by any act but a read that gave nothing: the quiet time counts from `m`
+abbrev pub moment_noted : Moment → Progress → Progress
+moment_noted m p = with_exchange (exchange.moment_read m.elapsed) (moment_set m p)
+
 -- the progress once the moment `m` was read to begin a cycle, to record commands or leave them out, or to resynchronize: as
--- `moment_noted`, but a pause and the quiet time go on, as an overdue cycle is abandoned meanwhile. If the clock went back, so that
--- their start (`since`) lies after `m`, it becomes `m`
+-- `moment_noted`, but a pause and the quiet time go on, as an overdue cycle is abandoned meanwhile
 abbrev pub moment_noted_meanwhile : Moment → Progress → Progress
-moment_noted_meanwhile m p = let q = moment_noted m p in record q { since = min p.since m.elapsed }
+moment_noted_meanwhile m p = with_exchange (exchange.moment_passed m.elapsed) (moment_set m p)
 
 -- the moment at which the next cycle is due: `period` milliseconds after `began`, the moment that counts as the beginning of the
 -- last one. The first cycle may begin at once, unless cycles begin by the clock; if it can't, it is due here, where `began` is the start
@@ -200,16 +187,16 @@ phase_again plan count why p =
     else if is_spared plan why p || nat_lt 0 p.tries then phase.Pausing
     else phase.Over why
 
--- the pause `time`, in milliseconds, cut to a minute, and then raised to the quiet time
-abbrev pub pause_within : (quiet time : ℕ) → ℕ
-pause_within quiet time = max (min time 60000) quiet
-
--- the length of the next pause, in milliseconds: twice the last pause, up to a minute, or the last pause itself if no try is
--- taken (`is_spared`); but never below the quiet time. So it is the quiet time if the last pause counts as 0 (`pause`)
+-- the length of the next pause, in milliseconds: that of `pause_doubled`, or the last pause itself if no try is taken (`is_spared`), but
+-- never below the quiet time
 abbrev pub pause_again : Plan → Cause → Progress → ℕ
 pause_again plan why p =
-    if is_spared plan why p then max p.pause plan.quiet
-    else pause_within plan.quiet (later p.pause p.pause)
+    if is_spared plan why p then max p.exchange.pause plan.quiet
+    else (exchange.pause_doubled plan.quiet p.exchange).pause
+
+-- the progress once the pause has the length of the next one (`pause_again`)
+abbrev pub pause_lengthened : Plan → Cause → Progress → Progress
+pause_lengthened plan why p = with_exchange (λ x. record x { pause = pause_again plan why p }) p
 
 -- the number of the next attempt of the setup: one more than the last one's, if something of that was sent; else the same
 abbrev pub next_attempt : Progress → ℕ
@@ -226,44 +213,31 @@ abbrev pub after_failure : Plan → (count : ℕ) → Cause → Progress → Pro
 after_failure plan count why p =
     setup_restarted plan (record p {
       phase = phase_again plan count why p;
+      exchange = (pause_lengthened plan why p).exchange;
       clock_due = true;
       tries = if is_spared plan why p then p.tries else p.tries - 1;
-      pause = pause_again plan why p;
       chain_unbroken = false;
     })
 
 -- the progress after the line feed of a new connection was sent: the connection is drained next, unless a synchronization goes
 -- on with it
 abbrev pub cleared : Progress → Progress
-cleared p = record p { phase = if has_begun p then phase.Draining else phase.Ready; again = 0; asked = false; clock_due = true }
+cleared p = record p { phase = if has_begun p then phase.Draining else phase.Ready; exchange = exchange.cleared p.exchange; clock_due = true }
 
--- one more than `n`, but `n` itself if it is `WINDOW`, the number of requests that can be outstanding, or more
-abbrev pub one_more_in_window : ℕ → ℕ
-one_more_in_window n = if nat_lt n WINDOW then n + 1 else n
-
--- the progress after a request was sent. `behind` counts the requests that were sent after the last call of the table that a reply
--- ended, at most `WINDOW`; it is `WINDOW` if a reply ended none since the synchronization. If `asked` is false, this is the first
--- request since a reply line, a new connection or a resynchronization between two cycles, and the time after which the line is dead
--- begins now (`alive`). The clock is to be read next
+-- the progress after a request was sent. The clock is to be read next
 abbrev pub request_noted : Progress → Progress
-request_noted p = record p {
-  alive = if p.asked then p.alive else p.moment.elapsed;
-  asked = true;
-  clock_due = true;
-  behind = one_more_in_window p.behind;
-}
+request_noted p = record p { exchange = exchange.request_noted p.moment.elapsed p.exchange; clock_due = true }
 
 -- the progress after the null procedure of the first id that isn't answered was sent: it is sent again at its deadline
 abbrev pub null_sent : Plan → Progress → Progress
-null_sent plan p = let q = request_noted p in record q { again = later p.moment.elapsed plan.deadline }
+null_sent plan p = record p { exchange = exchange.null_noted p.moment.elapsed plan.deadline p.exchange; clock_due = true }
 
--- the progress of a station that resynchronizes at this moment: no null procedure is answered, no chain goes on, and the setup
--- is sent again. `behind` is `WINDOW`, since the client is new: no command is sent before a reply has ended a null procedure of it.
--- If nothing is sent before the next cycle is due, the time after which the line is dead begins with the first null procedure
+-- the progress of a station that resynchronizes at this moment: no chain goes on, and the setup is sent again. If nothing is sent before
+-- the next cycle is due, the time after which the line is dead begins with the first null procedure
 abbrev pub resynchronized : Plan → Moment → Progress → Progress
 resynchronized plan m p =
     let q = moment_noted_meanwhile m p in
-    setup_restarted plan (record q { word = the_word; again = 0; asked = p.asked && goes_on plan q; chain_unbroken = false; behind = WINDOW; last_ended = 1; doubtful = false })
+    setup_restarted plan (record q { exchange = exchange.renewed (p.exchange.asked && goes_on plan q) q.exchange; chain_unbroken = false })
 
 -- the progress after the cycle's next command was sent. `next` is noted of the one after it
 abbrev pub sent : (next : Upcoming) → Progress → Progress
@@ -273,42 +247,31 @@ sent next p = advanced 1 next true (request_noted p)
 abbrev pub setup_sent : Plan → Progress → Progress
 setup_sent plan p = let q = request_noted p in record q { prepared = min (p.prepared + 1) plan.setup; chain_unbroken = false }
 
--- the progress after a line was heard. If it is a reply (`is_reply`), it shows that the other end is alive; any other line
--- changes nothing
+-- the progress after a line was heard, which is a reply (`is_reply`) or isn't
 abbrev pub line_noted : (is_reply : Bool) → Progress → Progress
-line_noted is_reply p = record p { alive = if is_reply then p.moment.elapsed else p.alive; asked = if is_reply then false else p.asked }
+line_noted is_reply p = with_exchange (exchange.line_noted p.moment.elapsed is_reply) p
 
 -- the progress once a line was heard after which `waiting` requests are outstanding. `of_table`: it settled requests, and the
--- last of them, to which it is the reply, is a call of the table. Then the outstanding requests are those sent after that call
+-- last of them, to which it is the reply, is a call of the table
 abbrev pub behind_noted : (of_table : Bool) (waiting : ℕ) → Progress → Progress
-behind_noted of_table waiting p = record p { behind = if of_table then waiting else p.behind }
-
--- how many requests the last line ended that ended any, once a line came that ended `more`; `last` before it
-abbrev pub ended_last : (more last : ℕ) → ℕ
-ended_last more last = if nat_lt 0 more then more else last
+behind_noted of_table waiting p = with_exchange (exchange.behind_noted of_table waiting) p
 
 -- the progress once a line was heard that ended `more` requests
 abbrev pub ended_noted : (more : ℕ) → Progress → Progress
-ended_noted more p = record p { last_ended = ended_last more p.last_ended }
+ended_noted more p = with_exchange (exchange.ended_noted more) p
 
 -- the progress once a line came that called for a synchronization, or not (`raised`): the station is in doubt until it resynchronizes
 abbrev pub doubt_noted : (raised : Bool) → Progress → Progress
-doubt_noted raised p = record p { doubtful = p.doubtful || raised }
+doubt_noted raised p = with_exchange (exchange.doubt_noted raised) p
 
 -- the progress once a line came in which busy answers call for a wait, of `wait` milliseconds at most from the moment read last on, or none
--- does (0): the station asks for nothing until then (`hold`), and is in doubt until it resynchronizes
+-- does (0): the station asks for nothing until then, and is in doubt until it resynchronizes
 abbrev pub hold_noted : (wait : ℕ) → Progress → Progress
-hold_noted wait p = record p {
-  doubtful = p.doubtful || nat_lt 0 wait;
-  hold = if nat_lt 0 wait then max p.hold (later p.moment.elapsed wait) else p.hold;
-}
+hold_noted wait p = with_exchange (exchange.hold_noted p.moment.elapsed wait) p
 
--- the progress after `line` was heard while the station synchronizes: if the line's id is that of the first null procedure that
--- is left, that one is answered, and the next one, if there is one, is sent at once
+-- the progress after `line` was heard while the station synchronizes
 abbrev pub line_synchronizing : Progress → List ℕ → Progress
-line_synchronizing p line =
-    let id = heard line in
-    line_noted (is_reply line) (record p { word = left_by p.word id; again = if is_answered p.word id then 0 else p.again })
+line_synchronizing p line = with_exchange (λ x. exchange.line_synchronizing p.moment.elapsed x line) p
 
 -- the progress after these lines were heard while the station synchronizes, in order
 abbrev pub lines_synchronizing : Progress → List (List ℕ) → Progress
@@ -331,19 +294,19 @@ gives_back before after p = nat_lt after.commands before && not p.preparing
 -- is the quiet time
 abbrev pub bytes_noted : Plan → Until → (before : ℕ) (after : Waiting) → Progress → Progress
 bytes_noted plan until before after p = record p {
+  exchange = record p.exchange { pause = if gives_back before after p then 0 else p.exchange.pause };
   early = early_after until p.early;
   tries = if gives_back before after p then plan.retries else p.tries;
-  pause = if gives_back before after p then 0 else p.pause;
 }
 
 -- the progress of a station that pauses, after a read that gave nothing: if the pause was long enough and a connection is
 -- wanted, the next action connects
 abbrev pub pause_ended : Plan → Progress → Progress
-pause_ended plan p = record p { phase = if is_past p.pause p && not (is_idle plan p) then phase.Down else p.phase }
+pause_ended plan p = record p { phase = if is_past p.exchange.pause p && not (is_idle plan p) then phase.Down else p.phase }
 
 -- the progress after a new connection was drained, because it was quiet: requests may be sent
 abbrev pub drained : Progress → Progress
-drained p = record p { phase = phase.Ready; alive = p.moment.elapsed; asked = false }
+drained p = record p { phase = phase.Ready; exchange = exchange.drained p.moment.elapsed p.exchange }
 
 -- the progress after a read that gave nothing: a pause, or a draining, that was long enough ends. The phase is `p.phase`: it is
 -- passed beside `p` so that the definition can match on it
@@ -352,11 +315,10 @@ quieted plan phase.Pausing p = pause_ended plan p
 quieted plan phase.Draining p = if is_quiet plan p then drained p else p
 quieted plan _ p = p
 
--- the progress once the moment `m` was read by a read that gave nothing and ended as `until` says: as `moment_noted`, but the
--- quiet time goes on. If the clock went back, so that the start of the quiet time (`since`) lies after `m`, it becomes `m`. After
--- a read until the next cycle is due the cycle counts as done early (`early_after`)
+-- the progress once the moment `m` was read by a read that gave nothing and ended as `until` says: the quiet time goes on. After a read
+-- until the next cycle is due the cycle counts as done early (`early_after`)
 abbrev pub time_passed : Until → Moment → Progress → Progress
-time_passed until m p = let q = moment_noted m p in record q { since = min p.since m.elapsed; early = early_after until p.early }
+time_passed until m p = let q = moment_noted_meanwhile m p in record q { early = early_after until p.early }
 
 -- the progress after a read that gave nothing until the moment `m`
 abbrev pub silent : Plan → Until → Moment → Progress → Progress

@@ -19,13 +19,13 @@ use Rattle.gc_station.specs.Deciding.{width_of, has_begun, is_up, is_unquiet, is
 -- that the last line ended that ended any, are together fewer than the window has places; since the station synchronized no line called
 -- for another synchronization (`doubtful`); and no busy answer has it wait (`hold`)
 abbrev pub HasRoomToAsk : Plan → Progress → Waiting → Type 0
-HasRoomToAsk plan p w = (w.current < width_of plan) × (w.all + p.last_ended < WINDOW) × (p.doubtful ≡ false) × (p.hold ≡ 0)
+HasRoomToAsk plan p w = (w.current < width_of plan) × (w.all + p.exchange.last_ended < WINDOW) × (p.exchange.doubtful ≡ false) × (p.exchange.hold ≡ 0)
 
 -- another request may not be sent, though nothing is in flight that hasn't timed out: all that are outstanding, and those that the last
 -- line ended that ended any, are together as many as the window has places, or more; or since the station synchronized a line called for
 -- another synchronization; or a busy answer has it wait
 abbrev pub MayAskNoMore : Progress → Waiting → Type 0
-MayAskNoMore p w = (WINDOW ≤ w.all + p.last_ended) ⊎ ((p.doubtful ≡ true) ⊎ (0 < p.hold))
+MayAskNoMore p w = (WINDOW ≤ w.all + p.exchange.last_ended) ⊎ ((p.exchange.doubtful ≡ true) ⊎ (0 < p.exchange.hold))
 
 -- no further command may be sent before those that were sent are settled: no command of the cycle is left, or the next one waits
 -- for the answer of the one before it in its chain, or begins a further attempt of its chain, or a value that it takes of a file isn't there
@@ -93,7 +93,7 @@ IsReadyOrOverdue plan p w = (p.phase ≡ phase.Ready) ⊎ IsOverdue plan p w
 -- of the run was asked for, and the station is between two chains; or the cycle is out of time
 abbrev pub WaitsForWhatIsInFlight : Plan → Progress → Waiting → Type 0
 WaitsForWhatIsInFlight plan p w =
-    (AwaitsSettlements plan p w × (0 < w.commands)) ⊎ ((WINDOW ≤ p.behind) ⊎ (((p.stops ≡ true) × IsBetweenChains p) ⊎ IsOutOfTime plan p))
+    (AwaitsSettlements plan p w × (0 < w.commands)) ⊎ ((WINDOW ≤ p.exchange.behind) ⊎ (((p.stops ≡ true) × IsBetweenChains p) ⊎ IsOutOfTime plan p))
 
 -- no command may be sent: there is no room for a request (`HasRoomToAsk`); or the station waits for what is in flight
 abbrev pub NothingMayGo : Plan → Progress → Waiting → Type 0
@@ -119,7 +119,7 @@ MayRetry p w = (p.next_others ≡ 0) ⊎ ((w.commands ≡ 0) × (w.listed ≡ tr
 -- be sent, and none of the last seven requests is a call of the table that a reply ended
 abbrev pub WantsNull : Plan → Progress → Waiting → Type 0
 WantsNull plan p w =
-    (AwaitsSettlements plan p w × (0 < w.commands)) ⊎ ((((0 < p.unsent) × MayGo p w) ⊎ MayPrepare plan p w) × (WINDOW ≤ p.behind))
+    (AwaitsSettlements plan p w × (0 < w.commands)) ⊎ ((((0 < p.unsent) × MayGo p w) ⊎ MayPrepare plan p w) × (WINDOW ≤ p.exchange.behind))
 
 -- no command of any cycle is left to be sent, and none is outstanding: `count` is how many are outstanding
 abbrev pub IsFinished : (count : ℕ) → Progress → Type 0
@@ -131,7 +131,7 @@ IsFinished count p = (p.left ≡ 0) × (p.unsent ≡ 0) × (count ≡ 0)
 abbrev pub IsAtItsEnd : Plan → Progress → Waiting → Cause → Type 0
 IsAtItsEnd plan p w Done = IsFinished w.commands p
 -- the line is silent, and each request has timed out, a null procedure of the synchronization too
-IsAtItsEnd plan p w Dead = (is_silent plan p w ≡ true) × (w.current ≡ 0) × ((has_begun p ≡ false) → p.again ≤ p.moment.elapsed)
+IsAtItsEnd plan p w Dead = (is_silent plan p w ≡ true) × (w.current ≡ 0) × ((has_begun p ≡ false) → p.exchange.again ≤ p.moment.elapsed)
 -- the last command of the setup that was sent is settled, and wasn't answered well
 IsAtItsEnd plan p w SetUp = (is_preparing plan p w ≡ true) × (0 < p.prepared) × (w.commands ≡ 0) × (w.well ≡ false)
 IsAtItsEnd plan p w Turns = p.turns ≡ 0
@@ -157,7 +157,7 @@ AwaitsDueMoment plan p w =
 -- a station never prepares one: by the law `a_read_awaits_something` it never occurs
 abbrev pub AwaitsReply : Plan → Progress → Waiting → Type 0
 AwaitsReply plan p w =
-    ((has_begun p ≡ false) × ((0 < p.hold) ⊎ (p.moment.elapsed < p.again)))
+    ((has_begun p ≡ false) × ((0 < p.exchange.hold) ⊎ (p.moment.elapsed < p.exchange.again)))
     ⊎ ((NothingMayGo plan p w × (0 < w.current)) ⊎ ((is_preparing plan p w ≡ true) × (plan.setup ≡ 0)))
 
 -- what a read waits for: the end of a pause, or of a draining; a reply (`AwaitsReply`); or the next due moment (`AwaitsDueMoment`)
@@ -180,16 +180,16 @@ HoldsBefore plan p w action.Open = p.phase ≡ phase.Down
 HoldsBefore plan p w action.Clear = p.phase ≡ phase.Clearing
 -- the null procedure of a synchronization is sent, and again at its deadline, unless the cycle is done and the next isn't due, or a busy
 -- answer has the station wait
-HoldsBefore plan p w action.Ask = (p.phase ≡ phase.Ready) × (has_begun p ≡ false) × (p.again ≤ p.moment.elapsed) × (is_idle plan p ≡ false)
-    × (is_dead plan p w ≡ false) × (p.hold ≡ 0)
+HoldsBefore plan p w action.Ask = (p.phase ≡ phase.Ready) × (has_begun p ≡ false) × (p.exchange.again ≤ p.moment.elapsed) × (is_idle plan p ≡ false)
+    × (is_dead plan p w ≡ false) × (p.exchange.hold ≡ 0)
 -- no command of the setup is sent if the end of the run was asked for
 HoldsBefore plan p w action.Prepare =
-    (p.phase ≡ phase.Ready) × (has_begun p ≡ true) × MayPrepare plan p w × HasRoomToAsk plan p w × (p.behind < WINDOW) × (p.stops ≡ false)
+    (p.phase ≡ phase.Ready) × (has_begun p ≡ true) × MayPrepare plan p w × HasRoomToAsk plan p w × (p.exchange.behind < WINDOW) × (p.stops ≡ false)
     × (is_dead plan p w ≡ false)
 -- a command of a cycle has its turn only once the setup is done, and is sent only if it doesn't rest, and the values that it takes of files
 -- are there
 HoldsBefore plan p w action.Send =
-    (p.phase ≡ phase.Ready) × (has_begun p ≡ true) × (0 < p.unsent) × HasRoomToAsk plan p w × MayGo p w × (p.behind < WINDOW) × MayRetry p w
+    (p.phase ≡ phase.Ready) × (has_begun p ≡ true) × (0 < p.unsent) × HasRoomToAsk plan p w × MayGo p w × (p.exchange.behind < WINDOW) × MayRetry p w
     × StaysInItsChain p × (is_preparing plan p w ≡ false) × (is_dead plan p w ≡ false) × (lacks_value p ≡ false) × IsInItsTurn p
 HoldsBefore plan p w action.Skip =
     IsReadyOrOverdue plan p w × ((has_begun p ≡ true) ⊎ IsOverdue plan p w) × (0 < p.unsent) × (w.commands ≡ 0)

@@ -12,4 +12,4 @@ abbrev pub RequestsHaveRoom : Type 0
 RequestsHaveRoom = OfAnyActs (λ plan commands scope acts.
     let s = state_after plan commands scope acts in
     IsAsking (action_at plan s)
-    → ((length (deadlines s.client.waiting) ≡ 0) ⊎ (length (deadlines s.client.waiting) < plan.width)) × (length s.client.waiting + s.progress.last_ended < WINDOW))
+    → ((length (deadlines s.client.waiting) ≡ 0) ⊎ (length (deadlines s.client.waiting) < plan.width)) × (length s.client.waiting + s.progress.exchange.last_ended < WINDOW))

@@ -5,20 +5,21 @@ use Rattle.std.specs.List.{AllByRecursion}
 use Rattle.std.specs.Option.{option_map_or}
 use Rattle.gc_client.specs.Rule.{deadlines}
 use Rattle.gc_texts.specs.declared.tasks.Task.{Task}
+use Rattle.gc_session.specs.Lines.{is_reply}
 use Rattle.gc_station.specs.declared.plan.Plan.{Plan}
 use Rattle.gc_links.specs.Acts.{Act, Put, Gave}
 use Rattle.gc_station.specs.ActKinds.{moment_in}
 use Rattle.gc_station.specs.Deciding.{has_begun}
 use Rattle.gc_station.specs.Quiet.{TellsMoment, IsListening, StaysConnected}
 use Rattle.gc_station.specs.Runs.{state_after}
-use Rattle.gc_station.specs.Model.{Model, is_reply, lines_completed, after}
+use Rattle.gc_station.specs.Model.{Model, lines_completed, after}
 use Rattle.gc_station.specs.Scopes.{Scope}
 
 -- for a station with the model `s`, each outstanding request has timed out; and while the station synchronizes, so has the null
 -- procedure that was sent last
 abbrev pub HasAllTimedOut : Model → Type 0
 HasAllTimedOut s =
-    (deadlines s.client.waiting ≡ []) × (has_begun s.progress ≡ false → s.progress.again ≤ s.progress.moment.elapsed)
+    (deadlines s.client.waiting ≡ []) × (has_begun s.progress ≡ false → s.progress.exchange.again ≤ s.progress.moment.elapsed)
 
 -- the moment that these acts read last; `now` if they read none
 abbrev pub latest : (now : ℕ) → List Act → ℕ

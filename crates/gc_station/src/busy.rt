@@ -4,10 +4,7 @@
 
 ghost use Rattle.std.specs.Prelude.{◌≡◌};
 ghost use Rattle.gc_station.specs.Busy.{says_busy, wait_for, busy_after};
-ghost use Rattle.gc_station.specs.Progressing.{hold_noted, hold_left};
 
-use crate::progress::Progress;
-use crate::progressing::later;
 use gc_texts::Expected;
 
 // Whether this return code of an answer says that the instrument is busy.
@@ -38,25 +35,5 @@ pub(crate) fn busy_after(longest: u64, expected: &Expected, code: Option<u16>) -
             }
         }
         None => longest,
-    }
-}
-
-// What is left of a hold at a moment: none once that is reached.
-pub(crate) fn hold_left(hold: u64, moment: u64) -> u64
-    ensures { result ≡ hold_left hold moment }
-{
-    if moment < hold { hold } else { 0 }
-}
-
-impl Progress {
-    // Notes the longest wait that busy answers in a line call for, from the last moment read on; 0 if none does. Besides, a
-    // synchronization is called for, as by `note_doubt`.
-    pub(crate) fn note_busy(&mut self, wait: u64)
-        ensures { self.new ≡ hold_noted wait self.old }
-    {
-        if wait > 0 {
-            self.doubtful = true;
-            self.hold = self.hold.max(later(self.moment.elapsed, wait));
-        }
     }
 }

@@ -71,31 +71,20 @@
 //! follows, and without a connection `Over`.
 
 ghost use Rattle.std.specs.Prelude.{◌≡◌};
-ghost use Rattle.gc_station.specs.Deciding.{is_silent, is_dead, goes_on, is_finished, has_room_to_ask, lacks_value, may_ask, may_go, waits_for_all, action_again, action_of, action_on, action_ready, action_begun, action_beginning, action_to_send, action_room, action_flush, action_held, action_settled, action_done, action_waiting, is_stale, is_between_chains, is_cut, is_resting, is_stopping, is_held_back, action_cycle, action_to_prepare, action_preparing, action_in_setup, is_preparing, action_draining};
+ghost use Rattle.gc_station.specs.Deciding.{is_dead, goes_on, is_finished, has_room_to_ask, lacks_value, may_go, waits_for_all, action_again, action_of, action_on, action_ready, action_begun, action_beginning, action_to_send, action_room, action_flush, action_held, action_settled, action_done, action_waiting, is_stale, is_between_chains, is_cut, is_resting, is_stopping, is_held_back, action_cycle, action_to_prepare, action_preparing, action_in_setup, is_preparing, action_draining};
 
 use crate::cause::Cause;
 use crate::plan::Plan;
 use crate::progress::{Action, Phase, Progress, Until, Waiting, dead_after, width};
-use gc_client::WINDOW;
 
 impl Progress {
-    // Whether the line is silent: a request was sent on this connection, and since then no reply line came (`asked`); a request is
-    // outstanding, or the null procedure of the first id that isn't answered was sent on this connection (`again`); and `dead_after`
-    // has passed since `alive`.
-    fn is_silent(&self, plan: &Plan, waiting: Waiting) -> bool
-        ensures { result ≡ is_silent plan.now self.now waiting }
-    {
-        self.asked
-            && (waiting.all > 0 || self.again > 0)
-            && dead_after(plan) <= self.moment.elapsed.saturating_sub(self.alive)
-    }
-
-    // Whether the line is dead: it is silent, and all outstanding requests have timed out. A request that was just sent still has
-    // its deadline, so that the close loses no reply in time.
+    // Whether the line is dead: it is silent, and all outstanding requests have timed out.
     fn is_dead(&self, plan: &Plan, waiting: Waiting) -> bool
         ensures { result ≡ is_dead plan.now self.now waiting }
     {
-        waiting.current == 0 && self.is_silent(plan, waiting)
+        let now = self.moment.elapsed;
+        self.exchange
+            .is_dead(dead_after(plan), now, waiting.all, waiting.current)
     }
 
     // Whether no answer of a good quality was recorded for as long as the plan allows; `false` if it sets no limit (`stale` is 0).
@@ -232,14 +221,6 @@ impl Progress {
         self.left == 0 && self.unsent == 0 && count == 0
     }
 
-    // Whether the null procedure of the first id that isn't answered may be sent: no busy answer has the station wait (`hold`), and the
-    // deadline of the null procedure that was sent last has come.
-    fn may_ask(&self) -> bool
-        ensures { result ≡ may_ask self.now }
-    {
-        self.hold == 0 && self.again <= self.moment.elapsed
-    }
-
     // The next action while the station synchronizes: to send the null procedure of the first id that isn't answered, for the first
     // time or again at its deadline, and to read until then, and until the wait after a busy answer is over. Nothing is sent if no
     // command is left to be sent and none is outstanding (the connection is closed: the run is done), nor between cycles (it reads
@@ -252,7 +233,7 @@ impl Progress {
             Action::Close(Cause::Done)
         } else if self.is_idle(plan) {
             Action::Read(Until::Due)
-        } else if !self.may_ask() {
+        } else if !self.exchange.may_ask(self.moment.elapsed) {
             Action::Read(Until::Limit)
         } else if self.is_dead(plan, waiting) {
             Action::Close(Cause::Dead)
@@ -262,13 +243,12 @@ impl Progress {
     }
 
     // The next action when the next command may be sent, of a cycle (`action` is `Send`) or of the setup (`Prepare`): that of
-    // `action_room`, if one of the seven requests before it is a call of the table that a reply ended (`behind`). Else that of
-    // `action_flush`, since a null procedure has to be sent first: an instrument that retains the reply to its last call of the
-    // table may still send that reply for the next id. So it is after each synchronization, of which a reply may still come, too.
+    // `action_room`, if one of the seven requests before it is a call of the table that a reply ended. Else, as after each
+    // synchronization, that of `action_flush`, since a null procedure has to be sent first.
     fn action_to_send(&self, plan: &Plan, waiting: Waiting, action: Action) -> Action
         ensures { result ≡ action_to_send plan.now self.now waiting action }
     {
-        if self.behind < WINDOW {
+        if self.exchange.is_near() {
             self.action_room(plan, waiting, action)
         } else {
             self.action_flush(plan, waiting)
@@ -440,19 +420,14 @@ impl Progress {
         }
     }
 
-    // Whether another request may be sent: fewer that haven't timed out are in flight than `width` allows; all that are outstanding,
-    // and those that the last line ended that ended any, are together fewer than the window has places; no line called for a
-    // synchronization (`doubtful`); and no busy answer has the station wait (`hold`). So the station holds back: a damaged line that
-    // ended several requests has it send no request whose id a reply that is still in flight might have. And once a stray shows that a
-    // line was altered, a sign-on that the instrument was switched on or off, or an unexpected answer that it isn't as the text takes
-    // it to be, nothing is sent before the next synchronization.
+    // Whether another request may be sent, of which fewer than `width` allows are in flight that haven't timed out. Once a stray shows that
+    // a line was altered, a sign-on that the instrument was switched on or off, or an unexpected answer that it isn't as the text takes it
+    // to be, nothing is sent before the next synchronization; and after a busy answer nothing before the wait is over.
     fn has_room_to_ask(&self, plan: &Plan, waiting: Waiting) -> bool
         ensures { result ≡ has_room_to_ask plan.now self.now waiting }
     {
-        waiting.current < usize::from(width(plan))
-            && waiting.all.saturating_add(self.last_ended) < WINDOW
-            && !self.doubtful
-            && self.hold == 0
+        let (all, current) = (waiting.all, waiting.current);
+        self.exchange.has_room(width(plan), all, current)
     }
 
     // `action`, which sends a request, if there is room for one and the line isn't dead; otherwise the action of a station that

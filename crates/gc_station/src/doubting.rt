@@ -4,36 +4,13 @@
 //! (`has_room_to_ask` of `deciding.rt`), after which the setup comes first.
 
 ghost use Rattle.std.specs.Prelude.{◌≡◌, false};
-ghost use Rattle.gc_station.specs.Lines.{calls_for_renewal, raises_doubt};
+ghost use Rattle.gc_session.specs.Lines.{calls_for_renewal};
 ghost use Rattle.gc_station.specs.Progressing.{doubt_noted};
 
 use crate::book::Book;
-use crate::progress::Progress;
 use crate::station::Station;
-use gc_catalogue::Asked;
-use gc_client::{Client, SlotsOf};
-use gc_lines::read_reply;
-use gc_texts::{is_impossible, is_sign_on};
-
-// Whether a line raises a doubt, as this client hears it: it is a reply with an id, and a stray that can't repeat the one that settled
-// last.
-fn raises_doubt(client: &Client<SlotsOf<Asked>>, line: &[u8]) -> bool
-    ensures { result ≡ raises_doubt client.now.ids line.now }
-{
-    match read_reply(line) {
-        Ok(reply) => is_impossible(client.next_id(), client.waiting(), reply.id),
-        Err(_) => false,
-    }
-}
-
-impl Progress {
-    // Notes whether a line that came called for a synchronization, which stays noted until the station resynchronizes.
-    pub(crate) fn note_doubt(&mut self, raised: bool)
-        ensures { self.new ≡ doubt_noted raised self.old }
-    {
-        self.doubtful = self.doubtful || raised;
-    }
-}
+use gc_session::raises_doubt;
+use gc_texts::is_sign_on;
 
 impl Station {
     // Notes whether a line that its client is about to hear raises a doubt, of which it tells the book, or has a sign-on in it; and that no
@@ -49,11 +26,11 @@ impl Station {
     {
         let raised = raises_doubt(&self.client, line);
         let starts = is_sign_on(line);
-        self.progress.note_doubt(raised || starts);
+        self.progress.exchange.note_doubt(raised || starts);
         self.recorded.unexpected = false;
         self.recorded.busy = 0;
         if raised {
-            book.doubts(self.progress.last_ended);
+            book.doubts(self.progress.exchange.last_ended);
         }
     }
 }

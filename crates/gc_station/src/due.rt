@@ -9,8 +9,8 @@ ghost use Rattle.gc_station.specs.Progressing.{next_period, regular_period};
 
 use crate::plan::Plan;
 use crate::progress::Progress;
-use crate::progressing::later;
 use gc_links::Moment;
+use gc_session::later;
 
 /// Whether a command that has its turn in one of every `every` cycles, from cycle 1 on, has it in this cycle.
 pub fn is_turn(cycle: u64, every: u64) -> bool

@@ -16,8 +16,8 @@ use crate::book::{Book, LinkHealth};
 use crate::cause::Cause;
 use crate::plan::Plan;
 use crate::progress::{Action, Phase, Progress, Until};
-use crate::progressing::later;
 use crate::station::Station;
+use gc_session::later;
 
 // The moment from which on the run is stale, if no answer of a good quality is recorded until then of the watched command that had none
 // the longest; `u64::MAX` if it never is. `fresh` is when that command was recorded last as answered well.
@@ -52,7 +52,7 @@ impl Progress {
     fn retry_at(&self, plan: &Plan) -> u64
         ensures { result ≡ retry_at plan.now self.now }
     {
-        let retry = later(self.since, self.pause);
+        let retry = later(self.exchange.since, self.exchange.pause);
         if self.is_idle(plan) {
             retry.max(self.due_at())
         } else {
@@ -69,12 +69,12 @@ impl Progress {
     {
         match self.phase {
             Phase::Pausing => self.retry_at(plan),
-            Phase::Draining => later(self.since, plan.quiet),
+            Phase::Draining => later(self.exchange.since, plan.quiet),
             _ => {
                 if self.has_begun() {
                     u64::MAX
                 } else {
-                    self.again.max(self.hold)
+                    self.exchange.again.max(self.exchange.hold)
                 }
             }
         }
@@ -172,7 +172,7 @@ impl Station {
             Phase::Down | Phase::Pausing if self.progress.is_idle(plan) => LinkHealth::Idle,
             Phase::Down | Phase::Pausing => LinkHealth::Unconnected,
             Phase::Clearing | Phase::Draining => LinkHealth::Unquiet,
-            _ if self.progress.asked => LinkHealth::Unheard,
+            _ if self.progress.exchange.asked => LinkHealth::Unheard,
             Phase::Ready if self.progress.has_begun() && self.is_done() => LinkHealth::Idle,
             _ => LinkHealth::Fine,
         }

@@ -1,16 +1,15 @@
 //! Progress: how far a station is. What it does next is decided in `deciding.rt`, by looking at nothing else.
 
 ghost use Rattle.std.specs.Prelude.{◌≡◌};
-ghost use Rattle.gc_station.specs.Deciding.{width_of, is_up, is_unquiet, may_abandon, is_past, is_quiet, has_begun, dead_after};
+ghost use Rattle.gc_station.specs.Deciding.{width_of, is_up, is_unquiet, may_abandon, is_quiet, has_begun, dead_after};
 ghost use Rattle.gc_station.specs.Keeping.{reads_clock_alone};
 ghost use Rattle.gc_station.specs.Progressing.{at_start};
 ghost use Rattle.gc_station.specs.Model.{is_heard};
 
 use crate::cause::Cause;
 use crate::plan::Plan;
-use crate::progressing::later;
-use gc_client::{Beginning, WINDOW};
 use gc_links::Moment;
+use gc_session::{Exchange, later};
 use gc_texts::Needs;
 use gc_values::no_values;
 
@@ -108,35 +107,21 @@ pub(crate) struct Upcoming {
     pub needs: Needs,
 }
 
-/// How far a station is: its phase, the last moment read, and where it is in its synchronization, its setup, its cycles and its
-/// tries. Moments are by the clock for deadlines, and times in milliseconds, unless a field says otherwise. A moment is 0 as
-/// long as there is none yet. `again` and `asked` are of the last connection until a new one is cleared.
+/// How far a station is: its phase, its exchange with the instrument, the last moment read, and where it is in its setup, its cycles and
+/// its tries. Moments are by the clock for deadlines, and times in milliseconds, unless a field says otherwise. A moment is 0 as long as
+/// there is none yet.
 #[derive(Drop)]
 pub(crate) struct Progress {
     pub phase: Phase,
-    /// Which null procedures of the synchronization are answered. Once all are, the station has synchronized.
-    pub word: Beginning,
-    /// The deadline of the null procedure of the first id that isn't answered, if that was sent on this connection: then it is
-    /// sent again. Else 0.
-    pub again: u64,
-    /// The moment until which the station asks for nothing, because the instrument said that it is busy: of several the latest. 0: there
-    /// is none, or a moment was read at which it was reached.
-    pub hold: u64,
+    /// How far its exchange with the instrument is: the synchronization, and when a request may be sent. What it notes of a connection is of
+    /// the last one until a new one is cleared. A resynchronization between two cycles counts as if no request had been sent since the last
+    /// reply line; and its pause counts as 0 once all tries were given back (`note_bytes`).
+    pub exchange: Exchange,
     /// Whether the clock is to be read next: something was sent, or a connection was closed or couldn't be made, since `moment`
     /// was read.
     pub clock_due: bool,
     /// The last moment read on the link.
     pub moment: Moment,
-    /// From when a pause and the quiet time count: the last moment that was read, leaving out reads that gave nothing; or an
-    /// earlier one if the clock went back past it since.
-    pub since: u64,
-    /// From when a dead line counts. It is the latest of the moments of: the last reply line; the first request after that line,
-    /// on this connection, or after a resynchronization between two cycles; and the end of the last draining. It is an earlier one
-    /// if the clock went back past it since.
-    pub alive: u64,
-    /// Whether a request was sent on this connection, and since then no reply line came and the station didn't resynchronize
-    /// between two cycles.
-    pub asked: bool,
     /// The moment that counts as the beginning of the cycle: its due moment, or the one at which it began if it has none, or the
     /// first began before it was due; an earlier one if the clock went back past it since. 0 before the first cycle.
     pub began: u64,
@@ -167,21 +152,8 @@ pub(crate) struct Progress {
     pub chain_unbroken: bool,
     /// How many tries to reconnect are left.
     pub tries: u32,
-    /// The length of the current pause, or of the last one. 0: there was none yet, or all tries were given back since
-    /// (`note_bytes`), or the quiet time is 0.
-    pub pause: u64,
     /// How many turns are left: each act takes one.
     pub turns: u64,
-    /// How many requests were sent after the last call of the table that a reply ended, answered or late. Seven if they are more,
-    /// or if a reply ended no call of the table since the synchronization: so the first request after it is a null procedure.
-    pub behind: usize,
-    /// How many requests the last line ended that ended any, since the station synchronized; 1 if none did.
-    pub last_ended: usize,
-    /// Whether since the station synchronized a line came that calls for another synchronization: a stray that can't repeat the reply that
-    /// settled last, so that a line was altered; one with a sign-on in it, so that the instrument was switched on or off; or a reply whose
-    /// values aren't as the text expects them, so that the instrument isn't as the text takes it to be; or a busy answer, so that the reply
-    /// may still come. Then nothing is sent before that.
-    pub doubtful: bool,
     /// Whether there is a setup, and since the connection was made and the station synchronized no command of a cycle was sent, and, once
     /// something of the setup was sent, no cycle began, and no command of one was recorded without being sent, or left out.
     pub preparing: bool,
@@ -288,16 +260,13 @@ impl Phase {
 }
 
 impl Progress {
-    // The progress of a station that has done nothing: no null procedure of its synchronization is answered, and no call of the
-    // table is ended by a reply (`behind`).
+    // The progress of a station that has done nothing.
     pub(crate) fn at_start(plan: &Plan, max_turns: u64) -> Progress
         ensures { result ≡ at_start plan.now max_turns }
     {
         Progress {
             phase: Phase::Down,
-            word: Beginning::new(),
-            again: 0,
-            hold: 0,
+            exchange: Exchange::new(),
             clock_due: false,
             moment: Moment {
                 elapsed: 0,
@@ -306,9 +275,6 @@ impl Progress {
                 touched: 0,
                 values: no_values(),
             },
-            since: 0,
-            alive: 0,
-            asked: false,
             began: 0,
             period: plan.first.min(plan.every),
             touched: 0,
@@ -322,11 +288,7 @@ impl Progress {
             next_needs: Needs::none(),
             chain_unbroken: false,
             tries: plan.retries,
-            pause: 0,
             turns: max_turns,
-            behind: WINDOW,
-            last_ended: 1,
-            doubtful: false,
             preparing: plan.setup > 0,
             prepared: 0,
             attempt: 1,
@@ -334,24 +296,17 @@ impl Progress {
         }
     }
 
-    // Whether at least `wait` milliseconds lie between `since` and the last moment that was read.
-    pub(crate) fn is_past(&self, wait: u64) -> bool
-        ensures { result ≡ is_past wait self.now }
-    {
-        wait <= self.moment.elapsed.saturating_sub(self.since)
-    }
-
-    // Whether at least the plan's quiet time lies between `since` and the last moment that was read.
+    // Whether the line was quiet for at least the plan's quiet time by the last moment that was read.
     pub(crate) fn is_quiet(&self, plan: &Plan) -> bool
         ensures { result ≡ is_quiet plan.now self.now }
     {
-        self.is_past(plan.quiet)
+        self.exchange.is_past(plan.quiet, self.moment.elapsed)
     }
 
     // Whether the station has synchronized: each null procedure of its synchronization is answered.
     pub(crate) fn has_begun(&self) -> bool
         ensures { result ≡ has_begun self.now }
     {
-        self.word.has_begun()
+        self.exchange.has_begun()
     }
 }

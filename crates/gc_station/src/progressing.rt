@@ -1,28 +1,13 @@
 //! What each act does to how far a station is. Moments are by the clock for deadlines, and times in milliseconds, unless said otherwise.
 
-ghost use Rattle.std.specs.Prelude.{◌≡◌, ◌≤◌, ℕ, List, length};
-ghost use Rattle.gc_catalogue.specs.declared.asked.Asked.{Asked};
-ghost use Rattle.gc_client.specs.Hearing.{HearsInto};
-ghost use Rattle.gc_client.specs.Rule.{ById};
-ghost use Rattle.gc_client.specs.declared.settlement.Settlement.{Settlement};
-ghost use Rattle.gc_station.specs.Deciding.{later};
-ghost use Rattle.gc_station.specs.Progressing.{still_prepares, turned, moment_noted, moment_noted_meanwhile, cycle_start, lateness, is_missed_at, due_of, cycle_begun, advanced, unsent_at, failing, opened, is_finished, is_idle, is_spared, phase_again, pause_again, after_failure, cleared, request_noted, null_sent, resynchronized, line_synchronizing, sent, behind_noted, ended_noted, doubt_noted, line_noted, early_after, bytes_noted, pause_ended, drained, quieted, time_passed, silent, early_noted, ended_for, closed, is_over, loses_all, next_attempt, setup_restarted, setup_sent, gives_back};
-ghost use Rattle.gc_station.specs.Lines.{is_reply};
+ghost use Rattle.std.specs.Prelude.{◌≡◌, ◌≤◌, length};
+ghost use Rattle.gc_station.specs.Progressing.{still_prepares, turned, moment_set, moment_noted, moment_noted_meanwhile, cycle_start, lateness, is_missed_at, due_of, cycle_begun, advanced, unsent_at, failing, opened, is_finished, is_idle, is_spared, phase_again, pause_lengthened, after_failure, cleared, request_noted, null_sent, resynchronized, line_synchronizing, sent, early_after, bytes_noted, pause_ended, drained, quieted, time_passed, silent, early_noted, ended_for, closed, is_over, loses_all, next_attempt, setup_restarted, setup_sent, gives_back};
 
-use crate::busy::hold_left;
 use crate::cause::Cause;
 use crate::plan::Plan;
 use crate::progress::{Phase, Progress, Until, Upcoming, Waiting};
-use gc_client::{Beginning, Hearing, WINDOW};
-use gc_lines::read_reply;
 use gc_links::Moment;
-
-// The moment `wait` milliseconds after `moment`, or the greatest `u64` if there is none.
-pub(crate) fn later(moment: u64, wait: u64) -> u64
-    ensures { result ≡ later moment wait }
-{
-    moment.saturating_add(wait)
-}
+use gc_session::later;
 
 // Whether the cycle counts as done early after a read. A read `Until::Due` shows that the cycle was done early, because only
 // after a done cycle is there such a read, or before the first one is due. After any other read the cycle counts as it did before
@@ -36,24 +21,6 @@ fn early_after(until: Until, early: bool) -> bool
     }
 }
 
-// Whether a line reads as a reply.
-fn is_reply(line: &[u8]) -> bool
-    ensures { result ≡ is_reply line.now }
-{
-    read_reply(line).is_ok()
-}
-
-// Whether the line that the client heard was a reply.
-pub(crate) fn heard_reply(hearing: Hearing) -> bool
-    ensures { (old new : ById Asked) (line : List ℕ) (settlements : List (Settlement Asked)) → HearsInto old line hearing settlements new → result ≡ is_reply line }
-{
-    match hearing {
-        Hearing::Settled => true,
-        Hearing::Stray => true,
-        Hearing::Unread(_) => false,
-    }
-}
-
 impl Progress {
     // Takes one of the turns that are left. The close for used-up turns, which is made when none is left, takes none.
     pub(crate) fn take_turn(&mut self)
@@ -62,31 +29,33 @@ impl Progress {
         self.turns = self.turns.saturating_sub(1);
     }
 
-    // Notes a moment read on the link: a pause and the quiet time count from now. (After a read that gave nothing they go on, as
-    // `pass_time` notes.) Where the clock went back, the cycle is taken to have begun now at the latest, so that the next one
-    // isn't put off, and the line to have been alive now at the latest. A hold that is reached is over. If the moment asks for the
-    // end of the run, that stays asked for.
-    pub(crate) fn note_moment(&mut self, moment: Moment)
-        ensures { self.new ≡ moment_noted moment self.old }
+    // Sets the moment read last, leaving out what that changes of the exchange. Where the clock went back, the cycle is taken to have begun
+    // now at the latest, so that the next one isn't put off. If the moment asks for the end of the run, that stays asked for.
+    fn set_moment(&mut self, moment: Moment)
+        ensures { self.new ≡ moment_set moment self.old }
     {
         self.moment = moment;
-        self.since = moment.elapsed;
-        self.alive = self.alive.min(moment.elapsed);
         self.began = self.began.min(moment.elapsed);
-        self.hold = hold_left(self.hold, moment.elapsed);
         self.clock_due = false;
         self.stops = self.stops || moment.stops;
     }
 
+    // Notes a moment read on the link: a pause and the quiet time count from now. (After a read that gave nothing they go on, as
+    // `pass_time` notes.)
+    pub(crate) fn note_moment(&mut self, moment: Moment)
+        ensures { self.new ≡ moment_noted moment self.old }
+    {
+        self.set_moment(moment);
+        self.exchange.read_moment(moment.elapsed);
+    }
+
     // Notes a moment that was read to begin a cycle, to record commands or leave them out, or to resynchronize: as `note_moment` does,
-    // but a pause and the quiet time go on, as an overdue cycle is abandoned meanwhile. They count from when they did, or from this
-    // moment if the clock went back.
+    // but a pause and the quiet time go on, as an overdue cycle is abandoned meanwhile.
     pub(crate) fn note_moment_meanwhile(&mut self, moment: Moment)
         ensures { self.new ≡ moment_noted_meanwhile moment self.old }
     {
-        let since = self.since.min(moment.elapsed);
-        self.note_moment(moment);
-        self.since = since;
+        self.set_moment(moment);
+        self.exchange.pass_moment(moment.elapsed);
     }
 
     // The moment that counts as the beginning of a cycle that is begun at `moment`: that moment where cycles have no due moment;
@@ -231,15 +200,15 @@ impl Progress {
         }
     }
 
-    // The length of the next pause, in milliseconds: twice the last pause, up to a minute, or the last pause itself where no try
-    // is taken (`is_spared`); but never below the quiet time. So it is the quiet time if the last pause counts as 0 (`pause`).
-    fn pause_again(&self, plan: &Plan, cause: Cause) -> u64
-        ensures { result ≡ pause_again plan.now cause self.now }
+    // Sets the length of the next pause: twice the last one's, up to a minute, or the last pause itself where no try is taken
+    // (`is_spared`); but never below the quiet time.
+    fn lengthen_pause(&mut self, plan: &Plan, cause: Cause)
+        ensures { self.new ≡ pause_lengthened plan.now cause self.old }
     {
         if self.is_spared(plan, cause) {
-            self.pause.max(plan.quiet)
+            self.exchange.pause = self.exchange.pause.max(plan.quiet);
         } else {
-            later(self.pause, self.pause).min(60_000).max(plan.quiet)
+            self.exchange.double_pause(plan.quiet);
         }
     }
 
@@ -264,12 +233,13 @@ impl Progress {
     }
 
     // Notes that a connection was closed, or couldn't be made, with `count` commands outstanding: the phase is `phase_again`, the
-    // pause `pause_again`, and a try is taken unless the next attempt is spared. The setup, if there is one, is sent again on the next connection.
+    // pause that of `lengthen_pause`, and a try is taken unless the next attempt is spared. The setup, if there is one, is sent again on the
+    // next connection.
     pub(crate) fn note_unconnected(&mut self, plan: &Plan, count: usize, cause: Cause)
         ensures { self.new ≡ after_failure plan.now count cause self.old }
     {
         let spared = self.is_spared(plan, cause);
-        self.pause = self.pause_again(plan, cause);
+        self.lengthen_pause(plan, cause);
         self.phase = self.phase_again(plan, count, cause);
         self.clock_due = true;
         self.chain_unbroken = false;
@@ -288,62 +258,44 @@ impl Progress {
         } else {
             Phase::Ready
         };
-        self.again = 0;
-        self.asked = false;
+        self.exchange.note_cleared();
         self.clock_due = true;
     }
 
-    // Notes that a request was sent. The time after which the line is dead begins with the first request after a reply line, on a
-    // connection, or after a resynchronization between two cycles (`asked`). The request counts as one more after the last
-    // call of the table that a reply ended, up to seven.
+    // Notes that a request was sent.
     pub(crate) fn note_request(&mut self)
         ensures { self.new ≡ request_noted self.old }
     {
-        if !self.asked {
-            self.alive = self.moment.elapsed;
-        }
-        self.asked = true;
+        self.exchange.note_request(self.moment.elapsed);
         self.clock_due = true;
-        if self.behind < WINDOW {
-            self.behind += 1;
-        }
     }
 
     // Notes that the null procedure of the first id that isn't answered was sent: it is sent again at its deadline.
     pub(crate) fn note_null(&mut self, plan: &Plan)
         ensures { self.new ≡ null_sent plan.now self.old }
     {
-        self.note_request();
-        self.again = later(self.moment.elapsed, plan.deadline);
+        self.exchange.note_null(self.moment.elapsed, plan.deadline);
+        self.clock_due = true;
     }
 
-    // Notes that the station resynchronizes at this moment: no null procedure is answered, no chain goes on, and the setup is sent
-    // again. As the client is new, no command is sent before a reply has ended a null procedure of it (`behind`). If nothing is sent before the next cycle is due, the time after which the line is dead begins with the first null
-    // procedure.
+    // Notes that the station resynchronizes at this moment: no chain goes on, and the setup is sent again. If nothing is sent before the
+    // next cycle is due, the time after which the line is dead begins with the first null procedure.
     pub(crate) fn resynchronize(&mut self, plan: &Plan, moment: Moment)
         ensures { self.new ≡ resynchronized plan.now moment self.old }
     {
         self.note_moment_meanwhile(moment);
-        self.word = Beginning::new();
-        self.again = 0;
-        self.asked = self.asked && self.goes_on(plan);
+        let asked = self.exchange.asked && self.goes_on(plan);
+        self.exchange.renew(asked);
         self.chain_unbroken = false;
-        self.behind = WINDOW;
-        self.last_ended = 1;
-        self.doubtful = false;
         self.restart_setup(plan);
     }
 
-    // Hears a line, of 512 bytes at most, while the station synchronizes. If the line answers the first null procedure that is left,
-    // the next one, if there is one, is sent at once.
+    // Hears a line, of 512 bytes at most, while the station synchronizes.
     pub(crate) fn hear_synchronizing(&mut self, line: &[u8])
         requires { length line.now ≤ 512 }
         ensures { self.new ≡ line_synchronizing self.old line.now }
     {
-        if self.word.hear(line) {
-            self.again = 0;
-        }
-        self.note_line(is_reply(line));
+        self.exchange.hear_synchronizing(self.moment.elapsed, line);
     }
 
     // Notes that the cycle's next command was sent; `next` is of the command after it.
@@ -363,35 +315,6 @@ impl Progress {
         self.chain_unbroken = false;
     }
 
-    // Notes that a line was heard after which `waiting` requests are outstanding. `of_table`: it settled requests, and the last of
-    // them, to which it is the reply, is a call of the table. Then the outstanding requests are those sent after that call.
-    pub(crate) fn note_behind(&mut self, of_table: bool, waiting: usize)
-        ensures { self.new ≡ behind_noted of_table waiting self.old }
-    {
-        if of_table {
-            self.behind = waiting;
-        }
-    }
-
-    // Notes that a line was heard that ended so many requests, if it ended any.
-    pub(crate) fn note_ended(&mut self, requests: usize)
-        ensures { self.new ≡ ended_noted requests self.old }
-    {
-        if requests > 0 {
-            self.last_ended = requests;
-        }
-    }
-
-    // Notes that a line was heard. If it is a reply, it shows that the other end is alive; any other line changes nothing.
-    pub(crate) fn note_line(&mut self, is_reply: bool)
-        ensures { self.new ≡ line_noted is_reply self.old }
-    {
-        if is_reply {
-            self.alive = self.moment.elapsed;
-            self.asked = false;
-        }
-    }
-
     // Notes that a read gave bytes: `before` commands were outstanding before it, and `after` counts what is outstanding now.
     // If a command was settled, and the setup, if there is one, is over (`preparing` is false), all tries are available again, and
     // the next pause is the quiet time. `until` is what the read waited for: after `Until::Due` the cycle counts as done early.
@@ -400,7 +323,7 @@ impl Progress {
     {
         if after.commands < before && !self.preparing {
             self.tries = plan.retries;
-            self.pause = 0;
+            self.exchange.pause = 0;
         }
         self.early = early_after(until, self.early);
     }
@@ -409,7 +332,8 @@ impl Progress {
     fn end_pause(&mut self, plan: &Plan)
         ensures { self.new ≡ pause_ended plan.now self.old }
     {
-        if self.is_past(self.pause) && !self.is_idle(plan) {
+        let pause = self.exchange.pause;
+        if self.exchange.is_past(pause, self.moment.elapsed) && !self.is_idle(plan) {
             self.phase = Phase::Down;
         }
     }
@@ -419,8 +343,7 @@ impl Progress {
         ensures { self.new ≡ drained self.old }
     {
         self.phase = Phase::Ready;
-        self.alive = self.moment.elapsed;
-        self.asked = false;
+        self.exchange.end_drain(self.moment.elapsed);
     }
 
     // Ends a pause that was long enough, if a connection is wanted, or a draining in which nothing came for the quiet time. In any
@@ -439,15 +362,12 @@ impl Progress {
         }
     }
 
-    // Notes the moment after a read that gave nothing, as `note_moment` does, but a pause and the quiet time go on: they began
-    // when they did, or now where the clock went back. `until` is what the read waited for: after `Until::Due` the cycle counts
-    // as done early (`early_after`).
+    // Notes the moment after a read that gave nothing: a pause and the quiet time go on. `until` is what the read waited for: after
+    // `Until::Due` the cycle counts as done early (`early_after`).
     fn pass_time(&mut self, until: Until, moment: Moment)
         ensures { self.new ≡ time_passed until moment self.old }
     {
-        let since = self.since.min(moment.elapsed);
-        self.note_moment(moment);
-        self.since = since;
+        self.note_moment_meanwhile(moment);
         self.early = early_after(until, self.early);
     }
 

@@ -1,13 +1,12 @@
 //! Writing settlements into a book, and counting them.
 
-ghost use Rattle.std.specs.Prelude.{◌≡◌, [], ◌∷◌, length, drop, map, option_map, unwrap_or, OnOk};
+ghost use Rattle.std.specs.Prelude.{◌≡◌, [], ◌∷◌, length, drop, option_map, unwrap_or, OnOk};
 ghost use Rattle.gc_catalogue.specs.declared.asked.Asked.{Asked};
 ghost use Rattle.gc_catalogue.specs.Asked.{IsAskedReading};
-ghost use Rattle.gc_client.specs.Settlements.{settlement_seen, outcome_seen, IsReadBy, AreReadBy, ReadsBy};
+ghost use Rattle.gc_client.specs.Settlements.{outcome_seen, IsReadBy, AreReadBy, ReadsBy};
 ghost use Rattle.gc_lines.specs.Replies.{ReplyFields, IsReply};
 ghost use Rattle.gc_station.specs.Attempts.{code_in, code_of, listed_after};
 ghost use Rattle.gc_station.specs.Marks.{first_mark, agrees_in, quality_in, agreed_as, answer_as, answered_as, value_as, refused_as, end_of, is_well, ended_confirmed, unexpected_noted};
-ghost use Rattle.gc_station.specs.Model.{ends_with_table};
 ghost use Rattle.gc_station.specs.Zeros.{IsByForm, IsZeroOf};
 ghost use Rattle.gc_station.specs.Saying.{IsSaid};
 ghost use Rattle.gc_station.specs.Scopes.{AreReadings, Reads};
@@ -326,16 +325,6 @@ fn write_settlement<B: Book>(
     let code = code_of(&settlement.outcome);
     recorded.note(&mark, now, code, ending);
     Ok(())
-}
-
-// Whether the last of these settlements is of a call of the table; `false` also if there is no settlement.
-pub(crate) fn ends_with_table(settlements: &[Settlement<Asked>]) -> bool
-    ensures { result ≡ ends_with_table (map settlement_seen settlements.now) }
-{
-    match settlements.last() {
-        Some(settlement) => settlement.call.is_of_table(),
-        None => false,
-    }
 }
 
 // Writes the records of these settlements, which are those of the oldest outstanding requests, notes each in `recorded`, as

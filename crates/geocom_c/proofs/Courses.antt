@@ -16,12 +16,14 @@ use Rattle.gc_client.specs.OneForOne as one
 use Rattle.gc_client.specs.Rule.{ById, Settled, expires, fresh, heard, hears, settles_at, place_in, restarts}
 use Rattle.gc_client.proofs.OneForOne.{accounts_for_sends}
 use Rattle.gc_station.proofs.Words.{left_none}
+use Rattle.gc_session.specs.Events.{ClientEvent, Came, Stepped, AreInTurn, left_among, steps_among}
+use Rattle.gc_field.specs.ClientRuns.{ask_events}
 use Rattle.gc_field.proofs.BeginWords.{cons_not_nil}
 use Rattle.geocom_c.specs.Beginning.{left_by_restart, given, left_by_bytes, unanswered_after}
 use Rattle.geocom_c.specs.Following.{CallsReach, CallStage, first_stage, hearing_lines, left_by_call, stage_after}
 use Rattle.geocom_c.specs.Laws.{CallsAreEvents}
 use Rattle.geocom_c.specs.Rest.{lines_completed}
-use Rattle.geocom_c.specs.Steps.{ClientEvent, Came, Stepped, AreEvents, AreInTurn, ask_events, begin_events, call_events, step_events, left_among, steps_among}
+use Rattle.geocom_c.specs.Steps.{AreEvents, begin_events, call_events, step_events}
 use Rattle.geocom_c.specs.declared.following.StateCall.{StateCall}
 use Rattle.geocom_c.specs.declared.following.StateCall.TheVariants.{Send, SendRaw, Begin, Feed, Expire, Restart}
 

@@ -1,74 +1,32 @@
 -- Calls on a state over a line that damages: the library settles what the client of the field settles, and each answer is own or damaged.
-use Rattle.std.proofs.Common.{◌≡◌, ℕ, List, [], ◌∷◌, ◌++◌, drop, map, Option, Some, None, refl, sym, ◌∙◌, ap, subst, append_assoc, append-nil}
+use Rattle.std.proofs.Common.{◌≡◌, ℕ, List, [], ◌∷◌, ◌++◌, drop, map, Option, refl, sym, ◌∙◌, ap, subst, append-nil}
 use Rattle.gc_catalogue.specs.declared.asked.Asked.{Asked}
-use Rattle.gc_client.specs.Beginning.{asks as line_asked}
 use Rattle.gc_client.specs.OneForOne.{Course, begun, course}
 use Rattle.gc_instrument.specs.State.{KeptReply}
+use Rattle.gc_session.specs.Events.{Stepped, steps_among}
 use Rattle.gc_world.specs.Worlds.{of_sent}
 use Rattle.gc_field.specs.World.{Ends}
-use Rattle.gc_field.specs.Begin.{InFlight, Asks, Comes, Foreign, Reaches, Up_lose, Up_repeat, Down_lose, Down_repeat, Anew, Changes, SyncModel, SyncTurn, begins}
+use Rattle.gc_field.specs.Begin.{begins}
 use Rattle.gc_field.specs.Begun.{nulls, nulls_settled}
 use Rattle.gc_field.specs.Field as field
 use Rattle.gc_field.specs.Instrument.{AnyState, IsAnInstrument}
 use Rattle.gc_field.proofs.BegunFaithful.{begun_prefixed, prefixed_all}
+use Rattle.gc_field.proofs.Parting.{steps_in_front}
 use Rattle.gc_harm.specs.Harm.{Harm, Does, Damages, Strikes, harmed, harms}
 use Rattle.gc_harm.specs.HoldingBack.{Holding, AllMayHarmApart, MayHarmApart, holding_begun, holding_harms}
+use Rattle.gc_harm.specs.Sessions.{harm_events}
 use Rattle.gc_harm.specs.Stretch.{left_by_sync}
 use Rattle.gc_harm.specs.Stretches.{IsPossibleHarm, seen_at, seen_harms}
-use Rattle.gc_harm.specs.Synchronizing as sync
-use Rattle.gc_harm.specs.Synchronizing.{SyncHarm, WasStruck, sync_harms}
+use Rattle.gc_harm.specs.Synchronizing.{WasStruck}
 use Rattle.gc_harm.proofs.HoldingBack.{fresh_if_held_back}
 use Rattle.gc_harm.proofs.Own.{own_or_broken}
 use Rattle.gc_harm.proofs.SeenHarms.{Same, after_nulls, course_append, same_harm}
+use Rattle.gc_harm.proofs.Sessions.{none_of_harms}
 use Rattle.gc_harm.proofs.Stretch.{left_clean}
-use Rattle.geocom_c.specs.Damage.{AreCallsOver, AreHeldBack, HarmedCalls, HeldBackAnswersAreOwnOrDamaged, begun_over, harm_event, harm_events}
+use Rattle.geocom_c.specs.Damage.{AreCallsOver, AreHeldBack, HarmedCalls, HeldBackAnswersAreOwnOrDamaged, begun_over}
 use Rattle.geocom_c.specs.Following.{CallsReach, CallStage, first_stage}
-use Rattle.geocom_c.specs.Runs.{came_of, event_of}
-use Rattle.geocom_c.specs.Steps.{ClientEvent, Stepped, ask_events, steps_among}
 use Rattle.geocom_c.specs.declared.following.StateCall.{StateCall}
 use Rattle.geocom_c.proofs.Courses.{over_events}
-use Rattle.geocom_c.proofs.Parting.{steps_in_front}
-
--- Events.
-
--- a null procedure that is asked for, or none, is no step of the client
-none_of_asked : (o : Option (List ℕ)) (es : List ClientEvent) → steps_among (ask_events o ++ es) ≡ steps_among es
-none_of_asked None es = refl
-none_of_asked (Some line) es = refl
-
--- nor is a reply that comes, or none
-none_of_came : (down : List (InFlight (List ℕ))) (es : List ClientEvent) → steps_among (came_of down ++ es) ≡ steps_among es
-none_of_came [] es = refl
-none_of_came (x ∷ rest) es = refl
-
-module _ {State : Type 0} (ends : Ends State) where
-  -- a turn of a synchronization is no step of the client
-  none_of_turn : (s : SyncModel State) (t : SyncTurn State) (es : List ClientEvent) → steps_among (event_of s t ++ es) ≡ steps_among es
-  none_of_turn s Asks es = none_of_asked (line_asked s.left) es
-  none_of_turn s Comes es = none_of_came s.down es
-  none_of_turn s (Foreign line) es = refl
-  none_of_turn s Reaches es = refl
-  none_of_turn s (Up_lose k) es = refl
-  none_of_turn s (Up_repeat k) es = refl
-  none_of_turn s (Down_lose k) es = refl
-  none_of_turn s (Down_repeat k) es = refl
-  none_of_turn s Anew es = refl
-  none_of_turn s (Changes state) es = refl
-
-  -- nor is a step of one, with damage
-  none_of_harm : (s : SyncModel State) (t : SyncHarm State) (es : List ClientEvent) → steps_among (harm_event s t ++ es) ≡ steps_among es
-  none_of_harm s (sync.Does turn) es = none_of_turn s turn es
-  none_of_harm s (sync.Damages line) es = refl
-  none_of_harm s (sync.Strikes id call) es = refl
-
-  -- among the events of a synchronization with damage, and others, are only the steps of the others
-  none_of_harms : (ts : List (SyncHarm State)) (s : SyncModel State) (es : List ClientEvent) → steps_among (harm_events ends ts s ++ es) ≡ steps_among es
-  none_of_harms [] s es = refl
-  none_of_harms (t ∷ ts) s es =
-      ap steps_among (append_assoc (harm_event s t) (harm_events ends ts (sync_harms ends s t)) es)
-      ∙ none_of_harm s t (harm_events ends ts (sync_harms ends s t) ++ es) ∙ none_of_harms ts (sync_harms ends s t) es
-
--- Steps.
 
 module _ {State : Type 0} (width : ℕ) (ends : Ends State) (Good : State → Type 0) (kept : State → Option KeptReply) (is : IsAnInstrument ends Good kept) where
   -- a step that may be made by a client that holds back is possible

@@ -11,9 +11,14 @@ mod Answering
 mod Courses
 mod Lines
 mod Sendings
-mod Owning
-mod Parting
 mod Damage
 mod Safely
-mod Killed
+mod Owned
 mod FieldWitness
+mod SessionStates
+mod NextSteps
+mod Counts
+mod SessionTelling
+mod SessionSettings
+mod SessionSteps
+mod SessionFrames

@@ -1,43 +1,25 @@
 -- When what calls on a state send is safe: either if a request that is no call of the table is to the instrument as all others,
 -- or if no call sends a raw request. An event is a null procedure that is sent, a line that comes, or a step of a client; a run
--- is the turns of a synchronization and then the moves of the field, and a placed run is a run with what was in flight when it began.
-use Rattle.std.proofs.Common.{◌≡◌, ℕ, true, List, [], ◌∷◌, ◌++◌, map, Option, Some, None, refl, sym, subst, inl, inr}
-use Rattle.std.specs.List.{AllByRecursion}
-use Rattle.gc_catalogue.specs.Asked.{is_of_table}
+-- is the turns of a synchronization and then the moves of the field.
+use Rattle.std.proofs.Common.{ℕ, List, [], ◌∷◌, map, Option, Some, None, refl, sym, subst, inl, inr}
 use Rattle.gc_catalogue.specs.declared.asked.Asked.{Asked}
 use Rattle.gc_catalogue.specs.declared.asked.Asked.TheVariants.{Table}
 use Rattle.gc_client.specs.Beginning.{the_word}
 use Rattle.gc_client.specs.OneForOne as one
 use Rattle.gc_instrument.specs.State.{KeptReply}
 use Rattle.gc_lines.proofs.Lists.{all_append}
-use Rattle.gc_values.proofs.Every.{every_behind as all_behind, every_front as all_front}
 use Rattle.gc_lines.specs.Frames.{rest_behind}
-use Rattle.gc_field.specs.Begin.{UnderWay, begins}
-use Rattle.gc_field.specs.Beginnings.{Run, left_by_run}
-use Rattle.gc_field.specs.Field.{Move, Sends, Tells, OnLine, Joins, AsksTheTable, seen}
-use Rattle.gc_field.specs.Field as field
-use Rattle.gc_field.specs.Instrument.{TreatsRawsAlike}
+use Rattle.gc_session.specs.Events.{ClientEvent, Came, Stepped}
+use Rattle.gc_session.proofs.InTable.{AreInTable, IsInTable}
+use Rattle.gc_field.specs.ClientRuns.{ask_events, events_over}
 use Rattle.gc_field.specs.World.{Ends}
+use Rattle.gc_field.proofs.InTable.{table_safe}
 use Rattle.geocom_c.specs.Beginning.{left_by_restart, given, left_by_bytes}
-use Rattle.geocom_c.specs.Laws.{AreOfTheTable, IsSafeRun, TableCallsAreSafe}
+use Rattle.geocom_c.specs.Laws.{AreOfTheTable, TableCallsAreSafe}
 use Rattle.geocom_c.specs.Rest.{lines_completed}
-use Rattle.geocom_c.specs.Runs.{PlacedRun, events_of, events_over, placed_runs}
-use Rattle.geocom_c.specs.Steps.{ClientEvent, Null, Came, Stepped, AreEvents, ask_events, begin_events, step_events}
+use Rattle.geocom_c.specs.Steps.{AreEvents, begin_events, step_events}
 use Rattle.geocom_c.specs.declared.following.StateCall.{StateCall}
 use Rattle.geocom_c.specs.declared.following.StateCall.TheVariants.{Send, SendRaw, Begin, Feed, Expire, Restart}
-
--- the event asks for nothing but a call of the table
-abbrev IsInTable : ClientEvent → Type 0
-IsInTable Null = Unit {0}
-IsInTable (Came line) = Unit {0}
-IsInTable (Stepped (one.Send target asked deadline)) = is_of_table asked ≡ true
-IsInTable (Stepped (one.Hear line)) = Unit {0}
-IsInTable (Stepped (one.Expire now)) = Unit {0}
-IsInTable (Stepped one.Restart) = Unit {0}
-
--- each of these events asks for nothing but a call of the table
-abbrev AreInTable : List ClientEvent → Type 0
-AreInTable events = AllByRecursion IsInTable events
 
 -- lines that come ask for nothing
 came_in_table : (lines : List (List ℕ)) → AreInTable (map Came lines)
@@ -96,38 +78,6 @@ calls_in_table left rest (Expire now ∷ calls) events t f =
 calls_in_table left rest (Restart ∷ calls) events t f =
     subst (λ (es : List ClientEvent). AreInTable es) (sym f.1)
     (all_append IsInTable (step_events left (one.Restart ∷ [])) f.0 (step_in_table left one.Restart tt) (calls_in_table (left_by_restart left) [] calls f.0 t.1 f.2))
-
--- moves of the field whose events ask for calls of the table send nothing else
-table_moves : {State : Type 0} (ms : List (Move State)) → AreInTable (map Stepped (seen ms)) → AsksTheTable ms
-table_moves [] h = tt
-table_moves (Sends target call deadline ∷ ms) h = (h.0, table_moves ms h.1)
-table_moves (Tells now ∷ ms) h = table_moves ms h.1
-table_moves (field.Comes line ∷ ms) h = table_moves ms h.1
-table_moves (field.Foreign line ∷ ms) h = table_moves ms h.1
-table_moves (OnLine step ∷ ms) h = table_moves ms h
-table_moves (field.Anew ∷ ms) h = table_moves ms h
-table_moves (field.Changes state ∷ ms) h = table_moves ms h
-table_moves (Joins line ∷ ms) h = table_moves ms h
-
-module _ {State : Type 0} (width : ℕ) (ends : Ends State) (Good : State → Type 0) (kept : State → Option KeptReply) where
-  -- if a request that is no call of the table is to the instrument as all others, each run is safe
-  pub alike_safe : TreatsRawsAlike ends Good kept → (ps : List (PlacedRun State)) → AllByRecursion (IsSafeRun width ends Good kept) ps
-  alike_safe alike [] = tt
-  alike_safe alike (p ∷ ps) = ((λ m command went. inr (inl alike)), alike_safe alike ps)
-
-  -- runs whose events ask for nothing but calls of the table are safe
-  table_safe : (rs : List (Run State)) (u : UnderWay State) → AreInTable (events_over width ends u rs)
-      → AllByRecursion (IsSafeRun width ends Good kept) (placed_runs width ends u rs)
-  table_safe [] u h = tt
-  table_safe (r ∷ []) u h =
-      let own = all_behind IsInTable (events_of ends (begins u) r.turns) (map Stepped (seen r.moves)) h in
-      ((λ m command went. inl (table_moves r.moves own)), tt)
-  table_safe (r ∷ next ∷ others) u h =
-      let after = left_by_run width ends u r in
-      let later = Stepped one.Restart ∷ events_over width ends after (next ∷ others) in
-      let rest = all_behind IsInTable (events_of ends (begins u) r.turns) (map Stepped (seen r.moves) ++ later) h in
-      let own = all_front IsInTable (map Stepped (seen r.moves)) later rest in
-      ((λ m command went. inl (table_moves r.moves own)), table_safe (next ∷ others) after (all_behind IsInTable (map Stepped (seen r.moves)) later rest).1)
 
 -- the law: if no call on a state sends a raw request, each run whose events the calls are is safe
 pub calls_safe : {State : Type 0} (ends : Ends State) (Good : State → Type 0) (kept : State → Option KeptReply) → TableCallsAreSafe ends Good kept

@@ -1,34 +1,23 @@
 -- Calls on a state over a line that damages, this project's own: what holds of a client from its synchronization until its restart, if
 -- the caller holds back. It holds back if it sends only while the outstanding requests, and those that the last line settled, are
 -- together fewer than seven (`AllMayHarmApart` of gc_harm); requests that have timed out are outstanding, too, until a reply settles them.
-use Rattle.std.specs.Prelude.{◌≡◌, ℕ, List, [], ◌∷◌, ◌++◌, drop, map, Option}
+use Rattle.std.specs.Prelude.{◌≡◌, ℕ, List, [], ◌++◌, drop, map, Option}
 use Rattle.gc_client.specs.Beginning.{the_word}
 use Rattle.gc_client.specs.Rule.{IsWidth}
 use Rattle.gc_instrument.specs.State.{KeptReply}
+use Rattle.gc_session.specs.Events.{Stepped}
 use Rattle.gc_field.specs.World.{Ends}
-use Rattle.gc_field.specs.Begin.{IsWellFormed, SyncModel, UnderWay, begins}
+use Rattle.gc_field.specs.Begin.{IsWellFormed, UnderWay, begins}
 use Rattle.gc_field.specs.Instrument.{OfAnyInstrument}
 use Rattle.gc_harm.specs.Harm.{Harm, AreOwnOr, Harmed, harm_begun, harmed}
 use Rattle.gc_harm.specs.HoldingBack.{AllMayHarmApart, holding_begun}
+use Rattle.gc_harm.specs.Sessions.{harm_events}
 use Rattle.gc_harm.specs.Stretch.{left_by_sync}
 use Rattle.gc_harm.specs.Stretches.{seen_harms}
-use Rattle.gc_harm.specs.Synchronizing.{SyncHarm, Does, Damages, Strikes, AllMaySyncHarm, OwnEighthComes, WasStruck, sync_harms}
+use Rattle.gc_harm.specs.Synchronizing.{SyncHarm, AllMaySyncHarm, OwnEighthComes, WasStruck}
 use Rattle.geocom_c.specs.Following.{CallsReach, CallStage, first_stage}
-use Rattle.geocom_c.specs.Runs.{event_of}
-use Rattle.geocom_c.specs.Steps.{ClientEvent, Came, Stepped, AreEvents}
+use Rattle.geocom_c.specs.Steps.{AreEvents}
 use Rattle.geocom_c.specs.declared.following.StateCall.{StateCall}
-
--- the event that a step of a synchronization is to the library: a damaged line comes like any other, and a request that damage made is
--- none
-abbrev pub harm_event : {State : Type 0} → SyncModel State → SyncHarm State → List ClientEvent
-harm_event s (Does turn) = event_of s turn
-harm_event s (Damages line) = Came line ∷ []
-harm_event s (Strikes id call) = []
-
--- the events that the steps of a synchronization are to the library
-abbrev pub harm_events : {State : Type 0} → Ends State → List (SyncHarm State) → SyncModel State → List ClientEvent
-harm_events ends [] s = []
-harm_events ends (t ∷ ts) s = harm_event s t ++ harm_events ends ts (sync_harms ends s t)
 
 -- a client over a line that damages, until its restart: what is in flight when it begins (`over`), what happens while it synchronizes
 -- (`turns`), and what happens after that (`steps`)

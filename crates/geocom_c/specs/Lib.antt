@@ -12,7 +12,11 @@ pub mod Feeding
 pub mod Beginning
 pub mod Following
 pub mod Steps
-pub mod Runs
 pub mod Laws
 pub mod Damage
 pub mod FieldWitness
+pub mod SessionState
+pub mod Sessions
+pub mod Stepping
+pub mod Asking
+pub mod Hearing

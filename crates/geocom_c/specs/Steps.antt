@@ -1,29 +1,17 @@
 -- Calls as events, this project's own: what the calls that a caller makes on a state are to a synchronization, and to a client
 -- that has synchronized.
-use Rattle.std.specs.Prelude.{◌≡◌, ℕ, List, [], ◌∷◌, ◌++◌, map, Option, Some, None}
+use Rattle.std.specs.Prelude.{◌≡◌, ℕ, List, [], ◌∷◌, ◌++◌, map}
 use Rattle.gc_catalogue.specs.declared.asked.Asked.{Asked}
-use Rattle.gc_client.specs.Beginning.{the_word, left_by}
+use Rattle.gc_client.specs.Beginning.{the_word}
 use Rattle.gc_client.specs.OneForOne.{begun, course}
 use Rattle.gc_client.specs.OneForOne as one
-use Rattle.gc_client.specs.Rule.{heard}
+use Rattle.gc_session.specs.Events.{ClientEvent, Came, Stepped, AreInTurn, left_among, steps_among}
+use Rattle.gc_field.specs.ClientRuns.{ask_events}
 use Rattle.geocom_c.specs.Beginning.{given, left_by_bytes}
 use Rattle.geocom_c.specs.Following.{CallMakes, CallStage, left_by_call, rest_by_call}
 use Rattle.geocom_c.specs.Rest.{lines_completed}
 use Rattle.geocom_c.specs.declared.following.StateCall.{StateCall}
 use Rattle.geocom_c.specs.declared.following.StateCall.TheVariants.{Begin}
-
--- what happens to a client: while it synchronizes, a null procedure is sent, or a line comes; once it has synchronized, it
--- makes a step
-pub data ClientEvent : Type 0 where
-  Null : ClientEvent
-  Came : (line : List ℕ) → ClientEvent
-  Stepped : (step : one.Step Asked) → ClientEvent
-
--- the event of a line that is sent while the client synchronizes: a null procedure is asked for. Without a line there is no
--- event
-abbrev pub ask_events : Option (List ℕ) → List ClientEvent
-ask_events None = []
-ask_events (Some line) = Null ∷ []
 
 -- the events of a begin: while the client synchronizes, each line that the bytes end comes, and then a null procedure may be
 -- sent. Once it has synchronized there are none, and the lines are discarded
@@ -50,34 +38,6 @@ AreEvents left rest [] events = events ≡ []
 AreEvents left rest (call ∷ calls) events = CallMakes left rest call (λ steps.
     (later : List ClientEvent) × (events ≡ call_events left rest call steps ++ later)
     × AreEvents (left_by_call left rest call) (rest_by_call rest call) calls later)
-
--- the steps of the client among events
-abbrev pub steps_among : List ClientEvent → List (one.Step Asked)
-steps_among [] = []
-steps_among (Stepped step ∷ events) = step ∷ steps_among events
-steps_among (other ∷ events) = steps_among events
-
--- the ids that aren't answered after a step: all of them if it is a restart, and else none
-abbrev pub left_by_step : one.Step Asked → List ℕ
-left_by_step one.Restart = the_word
-left_by_step other = []
-
--- the ids that aren't answered after an event, where `left` weren't before
-abbrev pub left_by_event : (left : List ℕ) → ClientEvent → List ℕ
-left_by_event left Null = left
-left_by_event left (Came line) = left_by left (heard line)
-left_by_event left (Stepped step) = left_by_step step
-
--- the ids that aren't answered after these events, where `left` weren't before
-abbrev pub left_among : (left : List ℕ) → List ClientEvent → List ℕ
-left_among left [] = left
-left_among left (event ∷ events) = left_among (left_by_event left event) events
-
--- no step of the client comes before all ids of the word are answered; at first `left` aren't, and after each restart none is
-abbrev pub AreInTurn : (left : List ℕ) → List ClientEvent → Type 0
-AreInTurn left [] = Unit {0}
-AreInTurn left (Stepped step ∷ events) = (left ≡ []) × AreInTurn (left_by_event left (Stepped step)) events
-AreInTurn left (other ∷ events) = AreInTurn (left_by_event left other) events
 
 -- these calls are one list of events, and no other, each in its turn; and they bring the client to what its rule makes of the
 -- steps among those events, and its synchronization to the ids that those events leave unanswered

@@ -3,6 +3,8 @@
 ghost use Rattle.std.specs.Prelude.{◌≡◌, ◌↔◌};
 ghost use Rattle.geocom_c.specs.Beginning.{unbegun_with};
 ghost use Rattle.geocom_c.specs.Feeding.{unheard_with};
+ghost use Rattle.geocom_c.specs.SessionState.{flag_byte};
+ghost use Rattle.geocom_c.specs.Stepping.{unmoved_with};
 
 use crate::header::MORE;
 use crate::state::NULLS;
@@ -53,6 +55,61 @@ pub struct GeocomHeard {
     pub kind: u32,
     /// Of a line that is no reply, the fault of its first faulty field, 1 to 5; otherwise 0.
     pub line_fault: u32,
+}
+
+/// What `geocom_session_next` returns: a fault or 0, and what the caller does next. After a fault all other fields are 0.
+#[repr(C)]
+#[derive(Clone, Copy)]
+pub struct GeocomStep {
+    /// Until when the caller waits or reads at most; the greatest `u64`: there is no limit. 0 for any other act.
+    pub until: u64,
+    pub fault: u32,
+    /// What the caller does: [`OPEN`](crate::header::OPEN) to [`CLOSE`](crate::header::CLOSE).
+    pub act: u32,
+    /// How many bytes of the line are to be written; 0 if none are.
+    pub bytes: u32,
+    /// How many records were written: all that was outstanding is lost, if the session resynchronizes.
+    pub count: u32,
+}
+
+/// What `geocom_session_status` returns: a fault or 0, and how far a session is. After a fault all other fields are 0.
+#[repr(C)]
+#[derive(Clone, Copy)]
+pub struct GeocomStatus {
+    /// How often a connection was closed or couldn't be made, or the session resynchronized: what is sent at one number is sent over one
+    /// connection after one synchronization.
+    pub stretch: u64,
+    /// How many sign-ons came since the first request was asked.
+    pub sign_ons: u64,
+    pub fault: u32,
+    /// 1 if the session has a connection; otherwise 0.
+    pub is_up: u32,
+    /// 1 if it has synchronized, its connection is quiet, and nothing called for another synchronization; otherwise 0.
+    pub is_ready: u32,
+    /// How many requests are outstanding, those that timed out included.
+    pub waiting: u32,
+    /// How many outstanding requests haven't timed out.
+    pub current: u32,
+}
+
+// The fault of a step that did nothing; all other fields are 0.
+pub(crate) fn unmoved(fault: u32) -> GeocomStep
+    ensures { result ≡ unmoved_with fault }
+{
+    GeocomStep {
+        until: 0,
+        fault,
+        act: 0,
+        bytes: 0,
+        count: 0,
+    }
+}
+
+// A flag as a number.
+pub(crate) fn as_number(flag: bool) -> u32
+    ensures { result ≡ flag_byte flag }
+{
+    u32::from(flag)
 }
 
 // Success, with a count.

@@ -26,7 +26,7 @@ use gc_client::{Client, Heard, SlotsOf, WINDOW};
 use gc_lines::{Frame, Line};
 
 // Whether there is room for what a line can settle.
-fn has_room_to_settle(settlements: &[GeocomSettlement], text: &[u8]) -> bool
+pub(crate) fn has_room_to_settle(settlements: &[GeocomSettlement], text: &[u8]) -> bool
     ensures { IsTrue result ↔ HasRoomToSettle settlements.now text.now }
 {
     settlements.len() >= WINDOW && text.len() >= TEXT_ROOM

@@ -8,8 +8,9 @@ ghost use Rattle.gc_values.specs.declared.fault.ValueFault.{ValueFault};
 ghost use Rattle.gc_catalogue.specs.CallFault.{refusal_number};
 ghost use Rattle.gc_catalogue.specs.declared.fault.CallFault.{CallFault};
 ghost use Rattle.gc_catalogue.specs.declared.raw.RawFault.{RawFault};
+ghost use Rattle.gc_session.specs.declared.session.TheConstants as session;
 ghost use Rattle.geocom_c.specs.Sending.{raw_number};
-ghost use Rattle.geocom_c.specs.declared.header.TheConstants.{VERSION, LINE_ROOM, TEXT_ROOM, NAME_ROOM, WINDOW_FULL, NO_WIDTH, NO_ROOM, NO_CLIENT, NOT_BEGUN, IN_TABLE, NO_DESCRIPTION, DOUBLE, LONG, SHORT, BYTE, BOOLEAN, STRING, ANSWERED, LATE, LOST, NONE, VALUE, REFUSED, COM_FAULT, UNREADABLE, MORE, SETTLED, STRAY, UNREAD, CLEARED, OVERLONG};
+ghost use Rattle.geocom_c.specs.declared.header.TheConstants.{VERSION, LINE_ROOM, TEXT_ROOM, NAME_ROOM, WINDOW_FULL, NO_WIDTH, NO_ROOM, NO_CLIENT, NOT_BEGUN, IN_TABLE, NO_DESCRIPTION, NO_WANT, NOT_NOW, OWN_TARGET, OWN, WANT_NOTHING, WANT_ANSWERS, WANT_SEND, OPEN, WAIT, WRITE, SEND, READ, CLOSE, DOUBLE, LONG, SHORT, BYTE, BOOLEAN, STRING, ANSWERED, LATE, LOST, NONE, VALUE, REFUSED, COM_FAULT, UNREADABLE, MORE, SETTLED, STRAY, UNREAD, CLEARED, OVERLONG};
 
 /// The version of the calls and of the structs that they take.
 pub const VERSION: u32 = 2;
@@ -36,7 +37,7 @@ pub const NO_WIDTH: u32 = 61;
 /// Less room than the call asks for.
 pub const NO_ROOM: u32 = 62;
 
-/// The state is no client's: `geocom_client_init` never made it, or its bytes were overwritten.
+/// The state is no client's, or no session's: `geocom_client_init` or `geocom_session_init` never made it, or its bytes were overwritten.
 pub const NO_CLIENT: u32 = 63;
 
 /// The client hasn't synchronized: `geocom_client_begin` hasn't heard the eighth answer, at first or after a restart.
@@ -47,6 +48,49 @@ pub const IN_TABLE: u32 = 68;
 
 /// A text is no description of a procedure.
 pub const NO_DESCRIPTION: u32 = 71;
+
+/// What is wanted of a session is none of the three wants.
+pub const NO_WANT: u32 = 72;
+
+/// It isn't a request's turn: what is next in the session isn't [`SEND`].
+pub const NOT_NOW: u32 = 73;
+
+/// The target is that of the session's own requests, 4294967295.
+pub const OWN_TARGET: u32 = 74;
+
+/// The target of a session's own null procedures.
+pub const OWN: u32 = 4294967295;
+
+// Wants: what the caller wants of a session.
+
+/// Nothing: what comes is heard, and nothing is sent.
+pub const WANT_NOTHING: u32 = 0;
+
+/// The ends of the outstanding requests.
+pub const WANT_ANSWERS: u32 = 1;
+
+/// To send a request.
+pub const WANT_SEND: u32 = 2;
+
+// Acts: what the caller does next for a session.
+
+/// Make a connection.
+pub const OPEN: u32 = 1;
+
+/// Wait without a connection.
+pub const WAIT: u32 = 2;
+
+/// Write the line.
+pub const WRITE: u32 = 3;
+
+/// Send a request.
+pub const SEND: u32 = 4;
+
+/// Read.
+pub const READ: u32 = 5;
+
+/// Close the connection, which is dead.
+pub const CLOSE: u32 = 6;
 
 // Item kinds: of which kind a value is that a description has a column for.
 
@@ -137,9 +181,13 @@ pub fn numbers_are_the_headers()
     ensures raw_too_long { raw_number RawFault.TooLong ≡ 6 }
     ensures raw_open_quote { raw_number RawFault.OpenQuote ≡ 13 }
     ensures raw_too_many { raw_number RawFault.TooMany ≡ 14 }
-    ensures faults { (WINDOW_FULL ≡ 31) × (NO_WIDTH ≡ 61) × (NO_ROOM ≡ 62) × (NO_CLIENT ≡ 63) × (NOT_BEGUN ≡ 67) × (IN_TABLE ≡ 68) × (NO_DESCRIPTION ≡ 71) }
+    ensures faults { (WINDOW_FULL ≡ 31) × (NO_WIDTH ≡ 61) × (NO_ROOM ≡ 62) × (NO_CLIENT ≡ 63) × (NOT_BEGUN ≡ 67) × (IN_TABLE ≡ 68) × (NO_DESCRIPTION ≡ 71) × (NO_WANT ≡ 72) × (NOT_NOW ≡ 73) × (OWN_TARGET ≡ 74) }
     ensures item_kinds { (DOUBLE ≡ 1) × (LONG ≡ 2) × (SHORT ≡ 3) × (BYTE ≡ 4) × (BOOLEAN ≡ 5) × (STRING ≡ 6) }
     ensures outcomes { (ANSWERED ≡ 1) × (LATE ≡ 2) × (LOST ≡ 3) }
     ensures readings { (NONE ≡ 0) × (VALUE ≡ 1) × (REFUSED ≡ 2) × (COM_FAULT ≡ 3) × (UNREADABLE ≡ 4) }
+    ensures own { OWN ≡ 4294967295 }
+    ensures own_is_the_sessions { session.OWN ≡ OWN }
+    ensures wants { (WANT_NOTHING ≡ 0) × (WANT_ANSWERS ≡ 1) × (WANT_SEND ≡ 2) }
+    ensures acts { (OPEN ≡ 1) × (WAIT ≡ 2) × (WRITE ≡ 3) × (SEND ≡ 4) × (READ ≡ 5) × (CLOSE ≡ 6) }
     ensures kinds { (MORE ≡ 0) × (SETTLED ≡ 1) × (STRAY ≡ 2) × (UNREAD ≡ 3) × (CLEARED ≡ 4) × (OVERLONG ≡ 5) }
 {}

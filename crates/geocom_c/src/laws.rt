@@ -2,7 +2,8 @@
 
 ghost use Rattle.geocom_c.specs.Damage.{HeldBackAnswersAreOwnOrDamaged};
 ghost use Rattle.geocom_c.specs.FieldWitness.{SomeCallsAreInField};
-ghost use Rattle.geocom_c.specs.Laws.{AnswersAreTheirOwn, CallsAreEvents, CallsAreSafe, FewKilledMayBegin, SimulatorsAnswersAreTheirOwn, SimulatorsCallsAreSafe};
+ghost use Rattle.gc_field.specs.Owned.{FewKilledMayBegin};
+ghost use Rattle.geocom_c.specs.Laws.{AnswersAreTheirOwn, CallsAreEvents, CallsAreSafe, SimulatorsAnswersAreTheirOwn, SimulatorsCallsAreSafe};
 
 /// Any calls on a state are one list of events: the null procedures of a synchronization and the lines that arrive during it,
 /// and then the client's steps: a send whose number and parameters are a call's or a raw call's, each line that bytes end, a
@@ -13,8 +14,8 @@ pub fn calls_are_events()
 {}
 
 /// For any instrument, which may restart and change by itself at any time, and over any number of connections: each answer that
-/// the library books was made by the instrument on executing that very request, from the first one on. The library settles what
-/// the client of the field settles, and reaches the same state. When the client was made, anything may have been in flight,
+/// the library books was made by the instrument on executing that very request, from the first one on; and the instrument executed
+/// each request that is late. The library settles what the client of the field settles, and reaches the same state. When the client was made, anything may have been in flight,
 /// except the ids 6 5 4 3 2 1 0 7 in this order. What is sent has to be safe (`calls_are_safe`).
 pub fn answers_are_their_own<State>()
     ensures { AnswersAreTheirOwn State }

@@ -28,7 +28,7 @@ fn raw_number(fault: RawFault) -> u32
 }
 
 // What a number and parameters ask for exactly as they are. `Err`: the number of the fault with which they are refused.
-fn read_raw(procedure: u16, params: &[u8]) -> Result<Asked, u32>
+pub(crate) fn read_raw(procedure: u16, params: &[u8]) -> Result<Asked, u32>
     ensures { AsksOrRefuses (raw_rule procedure params.now) result }
 {
     match raw_call(procedure, params) {

@@ -78,7 +78,7 @@ pub(crate) fn send_read(
 }
 
 // What a number and parameters ask for of the table. `Err`: the number of the fault with which they are refused.
-fn read_call(procedure: u16, params: &[u8]) -> Result<Asked, u32>
+pub(crate) fn read_call(procedure: u16, params: &[u8]) -> Result<Asked, u32>
     ensures { AsksOrRefuses (table_rule procedure params.now) result }
 {
     let request = Request {

@@ -120,7 +120,7 @@ fn asked_at(place: &GeocomWaiting) -> Option<Asked>
 }
 
 // The flag that a byte stands for: 0 is `false` and 1 is `true`. `None`: any other byte.
-fn flag_of(byte: u8) -> Option<bool>
+pub(crate) fn flag_of(byte: u8) -> Option<bool>
     ensures found { IfSome result (λ flag. byte ≡ (if flag then 1 else 0)) }
     ensures only { (flag : Bool) → byte ≡ (if flag then 1 else 0) → result ≡ Some flag }
 {

@@ -10,10 +10,9 @@ use crate::book::Book;
 use crate::cause::Cause;
 use crate::plan::Plan;
 use crate::progress::Until;
-use crate::progressing::heard_reply;
-use crate::writing::ends_with_table;
 use gc_lines::{Lent, Line, PortFailed};
 use gc_links::{Came, Link, Moment};
+use gc_session::{ends_with_table, heard_reply};
 
 impl Station {
     // Hears the line of a frame; nothing happens if the frame is no line. Once the station has synchronized (`begun`), what the
@@ -42,12 +41,18 @@ impl Station {
         if let Err(failed) = self.write(book) {
             return Err(failed);
         }
-        self.progress.note_doubt(self.recorded.unexpected);
-        self.progress.note_busy(self.recorded.busy);
+        self.progress.exchange.note_doubt(self.recorded.unexpected);
+        self.progress
+            .exchange
+            .note_busy(self.progress.moment.elapsed, self.recorded.busy);
         let of_table = ends_with_table(self.settled.as_slice());
-        self.progress.note_behind(of_table, self.client.waiting());
-        self.progress.note_ended(self.settled.len());
-        self.progress.note_line(heard_reply(hearing));
+        self.progress
+            .exchange
+            .note_behind(of_table, self.client.waiting());
+        self.progress.exchange.note_ended(self.settled.len());
+        self.progress
+            .exchange
+            .note_line(self.progress.moment.elapsed, heard_reply(hearing));
         Ok(())
     }
 

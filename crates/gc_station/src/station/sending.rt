@@ -14,10 +14,10 @@ use super::Station;
 use crate::cause::Cause;
 use crate::mark::Mark;
 use crate::plan::Plan;
-use crate::progressing::later;
 use gc_catalogue::{Asked, Call};
 use gc_lines::{Line, with_end};
 use gc_links::Link;
+use gc_session::later;
 use gc_texts::{Occasion, Task, Wish};
 
 // A request that is to be sent: its command; for how many milliseconds it waits; and its mark, `None` for a null procedure.
@@ -120,10 +120,10 @@ impl Station {
     // with the number of bytes that were sent.
     fn put_null<L: Link>(&self, link: &mut L) -> Result<(), usize>
         requires { has_begun self.now.progress ≡ false }
-        ensures tells { AddsActs (L.acts link.old) (L.acts link.new) (put_act result (null_text self.now.progress.word) ∷ []) }
-        ensures part { IsPartIfErr result (null_text self.now.progress.word) }
+        ensures tells { AddsActs (L.acts link.old) (L.acts link.new) (put_act result (null_text self.now.progress.exchange.word) ∷ []) }
+        ensures part { IsPartIfErr result (null_text self.now.progress.exchange.word) }
     {
-        let Some(line) = self.progress.word.ask() else {
+        let Some(line) = self.progress.exchange.word.ask() else {
             unreachable!()
         };
         put_line(link, &line)

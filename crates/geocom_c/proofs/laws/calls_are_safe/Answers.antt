@@ -1,6 +1,7 @@
 use Rattle.gc_field.specs.Instrument.{AnyState}
-use Rattle.geocom_c.specs.Runs.{placed_runs}
-use Rattle.geocom_c.proofs.Safely.{alike_safe, calls_safe}
+use Rattle.gc_field.specs.ClientRuns.{placed_runs}
+use Rattle.gc_field.proofs.InTable.{alike_safe}
+use Rattle.geocom_c.proofs.Safely.{calls_safe}
 use Rattle.geocom_c.proofs.laws.calls_are_safe.Goals as goal
 
 pub returns : goal.returns

@@ -2,7 +2,7 @@ use Rattle.gc_instrument.specs.State.{IsFittingState}
 use Rattle.gc_field.specs.Simulator.{simulator_ends}
 use Rattle.gc_field.specs.Laws.{kept_of}
 use Rattle.gc_field.proofs.Instruments.{simulator_is_an_instrument}
-use Rattle.geocom_c.proofs.Parting.{each_answer_is_own}
+use Rattle.geocom_c.proofs.Owned.{each_answer_is_own}
 use Rattle.geocom_c.proofs.laws.simulators_answers_are_their_own.Goals as goal
 
 pub returns : goal.returns

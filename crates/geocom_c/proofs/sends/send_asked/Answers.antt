@@ -1,4 +1,4 @@
-use Rattle.std.proofs.Common.{◌≡◌, ℕ, Some, sym, subst}
+use Rattle.std.proofs.Common.{ℕ, Some, sym, subst}
 use Rattle.gc_catalogue.specs.Asked.{asked_line}
 use Rattle.gc_client.specs.Rule.{Windowed}
 use Rattle.gc_catalogue.specs.declared.asked.Asked.{Asked}

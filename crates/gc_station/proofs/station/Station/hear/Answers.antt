@@ -4,7 +4,10 @@ use Rattle.gc_client.specs.Rule.{hears, heard}
 use Rattle.gc_client.specs.Settlements.{settlement_seen}
 use Rattle.gc_lines.specs.Frames.{line_in}
 use Rattle.gc_lines.specs.Lent.{lent_seen}
-use Rattle.gc_station.specs.Model.{Model, is_reply, ends_with_table, settles, line_busy, line_called, line_news, line_settles, lines_taken, with_progress}
+use Rattle.gc_session.specs.Lines.{is_reply, ends_with_table}
+use Rattle.gc_session.specs.declared.exchange.Exchange.{Exchange}
+use Rattle.gc_station.specs.declared.progress.Progress.{Progress}
+use Rattle.gc_station.specs.Model.{Model, settles, line_busy, line_called, line_news, line_settles, lines_taken, with_progress}
 use Rattle.gc_station.specs.Marks.{any_unexpected}
 use Rattle.gc_station.specs.Progressing.{behind_noted, doubt_noted, hold_noted, line_synchronizing}
 use Rattle.gc_station.specs.Stations.{Refines, Took, TookPart}
@@ -59,9 +62,10 @@ returns-clause-hears g c old start stood took =
     })
     same
     c.write.new.self (ap (λ (st : Station). st.recorded.unexpected) c.doubt.ensures.notes) c.in_default-write.ensures.notes in
+    let noting : Exchange → Progress = λ x. record c.write.new.self.progress { exchange = x } in
     let u = with_progress (doubt_noted b) s in
-    let doubted : Refines (record c.write.new.self { progress = c.note_doubt.new.self }) (settles x u) =
-    refines_doubted c.write.new.self c.note_doubt.new.self c.write.new.self.recorded.unexpected b (settles x s) t.0 found c.note_doubt.ensures in
+    let doubted : Refines (record c.write.new.self { progress = (noting c.note_doubt.new.self) }) (settles x u) =
+    refines_doubted c.write.new.self (noting c.note_doubt.new.self) c.write.new.self.recorded.unexpected b (settles x s) t.0 found (ap noting c.note_doubt.ensures) in
     let busy = settles_busy text c.doubt.new.self
     (record c.doubt.new.self { client = c.hear-hearing.new.self; settled = c.hear-hearing.new.settled }) s x (map settlement_seen items) stands
     (record {
@@ -76,19 +80,19 @@ returns-clause-hears g c old start stood took =
     same
     c.write.new.self (ap (λ (st : Station). st.recorded.busy) c.doubt.ensures.notes) c.in_default-write.ensures.notes in
     let v = with_progress (hold_noted (line_busy line old)) u in
-    let held : Refines (record c.write.new.self { progress = c.note_busy.new.self }) (settles x v) =
-    refines_held (record c.write.new.self { progress = c.note_doubt.new.self }) c.note_busy.new.self c.write.new.self.recorded.busy (line_busy line old) (settles x u) doubted busy c.note_busy.ensures in
+    let held : Refines (record c.write.new.self { progress = (noting c.note_busy.new.self) }) (settles x v) =
+    refines_held (record c.write.new.self { progress = (noting c.note_doubt.new.self) }) (noting c.note_busy.new.self) c.write.new.self.recorded.busy (line_busy line old) (settles x u) doubted busy (ap noting c.note_busy.ensures) in
     let table = c.ends_with_table-of_table.ensures ∙ ap (λ l. ends_with_table (map settlement_seen l)) c.as_slice.ensures.value ∙ ap
     (λ (st : Station). ends_with_table (map settlement_seen st.settled.items)) after ∙ ap ends_with_table same in
     let waits = c.waiting.ensures.waiting ∙ ap (λ (st : Station). length st.client.ids.waiting) after ∙ ap (λ w. length w.ids.waiting) client ∙ ap (λ y. length y.client.waiting) seen in
-    let caught = refines_settled (record c.write.new.self { progress = c.note_busy.new.self }) c.note_behind.new.self c.ends_with_table-of_table.result (ends_with_table x.settlements) c.waiting.result (length x.client.waiting) (settles x v) held
-    table waits c.note_behind.ensures in
+    let caught = refines_settled (record c.write.new.self { progress = (noting c.note_busy.new.self) }) (noting c.note_behind.new.self) c.ends_with_table-of_table.result (ends_with_table x.settlements) c.waiting.result (length x.client.waiting) (settles x v) held
+    table waits (ap noting c.note_behind.ensures) in
     let many = c.len.ensures.value ∙ ap (λ (st : Station). length st.settled.items) after ∙ sym (length-map items settlement_seen) ∙ ap length same in
-    let noted = refines_ended (record c.write.new.self { progress = c.note_behind.new.self }) c.note_ended.new.self c.len.result (length x.settlements) (with_progress (behind_noted (ends_with_table x.settlements) (length x.client.waiting)) (settles x v))
-    caught many c.note_ended.ensures in
+    let noted = refines_ended (record c.write.new.self { progress = (noting c.note_behind.new.self) }) (noting c.note_ended.new.self) c.len.result (length x.settlements) (with_progress (behind_noted (ends_with_table x.settlements) (length x.client.waiting)) (settles x v))
+    caught many (ap noting c.note_ended.ensures) in
     rw c.if-not-begun.false (rw c.in-Line.is (
-      refines_noted (record c.write.new.self { progress = c.note_ended.new.self }) c.note_line.new.self c.heard_reply.result
-          (is_reply line) (line_settles x v) noted reply c.note_line.ensures,
+      refines_noted (record c.write.new.self { progress = (noting c.note_ended.new.self) }) (noting c.note_line.new.self) c.heard_reply.result
+          (is_reply line) (line_settles x v) noted reply (ap noting c.note_line.ensures),
       subst (λ f. Took f start (g.B.Book.taken c.write.new.book) (settles x s)) c.doubt.ensures.form t.1,
     ))
 

@@ -22,7 +22,7 @@ returns-clause-takes g c s start stands so =
     c.in_default.ensures.takes (with_moment m (with_progress (moment_noted m) s)) start
     (refines_expired c.args.self.now c.expire.new.self c.note_moment.new.self (moment_noted m s.progress) m s stands
     (c.note_moment.ensures ∙ ap (moment_noted m) stands.progress) c.expire.ensures) so in
-    let heard : Model = after_piece (is_heard s.progress.phase) s.progress.word c.args.piece.now (with_moment m (with_progress (moment_noted m) s)) in
+    let heard : Model = after_piece (is_heard s.progress.phase) s.progress.exchange.word c.args.piece.now (with_moment m (with_progress (moment_noted m) s)) in
     let before = c.commands_waiting-before.ensures ∙ ap commands_in stands.marks in
     let all = ap (λ (w : Waiting). w.all) c.waiting-after.ensures ∙ outstanding_same c.take_lines.new.self heard t.0 in
     let commands = ap (λ (w : Waiting). w.commands) c.waiting-after.ensures ∙ outstanding_commands_same c.take_lines.new.self heard t.0 in (

@@ -1,0 +1,72 @@
+-- What is told a session's state.
+use Rattle.std.proofs.Common.{◌≡◌, ◌≤◌, ◌∙◌, ℕ, suc, Bool, not, List, [], ◌∷◌, length, Option, Some, refl, sym, ap, subst, arith}
+use Rattle.std.specs.List.{filter}
+use Rattle.std.proofs.lemmas.Bool.{cond_both}
+use Rattle.std.proofs.lemmas.List.{length-map}
+use Rattle.gc_catalogue.specs.declared.asked.Asked.{Asked}
+use Rattle.gc_client.specs.Rule.{deadlines}
+use Rattle.gc_client.specs.declared.pending.Pending.{Pending}
+use Rattle.gc_session.specs.declared.standing.Standing.{Standing}
+use Rattle.std.proofs.lemmas.Option.{same_Some}
+use Rattle.gc_session.specs.Sessions.{Session, all_of, current_of, is_ready, is_up}
+use Rattle.geocom_c.specs.SessionState.{IsOfNoSession, StandsForSession, flag_byte}
+use Rattle.geocom_c.specs.Sessions.{IsTold, status_of}
+use Rattle.geocom_c.specs.declared.answers.GeocomStatus.{GeocomStatus}
+use Rattle.geocom_c.specs.declared.header.TheConstants.{NO_CLIENT}
+use Rattle.geocom_c.specs.declared.session_state.GeocomSession.{GeocomSession}
+
+module _ (old : GeocomSession) (loaded : Option Session) (only : (s : Session) (rest : List ℕ) → StandsForSession old s rest → loaded ≡ Some s) where
+  -- what holds of the session that was loaded holds of each that the state stands for
+  pub of_each : (P : Session → Type 0) (x : Session) → loaded ≡ Some x → P x → (s : Session) (rest : List ℕ) → StandsForSession old s rest → P s
+  of_each P x is holds s rest stands = subst P (same_Some x s (sym is ∙ only s rest stands)) holds
+
+  -- a state that was told something, and stands for what that makes of its session
+  pub was_told : (told : Session → Session) (new : GeocomSession) (x : Session) (rest : List ℕ) → loaded ≡ Some x → StandsForSession old x rest
+      → StandsForSession new (told x) [] → IsTold told old new 0
+  was_told told new x rest is stands after = record {
+    stands = λ s r held. (refl, of_each (λ (t : Session). StandsForSession new (told t) []) x is after s r held);
+    astray = (λ e. absurd (omega (arith, e)), λ none. absurd (none x rest stands));
+    done = λ _. (x, rest, stands);
+    refused = λ fault. absurd (fault refl);
+  }
+
+-- a state that is no session's
+pub never_told : (told : Session → Session) (old : GeocomSession) → IsOfNoSession old → IsTold told old old NO_CLIENT
+never_told told old none = record {
+  stands = λ s rest held. absurd (none s rest held);
+  astray = (λ _. none, λ _. refl);
+  done = λ e. absurd (omega (arith, e));
+  refused = λ _. refl;
+}
+
+-- a list has no fewer items than what a test leaves of it
+filter_few : {A : Type 0} (test : A → Bool) (xs : List A) → length (filter test xs) ≤ length xs
+filter_few test [] = omega arith
+filter_few test (x ∷ xs) =
+    cond_both (test x) (x ∷ filter test xs) (filter test xs) (λ ys. length ys ≤ suc (length xs)) (λ _. omega (arith, filter_few test xs)) (λ _. omega (arith, filter_few test xs))
+
+-- no more requests are current than are outstanding
+pub current_few : (ps : List (Pending Asked)) → length (deadlines ps) ≤ length ps
+current_few ps = omega (arith, length-map (filter (λ (p : Pending Asked). not p.given_up) ps) (λ (p : Pending Asked). p.deadline), filter_few (λ (p : Pending Asked). not p.given_up) ps)
+
+-- what is said of a session, by its parts
+abbrev pub status_by : (t : Standing) (up ready waiting current : ℕ) → GeocomStatus
+status_by t up ready waiting current = record {
+  stretch = t.stretch;
+  sign_ons = t.sign_ons;
+  fault = 0;
+  is_up = up;
+  is_ready = ready;
+  waiting = waiting;
+  current = current;
+}
+
+-- what is said of the session s, if its parts are these
+pub same_status : (s : Session) (t : Standing) (up ready : Bool) (u r waiting current : ℕ) → t ≡ s.standing → up ≡ is_up t.phase → ready ≡ is_ready s
+    → u ≡ flag_byte up → r ≡ flag_byte ready → waiting ≡ all_of s → current ≡ current_of s → status_by t u r waiting current ≡ status_of s
+same_status s t up ready u r waiting current a b d e f g h =
+    ap (λ (x : Standing). status_by x u r waiting current) a
+    ∙ ap (λ n. status_by s.standing n r waiting current) (e ∙ ap flag_byte (b ∙ ap (λ (x : Standing). is_up x.phase) a))
+    ∙ ap (λ n. status_by s.standing (flag_byte (is_up s.standing.phase)) n waiting current) (f ∙ ap flag_byte d)
+    ∙ ap (λ n. status_by s.standing (flag_byte (is_up s.standing.phase)) (flag_byte (is_ready s)) n current) g
+    ∙ ap (λ n. status_by s.standing (flag_byte (is_up s.standing.phase)) (flag_byte (is_ready s)) (all_of s) n) h

@@ -1,0 +1,21 @@
+use Rattle.std.proofs.Common.{◌≡◌, ◌∙◌, Some, sym, ap}
+use Rattle.std.proofs.lemmas.Option.{same_Some}
+use Rattle.gc_catalogue.specs.declared.asked.Asked.{Asked}
+use Rattle.gc_client.specs.Rule.{Windowed}
+use Rattle.gc_client.specs.declared.window.TheConstants.{WINDOW}
+use Rattle.gc_session.specs.Sessions.{Session}
+use Rattle.geocom_c.proofs.SessionStates.{same_session, same_settings}
+use Rattle.geocom_c.proofs.session_state.load_session.Goals as goal
+
+pub returns-in_default-clause-only : goal.returns-in_default-clause-only
+returns-in_default-clause-only c = λ session rest s. absurd (c.in_default.not-Some _ (c.load.ensures.only _ rest s.client))
+
+pub returns-in_default-clause-none : goal.returns-in_default-clause-none
+returns-in_default-clause-none c = λ none session rest s. absurd (c.in_default.not-Some _ (c.load.ensures.only _ rest s.client))
+
+pub returns-clause-only : goal.returns-clause-only
+returns-clause-only c = λ session rest s.
+    let client : c.in-Some.client ≡ record { width = WINDOW; ids = session.client } = same_Some _ _ (sym c.in-Some.is ∙ c.load.ensures.only _ rest s.client) in
+    let standing = same_Some _ _ (sym c.in-Some-read_standing.is ∙ c.read_standing.ensures.only _ s.standing) in
+    let settings = same_settings c.args.state.now.width c.args.state.now.timeout c.args.state.now.quiet session.settings s.settings.width s.settings.timeout s.settings.quiet in
+    ap (λ (x : Session). Some x) (c.resume.ensures ∙ same_session _ _ _ session settings standing (ap (λ (x : Windowed Asked). x.ids) client))

@@ -1,0 +1,74 @@
+-- What bytes that are fed to a session come to: what the frame that they end settles, and what the call returns. This project's own.
+use Rattle.std.specs.Prelude.{◌≡◌, ◌≢◌, ◌+◌, ◌++◌, ℕ, List, [], ◌∷◌, length, take, nat_lt, Some, None}
+use Rattle.std.specs.List.{position}
+use Rattle.gc_lines.specs.Frames.{is_line_feed, frame_of}
+use Rattle.gc_lines.specs.Readers.{reply_at}
+use Rattle.gc_lines.specs.declared.frame.Frame.{Frame}
+use Rattle.gc_lines.specs.declared.frame.Frame.TheVariants.{Line, Cleared, Overlong, More}
+use Rattle.gc_catalogue.specs.declared.asked.Asked.{Asked}
+use Rattle.gc_client.specs.Rule.{Settlement}
+use Rattle.gc_session.specs.Sessions.{Session, came, line_came, line_settles}
+use Rattle.geocom_c.specs.Feeding.{FeedEffect, IsInFront, frame_fault, line_kind, unended, unheard_with}
+use Rattle.geocom_c.specs.FirstAre.{FirstAre}
+use Rattle.geocom_c.specs.SessionState.{StandsForSession}
+use Rattle.geocom_c.specs.Settled.{IsRecord}
+use Rattle.geocom_c.specs.declared.answers.GeocomHeard.{GeocomHeard}
+use Rattle.geocom_c.specs.declared.header.TheConstants.{MORE, CLEARED, OVERLONG}
+use Rattle.geocom_c.specs.declared.session_state.GeocomSession.{GeocomSession}
+
+-- the session s at the moment `now` by which these bytes came; without bytes nothing happens
+abbrev pub at_feed : (now : ℕ) → (bytes : List ℕ) → Session → Session
+at_feed now [] s = s
+at_feed now (byte ∷ bytes) s = came now s
+
+-- what a frame settles in the session s
+abbrev pub frame_settles : Session → Frame → List (Settlement Asked)
+frame_settles s (Line line) = line_settles line.items s
+frame_settles s other = []
+
+-- the session after a frame
+abbrev pub session_past : Session → Frame → Session
+session_past s (Line line) = line_came line.items s
+session_past s other = s
+
+-- the kind of a frame for the session s: a line that settles something is told from another reply and from a line that is none
+abbrev pub frame_kind_in : Session → Frame → ℕ
+frame_kind_in s (Line line) = line_kind (reply_at line.items) (nat_lt 0 (length (line_settles line.items s)))
+frame_kind_in s Cleared = CLEARED
+frame_kind_in s Overlong = OVERLONG
+frame_kind_in s More = MORE
+
+-- a frame was fed to the session s: the call has no fault; what it returned has the frame's kind, its line fault and the number of its
+-- settlements; a record says of each settlement how the request ended; and a line that settled is at the front of the text
+pub record IsFedTo (s : Session) (frame : Frame) (x : FeedEffect) : Type 0 where
+  pub fault : x.told.fault ≡ 0
+  pub kind : x.told.kind ≡ frame_kind_in s frame
+  pub line_fault : x.told.line_fault ≡ frame_fault frame
+  pub count : x.told.count ≡ length (frame_settles s frame)
+  pub recorded : FirstAre (IsRecord x.text) x.records (frame_settles s frame)
+  pub front : IsInFront frame x.told.count x.text
+
+-- a frame was fed to the session s (`IsFedTo`), by `used` bytes, and the state is that of the session after the frame, with no byte of
+-- a line
+pub record FeedsSessionFrame (s : Session) (frame : Frame) (used : ℕ) (state : GeocomSession) (x : FeedEffect) : Type 0 where
+  pub used_is : x.told.used ≡ used
+  pub fed : IsFedTo s frame x
+  pub stands : StandsForSession state (session_past s frame) []
+
+-- if these bytes have no line feed, feeding them at the moment `now` to the session s uses all, as `told` says, and changes the state from
+-- `old` to `new`, which keeps them
+abbrev pub FeedsSessionUnended : Session → (now : ℕ) → (bytes : List ℕ) → (old new : GeocomSession) → (told : GeocomHeard) → Type 0
+FeedsSessionUnended s now bytes old new told =
+    (rest : List ℕ) → StandsForSession old s rest → position is_line_feed bytes ≡ None
+    → (told ≡ unended (length bytes)) × StandsForSession new (at_feed now bytes s) (rest ++ bytes)
+
+-- if these bytes have a line feed, feeding them at the moment `now` to the session s in the state `old` feeds the frame that the first one
+-- ends, as `FeedsSessionFrame` says of the session at that moment, of the state `new` and of the feed
+abbrev pub FeedsSessionLine : Session → (now : ℕ) → (bytes : List ℕ) → (old new : GeocomSession) → FeedEffect → Type 0
+FeedsSessionLine s now bytes old new x =
+    (rest : List ℕ) (at : ℕ) → StandsForSession old s rest → position is_line_feed bytes ≡ Some at
+    → FeedsSessionFrame (at_feed now bytes s) (frame_of (rest ++ take at bytes)) (at + 1) new x
+
+-- a feed that returned `told`: after a fault all other numbers are 0, and the state (`old` before the feed, `new` after it) has not changed
+abbrev pub FeedFaultLeavesSession : (told : GeocomHeard) → (old new : GeocomSession) → Type 0
+FeedFaultLeavesSession told old new = told.fault ≢ 0 → (told ≡ unheard_with told.fault) × (new ≡ old)
