@@ -9,10 +9,10 @@
 #include "geocom.hpp"
 
 int main(int count, char **words) {
-    const int fd = count > 2 ? open(words[1], O_RDWR | O_NOCTTY) : -1;
-    if (fd < 0) return 1;
+    if (count < 3) return 1;
+    int fd = -1;
     geocom::station station(
-        [fd](std::uint64_t milliseconds) {
+        [&fd](std::uint64_t milliseconds) {
             pollfd ready{fd, POLLIN, 0};
             const int told = poll(&ready, 1, static_cast<int>(milliseconds));
             if (told == 0 || (told < 0 && errno == EINTR)) return std::string(); // a signal: nothing came yet
@@ -21,9 +21,14 @@ int main(int count, char **words) {
             if (came <= 0) throw std::runtime_error("the connection ended");
             return std::string(bytes, static_cast<std::size_t>(came));
         },
-        [fd](std::string_view bytes) {
+        [&fd](std::string_view bytes) {
             if (write(fd, bytes.data(), bytes.size()) != static_cast<ssize_t>(bytes.size())) throw std::runtime_error("not written");
-        });
+        },
+        [&fd, words] {
+            fd = open(words[1], O_RDWR | O_NOCTTY);
+            if (fd < 0) throw std::runtime_error("not opened");
+        },
+        [&fd] { close(fd); });
     for (int k = 2; k < count; ++k) {
         const std::string word = words[k], angles = word.substr(word.find(':') + 1);
         const auto target = static_cast<std::uint32_t>(std::stoul(word));

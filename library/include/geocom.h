@@ -1,11 +1,40 @@
 /*
  * geocom: the proved GeoCOM client, from C.
  *
- * A client settles each request once, in the order of sending: answered, late or lost. The caller has the connection and
- * the clock; the library opens nothing, allocates no memory, starts no thread and keeps nothing between calls. Its whole
- * state is a geocom_client, which is the caller's: plain bytes of a fixed size, which may be copied and stored.
+ * Each request is settled once, in the order of sending: answered, late or lost. The caller has the connection and the clock; the library
+ * opens nothing, allocates no memory, starts no thread and keeps nothing between calls. Its whole state is the caller's: plain bytes of a
+ * fixed size, which may be copied and stored. There are three ways in, each over the one below it:
  *
- * The order of calls:
+ *   geocom_ask           a request with its settlement, for programs that block until then; over callbacks for the connection and the clock
+ *   geocom_session_..    everything between a request with its deadline and its settlement, over any number of connections, for a loop
+ *                        that does what the session says
+ *   geocom_client_..     requests, replies and ids alone, for a loop with rules of its own on connections
+ *
+ * How a session is driven: geocom_session_init, once, and then a loop, whose duties are these.
+ *   1. Call geocom_session_next with what is wanted and the moment, do what it says, report what came of that, and call it again.
+ *   2. GEOCOM_OPEN: make a connection, and call geocom_session_opened; or geocom_session_closed if none could be made.
+ *   3. GEOCOM_WAIT: there is no connection. Wait until the moment `until` at most, or until something else is wanted.
+ *   4. GEOCOM_WRITE: write the `bytes` bytes of `line` to the connection: once, whole, and in the order of the calls. If that fails or is
+ *      cut short: 7.
+ *   5. GEOCOM_SEND: nothing hinders a request. Call geocom_session_ask or geocom_session_ask_raw, and write its line as in 4; or, if none
+ *      is to be sent, want something else.
+ *   6. GEOCOM_READ: read until the moment `until` at most. If bytes came, pass all of them, in order, to geocom_session_feed, with the
+ *      moment after the read. If nothing came: 1. If the connection ended or failed: 7.
+ *   7. GEOCOM_CLOSE: the line is dead. Close the connection, and call geocom_session_closed. So too whenever the connection ended or failed.
+ *   8. All moments are milliseconds of one clock, which never runs backwards.
+ *   9. A request's end is among the settlements of geocom_session_feed, or of geocom_session_next or geocom_session_restart, which lose it:
+ *      take those of geocom_session_next before its line is written. The session's own null procedures are settled there, too, with the
+ *      target GEOCOM_OWN: ignore these.
+ *  10. A loop that stops for a while, as between two blocking calls, calls geocom_session_next once with GEOCOM_WANT_NOTHING, and may ignore
+ *      what that says, to read or to wait. When it goes on, it first reads without waiting, and feeds what came: so a sign-on, or the end of
+ *      a connection, isn't overlooked.
+ *  11. A deadline of the caller's own is looked at before geocom_session_next: a null procedure may be sent once all that is outstanding
+ *      has timed out.
+ *  12. If a duty was broken off, so that the caller can't say what was written, or fed, of a line: geocom_session_restart, before all else.
+ * Whether what was asked before is still worth sending after another connection or synchronization is the caller's to say: it compares
+ * `stretch` and `sign_ons` of geocom_session_status.
+ *
+ * How a client is driven, without a session:
  *   1. geocom_client_init, once, with the width: how many requests may be outstanding at a time, 1 to 7.
  *   2. geocom_client_begin until the client has synchronized: write a line feed to the new connection, then the line of each null
  *      procedure that the call returns, and pass it the bytes that you read. If nothing came by a deadline of yours, call it without
@@ -23,13 +52,14 @@
  *      all that is outstanding was settled or has timed out; then 7, and after it your setup, which the instrument may have forgotten.
  *
  * On a line that may damage a reply, so that it has another id, two rules keep the harm to the request that it answers, unless two lines
- * in a row that settle something are damaged. First, let the first request after each synchronization be a null procedure
- * (geocom_client_send with procedure 0), alone, again once it has timed out, and send no other before a reply has settled one as answered
- * or late. Second, hold back: send only while the outstanding requests, and those that the last line settled that settled any (`count` of
- * geocom_client_feed; 1 at first, and after each synchronization), are together fewer than seven; if all have timed out and there is no
- * room so, continue at 7. A client of width 3 or less keeps the second rule by itself.
+ * in a row that settle something are damaged. A session keeps them by itself; of a client they are the caller's. First, let the first
+ * request after each synchronization be a null procedure (geocom_client_send with procedure 0), alone, again once it has timed out, and
+ * send no other before a reply has settled one as answered or late. Second, hold back: send only while the outstanding requests, and those
+ * that the last line settled that settled any (`count` of geocom_client_feed; 1 at first, and after each synchronization), are together
+ * fewer than seven; if all have timed out and there is no room so, continue at 7. A client of width 3 or less keeps the second rule by
+ * itself.
  *
- * A moment or a deadline is a number of the caller's clock, which may count in any unit and never runs backwards.
+ * A moment or a deadline of a client is a number of the caller's clock, which may count in any unit and never runs backwards.
  *
  * What the caller vouches for: every pointer is valid for the length after it and not null, even if the length is 0;
  * what two pointers of one call point at does not overlap; and one call at a time is made for each state. Calls for
@@ -39,7 +69,7 @@
  * A call writes `count` places of the room that it is given, and leaves those after them as they are (except in the text of
  * a feed).
  *
- * Faults (a call of a client that returns one has changed nothing, and written nothing; all else that it returns is 0):
+ * Faults (a call of a client or a session that returns one has changed nothing, and written nothing; all else that it returns is 0):
  *   1 to 5    geocom_description_reply: the line is no reply; its first faulty field
  *   6         the line of a raw request would have more than 512 bytes; geocom_description_reply: the line has more
  *   11 to 15  the parameters can't be read: form, range, an open quote, more than 16, another count than the procedure has. Of raw
@@ -48,10 +78,16 @@
  *   31        as many requests are outstanding as the width allows
  *   61        the width is not 1 to 7
  *   62        less room than the call needs
- *   63        the state is no client's: geocom_client_init never made it, or its bytes were overwritten
+ *   63        the state is no client's, or no session's: geocom_client_init or geocom_session_init never made it, or its bytes were
+ *             overwritten
  *   67        the client hasn't synchronized: geocom_client_begin comes first, and again after each restart
- *   68        geocom_client_send_raw, and a description: the procedure is one of the table, which geocom_client_send requests
+ *   68        geocom_client_send_raw, geocom_session_ask_raw, and a description: the procedure is one of the table, which
+ *             geocom_client_send and geocom_session_ask request
  *   71        the text is no description of a procedure
+ *   72        what is wanted of a session is none of enum geocom_want
+ *   73        it isn't a request's turn in the session: what is next isn't GEOCOM_SEND. The request itself could be sent, as its number, its
+ *             parameters and its target are looked at before
+ *   74        the target is GEOCOM_OWN, that of a session's own requests
  * and of an instrument (after 41 and 51 to 53 none is there, and its other calls return 69):
  *   41        the scene has more targets, faults, replies, delays or restarts at a request than an instrument can have
  *   51        a line of the scene can't be read
@@ -82,6 +118,8 @@ extern "C" {
 #define GEOCOM_MOST_ITEMS 16
 /* The room for the name of a column. */
 #define GEOCOM_NAME_ROOM 32
+/* The target of a session's own null procedures. */
+#define GEOCOM_OWN UINT32_MAX
 
 /* An outstanding request. Its line has no id and no CR LF; the first `length` bytes of it are used. */
 typedef struct geocom_waiting {
@@ -129,8 +167,8 @@ enum geocom_reading {
 
 /* The end of a request. */
 typedef struct geocom_settlement {
-    uint32_t target;      /* as it was handed to geocom_client_send or geocom_client_send_raw */
-    uint16_t procedure;   /* as it was handed to geocom_client_send or geocom_client_send_raw */
+    uint32_t target;      /* as it was handed to the call that sent the request */
+    uint16_t procedure;   /* as it was handed to the call that sent the request */
     uint16_t code;        /* the return code, the communication code, or the fault 11 to 15; 0 for a value, and without an answer */
     uint16_t line_length; /* the answer's line: this many bytes at the front of the text; 0 without an answer */
     uint16_t items;       /* how many items a value has, or the parameters of a raw request's answer; 0 for every other reading */
@@ -246,6 +284,122 @@ geocom_count geocom_client_waiting(const geocom_client *state);
  * line is the bytes between two line feeds, without the CR at their end; a reply that was cut off may stand before the sign-on. */
 uint32_t geocom_is_sign_on(const uint8_t *line, size_t length);
 
+/* Sessions: everything between a request with its deadline and its settlement, over any number of connections. A session synchronizes,
+ * sends null procedures where a rule asks for one, holds back, times requests out, resynchronizes when too many are lost, when a sign-on
+ * came, or when a stray shows that a line was altered, and says when the line is dead, and for how long to pause before the next connection.
+ * Its loop's duties are listed at the top. All times are milliseconds. */
+
+/* What the caller wants of a session: nothing, so that what comes is heard, nothing is written and no connection is made; the ends of the
+ * outstanding requests (without one: nothing); or to send a request. The time in which nothing is wanted counts for no dead line. */
+enum geocom_want { GEOCOM_WANT_NOTHING = 0, GEOCOM_WANT_ANSWERS = 1, GEOCOM_WANT_SEND = 2 };
+
+/* What the caller does next (see the duties at the top). */
+enum geocom_act {
+    GEOCOM_OPEN = 1,
+    GEOCOM_WAIT = 2,
+    GEOCOM_WRITE = 3,
+    GEOCOM_SEND = 4,
+    GEOCOM_READ = 5,
+    GEOCOM_CLOSE = 6
+};
+
+/* A session. Its fields are the library's: read them for a log if you like, and write none. */
+typedef struct geocom_session {
+    geocom_client client; /* of width 7: the outstanding requests, and how far the synchronization is */
+    uint64_t timeout;     /* as they were handed to geocom_session_init */
+    uint64_t quiet;
+    uint64_t moment;      /* the last moment that a call was given */
+    uint64_t patience;    /* the longest timeout since nothing was outstanding; after twice this time without a reply the line is dead */
+    uint64_t stretch;     /* as in geocom_status */
+    uint64_t sign_ons;
+    uint64_t rested;      /* since when nothing is wanted, if is_resting; else 0 */
+    uint64_t again;       /* when the null procedure of the synchronization is sent again; 0: now */
+    uint64_t hold;        /* until when nothing is sent; 0: nothing is held */
+    uint64_t since;       /* from when a pause or the quiet time counts */
+    uint64_t alive;       /* from when a dead line counts */
+    uint64_t pause;       /* how long the current pause is, or the last one was */
+    uint8_t width;        /* how many requests that haven't timed out may be in flight, 1 to 7 */
+    uint8_t phase;        /* 0 without a connection, 1 pausing, 2 a line feed is to be written, 3 draining, 4 ready */
+    uint8_t is_resting;   /* 1 if nothing is wanted; else 0 */
+    uint8_t has_asked;    /* 1 once a request was sent by geocom_session_ask or geocom_session_ask_raw; else 0 */
+    uint8_t asked;        /* 1 if something was sent over this connection, and no reply came after it; else 0 */
+    uint8_t doubtful;     /* 1 if nothing is sent before the next synchronization; else 0 */
+    uint8_t behind;       /* how many requests were sent after the last one of the table that a reply ended, 0 to 7 */
+    uint8_t last_ended;   /* how many requests the last line settled that settled any, 1 to 7 */
+    uint8_t listened;     /* 1 if the caller was to read since what came last; else 0 */
+} geocom_session;
+
+/* What geocom_session_next returns; after a fault all else is 0. */
+typedef struct geocom_step {
+    uint64_t until; /* GEOCOM_WAIT, GEOCOM_READ: until this moment at most, UINT64_MAX for any length of time; else 0 */
+    uint32_t fault; /* 0, 62, 63 or 72 */
+    uint32_t act;   /* enum geocom_act */
+    uint32_t bytes; /* GEOCOM_WRITE: how many bytes of `line` are to be written; else 0 */
+    uint32_t count; /* how many records were written: if the session resynchronizes, all that was outstanding is lost; else 0 */
+} geocom_step;
+
+/* What geocom_session_status returns; after a fault all else is 0. */
+typedef struct geocom_status {
+    uint64_t stretch;  /* grows when a connection ends or can't be made, and when the session resynchronizes: what was sent at one number, and
+                          is sent at the same one, goes over one connection after one synchronization */
+    uint64_t sign_ons; /* how many sign-ons came since the first request was sent by geocom_session_ask or geocom_session_ask_raw */
+    uint32_t fault;    /* 0 or 63 */
+    uint32_t is_up;    /* 1 if there is a connection; else 0 */
+    uint32_t is_ready; /* 1 if it has synchronized, the connection is quiet, and nothing called for another synchronization; else 0 */
+    uint32_t waiting;  /* how many requests are outstanding, those that timed out included */
+    uint32_t current;  /* how many of these haven't timed out */
+} geocom_status;
+
+/* Makes a session without a connection, which has sent nothing. At most `width` requests that haven't timed out are in flight, 1 to 7; 1 is
+ * right for an instrument that handles one at a time. A null procedure times out after `timeout`, at least 1; the line is dead once all that
+ * is outstanding has timed out, and no reply came for twice this time, or twice the longest timeout of a request since nothing was
+ * outstanding. After a connection the session pauses for `quiet` before the next one, twice as long at each further failure, up to a minute;
+ * and on a new connection, once it has synchronized, it sends nothing until nothing came for `quiet`. Returns 0, or 61 for another width:
+ * then the session is as it was. */
+uint32_t geocom_session_init(geocom_session *session, uint8_t width, uint64_t timeout, uint64_t quiet);
+
+/* What the caller does next, if `want` (enum geocom_want) is wanted at the moment `now`. Each request whose deadline has come by then times
+ * out; it stays outstanding, and a reply settles it as late. If there is something to write, it is in `line`, with CR LF where it is a
+ * request; it counts as sent from now on. If the session resynchronizes, all that is outstanding is lost, `count` records, the oldest
+ * request's first. Faults: 62 (settlements_room below GEOCOM_WINDOW, or line_room below GEOCOM_LINE_ROOM), 63, 72. */
+geocom_step geocom_session_next(geocom_session *session, uint32_t want, uint64_t now,
+                                geocom_settlement *settlements, size_t settlements_room, uint8_t *line, size_t line_room);
+
+/* Sends a request of a procedure of the table, if it is a request's turn: if GEOCOM_SEND is next, as geocom_session_next says. Its line is
+ * written into `line`, with CR LF, `count` bytes, for the caller to write to the connection. It times out `timeout` after the last moment
+ * that a call was given. Target and parameters are as for geocom_client_send. Faults: 62 (line_room below GEOCOM_LINE_ROOM), 63, 21, 11 to
+ * 15, 74, 73, the first of them that there is. So 73 says that the request can be sent; to check one at any time, ask a copy of the session. */
+geocom_count geocom_session_ask(geocom_session *session, uint32_t target, uint64_t timeout, uint16_t procedure,
+                                const uint8_t *params, size_t params_length, uint8_t *line, size_t line_room);
+
+/* The same for a procedure that isn't in the table, with its parameters exactly as they are given, as geocom_client_send_raw. Its rule on
+ * null procedures is the session's to keep. Faults: 62 (line_room below GEOCOM_LINE_ROOM), 63, 68, 11, 13, 14, 6, 74, 73. */
+geocom_count geocom_session_ask_raw(geocom_session *session, uint32_t target, uint64_t timeout, uint16_t procedure,
+                                    const uint8_t *params, size_t params_length, uint8_t *line, size_t line_room);
+
+/* Reports that a connection was made, by the moment `now`: a line feed comes first. Half a line is discarded. Returns 0, or 63. */
+uint32_t geocom_session_opened(geocom_session *session, uint64_t now);
+
+/* Reports that the connection ended, failed or was closed, or that none could be made, by the moment `now`. What is outstanding stays so, and
+ * half a line is discarded. Returns 0, or 63. */
+uint32_t geocom_session_closed(geocom_session *session, uint64_t now);
+
+/* Takes bytes that came by the moment `now`, in any pieces, through the first line feed; call again with what is left until all are used.
+ * First each request whose deadline has come by then times out. All else is as for geocom_client_feed: `count` records of what a line
+ * settles, and the line and its items in `text`. But a line settles nothing while the session synchronizes, before a new connection is quiet,
+ * and if it has a sign-on in it: then a reply is GEOCOM_STRAY, another line GEOCOM_UNREAD. With length 0 nothing happens. Faults: 62
+ * (settlements_room below GEOCOM_WINDOW, or text_room below GEOCOM_TEXT_ROOM), 63. */
+geocom_heard geocom_session_feed(geocom_session *session, uint64_t now, const uint8_t *bytes, size_t length,
+                                 geocom_settlement *settlements, size_t settlements_room, uint8_t *text, size_t text_room);
+
+/* Settles all that is outstanding as lost, and begins anew: with a line feed first, if there is a connection; and if the session had
+ * synchronized, it synchronizes again. For a caller that can't say any more what became of a line that it was to write, or of bytes that it
+ * read. Writes `count` records, the oldest request's first. Faults: 62 (settlements_room below GEOCOM_WINDOW), 63. */
+geocom_count geocom_session_restart(geocom_session *session, geocom_settlement *settlements, size_t settlements_room);
+
+/* How a session is. Fault: 63. */
+geocom_status geocom_session_status(const geocom_session *session);
+
 /* Procedures that aren't in the table, described by a text: `RPC NAME KIND .. -> COLUMN KIND ..`, as
  *
  *   2167 wait Long mode Long -> hz_rad Double v_rad Double ..
@@ -352,115 +506,127 @@ geocom_replied geocom_instrument_feed(geocom_instrument *at, const uint8_t *byte
  * targets and its noise. Returns 0, or 69. */
 uint32_t geocom_instrument_restart(geocom_instrument *at);
 
-/* What follows uses the calls above, for programs that block until an answer comes: a synchronization, a request with its
- * settlement, and a new connection within a run.
+/* What follows is a loop over a session, for programs that block until a request is settled. It does what the session says, and has no rule
+ * of its own.
  *
- * A port is the caller's connection with the caller's clock. `write` writes all of the bytes, and returns 0. `read` waits at most
- * `milliseconds`, and returns how many bytes came, 0 if none did. Both return a negative number if the connection failed or
- * ended. `now` returns a count of milliseconds that never runs backwards. Each is passed `context`. */
+ * A port is what the loop does it with, each passed `context`. `open` makes a connection, and returns 0, or a negative number if none can be
+ * made. `close` closes it, as it ended or failed, or its line is dead. `wait` returns after so many milliseconds, without a connection.
+ * `write` writes all of the bytes, and returns 0. `read` waits for so many milliseconds at most, and returns how many bytes came, 0 if none
+ * did. `write` and `read` return a negative number if the connection ended or failed, or not all was written. `now` returns a count of
+ * milliseconds that never runs backwards. */
 typedef struct geocom_port {
     void *context;
+    int (*open)(void *context);
+    void (*close)(void *context);
+    void (*wait)(void *context, uint64_t milliseconds);
     int (*write)(void *context, const uint8_t *bytes, size_t length);
     int (*read)(void *context, uint8_t *bytes, size_t room, uint64_t milliseconds);
     uint64_t (*now)(void *context);
 } geocom_port;
 
-/* What these calls return besides 0 and a fault: the connection failed; or the instrument isn't ready: a null procedure was sent three
- * times, and never answered, or a new connection never was quiet. */
-enum geocom_trouble { GEOCOM_FAILED = -1, GEOCOM_SILENT = -2 };
+/* What geocom_ask returns besides 0 and a fault: the request couldn't be sent in time, and wasn't. */
+enum geocom_trouble { GEOCOM_SILENT = -2 };
 
-/* As geocom_begin, until the moment `limit` at the latest: GEOCOM_SILENT then. */
-static inline int geocom_begin_by(geocom_client *state, const geocom_port *port, uint64_t patience, uint64_t limit) {
-    uint8_t bytes[256], line[GEOCOM_LINE_ROOM];
-    uint64_t now, end = 0;
-    int came = 0, unanswered = 0;
-    geocom_beginning begun = geocom_client_begin(state, (const uint8_t *)"\n", 1, line, sizeof line);
-    if (port->write(port->context, (const uint8_t *)"\n", 1) < 0) return GEOCOM_FAILED;
-    for (;;) {
-        begun = geocom_client_begin(state, bytes, (size_t)came, line, sizeof line);
-        if (begun.fault != 0 || begun.has_begun) return (int)begun.fault;
-        now = port->now(port->context);
-        if (now >= limit) return GEOCOM_SILENT;
-        if (begun.count > 0) {
-            unanswered = came > 0 ? 1 : unanswered + 1;
-            if (unanswered > 3) return GEOCOM_SILENT;
-            if (port->write(port->context, line, begun.count) < 0) return GEOCOM_FAILED;
-            end = now + patience < limit ? now + patience : limit;
-        }
-        came = now < end ? port->read(port->context, bytes, sizeof bytes, end - now) : 0;
-        if (came < 0) return GEOCOM_FAILED;
-    }
+/* geocom_session_ask or geocom_session_ask_raw. */
+typedef geocom_count geocom_asking(geocom_session *session, uint32_t target, uint64_t timeout, uint16_t procedure,
+                                   const uint8_t *params, size_t params_length, uint8_t *line, size_t line_room);
+
+/* Closes the connection. */
+static inline void geocom_lose(geocom_session *session, const geocom_port *port) {
+    port->close(port->context);
+    geocom_session_closed(session, port->now(port->context));
 }
 
-/* Synchronizes over a new connection: sends a line feed, and eight null procedures, each again if nothing answered it for `patience`
- * milliseconds. Returns 0, GEOCOM_FAILED, GEOCOM_SILENT, or 63. Call it again to continue where it was. */
-static inline int geocom_begin(geocom_client *state, const geocom_port *port, uint64_t patience) {
-    return geocom_begin_by(state, port, patience, UINT64_MAX);
+/* Writes a line, or closes the connection. */
+static inline void geocom_put(geocom_session *session, const geocom_port *port, const uint8_t *line, size_t length) {
+    if (port->write(port->context, line, length) < 0) geocom_lose(session, port);
 }
 
-/* Continues over a new connection within a run, once the client has synchronized: sends a line feed, and discards what comes until
- * nothing came for `quiet` milliseconds. Returns 0, GEOCOM_FAILED, or a fault; GEOCOM_SILENT if the line wasn't quiet after ten times as
- * long: call it again before any request, or open a new connection. */
-static inline int geocom_reconnect(geocom_client *state, const geocom_port *port, uint64_t quiet) {
-    uint8_t bytes[256], text[GEOCOM_TEXT_ROOM];
+/* Reads for so many milliseconds at most, and returns how many bytes came, or closes the connection. Of what they settle, `last` becomes the
+ * settlement of the request that was sent last. */
+static inline int geocom_hear(geocom_session *session, const geocom_port *port, uint64_t milliseconds, geocom_settlement *last, uint8_t *text) {
+    uint8_t bytes[256];
     geocom_settlement records[GEOCOM_WINDOW];
-    const uint64_t begun = port->now(port->context);
-    uint64_t since = begun, now = begun;
-    int came;
-    if (port->write(port->context, (const uint8_t *)"\n", 1) < 0) return GEOCOM_FAILED;
-    do {
-        came = port->read(port->context, bytes, sizeof bytes, quiet - (now - since));
-        if (came < 0) return GEOCOM_FAILED;
-        now = port->now(port->context);
-        if (came > 0) since = now;
-        if (now - since < quiet && now - begun >= 10 * quiet) return GEOCOM_SILENT;
-    } while (now - since < quiet);
-    return (int)geocom_client_feed(state, (const uint8_t *)"\n", 1, records, GEOCOM_WINDOW, text, sizeof text).fault;
-}
-
-/* Requests a procedure of the table, and reads until the request is settled, or until the deadline, `patience` milliseconds after the call:
- * one that isn't settled by then is reported as lost, as no answer will be taken for it. `text` has room for GEOCOM_TEXT_ROOM bytes. If as
- * many requests are outstanding as the width allows, they are lost, and it restarts; a client that hasn't synchronized does so first, until
- * the deadline at the latest. It is for one request at a time. Returns 0 with the settlement; GEOCOM_FAILED, and then nothing is known of
- * this request; or GEOCOM_SILENT or a fault, and then it wasn't sent. Call it again after GEOCOM_SILENT: it continues where it was. It sends
- * no null procedure by itself, as a line that may damage replies asks for (see above): library/examples/station.c does. Nor does it look
- * for sign-ons: let `read` do that, and call geocom_client_restart before the next request. */
-static inline int geocom_ask(geocom_client *state, const geocom_port *port, uint32_t target, uint16_t procedure, const char *params,
-                             uint64_t patience, geocom_settlement *settlement, uint8_t *text) {
-    const geocom_settlement lost = {target, procedure, 0, 0, 0, {{0, 0}}, GEOCOM_LOST, GEOCOM_NONE};
-    uint8_t bytes[256], line[GEOCOM_LINE_ROOM];
-    geocom_settlement records[GEOCOM_WINDOW];
-    uint32_t targets[GEOCOM_WINDOW];
-    uint64_t now = port->now(port->context);
-    const uint64_t end = now + patience;
-    geocom_count sent = geocom_client_waiting(state);
-    geocom_heard heard;
-    int came, trouble;
+    const int came = port->read(port->context, bytes, sizeof bytes, milliseconds);
+    const uint64_t now = port->now(port->context);
+    geocom_heard heard = {0, 0, 0, 0, 0};
     size_t used;
-    if (sent.fault != 0) return (int)sent.fault;
-    if (sent.count >= state->width) geocom_client_restart(state, records, GEOCOM_WINDOW);
-    if (state->answered < 8) {
-        trouble = geocom_begin_by(state, port, patience, end);
-        if (trouble != 0) return trouble;
-        now = port->now(port->context);
+    if (came < 0) geocom_lose(session, port);
+    for (used = 0; came > 0 && used < (size_t)came && heard.fault == 0; used += heard.used) {
+        heard = geocom_session_feed(session, now, bytes + used, (size_t)came - used, records, GEOCOM_WINDOW, text, GEOCOM_TEXT_ROOM);
+        if (heard.count > 0) *last = records[heard.count - 1];
     }
-    sent = geocom_client_send(state, target, end, procedure, (const uint8_t *)params, strlen(params), line, sizeof line);
-    if (sent.fault != 0) return (int)sent.fault;
-    if (port->write(port->context, line, sent.count) < 0) return GEOCOM_FAILED;
-    *settlement = lost;
-    while (geocom_client_waiting(state).count > 0 && now < end) {
-        came = port->read(port->context, bytes, sizeof bytes, end - now);
-        if (came < 0) return GEOCOM_FAILED;
-        now = port->now(port->context);
-        geocom_client_expire(state, now, targets, GEOCOM_WINDOW);
-        for (used = 0; used < (size_t)came; used += heard.used) {
-            heard = geocom_client_feed(state, bytes + used, (size_t)came - used, records, GEOCOM_WINDOW, text, GEOCOM_TEXT_ROOM);
-            if (heard.fault != 0) return (int)heard.fault;
-            /* It was sent last: so it is settled once none is outstanding, as the last one. */
-            if (heard.count > 0 && geocom_client_waiting(state).count == 0) *settlement = records[heard.count - 1];
+    return came;
+}
+
+/* Does what is next at the moment `now`, until the moment `end` at most, and returns it. GEOCOM_SEND is left to the caller. */
+static inline geocom_step geocom_turn(geocom_session *session, const geocom_port *port, uint32_t want, uint64_t now, uint64_t end,
+                                      geocom_settlement *last, uint8_t *text) {
+    geocom_settlement lost[GEOCOM_WINDOW];
+    uint8_t line[GEOCOM_LINE_ROOM];
+    const geocom_step step = geocom_session_next(session, want, now, lost, GEOCOM_WINDOW, line, sizeof line);
+    const uint64_t until = step.until < end ? step.until : end, rest = until > now ? until - now : 0;
+    if (step.act == GEOCOM_WRITE) geocom_put(session, port, line, step.bytes);
+    if (step.act == GEOCOM_CLOSE) geocom_lose(session, port);
+    if (step.act == GEOCOM_READ && now < end) geocom_hear(session, port, rest, last, text);
+    if (step.act == GEOCOM_WAIT && now < end) port->wait(port->context, rest);
+    if (step.act == GEOCOM_OPEN) {
+        if (port->open(port->context) < 0) geocom_session_closed(session, port->now(port->context));
+        else geocom_session_opened(session, port->now(port->context));
+    }
+    return step;
+}
+
+/* The loop of geocom_ask and geocom_ask_raw. */
+static inline int geocom_ask_by(geocom_asking *asking, geocom_session *session, const geocom_port *port, uint32_t target, uint16_t procedure,
+                                const char *params, uint64_t timeout, geocom_settlement *settlement, uint8_t *text) {
+    const geocom_settlement lost = {target, procedure, 0, 0, 0, {{0, 0}}, GEOCOM_LOST, GEOCOM_NONE};
+    const size_t length = strlen(params);
+    uint8_t line[GEOCOM_LINE_ROOM];
+    uint64_t now = port->now(port->context), end = now + (timeout < UINT64_MAX - now ? timeout : UINT64_MAX - now);
+    uint32_t want = GEOCOM_WANT_SEND, is_settled = 0;
+    geocom_session tried = *session; /* a copy: if it is a request's turn, nothing is sent yet */
+    geocom_settlement last = lost;
+    geocom_step step;
+    geocom_count sent = asking(&tried, target, timeout, procedure, (const uint8_t *)params, length, line, sizeof line);
+    if (sent.fault != 0 && sent.fault != 73) return (int)sent.fault;
+    while (now < end && geocom_session_status(session).is_up && geocom_hear(session, port, 0, &last, text) > 0) now = port->now(port->context);
+    for (; now < end && !is_settled; now = port->now(port->context)) {
+        step = geocom_turn(session, port, want, now, end, &last, text);
+        if (step.fault != 0) return (int)step.fault;
+        if (step.act == GEOCOM_SEND) {
+            sent = asking(session, target, timeout, procedure, (const uint8_t *)params, length, line, sizeof line);
+            if (sent.fault != 0) return (int)sent.fault;
+            want = GEOCOM_WANT_ANSWERS;
+            end = now + (timeout < UINT64_MAX - now ? timeout : UINT64_MAX - now);
+            geocom_put(session, port, line, sent.count);
         }
+        /* It was sent last: so it is settled once none is outstanding. */
+        is_settled = want == GEOCOM_WANT_ANSWERS && geocom_session_status(session).waiting == 0;
     }
+    geocom_turn(session, port, GEOCOM_WANT_NOTHING, now, 0, &last, text);
+    if (want == GEOCOM_WANT_SEND) return GEOCOM_SILENT;
+    *settlement = is_settled ? last : lost;
     return 0;
+}
+
+/* Requests a procedure of the table as soon as the session lets it, and reads until the request is settled, or until its deadline, `timeout`
+ * milliseconds after it was sent: one that isn't settled by then is reported as lost, as no answer will be taken for it. Before that the
+ * session connects, synchronizes and whatever else it has to; what comes between two calls is heard first. `text` has room for
+ * GEOCOM_TEXT_ROOM bytes. A program that blocks has one request at a time in flight, so width 1 is right for its session. Returns 0 with the
+ * settlement; GEOCOM_SILENT if the request couldn't be sent within `timeout` milliseconds of the call: then it wasn't, and the next call
+ * continues; or a fault, at once: a request that can't be sent, as geocom_session_ask refuses it, or 63. The time that `open`, `write` and
+ * `close` take comes on top. If `stretch` or `sign_ons` of geocom_session_status changes during a call, the request may have gone over
+ * another connection than the one before it, or to an instrument that forgot its setup. */
+static inline int geocom_ask(geocom_session *session, const geocom_port *port, uint32_t target, uint16_t procedure, const char *params,
+                             uint64_t timeout, geocom_settlement *settlement, uint8_t *text) {
+    return geocom_ask_by(geocom_session_ask, session, port, target, procedure, params, timeout, settlement, text);
+}
+
+/* The same for a procedure that isn't in the table: as geocom_session_ask_raw. */
+static inline int geocom_ask_raw(geocom_session *session, const geocom_port *port, uint32_t target, uint16_t procedure, const char *params,
+                                 uint64_t timeout, geocom_settlement *settlement, uint8_t *text) {
+    return geocom_ask_by(geocom_session_ask_raw, session, port, target, procedure, params, timeout, settlement, text);
 }
 
 #ifdef __cplusplus

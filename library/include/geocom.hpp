@@ -8,7 +8,6 @@
 #include <chrono>
 #include <cstddef>
 #include <cstdint>
-#include <deque>
 #include <functional>
 #include <limits>
 #include <map>
@@ -17,6 +16,7 @@
 #include <stdexcept>
 #include <string>
 #include <string_view>
+#include <thread>
 #include <utility>
 #include <vector>
 
@@ -58,6 +58,18 @@ struct settlement {
     }
 };
 
+// The bytes of a text, as the calls take them: never null.
+inline const std::uint8_t *bytes_of(std::string_view text) { return reinterpret_cast<const std::uint8_t *>(text.empty() ? "" : text.data()); }
+
+// The settlement of a record, whose line and items are in this text.
+inline settlement settlement_of(const geocom_settlement &r, const std::uint8_t *text) {
+    settlement s{r.target, r.procedure, outcome(r.outcome), reading(r.reading), r.code, {}, {}};
+    if (r.line_length != 0) s.line.assign(text, text + r.line_length);
+    for (std::uint16_t i = 0; i < r.items; ++i)
+        s.items.emplace_back(text + r.places[i].offset, text + r.places[i].offset + r.places[i].length);
+    return s;
+}
+
 // A procedure that isn't in the table, described by a text (geocom.h). Throws the fault of a text that describes none: 68 or 71.
 class description {
 public:
@@ -68,7 +80,7 @@ public:
 
     explicit description(std::string_view said) : text_(said) {
         std::array<geocom_column, GEOCOM_MOST_ITEMS> columns;
-        told_ = geocom_description_read(bytes(text_), text_.size(), columns.data(), columns.size());
+        told_ = geocom_description_read(bytes_of(text_), text_.size(), columns.data(), columns.size());
         if (told_.fault != 0) throw fault(told_.fault);
         for (std::uint32_t k = 0; k < told_.columns; ++k)
             columns_.push_back({std::string(columns[k].name, columns[k].name + columns[k].length), geocom_item_kind(columns[k].kind)});
@@ -82,7 +94,7 @@ public:
 
     // Throws the fault of a request's parameters: 11 to 15.
     void check(std::string_view params) const {
-        const std::uint32_t number = geocom_description_params(bytes(text_), text_.size(), bytes(params), params.size());
+        const std::uint32_t number = geocom_description_params(bytes_of(text_), text_.size(), bytes_of(params), params.size());
         if (number != 0) throw fault(number);
     }
 
@@ -95,7 +107,7 @@ public:
     void read(settlement &s, std::string_view line) const {
         std::array<std::uint8_t, GEOCOM_TEXT_ROOM> text;
         const geocom_answer told =
-            geocom_description_reply(bytes(text_), text_.size(), bytes(line), line.size(), text.data(), text.size());
+            geocom_description_reply(bytes_of(text_), text_.size(), bytes_of(line), line.size(), text.data(), text.size());
         if (told.fault != 0) throw fault(told.fault);
         s.reading = geocom::reading(told.reading);
         s.code = told.code;
@@ -107,8 +119,6 @@ public:
     }
 
 private:
-    static const std::uint8_t *bytes(std::string_view text) { return reinterpret_cast<const std::uint8_t *>(text.empty() ? "" : text.data()); }
-
     std::string text_;
     geocom_description told_;
     std::vector<column> columns_;
@@ -116,8 +126,7 @@ private:
 
 // Whether a line, without its CR LF, has a sign-on in it, which an instrument sends when it is switched on or off.
 inline bool is_sign_on(std::string_view line) {
-    const char *text = line.empty() ? "" : line.data();
-    return geocom_is_sign_on(reinterpret_cast<const std::uint8_t *>(text), line.size()) != 0;
+    return geocom_is_sign_on(bytes_of(line), line.size()) != 0;
 }
 
 class client {
@@ -128,9 +137,7 @@ public:
     // Without bytes it is the first line, or, if nothing came in time, the same again. Requests can be sent once `has_begun()`.
     std::string begin(std::string_view bytes = "") {
         std::array<std::uint8_t, GEOCOM_LINE_ROOM> line;
-        const char *text = bytes.empty() ? "" : bytes.data();
-        const geocom_beginning begun =
-            geocom_client_begin(&state_, reinterpret_cast<const std::uint8_t *>(text), bytes.size(), line.data(), line.size());
+        const geocom_beginning begun = geocom_client_begin(&state_, bytes_of(bytes), bytes.size(), line.data(), line.size());
         check(begun.fault);
         has_begun_ = begun.has_begun != 0;
         return std::string(line.begin(), line.begin() + begun.count);
@@ -142,9 +149,8 @@ public:
     // rules: `last_ended` is for the second.
     std::string send(std::uint32_t target, std::uint64_t deadline, std::uint16_t procedure, std::string_view params = "") {
         std::array<std::uint8_t, GEOCOM_LINE_ROOM> line;
-        const char *text = params.empty() ? "" : params.data();
-        const geocom_count sent = geocom_client_send(&state_, target, deadline, procedure,
-                                                     reinterpret_cast<const std::uint8_t *>(text), params.size(), line.data(), line.size());
+        const geocom_count sent =
+            geocom_client_send(&state_, target, deadline, procedure, bytes_of(params), params.size(), line.data(), line.size());
         check(sent.fault);
         return std::string(line.begin(), line.begin() + sent.count);
     }
@@ -153,9 +159,8 @@ public:
     // answer is text: the items of its parameters. After six of these in a row a null procedure has to be answered (geocom.h).
     std::string send_raw(std::uint32_t target, std::uint64_t deadline, std::uint16_t procedure, std::string_view params = "") {
         std::array<std::uint8_t, GEOCOM_LINE_ROOM> line;
-        const char *text = params.empty() ? "" : params.data();
-        const geocom_count sent = geocom_client_send_raw(&state_, target, deadline, procedure,
-                                                         reinterpret_cast<const std::uint8_t *>(text), params.size(), line.data(), line.size());
+        const geocom_count sent =
+            geocom_client_send_raw(&state_, target, deadline, procedure, bytes_of(params), params.size(), line.data(), line.size());
         check(sent.fault);
         return std::string(line.begin(), line.begin() + sent.count);
     }
@@ -165,13 +170,13 @@ public:
         std::vector<settlement> all;
         while (!bytes.empty()) {
             std::array<std::uint8_t, GEOCOM_TEXT_ROOM> text;
-            const geocom_heard heard = geocom_client_feed(&state_, reinterpret_cast<const std::uint8_t *>(bytes.data()), bytes.size(),
-                                                          records_.data(), records_.size(), text.data(), text.size());
+            const geocom_heard heard =
+                geocom_client_feed(&state_, bytes_of(bytes), bytes.size(), records_.data(), records_.size(), text.data(), text.size());
             check(heard.fault);
             bytes.remove_prefix(heard.used);
             ++kinds_[heard.kind];
             if (heard.count != 0) last_ended_ = heard.count;
-            append(all, heard.count, text.data());
+            for (std::uint32_t k = 0; k < heard.count; ++k) all.push_back(settlement_of(records_[k], text.data()));
         }
         return all;
     }
@@ -198,7 +203,7 @@ public:
         has_begun_ = false;
         last_ended_ = 1;
         std::vector<settlement> all;
-        append(all, lost.count, nullptr);
+        for (std::uint32_t k = 0; k < lost.count; ++k) all.push_back(settlement_of(records_[k], nullptr));
         return all;
     }
 
@@ -221,17 +226,6 @@ public:
 private:
     static void check(std::uint32_t number) {
         if (number != 0) throw fault(number);
-    }
-
-    void append(std::vector<settlement> &all, std::uint32_t count, const std::uint8_t *text) const {
-        for (std::uint32_t k = 0; k < count; ++k) {
-            const geocom_settlement &r = records_[k];
-            settlement s{r.target, r.procedure, outcome(r.outcome), reading(r.reading), r.code, {}, {}};
-            if (r.line_length != 0) s.line.assign(text, text + r.line_length);
-            for (std::uint16_t i = 0; i < r.items; ++i)
-                s.items.emplace_back(text + r.places[i].offset, text + r.places[i].offset + r.places[i].length);
-            all.push_back(std::move(s));
-        }
     }
 
     geocom_client state_;
@@ -260,8 +254,7 @@ class instrument {
 public:
     explicit instrument(std::string_view scene)
         : room_(new std::max_align_t[(geocom_instrument_size() + sizeof(std::max_align_t) - 1) / sizeof(std::max_align_t)]) {
-        const char *text = scene.empty() ? "" : scene.data();
-        const geocom_made made = geocom_instrument_init(at(), reinterpret_cast<const std::uint8_t *>(text), scene.size());
+        const geocom_made made = geocom_instrument_init(at(), bytes_of(scene), scene.size());
         if (made.fault != 0) throw bad_scene(made.fault, made.line);
     }
 
@@ -269,8 +262,7 @@ public:
     std::vector<reply> hear(std::string_view bytes, std::uint64_t now) {
         std::vector<reply> replies;
         while (!bytes.empty()) {
-            const geocom_replied heard =
-                geocom_instrument_feed(at(), reinterpret_cast<const std::uint8_t *>(bytes.data()), bytes.size(), now);
+            const geocom_replied heard = geocom_instrument_feed(at(), bytes_of(bytes), bytes.size(), now);
             if (heard.fault != 0) throw fault(heard.fault);
             bytes.remove_prefix(heard.used);
             if (heard.count != 0) replies.push_back({heard.due, std::string(heard.reply, heard.reply + heard.count)});
@@ -297,11 +289,11 @@ private:
     std::unique_ptr<std::max_align_t[]> room_;
 };
 
-// The instrument wasn't ready in time, and the request wasn't sent: no null procedure was answered, or a new connection never was quiet.
-// Try again, which continues where it was, or open a new connection.
+// The request couldn't be sent in time, and wasn't: nothing answers, a new connection isn't quiet, or none can be made. Try again, which
+// continues where it was.
 class silent : public std::runtime_error {
 public:
-    explicit silent(const char *why = "geocom: no null procedure is answered") : std::runtime_error(why) {}
+    explicit silent(const char *why = "geocom: the instrument isn't ready") : std::runtime_error(why) {}
 };
 
 // A sign-on came after the call was made: the instrument was switched on or off, and the request wasn't sent. Send your setup again, and
@@ -311,42 +303,61 @@ public:
     restarted() : silent("geocom: the instrument was switched on or off") {}
 };
 
-// A station over two callables and a clock, by the rules of docs/OPERATING.md: it synchronizes, sends requests, and waits for each until
-// its deadline. It sends a null procedure where the rule of `send_raw` asks for one, and as its first request after each synchronization,
-// until a reply has settled one. It holds back: if the outstanding requests, and those that the last line settled that settled any, are
-// together seven, it restarts and synchronizes again. So a damaged line does no harm beyond the request that it answers, unless two in a row
-// that settle something are damaged. After a line with a sign-on it sends nothing before it has synchronized again. What the callables throw
-// passes through: open a new connection then, and call `reconnected`. One thread at a time.
+// A station over callables and a clock, which sends a request and waits for its end. It does what a session says (geocom.h), and has no rule of
+// its own on the line: the session synchronizes, sends null procedures, holds back, and says when the line is dead. A callable that throws a
+// std::runtime_error reports that the connection ended or failed; all else that one throws ends the connection, too, and passes through.
+// One thread at a time.
 class station {
 public:
     // Returns what came within `milliseconds`, an empty string if nothing did. It throws if the connection ended or failed.
     using reader = std::function<std::string(std::uint64_t milliseconds)>;
     // Writes all of the bytes, or throws.
     using writer = std::function<void(std::string_view bytes)>;
+    // Makes a connection, or throws.
+    using opener = std::function<void()>;
+    // Closes the connection, and throws nothing.
+    using closer = std::function<void()>;
     // Returns a count of milliseconds that never runs backwards.
     using clock = std::function<std::uint64_t()>;
+    // Returns after so many milliseconds.
+    using waiter = std::function<void(std::uint64_t milliseconds)>;
     // A command of a chain: its procedure, and its parameters, as "5000,1".
     using command = std::pair<std::uint16_t, std::string>;
 
-    // `timeout`, in milliseconds, is for each null procedure, and for each request whose call has no other.
-    station(reader read, writer write, std::uint64_t timeout = 10000, clock now = steady)
-        : read_(std::move(read)), write_(std::move(write)), now_(std::move(now)), timeout_(timeout) {}
-
-    // Synchronizes, unless it has. The first request does this by itself. Throws `silent` if a null procedure was sent three times, and
-    // never answered, or if a new connection wasn't quiet within three times the timeout and the quiet time.
-    void begin() {
-        if (is_doubtful_) start_over();
-        if (!is_clear_) clear(now_() + 3 * timeout_ + quiet_);
-        synchronize(std::numeric_limits<std::uint64_t>::max());
+    // A station over connections that it makes and closes itself. `timeout`, in milliseconds, is for each null procedure, and for each request
+    // whose call has no other; `quiet` is for how long a new connection has to be quiet, and how long a pause before it is at least.
+    station(reader read, writer write, opener open, closer close, std::uint64_t timeout = 10000, std::uint64_t quiet = 2000,
+            clock now = steady, waiter wait = rest)
+        : read_(std::move(read)), write_(std::move(write)), open_(std::move(open)), close_(std::move(close)), now_(std::move(now)),
+          wait_(std::move(wait)) {
+        geocom_session_init(&session_, GEOCOM_WINDOW, timeout, quiet);
     }
 
-    // Requests a procedure of the table, and returns the settlement, at the deadline at the latest, `timeout` milliseconds after the call:
-    // a request that isn't settled by then is returned as lost, as no answer will be taken for it. Throws `silent` if it couldn't be sent
-    // by then, `restarted` if a sign-on came before it was sent, and the fault of one that can't be sent.
+    // A station over the caller's connection. What a callable throws passes through, and `silent` is thrown if the line is dead: open a new
+    // connection then, and call `reconnected`; or try again, if the connection stands.
+    station(reader read, writer write, std::uint64_t timeout = 10000, clock now = steady, std::uint64_t quiet = 2000)
+        : station(std::move(read), std::move(write), nullptr, nullptr, timeout, quiet, std::move(now)) {
+        geocom_session_opened(&session_, now_());
+    }
+
+    // Synchronizes, unless it has. The first request does this by itself. Throws `silent` if that took longer than eight times the timeout
+    // and the quiet time.
+    void begin() {
+        const std::uint64_t end = later(later(now_(), session_.timeout < most / 8 ? 8 * session_.timeout : most), session_.quiet);
+        look(end);
+        for (std::uint64_t now; status().is_ready == 0; turn(GEOCOM_WANT_SEND, now, end))
+            if ((now = now_()) >= end) stop(silent());
+        turn(GEOCOM_WANT_NOTHING, now_(), 0);
+    }
+
+    // Requests a procedure of the table, and returns the settlement, at the deadline at the latest, `timeout` milliseconds after the request
+    // was sent: a request that isn't settled by then is returned as lost, as no answer will be taken for it. Throws `silent` if it couldn't be
+    // sent within `timeout` milliseconds of the call, `restarted` if a sign-on came before it was sent, and, at once, the fault of one that
+    // can't be sent.
     settlement ask(std::uint32_t target, std::uint16_t procedure, std::string_view params = "", std::uint64_t timeout = 0) {
         const description *by = find(procedure);
         if (by != nullptr) by->check(params);
-        settlement s = ask(by != nullptr, target, procedure, params, timeout, sign_ons_);
+        settlement s = exchange(by != nullptr, target, procedure, params, timeout, sign_ons(), std::nullopt);
         if (by != nullptr) by->read(s);
         return s;
     }
@@ -361,77 +372,99 @@ public:
 
     // The same as `ask` for a procedure that isn't in the table, described or not: its answer is text.
     settlement ask_raw(std::uint32_t target, std::uint16_t procedure, std::string_view params = "", std::uint64_t timeout = 0) {
-        return ask(true, target, procedure, params, timeout, sign_ons_);
+        return exchange(true, target, procedure, params, timeout, sign_ons(), std::nullopt);
     }
 
-    // Runs a chain: each command is sent once the one before it was answered with a value. It ends after the first that wasn't, or where a
-    // sign-on came; `restarted` is thrown only if that was before the chain's first command was sent. A procedure that isn't in the table
-    // is requested as by `ask_raw`. An answer whose return code is in `accept` is a value, with this code, if its items can be read.
-    // Throws the fault of any command that can't be sent before the first one is.
+    // Runs a chain: each command is sent once the one before it was answered with a value, over the same connection, after the same
+    // synchronization, and if no sign-on came. It ends where one wasn't, or couldn't be sent; `silent` or `restarted` is thrown only if that
+    // was the first. A procedure that isn't in the table is requested as by `ask_raw`. An answer whose return code is in `accept` is a value,
+    // with this code, if its items can be read. Throws the fault of any command that can't be sent before the first one is.
     std::vector<settlement> measure(std::uint32_t target, const std::vector<command> &chain, std::uint64_t timeout = 0,
                                     const std::vector<std::uint16_t> &accept = {}) {
-        for (const command &each : chain) tried(each);
-        for (const command &each : chain)
+        for (const command &each : chain) {
+            check(is_raw(each), target, each.first, each.second);
             if (const description *by = find(each.first)) by->check(each.second);
+        }
         std::vector<settlement> all;
-        const std::uint64_t known = sign_ons_;
+        const std::uint64_t known = sign_ons();
+        std::optional<std::uint64_t> stretch;
         for (const command &each : chain) {
             try {
-                all.push_back(ask(tried(each).is_raw, target, each.first, each.second, timeout, known));
-                if (const description *by = find(each.first)) by->read(all.back());
-            } catch (const restarted &) {
+                all.push_back(exchange(is_raw(each), target, each.first, each.second, timeout, known, stretch));
+            } catch (const silent &) {
                 if (all.empty()) throw;
                 break;
             }
+            stretch = sent_at_;
+            if (const description *by = find(each.first)) by->read(all.back());
             if (std::find(accept.begin(), accept.end(), all.back().code) != accept.end()) read_values(all.back(), each);
             if (all.back().reading != reading::value) break;
         }
         return all;
     }
 
-    // The callables use a new connection from now on. Outstanding requests stay so. If the client has synchronized, what comes is
-    // discarded until nothing came for `quiet` milliseconds.
-    void reconnected(std::uint64_t quiet = 2000) {
-        is_clear_ = is_discarding_ = false;
-        quiet_ = quiet;
+    // The callables use a new connection from now on. Outstanding requests stay so. If it has synchronized, what comes is discarded until
+    // nothing came for the quiet time.
+    void reconnected() {
+        if (status().is_up != 0) geocom_session_closed(&session_, now_());
+        geocom_session_opened(&session_, now_());
     }
 
     // How many sign-ons came since the first request of the caller's was sent. If a call changes it, what that call returns may have been
     // answered without your setup: send it again.
-    std::uint64_t sign_ons() const { return sign_ons_; }
+    std::uint64_t sign_ons() const { return status().sign_ons; }
 
     static std::uint64_t steady() {
         using std::chrono::milliseconds, std::chrono::steady_clock;
         return static_cast<std::uint64_t>(std::chrono::duration_cast<milliseconds>(steady_clock::now().time_since_epoch()).count());
     }
 
-private:
-    // A client of its own to which a command was sent, and whether its procedure isn't in the table.
-    struct trial {
-        geocom::client client;
-        bool is_raw;
-    };
+    static void rest(std::uint64_t milliseconds) { std::this_thread::sleep_for(std::chrono::milliseconds(milliseconds)); }
 
-    // Throws the fault of a command that can't be sent.
-    static trial tried(const command &each) {
-        trial made{geocom::client(1), false};
-        made.client.begin("%R1P,0,6:0\r\n%R1P,0,5:0\r\n%R1P,0,4:0\r\n%R1P,0,3:0\r\n%R1P,0,2:0\r\n%R1P,0,1:0\r\n%R1P,0,0:0\r\n%R1P,0,7:0\r\n");
-        try {
-            made.client.send(0, 0, each.first, each.second);
-        } catch (const fault &refused) {
-            if (refused.number != 21) throw;
-            made.client.send_raw(0, 0, each.first, each.second);
-            made.is_raw = true;
-        }
-        return made;
+private:
+    static constexpr std::uint64_t most = std::numeric_limits<std::uint64_t>::max();
+
+    static std::uint64_t later(std::uint64_t moment, std::uint64_t wait) { return wait < most - moment ? moment + wait : most; }
+
+    geocom_status status() const { return geocom_session_status(&session_); }
+
+    // What describes a procedure, if a text of `describe` does.
+    const description *find(std::uint16_t procedure) const {
+        const auto at = described_.find(procedure);
+        return at == described_.end() ? nullptr : &at->second;
     }
 
+    // Asks a session, and returns the fault, or the length of the line.
+    geocom_count line_of(geocom_session &session, bool is_raw, std::uint32_t target, std::uint64_t timeout, std::uint16_t procedure, std::string_view params) {
+        return (is_raw ? geocom_session_ask_raw : geocom_session_ask)(&session, target, timeout, procedure, bytes_of(params), params.size(),
+                                                                      line_.data(), line_.size());
+    }
+
+    // The fault of a request that can't be sent, whenever its turn is; else 0.
+    std::uint32_t refusal(bool is_raw, std::uint32_t target, std::uint16_t procedure, std::string_view params) {
+        geocom_session tried = session_; // a copy: if it is a request's turn, nothing is sent yet
+        const std::uint32_t number = line_of(tried, is_raw, target, 0, procedure, params).fault;
+        return number == 73 ? 0 : number;
+    }
+
+    void check(bool is_raw, std::uint32_t target, std::uint16_t procedure, std::string_view params) {
+        const std::uint32_t number = refusal(is_raw, target, procedure, params);
+        if (number != 0) throw fault(number);
+    }
+
+    // Whether a command's procedure isn't in the table.
+    bool is_raw(const command &each) { return refusal(false, 0, each.first, each.second) == 21; }
+
     // Reads a refusal's line as that of a value: the same line with return code 0.
-    void read_values(settlement &s, const command &asked) const {
+    void read_values(settlement &s, const command &asked) {
         if (s.reading != reading::refused) return;
         const std::size_t end = s.line.find_first_not_of("0123456789", s.line.find(':') + 1);
         const std::string line = "%R1P,0,0:0" + (end == std::string::npos ? "" : s.line.substr(end));
-        std::vector<settlement> done = tried(asked).client.feed(line + "\r\n");
+        geocom::client other(1);
+        other.begin("%R1P,0,6:0\r\n%R1P,0,5:0\r\n%R1P,0,4:0\r\n%R1P,0,3:0\r\n%R1P,0,2:0\r\n%R1P,0,1:0\r\n%R1P,0,0:0\r\n%R1P,0,7:0\r\n");
+        if (is_raw(asked)) other.send_raw(0, 0, asked.first, asked.second);
+        else other.send(0, 0, asked.first, asked.second);
+        std::vector<settlement> done = other.feed(line + "\r\n");
         if (done.size() != 1) return;
         if (const description *by = find(asked.first)) by->read(done[0], line);
         if (done[0].reading != reading::value) return;
@@ -440,178 +473,119 @@ private:
         s.columns = done[0].columns;
     }
 
-    // What describes a procedure, if a text of `describe` does.
-    const description *find(std::uint16_t procedure) const {
-        const auto at = described_.find(procedure);
-        return at == described_.end() ? nullptr : &at->second;
+    // The connection ended, failed or is dead. Where the caller makes connections, the next one counts as made, and the caller is told.
+    void lose() {
+        if (close_) close_();
+        geocom_session_closed(&session_, now_());
+        if (!open_) geocom_session_opened(&session_, now_());
     }
 
-    // What the reader returns, and whether it ended a line with a sign-on in it: then nothing is sent before the client has synchronized again.
-    std::string take(std::uint64_t milliseconds) {
-        std::string came = read_(milliseconds);
-        is_started_ = false;
-        for (const char each : came) {
-            if (each != '\n') {
-                if (piece_.size() < GEOCOM_LINE_ROOM) piece_ += each;
-                continue;
-            }
-            const bool is_line = !piece_.empty() && piece_.back() == '\r' && piece_.size() < GEOCOM_LINE_ROOM;
-            if (is_line && is_sign_on(std::string_view(piece_).substr(0, piece_.size() - 1))) {
-                is_started_ = true;
-                if (has_sent_) ++sign_ons_;
-            }
-            piece_.clear();
+    // Calls one of the callables over a connection. Whether the connection stands.
+    template <typename Call> bool kept(Call call) {
+        try {
+            call();
+            return true;
+        } catch (const std::runtime_error &) {
+            lose();
+            if (!open_) throw;
+        } catch (...) {
+            lose();
+            throw;
         }
-        is_doubtful_ = is_doubtful_ || (is_started_ && client_.has_begun());
-        return came;
+        return false;
     }
 
-    // Takes what came while nobody read, so that a sign-on, and a connection that ended, are seen before a request is lost with them.
+    void put(std::size_t length) {
+        kept([&] { write_(std::string_view(reinterpret_cast<const char *>(line_.data()), length)); });
+    }
+
+    // Reads for so many milliseconds at most. Whether something came, which the session has heard.
+    bool hear(std::uint64_t milliseconds) {
+        std::string came;
+        if (!kept([&] { came = read_(milliseconds); })) return false;
+        const std::uint64_t now = now_();
+        for (std::string_view left = came; !left.empty();) {
+            const geocom_heard heard = geocom_session_feed(&session_, now, bytes_of(left), left.size(), records_.data(), records_.size(),
+                                                           text_.data(), text_.size());
+            if (heard.fault != 0) throw fault(heard.fault);
+            left.remove_prefix(heard.used);
+            if (heard.count != 0) last_ = records_[heard.count - 1];
+        }
+        return !came.empty();
+    }
+
+    // What came while nobody read is heard first: a sign-on, and a connection that ended, are seen before a request is lost with them.
     void look(std::uint64_t end) {
-        if (!is_clear_ || !client_.has_begun()) return;
-        for (bool is_more = true; is_more;) {
-            const std::string came = take(0);
-            const std::uint64_t now = now_();
-            client_.expire(now);
-            hear(came);
-            is_more = !came.empty() && now < end;
-        }
+        while (status().is_up != 0 && now_() < end && hear(0)) {}
     }
 
-    // Settles all that is outstanding as lost: the client has to synchronize again.
-    void start_over() {
-        client_.restart();
-        raws_.clear();
-        behind_ = GEOCOM_WINDOW;
-        again_ = unanswered_ = 0;
-        is_doubtful_ = false;
+    // Does what is next at the moment `now`, until the moment `end` at most, and returns it. GEOCOM_SEND is left to the caller.
+    std::uint32_t turn(std::uint32_t want, std::uint64_t now, std::uint64_t end) {
+        const geocom_step step = geocom_session_next(&session_, want, now, records_.data(), records_.size(), line_.data(), line_.size());
+        if (step.fault != 0) throw fault(step.fault);
+        const std::uint64_t until = std::min(step.until, end), left = until > now ? until - now : 0;
+        if (step.act == GEOCOM_WRITE) put(step.bytes);
+        if (step.act == GEOCOM_READ && now < end) hear(left);
+        if (step.act == GEOCOM_WAIT && now < end) wait_(left);
+        if (step.act == GEOCOM_CLOSE) lose();
+        if (step.act == GEOCOM_CLOSE && !open_) throw silent("geocom: the line is dead");
+        if (step.act == GEOCOM_OPEN) open();
+        return step.act;
     }
 
-    // A line feed discards half a request at the instrument, and half a line here. Throws `silent` if what came didn't end by `end`; the
-    // next call continues.
-    void clear(std::uint64_t end) {
-        std::uint64_t now = now_();
-        if (!is_discarding_) {
-            write_("\n");
-            piece_.clear();
-            since_ = now;
-            is_discarding_ = true;
+    void open() {
+        try {
+            open_();
+        } catch (const std::runtime_error &) {
+            geocom_session_closed(&session_, now_());
+            return;
         }
-        while (client_.has_begun() && is_discarding_) {
-            const std::uint64_t until = std::min(since_ + quiet_, end);
-            const bool is_quiet = take(until > now ? until - now : 0).empty();
-            now = now_();
-            if (!is_quiet) since_ = now;
-            is_discarding_ = now < since_ + quiet_;
-            if (is_discarding_ && now >= end) throw silent("geocom: a new connection isn't quiet");
-        }
-        if (client_.has_begun()) {
-            client_.expire(now);
-            hear("\n");
-        } else {
-            client_.begin("\n");
-        }
-        is_clear_ = true;
-        is_discarding_ = false;
-        again_ = unanswered_ = 0;
+        geocom_session_opened(&session_, now_());
     }
 
-    // Null procedures, each again after the timeout, until all eight are answered, or the moment `end`. A sign-on before the eighth answer
-    // changes nothing.
-    void synchronize(std::uint64_t end) {
-        while (!client_.has_begun()) {
-            const std::uint64_t now = now_();
-            if (now >= end) throw silent();
-            const std::string came = now < again_ ? take(std::min(again_, end) - now) : "";
-            if (now < again_ && came.empty()) continue;
-            if (came.empty() && unanswered_ == 3) {
-                unanswered_ = 0;
-                throw silent();
-            }
-            const std::string line = client_.begin(came);
-            is_doubtful_ = !came.empty() && is_started_ && client_.has_begun();
-            if (line.empty()) continue;
-            unanswered_ = came.empty() ? unanswered_ + 1 : 1;
-            write_(line);
-            again_ = now_() + timeout_;
-        }
+    // Ends a call whose request wasn't sent.
+    template <typename Why> [[noreturn]] void stop(const Why &why) {
+        turn(GEOCOM_WANT_NOTHING, now_(), 0);
+        throw why;
     }
 
-    // Makes ready for a request: a client with no room for one restarts, as one request at a time is waited for, and so does one that heard a
-    // sign-on. It holds back: after a line that settled several requests, which may be a damaged one, none is sent whose id a reply that is
-    // still in flight might have. Throws `restarted` if there are more sign-ons than are known.
-    void begin_anew(std::uint64_t end, std::uint64_t known) {
-        do {
-            if (sign_ons_ != known) throw restarted();
-            if (is_doubtful_ || client_.waiting() + client_.last_ended() >= GEOCOM_WINDOW) start_over();
-            if (!is_clear_) clear(end);
-            if (!is_doubtful_) synchronize(end);
-        } while (is_doubtful_ || sign_ons_ != known);
-    }
-
-    settlement ask(bool is_raw, std::uint32_t target, std::uint16_t procedure, std::string_view params, std::uint64_t timeout,
-                   std::uint64_t known) {
-        const std::uint64_t end = now_() + (timeout != 0 ? timeout : timeout_);
+    // Sends a request, and waits for its end. `known`: how many sign-ons the caller knew of. `stretch`: of a chain's further request, the one in
+    // which the first was sent.
+    settlement exchange(bool is_raw, std::uint32_t target, std::uint16_t procedure, std::string_view params, std::uint64_t timeout,
+                        std::uint64_t known, std::optional<std::uint64_t> stretch) {
+        check(is_raw, target, procedure, params);
+        const std::uint64_t patience = timeout != 0 ? timeout : session_.timeout;
+        std::uint64_t now = now_(), end = later(now, patience);
         look(end);
-        begin_anew(end, known);
-        // One of the seven requests before each is a call of the table that a reply settled: else a null procedure goes out first. So it is
-        // after each synchronization, of which a reply may still come.
-        while (behind_ >= GEOCOM_WINDOW) {
-            exchange(false, 0, 0, "", std::min(end, now_() + timeout_));
-            begin_anew(end, known);
-            if (now_() >= end) throw silent();
-        }
-        has_sent_ = true;
-        return exchange(is_raw, target, procedure, params, end);
-    }
-
-    // What these bytes settle. After a call of the table that a reply ended, as many requests were sent as are still outstanding.
-    std::vector<settlement> hear(std::string_view bytes) {
-        std::vector<settlement> all = client_.feed(bytes);
-        for (const settlement &each : all) {
-            const bool was_raw = raws_.front();
-            raws_.pop_front();
-            if (each.outcome != outcome::lost && !was_raw) behind_ = static_cast<std::uint32_t>(raws_.size());
-        }
-        return all;
-    }
-
-    settlement exchange(bool is_raw, std::uint32_t target, std::uint16_t procedure, std::string_view params, std::uint64_t end) {
-        std::uint64_t now = now_();
-        const std::string line = is_raw ? client_.send_raw(target, end, procedure, params) : client_.send(target, end, procedure, params);
-        raws_.push_back(is_raw);
-        behind_ += behind_ < GEOCOM_WINDOW ? 1 : 0;
-        write_(line);
-        settlement ended{target, procedure, outcome::lost, reading::none, 0, {}, {}};
-        while (client_.waiting() > 0 && now < end) {
-            const std::string came = take(end - now);
+        do {
             now = now_();
-            client_.expire(now);
-            for (settlement &each : hear(came)) ended = std::move(each);
-        }
-        // It was sent last: so it is settled once none is outstanding, as the last one.
-        if (client_.waiting() > 0) ended = {target, procedure, outcome::lost, reading::none, 0, {}, {}};
-        return ended;
+            if (sign_ons() != known) stop(restarted());
+            if (now >= end || stretch.value_or(status().stretch) != status().stretch) stop(silent());
+        } while (turn(GEOCOM_WANT_SEND, now, end) != GEOCOM_SEND);
+        const geocom_count sent = line_of(session_, is_raw, target, patience, procedure, params);
+        if (sent.fault != 0) throw fault(sent.fault);
+        sent_at_ = status().stretch;
+        put(sent.count);
+        // It was sent last: so it is settled once none is outstanding.
+        for (end = later(now, patience); status().waiting != 0 && (now = now_()) < end;) turn(GEOCOM_WANT_ANSWERS, now, end);
+        const bool is_settled = status().waiting == 0;
+        turn(GEOCOM_WANT_NOTHING, now_(), 0);
+        return is_settled ? settlement_of(last_, text_.data()) : settlement{target, procedure, outcome::lost, reading::none, 0, {}, {}};
     }
 
-    client client_;
+    geocom_session session_;
     std::map<std::uint16_t, description> described_;
     reader read_;
     writer write_;
+    opener open_;
+    closer close_;
     clock now_;
-    std::uint64_t timeout_, quiet_ = 2000;
-    // From when the quiet time counts; when the null procedure is sent again, and how often it wasn't answered.
-    std::uint64_t since_ = 0, again_ = 0, unanswered_ = 0;
-    // Which of the outstanding requests are raw, and how many requests were sent after the last call of the table that a reply settled, at
-    // most seven; seven if a reply has settled none since the client synchronized.
-    std::deque<bool> raws_;
-    std::uint32_t behind_ = GEOCOM_WINDOW;
-    bool is_clear_ = false, is_discarding_ = false;
-    // The bytes since the last line feed, of more than a line's room that many; whether the last piece ended a line with a sign-on in it, and
-    // whether one came since the client synchronized; whether a request of the caller's was sent, and how many sign-ons came after it.
-    std::string piece_;
-    bool is_started_ = false, is_doubtful_ = false, has_sent_ = false;
-    std::uint64_t sign_ons_ = 0;
+    waiter wait_;
+    std::uint64_t sent_at_ = 0; // the stretch in which the last request was sent
+    geocom_settlement last_{}; // the end of the request that was sent last among those that a line settled, and that line
+    std::array<std::uint8_t, GEOCOM_TEXT_ROOM> text_;
+    std::array<std::uint8_t, GEOCOM_LINE_ROOM> line_;
+    std::array<geocom_settlement, GEOCOM_WINDOW> records_;
 };
 
 } // namespace geocom

@@ -7,7 +7,7 @@ import sys
 from pathlib import Path
 
 CONSTANT = re.compile(r"^pub const (\w+): \w+ = (\d+);", re.M)
-GROUPS = ["outcome", "reading", "kind", "item_kind"]
+GROUPS = ["outcome", "reading", "kind", "item_kind", "want", "act"]
 # What each group is called in the package.
 CLASSES = {"outcome": "Outcome", "reading": "Reading", "kind": "Kind"}
 
@@ -36,12 +36,13 @@ same("the law", constants, {name: int(value) for clause in clauses.values() for 
 faults = {constants[name] for clause in ("faults", "instrument_faults") for name in clauses[clause]}
 faults |= {int(number) for text in law.values() for number in re.findall(r"(?:line_fault|refusal|raw|run_fault)_number [^≡]*≡ (\d+)", text)}
 groups = {group: {name: constants[name] for name in clauses[group + "s"]} for group in GROUPS}
-plain = {name: constants[name] for clause in ("version", "rooms", "instrument_rooms") for name in clauses[clause]}
+plain = {name: constants[name] for clause in ("version", "rooms", "own", "instrument_rooms") for name in clauses[clause]}
 for path, name in [("crates/gc_client/src/window.rt", "WINDOW"), ("crates/gc_values/src/items.rt", "MOST_ITEMS")]:
     plain[name] = int(dict(CONSTANT.findall(read(path)))[name])
 
 header = read("library/include/geocom.h")
-same("#define in geocom.h", plain, {name: int(value) for name, value in re.findall(r"^#define GEOCOM_(\w+) (\d+)$", header, re.M)})
+defined = re.findall(r"^#define GEOCOM_(\w+) (\d+|UINT32_MAX)$", header, re.M)
+same("#define in geocom.h", plain, {name: 2**32 - 1 if value == "UINT32_MAX" else int(value) for name, value in defined})
 for group in GROUPS:
     body = re.search(rf"enum geocom_{group} \{{(.*?)\}}", header, re.S).group(1)
     same(f"geocom_{group} in geocom.h", groups[group], {name: int(value) for name, value in re.findall(r"GEOCOM_(\w+) = (\d+)", body)})
