@@ -18,6 +18,9 @@ import station_described
 import station_starts
 import station_troubles
 from geocom import RC, Face, Outcome, PrismType
+from geocom._library import OWN
+from geocom.errors import NotItsTurn, OwnTarget
+from geocom.session import NEVER, Act, Session, Want
 from station_scripted import raised, scripted
 
 
@@ -76,6 +79,15 @@ def what_is_late_or_lost():
     assert station.tmc.get_angle(1).hz_rad == Decimal("1.5")
 
 
+def idle_time_counts_for_no_dead_line():
+    port, station = scripted({2107: [None, b"0,1.5,0.5"]}, timeout=5)
+    station.begin()
+    port.open = port.close = lambda: raised(AssertionError, lambda: 0)  # the connection stays
+    assert station.ask(2107, 1).outcome is Outcome.LOST
+    port.clock.now += 3600
+    assert station.ask(2107, 1).outcome is Outcome.ANSWERED
+
+
 def a_null_procedure_comes_first():
     """Behind each beginning, with id 0; and again with the next id, until a reply has ended one."""
     port, station = scripted({5003: b"0,1"}, timeout=5)
@@ -87,7 +99,7 @@ def a_null_procedure_comes_first():
     port, station = scripted({0: [b"0"] * 8 + [None] + [b"0"] * 10, 5003: [b"0,1", b"0,7"]}, timeout=5)
     assert station.ask(5003, timeout=60).items == ("1",)
     assert (port.written[8:], port.ids[8:]) == ([0, 0, 5003], [0, 1, 2])
-    station._rules.broken_off(True, station._now())  # as behind an exception
+    station._is_under_way = True  # as behind an exception
     assert station.ask(5003, timeout=5).items == ("7",)
     assert (port.written[11:], port.ids[11:]) == ([0] * 9 + [5003], [6, 5, 4, 3, 2, 1, 0, 7, 0, 1])
 
@@ -154,6 +166,10 @@ def a_connection_that_ended():
     assert station.csv.get_instrument_no().serial == 1
     port.is_ended, before = True, port.clock.now
     assert station.csv.get_instrument_no().serial == 1 and port.clock.now - before >= 4
+    assert port.written[8:] == [0, 5003, 5003]
+    port.is_ended = True
+    assert isinstance(raised(geocom.NotReady, station.ask, 5003, timeout=1).__cause__, OSError)
+    station.begin()
     assert port.written[8:] == [0, 5003, 5003]
 
 
@@ -243,6 +259,32 @@ def what_the_client_counts():
         client.send(target, 10 * target, 5003)
     assert client.expire(10) == [0, 1] and (client.waiting, client.current) == (3, 1)
     raised(ValueError, client.send, -1, 0, 5003)
+
+
+def what_a_session_says():
+    session = Session(1, 5000, 2000)
+    assert session.next(Want.NOTHING, 1000) == (Act.WAIT, NEVER, b"", [])
+    for kind, words in [(NotItsTurn, (2107, "1")), (NotItsTurn, (2167, "1\"\"", True)), (geocom.BadParameters, (2107, "x")), (geocom.InTable, (2107, "1", True)),
+                        (geocom.UnknownProcedure, (2167, "1")), (ValueError, (1 << 16, "1"))]:
+        raised(kind, session.ask, 7, 1000, *words)
+    raised(OwnTarget, session.ask, OWN, 1000, 2107, "1")
+    assert session.next(Want.SEND, 1000) == (Act.OPEN, 0, b"", [])
+    session.opened(1000)
+    assert session.is_up and session.next(Want.SEND, 1000).line == b"\n"
+    for id in (6, 5, 4, 3, 2, 1, 0, 7, 0):
+        assert session.is_ready is (id == 0 and session._state.client.answered == 8)
+        assert session.next(Want.SEND, 1000) == (Act.WRITE, 0, b"%%R1Q,0,%d:\r\n" % id, [])
+        assert session.next(Want.SEND, 1000) == (Act.READ, 6000, b"", [])
+        settled = session.feed(1000, b"%R1P") + session.feed(1000, b",0,%d:0\r\n" % id)
+    assert [each.target for each in settled] == [OWN]
+    assert session.next(Want.SEND, 3000).act is Act.SEND and session.ask(7, 1000, 2107, "1") == b"%R1Q,2107,1:1\r\n"
+    assert session.next(Want.ANSWERS, 3000) == (Act.READ, 4000, b"", []) and session.stretch == 0
+    assert [(each.target, each.items) for each in session.feed(3500, b"%R1P,0,1:0,1.5,0.5\r\n")] == [(7, ("1.5", "0.5"))]
+    session.closed(3500)
+    assert session.next(Want.SEND, 3500) == (Act.WAIT, 5500, b"", []) and session.delay(4000) == 3500 and session.stretch == 1
+    session.restart()
+    assert not session.is_up and session.stretch == 2
+    raised(geocom.BadWidth, geocom.aio.Station, 4001, width=8)
 
 
 def the_library_is_loaded_at_the_first_use():

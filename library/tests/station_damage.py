@@ -1,18 +1,19 @@
 """One damaged reply makes one wrong answer at most: station_damage.py COUNT SEED, random lines, of which one in seven has each width.
 
-The rules of a station (`geocom.rules`) ask over a line in memory, with a clock of the trial's own. The line keeps order, delays, and damages
+A session (`geocom.asked`) asks over a line in memory, with a clock of the trial's own. The line keeps order, delays, and damages
 one reply, which gets another id; the instrument answers each request once. Each request has a number of its own, which its answer has. The
 damaged reply makes one answer at most another request's, no more than six requests wait at a time, and the first one follows a null procedure
 of the client that has begun.
 """
 
+import collections
 import random
 import re
 import sys
 
 from geocom import Outcome
-from geocom.acts import Act
-from geocom.rules import Rules
+from geocom.asked import Asked
+from geocom.session import Act, Want
 from geocom.settlement import Request
 
 ASKED, RAW, NULL = 2107, 2167, 0
@@ -53,29 +54,30 @@ class Line:
 def play(chance, width, count):
     """Asks so many requests, and says what came of it: how many answers were another request's, and the line."""
     line = Line(chance, chance.randrange(8 + count), chance.randrange(1, 8))
-    rules, now, most = Rules(width, 10_000, 0), 1000, 0
+    asked, now, most = Asked(width, 10_000, 0), 1000, 0
     patience = chance.choice([[20], [20, 600, 10_000], [10_000]])
     raws = chance.choice([0.0, 0.5, 0.9])
-    asked = []
+    requests = []
     for number in range(count):
         is_raw = chance.random() < raws
-        asked.append(Request(RAW if is_raw else ASKED, str(number), number, chance.choice(patience), is_raw))
-    rules.wanted.extend(asked)
-    while rules.is_busy and now < 10_000_000:
-        step = rules.next(now)
+        requests.append(Request(RAW if is_raw else ASKED, str(number), number, chance.choice(patience), is_raw))
+    wanted = collections.deque(requests)
+    while now < 10_000_000 and (wanted or any(each.deadline > now for each in asked.waiting.values())):
+        step = asked.next(Want.SEND if wanted else Want.ANSWERS, now)
         if step.act is Act.OPEN:
-            rules.opened(now)
+            asked.opened(now)
         elif step.act is Act.CLOSE:
-            rules.closed(now)
+            asked.closed(now)
         elif step.act is Act.WAIT:
             now = step.until
-        elif step.act is Act.WRITE:
-            line.write(step.data, now)
-            most = max(most, len(rules.waiting))
+        elif step.act in (Act.WRITE, Act.SEND):
+            line.write(step.line if step.act is Act.WRITE else asked.send(wanted.popleft(), now), now)
+            most = max(most, asked._state.client.waiting)
         else:
             data, now = line.read(now, max(now, step.until))
-            rules.came(data, now)
-    ends = [each.settlement for each in asked if each.settlement]
+            if data:
+                asked.came(data, now)
+    ends = [each.settlement for each in requests if each.settlement]
     answered = [each for each in ends if each.outcome is Outcome.ANSWERED and each.items]
     return sum(int(float(each.items[0])) != each.target for each in answered), len(answered), most, line.ids
 

@@ -1,6 +1,7 @@
 """A station over an instrument that answers as it is told, and a clock of the trial's own, for `station_cases.py` and `station_troubles.py`."""
 
 import geocom
+from station_ports import Clock
 
 
 class Scripted:
@@ -38,16 +39,6 @@ class Scripted:
 
     def close(self):
         self.is_ended = True
-
-
-class Clock:
-    now = 1000.0
-
-    def __call__(self):
-        return self.now
-
-    def sleep(self, seconds):
-        self.now += seconds
 
 
 def scripted(answers=None, **options):

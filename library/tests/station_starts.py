@@ -6,7 +6,7 @@ import types
 
 import geocom
 import geocom.aio
-from geocom import Outcome, Reading
+from geocom import Outcome
 from station_scripted import raised, scripted
 
 SIGN_ON = b"%N1,0,255,,0%T0,0,0,:\r\n"
@@ -64,17 +64,15 @@ def in_place_of_a_reply():
 
 
 def in_the_line_of_a_reply_that_was_cut():
-    """And in pieces: the cut reply can't be read, and what was in flight may still be answered."""
+    """And in pieces: such a line settles nothing, so the request is lost, at its deadline."""
     port, station = begun({2107: [b"0,1.5,0.5", b"0,1.5" + SIGN_ON[:-2], b"0,1.5,0.5"]})
-    settlement = station.ask(2107, 1)
-    assert (settlement.outcome, settlement.reading) == (Outcome.ANSWERED, Reading.UNREADABLE) and station.sign_ons == 1
+    assert station.ask(2107, 1).outcome is Outcome.LOST and station.sign_ons == 1
     assert goes_on_anew(port, station)
-    port.came = b"%R1P,0,2:0,1.5%N"
-    port.answers[2107] = [b"0,1.5,0.5", b"0,1.5,0.5"]
+    port.answers[2107] = [None, b"0,1.5,0.5"]
     read, pieces = port.read, [b"%R1P,0,2:0,1.5%N", b"1,0:\r\n"]
     port.read = lambda size=1: pieces.pop(0) if pieces else read(size)
     port.came = b""
-    assert station.ask(2107, 1).reading is Reading.UNREADABLE and station.sign_ons == 2
+    assert station.ask(2107, 1).outcome is Outcome.LOST and station.sign_ons == 2
     port.came = b""
     assert goes_on_anew(port, station)
 
@@ -137,7 +135,7 @@ def an_exception_behind_it():
     port, station = begun()
     port.came = SIGN_ON
     raised(geocom.Restarted, station.ask, 2107, 1)
-    station._rules.broken_off(True, station._now())
+    station._is_under_way = True
     assert goes_on_anew(port, station)
 
 
@@ -224,7 +222,7 @@ def by_asyncio():
         await asyncio.sleep(0.1)
         await comes(b"%R1P,0,2:0,1.5" + SIGN_ON)  # and the reply to the first was cut
         ends = await asyncio.gather(*asked, return_exceptions=True)
-        assert (ends[0].outcome, ends[0].reading) == (Outcome.ANSWERED, Reading.UNREADABLE) and ends[1].outcome is Outcome.LOST
+        assert ends[0].outcome is ends[1].outcome is Outcome.LOST
         assert [type(each) for each in ends[2:]] == [geocom.Restarted] * 2 and station.sign_ons == 2
         assert 0.9 < asyncio.get_running_loop().time() - before < 3
         way["mute"] = False

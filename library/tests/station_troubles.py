@@ -4,6 +4,7 @@ runs them."""
 import asyncio
 import contextlib
 import copy
+import functools
 import logging
 import multiprocessing
 import os
@@ -21,7 +22,8 @@ from pathlib import Path
 import geocom
 import geocom.aio
 from geocom import RC, Face, Outcome
-from station_scripted import Clock, raised, scripted
+from station_ports import Clock
+from station_scripted import raised, scripted
 
 try:
     import numpy
@@ -213,7 +215,7 @@ def asks_well(station, numbers):
         settlement = station.ask(2107, number, target=number, timeout=60)
         assert (settlement.target, settlement.items[:1]) == (number, (f"{number}.0",)), settlement
     rows = station.measure(geocom.Chain.of(9, (2107, 9), (2107, 10), timeout=60))
-    assert [row.value.hz_rad for row in rows] == [9, 10]
+    assert [row.value.hz_rad for row in rows] == [9, 10] and not station._session.waiting
 
 
 def exceptions_at_any_place(each="line", stride=7):
@@ -345,6 +347,19 @@ def aio_calls_always_end():
                 asyncio.run(trial(width, [0, 0], record))
     finally:
         logger.setLevel(level)
+
+
+def aio_calls_end_with_what_breaks_off():
+    """What is in flight is lost at once, and not only at its deadline."""
+
+    async def trial():
+        async with geocom.aio.Station(geocom.Instrument("delay 5003 60000\n").connect, timeout=30, quiet=0.01) as station:
+            asked = asyncio.create_task(station.ask(5003))
+            await asyncio.sleep(0.1)
+            station._turns._turn(functools.partial(raised, AssertionError, lambda: 0))
+            assert (await asyncio.wait_for(asked, 5)).outcome is Outcome.LOST and not station._session.waiting
+
+    asyncio.run(trial())
 
 
 def aio_over_a_second_loop():

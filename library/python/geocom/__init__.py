@@ -27,10 +27,10 @@ How it is made:
 
 - `Client` is the library's client (`libgeocom.so`, proved): which reply is whose, ids, deadlines,
   what a reply says. It opens no port and reads no clock; deadlines and moments are milliseconds of
-  a count of yours.
-- `rules` decides what is done next, over one client: the rules of `docs/OPERATING.md`, and nothing
-  of ports or clocks.
-- `Station` and `aio.Station` do it, over `ports`.
+  a count of yours. It is for a loop of your own.
+- `session` is the library's session, which says what is done next over any number of connections:
+  the rules of `docs/OPERATING.md`, and nothing of ports or clocks.
+- `Station` and `aio.Station` do it, over `ports`; `asked` has which request is whose.
 - `codes`, `results` and `named` are written of the tables of `docs/PROTOCOL.md`.
 
 The library is loaded at the first client. `GEOCOM_LIBRARY` names another one. Messages go to the

@@ -12,6 +12,7 @@ from typing import Any
 
 VERSION = 2
 WINDOW = 7
+OWN = 4294967295
 LINE_ROOM = 514
 TEXT_ROOM = 1024
 REPLY_ROOM = 514
@@ -19,119 +20,113 @@ MOST_ITEMS = 16
 NAME_ROOM = 32
 
 
+_SIZE = ctypes.c_size_t
+_U8, _U16, _U32, _U64 = ctypes.c_uint8, ctypes.c_uint16, ctypes.c_uint32, ctypes.c_uint64
+
+
+def _all(kind: Any, names: str) -> list[tuple[str, Any]]:
+    """Fields of one kind."""
+    return [(name, kind) for name in names.split()]
+
+
 class _Waiting(ctypes.Structure):
     _fields_ = [
-        ("deadline", ctypes.c_uint64),
-        ("target", ctypes.c_uint32),
-        ("length", ctypes.c_uint16),
-        ("given_up", ctypes.c_uint8),
-        ("line", ctypes.c_uint8 * 512),
+        ("deadline", _U64),
+        ("target", _U32),
+        ("length", _U16),
+        ("given_up", _U8),
+        ("line", _U8 * 512),
     ]
 
 
 class _Rest(ctypes.Structure):
-    _fields_ = [("length", ctypes.c_uint16), ("bytes", ctypes.c_uint8 * 514)]
+    _fields_ = [("length", _U16), ("bytes", _U8 * 514)]
 
 
 class _Client(ctypes.Structure):
     _fields_ = [
         ("places", _Waiting * WINDOW),
         ("rest", _Rest),
-        ("width", ctypes.c_uint8),
-        ("next", ctypes.c_uint8),
-        ("waiting", ctypes.c_uint8),
-        ("answered", ctypes.c_uint8),
+        *_all(_U8, "width next waiting answered"),
     ]
 
 
 class _Item(ctypes.Structure):
-    _fields_ = [("offset", ctypes.c_uint16), ("length", ctypes.c_uint16)]
+    _fields_ = _all(_U16, "offset length")
 
 
 class _Settlement(ctypes.Structure):
     _fields_ = [
-        ("target", ctypes.c_uint32),
-        ("procedure", ctypes.c_uint16),
-        ("code", ctypes.c_uint16),
-        ("line_length", ctypes.c_uint16),
-        ("items", ctypes.c_uint16),
+        ("target", _U32),
+        *_all(_U16, "procedure code line_length items"),
         ("places", _Item * MOST_ITEMS),
-        ("outcome", ctypes.c_uint8),
-        ("reading", ctypes.c_uint8),
+        *_all(_U8, "outcome reading"),
     ]
 
 
 class _Count(ctypes.Structure):
-    _fields_ = [("fault", ctypes.c_uint32), ("count", ctypes.c_uint32)]
+    _fields_ = _all(_U32, "fault count")
 
 
 class _Deadline(ctypes.Structure):
-    _fields_ = [
-        ("deadline", ctypes.c_uint64),
-        ("fault", ctypes.c_uint32),
-        ("is_set", ctypes.c_uint32),
-    ]
+    _fields_ = [("deadline", _U64), *_all(_U32, "fault is_set")]
 
 
 class _Beginning(ctypes.Structure):
-    _fields_ = [
-        ("fault", ctypes.c_uint32),
-        ("count", ctypes.c_uint32),
-        ("answered", ctypes.c_uint32),
-        ("has_begun", ctypes.c_uint32),
-    ]
+    _fields_ = _all(_U32, "fault count answered has_begun")
 
 
 class _Heard(ctypes.Structure):
+    _fields_ = [("used", _SIZE), *_all(_U32, "fault count kind line_fault")]
+
+
+class _Session(ctypes.Structure):
     _fields_ = [
-        ("used", ctypes.c_size_t),
-        ("fault", ctypes.c_uint32),
-        ("count", ctypes.c_uint32),
-        ("kind", ctypes.c_uint32),
-        ("line_fault", ctypes.c_uint32),
+        ("client", _Client),
+        *_all(_U64, "timeout quiet moment patience stretch sign_ons rested"),
+        *_all(_U64, "again hold since alive pause"),
+        *_all(_U8, "width phase is_resting has_asked asked doubtful behind last_ended listened"),
+    ]
+
+
+class _Step(ctypes.Structure):
+    _fields_ = [("until", _U64), *_all(_U32, "fault act bytes count")]
+
+
+class _Status(ctypes.Structure):
+    _fields_ = [
+        *_all(_U64, "stretch sign_ons"),
+        *_all(_U32, "fault is_up is_ready waiting current"),
     ]
 
 
 class _Column(ctypes.Structure):
-    _fields_ = [
-        ("name", ctypes.c_uint8 * NAME_ROOM),
-        ("length", ctypes.c_uint8),
-        ("kind", ctypes.c_uint8),
-    ]
+    _fields_ = [("name", _U8 * NAME_ROOM), *_all(_U8, "length kind")]
 
 
 class _Description(ctypes.Structure):
-    _fields_ = [
-        ("fault", ctypes.c_uint32),
-        ("procedure", ctypes.c_uint32),
-        ("parameters", ctypes.c_uint32),
-        ("columns", ctypes.c_uint32),
-        ("more", ctypes.c_uint32),
-    ]
+    _fields_ = _all(_U32, "fault procedure parameters columns more")
 
 
 class _Answer(ctypes.Structure):
     _fields_ = [
-        ("fault", ctypes.c_uint32),
-        ("code", ctypes.c_uint16),
-        ("items", ctypes.c_uint16),
-        ("columns", ctypes.c_uint16),
+        ("fault", _U32),
+        *_all(_U16, "code items columns"),
         ("places", _Item * MOST_ITEMS),
-        ("reading", ctypes.c_uint8),
+        ("reading", _U8),
     ]
 
 
 class _Made(ctypes.Structure):
-    _fields_ = [("fault", ctypes.c_uint32), ("line", ctypes.c_uint32)]
+    _fields_ = _all(_U32, "fault line")
 
 
 class _Replied(ctypes.Structure):
     _fields_ = [
-        ("used", ctypes.c_size_t),
-        ("due", ctypes.c_uint64),
-        ("fault", ctypes.c_uint32),
-        ("count", ctypes.c_uint32),
-        ("reply", ctypes.c_uint8 * REPLY_ROOM),
+        ("used", _SIZE),
+        ("due", _U64),
+        *_all(_U32, "fault count"),
+        ("reply", _U8 * REPLY_ROOM),
     ]
 
 
@@ -146,6 +141,9 @@ STRUCTURES: dict[str, type[ctypes.Structure]] = {
     "geocom_deadline": _Deadline,
     "geocom_beginning": _Beginning,
     "geocom_heard": _Heard,
+    "geocom_session": _Session,
+    "geocom_step": _Step,
+    "geocom_status": _Status,
     "geocom_column": _Column,
     "geocom_description": _Description,
     "geocom_answer": _Answer,
@@ -155,31 +153,38 @@ STRUCTURES: dict[str, type[ctypes.Structure]] = {
 
 _STATE = ctypes.POINTER(_Client)
 _RECORDS = ctypes.POINTER(_Settlement)
-_SIZE = ctypes.c_size_t
 _TEXT = [ctypes.c_char_p, _SIZE]
-_SEND = [_STATE, ctypes.c_uint32, ctypes.c_uint64, ctypes.c_uint16, *_TEXT, *_TEXT]
+_SESSION = ctypes.POINTER(_Session)
+_SEND = [_STATE, _U32, _U64, _U16, *_TEXT, *_TEXT]
+_ASK = [_SESSION, *_SEND[1:]]
 _CALLS: dict[str, tuple[Any, list[Any]]] = {
-    "geocom_version": (ctypes.c_uint32, []),
-    "geocom_is_sign_on": (ctypes.c_uint32, _TEXT),
-    "geocom_client_init": (ctypes.c_uint32, [_STATE, ctypes.c_uint8]),
+    "geocom_version": (_U32, []),
+    "geocom_is_sign_on": (_U32, _TEXT),
+    "geocom_client_init": (_U32, [_STATE, _U8]),
     "geocom_client_begin": (_Beginning, [_STATE, *_TEXT, *_TEXT]),
     "geocom_client_send": (_Count, _SEND),
     "geocom_client_send_raw": (_Count, _SEND),
     "geocom_client_feed": (_Heard, [_STATE, *_TEXT, _RECORDS, _SIZE, *_TEXT]),
-    "geocom_client_expire": (
-        _Count,
-        [_STATE, ctypes.c_uint64, ctypes.POINTER(ctypes.c_uint32), _SIZE],
-    ),
+    "geocom_client_expire": (_Count, [_STATE, _U64, ctypes.POINTER(_U32), _SIZE]),
     "geocom_client_next_deadline": (_Deadline, [_STATE]),
     "geocom_client_restart": (_Count, [_STATE, _RECORDS, _SIZE]),
     "geocom_client_waiting": (_Count, [_STATE]),
+    "geocom_session_init": (_U32, [_SESSION, _U8, _U64, _U64]),
+    "geocom_session_next": (_Step, [_SESSION, _U32, _U64, _RECORDS, _SIZE, *_TEXT]),
+    "geocom_session_ask": (_Count, _ASK),
+    "geocom_session_ask_raw": (_Count, _ASK),
+    "geocom_session_opened": (_U32, [_SESSION, _U64]),
+    "geocom_session_closed": (_U32, [_SESSION, _U64]),
+    "geocom_session_feed": (_Heard, [_SESSION, _U64, *_TEXT, _RECORDS, _SIZE, *_TEXT]),
+    "geocom_session_restart": (_Count, [_SESSION, _RECORDS, _SIZE]),
+    "geocom_session_status": (_Status, [_SESSION]),
     "geocom_description_read": (_Description, [*_TEXT, ctypes.POINTER(_Column), _SIZE]),
-    "geocom_description_params": (ctypes.c_uint32, [*_TEXT, *_TEXT]),
+    "geocom_description_params": (_U32, [*_TEXT, *_TEXT]),
     "geocom_description_reply": (_Answer, [*_TEXT, *_TEXT, *_TEXT]),
     "geocom_instrument_size": (_SIZE, []),
     "geocom_instrument_init": (_Made, [ctypes.c_void_p, *_TEXT]),
-    "geocom_instrument_feed": (_Replied, [ctypes.c_void_p, *_TEXT, ctypes.c_uint64]),
-    "geocom_instrument_restart": (ctypes.c_uint32, [ctypes.c_void_p]),
+    "geocom_instrument_feed": (_Replied, [ctypes.c_void_p, *_TEXT, _U64]),
+    "geocom_instrument_restart": (_U32, [ctypes.c_void_p]),
 }
 
 

@@ -8,10 +8,10 @@ from collections.abc import Iterable, Mapping
 from dataclasses import dataclass
 from typing import Optional
 
-from .client import refuse
 from .described import Description
 from .errors import NoValue
 from .results import TABLE
+from .session import refuse
 from .settlement import Outcome, Request, Settlement
 from .values import Parameter, line, milliseconds, whole
 

@@ -7,9 +7,8 @@ from __future__ import annotations
 import collections
 import ctypes
 import enum
-import functools
 import threading
-from collections.abc import Callable
+from collections.abc import Callable, Sequence
 from typing import Any
 
 from ._library import LINE_ROOM, TEXT_ROOM, WINDOW, _Client, _Settlement, load
@@ -132,9 +131,9 @@ class Client:
         params: str | bytes,
     ) -> bytes:
         text = params.encode("latin-1") if isinstance(params, str) else bytes(params)
-        _within(target, 32)
-        _within(deadline, 64)
-        _within(procedure, 16)
+        within(target, 32)
+        within(deadline, 64)
+        within(procedure, 16)
         with self._lock:
             sent = call(
                 self._state, target, deadline, procedure, text, len(text), self._line, LINE_ROOM
@@ -170,7 +169,7 @@ class Client:
 
         They go on waiting: a reply settles them as late.
         """
-        _within(now, 64)
+        within(now, 64)
         with self._lock:
             due = self._calls.geocom_client_expire(self._state, now, self._due, WINDOW)
             check(due.fault)
@@ -211,22 +210,25 @@ class Client:
             return sum(not place.given_up for place in state.places[: state.waiting])
 
     def _settled(self, count: int) -> list[Settlement]:
-        text = self._text.raw
-        return [
-            Settlement(
-                target=r.target,
-                procedure=r.procedure,
-                outcome=_OUTCOMES[r.outcome],
-                reading=_READINGS[r.reading],
-                code=r.code,
-                line=text[: r.line_length].decode("latin-1") if r.line_length else None,
-                items=tuple(
-                    text[p.offset : p.offset + p.length].decode("latin-1")
-                    for p in r.places[: r.items]
-                ),
-            )
-            for r in self._records[:count]
-        ]
+        return settlements(self._records[:count], self._text.raw)
+
+
+def settlements(records: Sequence[_Settlement], text: bytes) -> list[Settlement]:
+    """What the library wrote of requests that ended, with the text in which their items are."""
+    return [
+        Settlement(
+            target=r.target,
+            procedure=r.procedure,
+            outcome=_OUTCOMES[r.outcome],
+            reading=_READINGS[r.reading],
+            code=r.code,
+            line=text[: r.line_length].decode("latin-1") if r.line_length else None,
+            items=tuple(
+                text[p.offset : p.offset + p.length].decode("latin-1") for p in r.places[: r.items]
+            ),
+        )
+        for r in records
+    ]
 
 
 def begun() -> Client:
@@ -236,25 +238,7 @@ def begun() -> Client:
     return client
 
 
-@functools.lru_cache(maxsize=None)
-def _fresh() -> bytes:
-    """The state of a client that has begun."""
-    return bytes(begun()._state)
-
-
-@functools.lru_cache(maxsize=256)
-def refuse(procedure: int, params: str, is_raw: bool) -> None:
-    """Raises what the library refuses of a request, before anything is asked."""
-    text = params.encode("latin-1")
-    _within(procedure, 16)
-    line = ctypes.create_string_buffer(LINE_ROOM)
-    calls = load()
-    send = calls.geocom_client_send_raw if is_raw else calls.geocom_client_send
-    state = _Client.from_buffer_copy(_fresh())
-    check(send(state, 0, 0, procedure, text, len(text), line, LINE_ROOM).fault)
-
-
-def _within(number: int, bits: int) -> None:
+def within(number: int, bits: int) -> None:
     """ctypes cuts a number that is too wide, silently: so it is refused here."""
     if not 0 <= number < 1 << bits:
         raise ValueError(f"{number} has more than {bits} bits")

@@ -77,9 +77,9 @@ class NoRoom(Fault):
 
 
 class NoClient(Fault):
-    """63: the state is no client's."""
+    """63: the state is no client's, or no session's."""
 
-    text = "the state is no client's"
+    text = "the state is no client's, or no session's"
 
 
 class NotBegun(Fault):
@@ -100,6 +100,24 @@ class NoDescription(Fault, ValueError):
     def __init__(self, number: int, text: str = ""):
         self.text = f"{text!r} isn't of the form 'RPC NAME KIND .. -> COLUMN KIND ..'"
         super().__init__(number)
+
+
+class BadWant(Fault):
+    """72: what is wanted of a session is none of the three."""
+
+    text = "what is wanted is none of the three"
+
+
+class NotItsTurn(Fault):
+    """73: it isn't a request's turn in a session."""
+
+    text = "it isn't a request's turn"
+
+
+class OwnTarget(Fault):
+    """74: the target is that of a session's own requests."""
+
+    text = "the target is that of a session's own requests"
 
 
 class NoInstrument(Fault):
@@ -164,6 +182,9 @@ _FAULTS: dict[int, type[Fault]] = {
     68: InTable,
     69: NoInstrument,
     71: NoDescription,
+    72: BadWant,
+    73: NotItsTurn,
+    74: OwnTarget,
 } | {each: BadParameters for each in range(11, 16)} | {each: NoReply for each in range(1, 6)}
 
 

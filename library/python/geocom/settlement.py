@@ -141,8 +141,6 @@ class Request:
         #: When it went out, by the system's clock.
         self.sent: datetime.datetime | None = None
         self.settlement: Settlement | None = None
-        #: Why the library refused it: then it never went out.
-        self.fault: Exception | None = None
 
     def is_outdated(self, sign_ons: int) -> bool:
         """Whether a sign-on came that its caller doesn't know of."""
@@ -157,16 +155,17 @@ class Request:
             )
         self.settlement = settlement
 
+    @property
+    def is_sent(self) -> bool:
+        """Whether it went out."""
+        return self.stretch is not None
+
     def is_over(self, now: int) -> bool:
-        """Whether it is settled, refused, or given up by its deadline."""
-        if self.settlement or self.fault:
-            return True
-        return self.stretch is not None and self.deadline <= now
+        """Whether it is settled, or given up by its deadline."""
+        return self.settlement is not None or (self.is_sent and self.deadline <= now)
 
     def end(self) -> Settlement:
         """Its settlement; one that is given up is lost: no answer will be taken for it."""
-        if self.fault:
-            raise self.fault
         return self.settlement or self.give_up()
 
     def give_up(self) -> Settlement:

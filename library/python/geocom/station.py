@@ -1,4 +1,4 @@
-"""A station over a port, by the rules of `docs/OPERATING.md`: it blocks until a request is settled.
+"""A station over a port, which does what its session says: it blocks until a request is settled.
 """
 
 from __future__ import annotations
@@ -9,12 +9,13 @@ import time
 from collections.abc import Callable, Iterable, Iterator
 from typing import Any, Optional
 
+from .asked import Asked
 from .chains import Chain, Cycle, Pace, Row, ended, is_good, make_request, requests, skipped
 from .described import Description
 from .errors import NotReady
 from .named import Aut, Bap, Com, Csv, Tmc
 from .ports import Where, opener
-from .rules import Rules
+from .session import Want
 from .settlement import Request, Settlement
 from .turns import Turns
 from .values import Parameter, milliseconds
@@ -48,11 +49,9 @@ class Station(Turns):
     ):
         self.timeout, self.accept = timeout, tuple(accept)
         self._described: dict[int, Description] = {}
-        rules = Rules(1, milliseconds(timeout), milliseconds(quiet, 0))
-        super().__init__(opener(port, baud), rules, clock, sleep)
+        session = Asked(1, milliseconds(timeout), milliseconds(quiet, 0))
+        super().__init__(opener(port, baud), session, clock, sleep)
         self._lock, self._process = threading.RLock(), os.getpid()
-        # Whether a call is under way; where the next one finds it so, an exception broke it off.
-        self._is_under_way = False
         #: The procedures by their names.
         self.aut, self.bap, self.com = Aut(self), Bap(self), Com(self)
         self.csv, self.tmc = Csv(self), Tmc(self)
@@ -76,12 +75,13 @@ class Station(Turns):
         patience = milliseconds(3 * self.timeout if timeout is None else timeout)
         self._refuse_fork()
         with self._lock:
-            now = self._enter()
-            end = now + patience + (self._rules.delay(now) if timeout is None else 0)
+            self._enter()
+            now, session = self._look(), self._session
+            end = now + patience + (session.delay(now) if timeout is None else 0)
             self._failure = None
-            while not self._rules.is_ready and not self._failure and now < end:
-                now = self._turn(now, end)
-            is_ready, failure = self._rules.is_ready, self._failure
+            while not session.is_ready and not self._failure and now < end:
+                now = self._turn(Want.SEND, now, end)
+            is_ready, failure = session.is_ready, self._failure
             self._leave(now)
         if not is_ready:
             raise failure or NotReady("the instrument answers no null procedure in time")
@@ -93,10 +93,10 @@ class Station(Turns):
         if os.getpid() != self._process:
             return  # the connection is the other process's
         with self._lock:
-            now = self._enter()
+            self._enter()
             if self._link:
                 self._drop()
-            self._leave(now)
+            self._leave(self._now())
 
     def ask(
         self,
@@ -166,7 +166,7 @@ class Station(Turns):
         """How many sign-ons came since the first request: each says that the instrument was
         switched on or off. Where a call changes it, send your setup again.
         """
-        return self._rules.sign_ons.count
+        return self._session.sign_ons
 
     def measure(self, chain: Chain) -> list[Row]:
         """Runs a chain, and gives a row for each command.
@@ -222,37 +222,22 @@ class Station(Turns):
         if os.getpid() != self._process:
             raise RuntimeError("a station belongs to the process that made it: make one in each")
 
-    def _enter(self) -> int:
-        """A call begins, after one that an exception may have broken off. The moment."""
-        now = self._now()
-        if self._is_under_way:
-            self._rules.wanted.clear()
-            self._rules.broken_off(self._link is not None, now)
-        self._is_under_way = True
-        return now
-
-    def _leave(self, now: int) -> None:
-        """A call ended, and nothing is half done."""
-        self._rules.rest(now)
-        self._is_under_way = False
-
     def _ask(self, request: Request) -> Settlement:
-        rules = self._rules
         request.known = self.sign_ons if request.known is None else request.known
         self._refuse_fork()
         with self._lock:
-            now = self._look(self._enter())
+            self._enter()
+            now = self._look()
             limit = now + request.timeout
-            rules.wanted.append(request)
             while not request.is_over(now):
-                is_sent = request.stretch is not None
-                if not is_sent and (now >= limit or rules.is_skipped(request)):
+                if request.is_sent:
+                    now = self._turn(Want.ANSWERS, now, request.deadline)
+                elif now < limit and not self._session.is_skipped(request):
+                    now = self._turn(Want.SEND, now, limit, request)
+                else:
                     break
-                now = self._turn(now, request.deadline if is_sent else limit)
-            is_over, failure = request.is_over(now), self._failure
-            if request in rules.wanted:
-                rules.wanted.remove(request)
+            failure = self._failure
             self._leave(now)
-        if not is_over:
-            raise rules.why_not(request, failure) from failure
+        if not request.is_sent:
+            raise self._session.why_not(request, failure) from failure
         return request.end()

@@ -6,10 +6,10 @@ import asyncio
 from collections.abc import AsyncIterator, Iterable
 from typing import Any, Optional
 
+from ..asked import Asked
 from ..chains import Chain, Cycle, Pace, Row, ended, is_good, make_request, requests, skipped
 from ..described import Description
 from ..errors import NotReady
-from ..rules import Rules
 from ..settlement import Request, Settlement
 from ..values import Parameter, milliseconds
 from .named import Aut, Bap, Com, Csv, Tmc
@@ -39,8 +39,8 @@ class Station:
     ):
         self.timeout, self.accept = timeout, tuple(accept)
         self._described: dict[int, Description] = {}
-        self._rules = Rules(width, milliseconds(timeout), milliseconds(quiet, 0))
-        self._turns = Turns(opener(port, baud), self._rules)
+        self._session = Asked(width, milliseconds(timeout), milliseconds(quiet, 0))
+        self._turns = Turns(opener(port, baud), self._session)
         #: The procedures by their names.
         self.aut, self.bap, self.com = Aut(self), Bap(self), Com(self)
         self.csv, self.tmc = Csv(self), Tmc(self)
@@ -60,10 +60,10 @@ class Station:
         """As `geocom.Station.begin`."""
         patience = milliseconds(3 * self.timeout if timeout is None else timeout)
         self._turns.join()
-        if not self._rules.is_ready:
+        if not self._session.is_ready:
             self._turns.failure = None
             if timeout is None:
-                patience += self._rules.delay(self._turns.now())
+                patience += self._session.delay(self._turns.now())
             await self._turns.wait(object(), patience)
 
     async def close(self) -> None:
@@ -113,7 +113,7 @@ class Station:
     @property
     def sign_ons(self) -> int:
         """As `geocom.Station.sign_ons`."""
-        return self._rules.sign_ons.count
+        return self._session.sign_ons
 
     async def measure(self, chain: Chain) -> list[Row]:
         """As `geocom.Station.measure`: what others ask waits until the chain is done."""
@@ -164,11 +164,10 @@ class Station:
         return await self._ask(request)
 
     async def _ask(self, request: Request) -> Settlement:
-        self._rules.wanted.append(request)
+        self._turns.wanted.append(request)
         try:
             await self._turns.wait(request, request.timeout)
             return request.end()
         finally:
-            if request.stretch is None and request in self._rules.wanted:
-                self._rules.wanted.remove(request)
-
+            if request in self._turns.wanted:
+                self._turns.wanted.remove(request)
