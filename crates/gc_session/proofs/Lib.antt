@@ -1,6 +1,7 @@
 mod Behind
 mod Brings
 mod Calls
+pub mod Choosing
 mod Drains
 pub mod InTable
 pub mod Lawful

@@ -1,5 +1,6 @@
 -- What holds of a session wherever something is next in it.
-use Rattle.std.proofs.Common.{◌≡◌, ℕ, ◌+◌, ◌<◌, ◌&&◌, Bool, true, false, not, if◌then◌else◌, nat_eq, nat_lt, refl, arith}
+use Rattle.std.proofs.Common.{◌≡◌, ℕ, ◌+◌, ◌<◌, ◌&&◌, Bool, true, false, not, nat_eq, nat_lt, refl, arith}
+use Rattle.std.proofs.lemmas.Bool.{cond_both}
 use Rattle.std.proofs.lemmas.Bool.Decides.{nat_tests}
 use Rattle.gc_client.specs.declared.window.TheConstants.{WINDOW}
 use Rattle.gc_session.specs.declared.exchange.Exchange.{Exchange}
@@ -9,8 +10,10 @@ use Rattle.gc_session.specs.declared.settings.Want.{Want}
 use Rattle.gc_session.specs.declared.settings.Want.TheVariants.{Nothing, Answers, Send}
 use Rattle.gc_session.specs.declared.standing.Phase.{Phase}
 use Rattle.gc_session.specs.declared.standing.Phase.TheVariants as phase
-use Rattle.gc_session.specs.Exchange.{has_begun, has_room, is_near, may_ask}
-use Rattle.gc_session.specs.Sessions.{Session, all_of, current_of, is_dead, next_waiting, next_room, next_flush, next_to_send, next_synchronizing, next_ready, next_in, next_of, wanted_of, wanted_of}
+use Rattle.gc_session.specs.Choices.{next_synchronizing}
+use Rattle.gc_session.specs.Exchange.{has_begun, has_room}
+use Rattle.gc_session.specs.Sessions.{Session, all_of, current_of, load_of, the_choices, next_ready, next_in, next_of, wanted_of}
+use Rattle.gc_session.proofs.Choosing.{flush_chosen, to_send_chosen, synchronizing_chosen}
 
 -- the outstanding requests, and those that the last line ended that ended any, are together fewer than the window has places, and nothing
 -- called for a synchronization
@@ -26,11 +29,6 @@ HoldsAt s next.Renew = has_begun s.standing.exchange ≡ true
 HoldsAt s next.Ask = (has_begun s.standing.exchange ≡ true) × HasPlace s × (s.standing.exchange.behind < WINDOW)
 HoldsAt s _ = Unit {0}
 
--- it holds of what a test chooses
-by_test : (s : Session) (b : Bool) (x y : Next) → (b ≡ true → HoldsAt s x) → (b ≡ false → HoldsAt s y) → HoldsAt s (if b then x else y)
-by_test s true x y one other = one refl
-by_test s false x y one other = other refl
-
 -- where there is room, that is so
 place_of : (width all current : ℕ) (x : Exchange) → has_room width all current x ≡ true → (all + x.last_ended < WINDOW) × (x.doubtful ≡ false)
 place_of width all current x e = by_tests (nat_lt current width) (nat_lt (all + x.last_ended) WINDOW) x.doubtful (nat_eq x.hold 0) refl e where
@@ -41,48 +39,26 @@ place_of width all current x e = by_tests (nat_lt current width) (nat_lt (all + 
   by_tests true false d h is e = cc
   by_tests false b d h is e = cc
 
--- both tests hold where their conjunction does
-first_of : (a b : Bool) → (a && b) ≡ true → a ≡ true
-first_of true b e = refl
-first_of false b e = cc
-
-module _ (s : Session) (begun : has_begun s.standing.exchange ≡ true) where
-  -- of what is next if nothing may be sent
-  waiting_holds : HoldsAt s (next_waiting s)
-  waiting_holds =
-      by_test s (is_dead s) next.Close (if nat_eq (current_of s) 0 then next.Renew else next.Read) (λ e. tt)
-      (λ e. by_test s (nat_eq (current_of s) 0) next.Renew next.Read (λ f. begun) (λ f. tt))
-
-  -- of what is next if a request may be sent
-  room_holds : (other : Next) → (HasPlace s → HoldsAt s other) → HoldsAt s (next_room s other)
-  room_holds other is =
-      let room = has_room s.settings.width (all_of s) (current_of s) s.standing.exchange in
-      by_test s (room && not (is_dead s)) other (next_waiting s)
-      (λ e. is (place_of s.settings.width (all_of s) (current_of s) s.standing.exchange (first_of room (not (is_dead s)) e))) (λ e. waiting_holds)
-
-  -- of what is next if nothing but a null procedure may be sent
-  flush_holds : HoldsAt s (next_flush s)
-  flush_holds =
-      by_test s (nat_eq (current_of s) 0) (next_room s next.Flush) (next_waiting s) (λ e. room_holds next.Flush (λ place. (begun, place))) (λ e. waiting_holds)
-
-  -- of what is next if a request is to be sent
-  send_holds : HoldsAt s (next_to_send s)
-  send_holds =
-      by_test s (is_near s.standing.exchange) (next_room s next.Ask) (next_flush s)
-      (λ e. room_holds next.Ask (λ place. (begun, place, grind (arith, nat_tests, e)))) (λ e. flush_holds)
-
 module _ (s : Session) where
+  -- there is place where there is room
+  place : has_room s.settings.width (all_of s) (current_of s) s.standing.exchange ≡ true → HasPlace s
+  place = place_of s.settings.width (all_of s) (current_of s) s.standing.exchange
+
   -- of what is next while the client synchronizes
-  synchronizing_holds : has_begun s.standing.exchange ≡ false → HoldsAt s (next_synchronizing s)
-  synchronizing_holds unbegun =
-      by_test s (may_ask s.standing.moment s.standing.exchange) (if is_dead s then next.Close else next.Null) next.Read
-      (λ e. by_test s (is_dead s) next.Close next.Null (λ f. tt) (λ f. unbegun)) (λ e. tt)
+  synchronizing_holds : has_begun s.standing.exchange ≡ false → HoldsAt s (next_synchronizing the_choices (load_of s) s.standing.exchange)
+  synchronizing_holds unbegun = synchronizing_chosen the_choices (load_of s) s.standing.exchange (HoldsAt s) tt unbegun tt
 
   -- of what is next on a connection that is ready
   ready_holds : (want : Want) → HoldsAt s (next_ready want s)
   ready_holds Nothing = tt
-  ready_holds Answers = by_test s (has_begun s.standing.exchange) (next_flush s) (next_synchronizing s) (flush_holds s) synchronizing_holds
-  ready_holds Send = by_test s (has_begun s.standing.exchange) (next_to_send s) (next_synchronizing s) (send_holds s) synchronizing_holds
+  ready_holds Answers =
+      cond_both (has_begun s.standing.exchange) _ _ (HoldsAt s)
+      (λ begun. flush_chosen the_choices (load_of s) s.standing.exchange (HoldsAt s) tt begun tt (λ room. (begun, place room))) synchronizing_holds
+  ready_holds Send =
+      cond_both (has_begun s.standing.exchange) _ _ (HoldsAt s)
+      (λ begun. to_send_chosen the_choices (load_of s) s.standing.exchange (HoldsAt s) tt begun tt (λ room. (begun, place room))
+      next.Ask (λ near room. (begun, place room, grind (arith, nat_tests, near))))
+      synchronizing_holds
 
   -- of what is next in this phase
   in_phase : (p : Phase) (want : Want) → HoldsAt s (next_in p want s)

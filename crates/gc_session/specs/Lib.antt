@@ -1,5 +1,6 @@
 pub mod Lines
 pub mod Exchange
+pub mod Choices
 pub mod Sessions
 pub mod Events
 pub mod Calls

@@ -22,6 +22,9 @@ use Rattle.gc_session.specs.declared.standing.Standing.{Standing}
 use Rattle.gc_session.specs.declared.session.TheConstants.{OWN}
 use Rattle.gc_session.specs.declared.next.Next.{Next}
 use Rattle.gc_session.specs.declared.next.Next.TheVariants as next
+use Rattle.gc_session.specs.declared.choices.Choices.{Choices}
+use Rattle.gc_session.specs.declared.load.Load.{Load}
+use Rattle.gc_session.specs.Choices.{next_flush, next_to_send, next_synchronizing}
 use Rattle.gc_session.specs.Exchange as exchange
 use Rattle.gc_session.specs.Exchange.{later}
 use Rattle.gc_session.specs.Lines.{is_reply, calls_for_renewal, ends_with_table}
@@ -142,41 +145,27 @@ all_of s = length s.client.waiting
 abbrev pub current_of : Session → ℕ
 current_of s = length (deadlines s.client.waiting)
 
--- whether the line is dead
-abbrev pub is_dead : Session → Bool
-is_dead s = exchange.is_dead (patience_for s.standing) s.standing.moment (all_of s) (current_of s) s.standing.exchange
+-- what may be next on a connection that is ready
+abbrev pub the_choices : Choices Next
+the_choices = record { close = next.Close; renew = next.Renew; read = next.Read; flush = next.Flush; null = next.Null }
 
--- what is next if nothing may be sent: to close a dead line; to resynchronize if all outstanding requests have timed out; and else to
--- read, as a reply may still come
-abbrev pub next_waiting : Session → Next
-next_waiting s = if is_dead s then next.Close else if nat_eq (current_of s) 0 then next.Renew else next.Read
-
--- `other`, which sends a request, if there is room for one and the line isn't dead; else what is next if nothing may be sent
-abbrev pub next_room : Session → Next → Next
-next_room s other =
-    if exchange.has_room s.settings.width (all_of s) (current_of s) s.standing.exchange && not (is_dead s) then other else next_waiting s
-
--- what is next if nothing but a null procedure may be sent: to send one, if all outstanding requests have timed out or none is
--- outstanding, and there is room; its reply settles them
-abbrev pub next_flush : Session → Next
-next_flush s = if nat_eq (current_of s) 0 then next_room s next.Flush else next_waiting s
-
--- what is next if a request is to be sent: it is, if one of the seven before it is a call of the table that a reply ended; else a null
--- procedure is, as after each synchronization
-abbrev pub next_to_send : Session → Next
-next_to_send s = if exchange.is_near s.standing.exchange then next_room s next.Ask else next_flush s
-
--- what is next while the client synchronizes: to read until the null procedure that was sent last has timed out; then to close a dead
--- line, and else to send the null procedure of the first id that isn't answered
-abbrev pub next_synchronizing : Session → Next
-next_synchronizing s =
-    if exchange.may_ask s.standing.moment s.standing.exchange then (if is_dead s then next.Close else next.Null) else next.Read
+-- what counts of a session's requests
+abbrev pub load_of : Session → Load
+load_of s = record {
+  width = s.settings.width;
+  patience = patience_for s.standing;
+  now = s.standing.moment;
+  all = all_of s;
+  current = current_of s;
+}
 
 -- what is next on a connection that is ready, if this is wanted
 abbrev pub next_ready : Want → Session → Next
 next_ready Nothing s = next.Read
-next_ready Answers s = if exchange.has_begun s.standing.exchange then next_flush s else next_synchronizing s
-next_ready Send s = if exchange.has_begun s.standing.exchange then next_to_send s else next_synchronizing s
+next_ready Answers s =
+    if exchange.has_begun s.standing.exchange then next_flush the_choices (load_of s) s.standing.exchange else next_synchronizing the_choices (load_of s) s.standing.exchange
+next_ready Send s =
+    if exchange.has_begun s.standing.exchange then next_to_send the_choices (load_of s) s.standing.exchange next.Ask else next_synchronizing the_choices (load_of s) s.standing.exchange
 
 -- what is next in this phase, if this is wanted: if nothing is, nothing is written and no connection is made
 abbrev pub next_in : Phase → Want → Session → Next

@@ -2,91 +2,37 @@
 
 ghost use Rattle.std.specs.Prelude.{◌≡◌, Option, ℕ};
 ghost use Rattle.gc_client.specs.Rule.{IsEarliest, deadlines};
-ghost use Rattle.gc_session.specs.Sessions.{IsActFor, all_of, is_dead, next_flush, next_of, next_ready, next_room, next_synchronizing, next_to_send, next_waiting, until_in, until_deadline, wanted_of};
+ghost use Rattle.gc_session.specs.Sessions.{IsActFor, all_of, load_of, next_of, next_ready, until_in, until_deadline, wanted_of};
 ghost use Rattle.gc_session.specs.Sessions;
 
+use crate::choices::Choices;
 use crate::exchange::{Exchange, later};
+use crate::load::Load;
 use crate::next::Next;
 use crate::session::Session;
 use crate::settings::{Act, Want};
 use crate::standing::Phase;
 
+// What may be next on a connection that is ready.
+const CHOICES: Choices<Next> = Choices {
+    close: Next::Close,
+    renew: Next::Renew,
+    read: Next::Read,
+    flush: Next::Flush,
+    null: Next::Null,
+};
+
 impl Session {
-    // Whether the line is dead.
-    fn is_dead(&self) -> bool
-        ensures { result ≡ is_dead self.now }
+    // What counts of the session's requests.
+    fn load(&self) -> Load
+        ensures { result ≡ load_of self.now }
     {
-        self.standing.exchange.is_dead(
-            self.standing.dead_after(),
-            self.standing.moment,
-            self.client.waiting(),
-            self.client.current(),
-        )
-    }
-
-    // What is next if nothing may be sent.
-    fn next_waiting(&self) -> Next
-        ensures { result ≡ next_waiting self.now }
-    {
-        if self.is_dead() {
-            Next::Close
-        } else if self.client.current() == 0 {
-            Next::Renew
-        } else {
-            Next::Read
-        }
-    }
-
-    // `other`, which sends a request, if there is room for one and the line isn't dead; else what is next if nothing may be sent.
-    fn next_room(&self, other: Next) -> Next
-        ensures { result ≡ next_room self.now other }
-    {
-        let (all, current) = (self.client.waiting(), self.client.current());
-        if self
-            .standing
-            .exchange
-            .has_room(self.settings.width, all, current)
-            && !self.is_dead()
-        {
-            other
-        } else {
-            self.next_waiting()
-        }
-    }
-
-    // What is next if nothing but a null procedure may be sent.
-    fn next_flush(&self) -> Next
-        ensures { result ≡ next_flush self.now }
-    {
-        if self.client.current() == 0 {
-            self.next_room(Next::Flush)
-        } else {
-            self.next_waiting()
-        }
-    }
-
-    // What is next if a request is to be sent: a null procedure goes before it, unless one of the seven requests before it is a call of the
-    // table that a reply ended.
-    fn next_to_send(&self) -> Next
-        ensures { result ≡ next_to_send self.now }
-    {
-        if self.standing.exchange.is_near() {
-            self.next_room(Next::Ask)
-        } else {
-            self.next_flush()
-        }
-    }
-
-    // What is next while the client synchronizes.
-    fn next_synchronizing(&self) -> Next
-        ensures { result ≡ next_synchronizing self.now }
-    {
-        if !self.standing.exchange.may_ask(self.standing.moment) {
-            Next::Read
-        } else if self.is_dead() {
-            Next::Close
-        } else {
-            Next::Null
+        Load {
+            width: self.settings.width,
+            patience: self.standing.dead_after(),
+            now: self.standing.moment,
+            all: self.client.waiting(),
+            current: self.client.current(),
         }
     }
 
@@ -94,21 +40,22 @@ impl Session {
     fn next_ready(&self, want: Want) -> Next
         ensures { result ≡ next_ready want self.now }
     {
-        let begun = self.standing.exchange.has_begun();
+        let (load, exchange) = (self.load(), &self.standing.exchange);
+        let begun = exchange.has_begun();
         match want {
             Want::Nothing => Next::Read,
             Want::Answers => {
                 if begun {
-                    self.next_flush()
+                    CHOICES.flush(load, exchange)
                 } else {
-                    self.next_synchronizing()
+                    CHOICES.synchronizing(load, exchange)
                 }
             }
             Want::Send => {
                 if begun {
-                    self.next_to_send()
+                    CHOICES.to_send(load, exchange, Next::Ask)
                 } else {
-                    self.next_synchronizing()
+                    CHOICES.synchronizing(load, exchange)
                 }
             }
         }

@@ -5,6 +5,7 @@ ghost use Rattle.std.specs.Prelude.{◌≡◌, ◌≤◌, length};
 ghost use Rattle.gc_session.specs.Exchange.{new_exchange, has_begun, is_past, is_silent, is_dead, may_ask, has_room, is_near, hold_left, moment_read, moment_passed, request_noted, null_noted, line_noted, behind_noted, ended_noted, doubt_noted, hold_noted, line_synchronizing, cleared, renewed, drained, pause_doubled, later};
 
 use crate::lines::is_reply;
+use crate::load::Load;
 use gc_client::{Beginning, WINDOW};
 
 /// How far an exchange is. A moment is 0 as long as there is none.
@@ -83,21 +84,22 @@ impl Exchange {
         wait <= now.saturating_sub(self.since)
     }
 
-    /// Whether the line is silent at the moment `now`: a request was sent on this connection, and since then no reply line came; a
-    /// request is outstanding (`all` are), or a null procedure of the synchronization was sent on this connection; and `patience` has
-    /// passed since `alive`.
-    pub fn is_silent(&self, patience: u64, now: u64, all: usize) -> bool
-        ensures { result ≡ is_silent patience now all self.now }
+    /// Whether the line is silent: a request was sent on this connection, and since then no reply line came; a request is outstanding, or a
+    /// null procedure of the synchronization was sent on this connection; and the client's patience has passed since `alive`.
+    pub fn is_silent(&self, load: Load) -> bool
+        ensures { result ≡ is_silent load.patience load.now load.all self.now }
     {
-        self.asked && (all > 0 || self.again > 0) && patience <= now.saturating_sub(self.alive)
+        self.asked
+            && (load.all > 0 || self.again > 0)
+            && load.patience <= load.now.saturating_sub(self.alive)
     }
 
-    /// Whether the line is dead: it is silent, and each of the outstanding requests has timed out, so that `current` is 0. A request
-    /// that was just sent still has its deadline, so that a close loses no reply in time.
-    pub fn is_dead(&self, patience: u64, now: u64, all: usize, current: usize) -> bool
-        ensures { result ≡ is_dead patience now all current self.now }
+    /// Whether the line is dead: it is silent, and each of the outstanding requests has timed out. A request that was just sent still has
+    /// its deadline, so that a close loses no reply in time.
+    pub fn is_dead(&self, load: Load) -> bool
+        ensures { result ≡ is_dead load.patience load.now load.all load.current self.now }
     {
-        current == 0 && self.is_silent(patience, now, all)
+        load.current == 0 && self.is_silent(load)
     }
 
     /// Whether the null procedure of the first id that isn't answered may be sent: no hold is left, and the deadline of the one that
@@ -108,15 +110,15 @@ impl Exchange {
         self.hold == 0 && self.again <= now
     }
 
-    /// Whether there is room for another request, where `all` are outstanding, and `current` of these haven't timed out: fewer than
-    /// `width` haven't; all, and those that the last line ended that ended any, are together fewer than the window has places; nothing
-    /// called for a synchronization; and no hold is left. So the client holds back: a damaged line that ended several requests has it
-    /// send none whose id a reply that is still in flight might have.
-    pub fn has_room(&self, width: u8, all: usize, current: usize) -> bool
-        ensures { result ≡ has_room width all current self.now }
+    /// Whether there is room for another request: fewer than the client's width haven't timed out; all that are outstanding, and those that
+    /// the last line ended that ended any, are together fewer than the window has places; nothing called for a synchronization; and no hold
+    /// is left. So the client holds back: a damaged line that ended several requests has it send none whose id a reply that is still in
+    /// flight might have.
+    pub fn has_room(&self, load: Load) -> bool
+        ensures { result ≡ has_room load.width load.all load.current self.now }
     {
-        current < usize::from(width)
-            && all.saturating_add(self.last_ended) < WINDOW
+        load.current < usize::from(load.width)
+            && load.all.saturating_add(self.last_ended) < WINDOW
             && !self.doubtful
             && self.hold == 0
     }

@@ -13,7 +13,8 @@ use Rattle.gc_station.specs.declared.progress.Progress.{Progress}
 use Rattle.gc_station.specs.declared.progress.Until.TheVariants.{Limit, Due}
 use Rattle.gc_station.specs.declared.progress.Waiting.{Waiting}
 use Rattle.gc_station.specs.Reasons.{HoldsBefore, MayPrepare, IsOutOfTime, IsGoingOn, IsOverdue, IsPreparedOrOverdue}
-use Rattle.gc_station.specs.Deciding.{has_begun, is_up, is_dead, is_wanted, is_idle, is_finished, action_of, action_in, action_on, action_of_phase, action_ready, action_begun, action_beginning, action_to_send, action_waiting, action_without_turns, is_stale, is_resting, is_stopping, is_held_back, action_cycle, action_to_prepare, action_preparing, action_in_setup, is_preparing, is_out_of_time, waits_out, has_no_time_left, is_overdue, action_overdue, may_abandon, setup_permits, may_ask}
+use Rattle.gc_session.specs.Exchange.{may_ask}
+use Rattle.gc_station.specs.Deciding.{has_begun, is_up, is_dead, is_wanted, is_idle, is_finished, action_of, action_in, action_on, action_of_phase, action_ready, action_begun, action_beginning, action_to_send, action_waiting, action_without_turns, is_stale, is_resting, is_stopping, is_held_back, action_cycle, action_to_prepare, action_preparing, action_in_setup, is_preparing, is_out_of_time, waits_out, has_no_time_left, is_overdue, action_overdue, may_abandon, setup_permits}
 use Rattle.gc_station.specs.Stations.{SuitsAction}
 use Rattle.gc_station.proofs.InCycle.{within_window, Awake, Holds, IsAtWork, IsInChainIfStopping, Timely, Wakes, above_zero, awake_reads, awake_up, cycle_for, dead_parts, finished_by_test, has_connection_for, held_back_for, in_chain_if_stopping, not_zero, or_first, resting_by_test, room_for, to_send_for, waiting_for_reply, zero_if_not_above}
 
@@ -105,7 +106,7 @@ beginning_for plan p w awake begun =
     let P = Holds plan p w in
     cond_both (is_finished w.commands p) (action.Close cause.Done) _ P (λ none. ((awake_up p awake, inr (finished_by_test w.commands p none)), tt, tt))
     (λ more. cond_both (is_idle plan p) (action.Read Due) _ P (λ idle. ((awake.1, inl (idle, inl begun)), awake_reads p awake, tt))
-    (λ busy. cond_both (may_ask p) _ (action.Read Limit) P
+    (λ busy. cond_both (may_ask p.moment.elapsed p.exchange) _ (action.Read Limit) P
     (λ may. let free = and_parts (nat_eq p.exchange.hold 0) (nat_le p.exchange.again p.moment.elapsed) may in
     let past = leb-true p.exchange.again p.moment.elapsed free.1 in
     cond_both (is_dead plan p w) (action.Close cause.Dead) action.Ask P

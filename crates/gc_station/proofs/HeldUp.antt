@@ -20,7 +20,7 @@ use Rattle.gc_texts.specs.Tasks.{call_at}
 use Rattle.gc_texts.specs.declared.occasion.Occasion.{Occasion}
 use Rattle.gc_texts.specs.declared.tasks.Task.{Task}
 use Rattle.gc_texts.proofs.TaskMoments.{at_any_moment}
-use Rattle.gc_session.specs.Exchange.{one_more_in_window}
+use Rattle.gc_session.specs.Exchange.{has_room, one_more_in_window}
 use Rattle.gc_session.specs.Lines.{is_some_of_table, ends_with_table}
 use Rattle.gc_links.specs.declared.link.Moment.{Moment}
 use Rattle.gc_links.specs.Acts.{Act, Told, Put, Cut, Gave, Silent}
@@ -31,7 +31,7 @@ use Rattle.gc_station.specs.declared.progress.Action.TheVariants as action
 use Rattle.gc_station.specs.declared.progress.Progress.{Progress}
 use Rattle.gc_station.specs.declared.progress.Waiting.{Waiting}
 use Rattle.gc_station.specs.Behind.{AreOfTable, AwaitsFirstReply, IsNotHeldUp, TheTableIsNeverHeldUp}
-use Rattle.gc_station.specs.Deciding.{has_begun, has_room_to_ask, is_dead, action_to_send, action_room, action_waiting, width_of}
+use Rattle.gc_station.specs.Deciding.{has_begun, is_dead, action_to_send, action_room, action_waiting, width_of}
 use Rattle.gc_station.specs.Marks.{commands_in, occasion_of}
 use Rattle.gc_station.specs.Parts.{put_part, request_part, first_request_part, client_part, sync_part, part_of_act, client_stepped, client_after, course_at}
 use Rattle.gc_station.specs.Progressing.{turned, time_passed, is_over, loses_all}
@@ -407,7 +407,7 @@ full_waits : (plan : Plan) (p : Progress) (w : Waiting) (o : Action) → nat_lt 
 full_waits plan p w o full =
     let all : WINDOW ≤ w.all = ltb-false w.all WINDOW full in
     let more : nat_lt (w.all + p.exchange.last_ended) WINDOW ≡ false = not_less (w.all + p.exchange.last_ended) WINDOW (omega (arith, all)) in
-    let lacks : has_room_to_ask plan p w ≡ false = ap (λ (b : Bool). b && not p.exchange.doubtful && nat_eq p.exchange.hold 0) (and_right (nat_lt w.current (width_of plan)) (nat_lt (w.all + p.exchange.last_ended) WINDOW) more) in
+    let lacks : has_room (width_of plan) w.all w.current p.exchange ≡ false = ap (λ (b : Bool). b && not p.exchange.doubtful && nat_eq p.exchange.hold 0) (and_right (nat_lt w.current (width_of plan)) (nat_lt (w.all + p.exchange.last_ended) WINDOW) more) in
     ap (λ (b : Bool). if b && not (is_dead plan p w) then o else action_waiting plan p w) lacks
 
 -- if as many requests were sent after the last call of the table that a reply ended (`behind`) as are outstanding,

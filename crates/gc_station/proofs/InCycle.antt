@@ -14,7 +14,8 @@ use Rattle.gc_station.specs.declared.progress.Progress.{Progress}
 use Rattle.gc_station.specs.declared.progress.Until.TheVariants.{Limit, Due}
 use Rattle.gc_station.specs.declared.progress.Waiting.{Waiting}
 use Rattle.gc_station.specs.Reasons.{HoldsBefore, IsBetweenChains, IsFinished, IsHeld, HasRoomToAsk, MayGo, MayRetry, NothingMayGo, WaitsForWhatIsInFlight, IsAtItsEnd, IsOverdue, IsResting, MayAskNoMore, StaysInItsChain, HasConnectionFor, WantsNull, IsInItsTurn, IsOutOfTime}
-use Rattle.gc_station.specs.Deciding.{width_of, has_begun, is_up, is_unquiet, is_silent, is_dead, is_wanted, is_finished, has_room_to_ask, lacks_value, may_go, waits_for_all, action_again, action_held, action_settled, action_done, action_to_send, action_room, action_waiting, is_between_chains, is_resting, is_cut, is_stopping, is_held_back, action_cycle, is_preparing}
+use Rattle.gc_session.specs.Exchange.{has_room}
+use Rattle.gc_station.specs.Deciding.{width_of, has_begun, is_up, is_unquiet, is_silent, is_dead, is_wanted, is_finished, lacks_value, may_go, waits_for_all, action_again, action_held, action_settled, action_done, action_to_send, action_room, action_waiting, is_between_chains, is_resting, is_cut, is_stopping, is_held_back, action_cycle, is_preparing}
 
 -- Tests.
 
@@ -46,8 +47,8 @@ not_zero n some = grind (arith, nat_tests, some)
 
 -- Room for a request.
 
--- where `has_room_to_ask` says so, there is room
-room_by_test : (plan : Plan) (p : Progress) (w : Waiting) → has_room_to_ask plan p w ≡ true → HasRoomToAsk plan p w
+-- where the test says so, there is room
+room_by_test : (plan : Plan) (p : Progress) (w : Waiting) → has_room (width_of plan) w.all w.current p.exchange ≡ true → HasRoomToAsk plan p w
 room_by_test plan p w e =
     let free = and_parts (nat_lt w.current (width_of plan) && nat_lt (w.all + p.exchange.last_ended) WINDOW && not p.exchange.doubtful) (nat_eq p.exchange.hold 0) e in
     let both = and_parts (nat_lt w.current (width_of plan) && nat_lt (w.all + p.exchange.last_ended) WINDOW) (not p.exchange.doubtful) free.0 in
@@ -63,8 +64,8 @@ within_window all last room = omega (arith, room)
 abbrev pub LacksRoom : Plan → Progress → Waiting → Type 0
 LacksRoom plan p w = (width_of plan ≤ w.current) ⊎ MayAskNoMore p w
 
--- so it is where `has_room_to_ask` says so
-lacks_by_test : (plan : Plan) (p : Progress) (w : Waiting) → has_room_to_ask plan p w ≡ false → LacksRoom plan p w
+-- so it is where the test says so
+lacks_by_test : (plan : Plan) (p : Progress) (w : Waiting) → has_room (width_of plan) w.all w.current p.exchange ≡ false → LacksRoom plan p w
 lacks_by_test plan p w e = by_hold (and_cases (nat_lt w.current (width_of plan) && nat_lt (w.all + p.exchange.last_ended) WINDOW && not p.exchange.doubtful) (nat_eq p.exchange.hold 0) e) where
   -- the lemma above, by which of the first two tests fails
   by_test : ((nat_lt w.current (width_of plan) ≡ false) ⊎ (nat_lt (w.all + p.exchange.last_ended) WINDOW ≡ false)) → LacksRoom plan p w
@@ -177,12 +178,12 @@ no_more_if_no_room plan p w (inl few) none = absurd (omega (arith, none, few, wi
 no_more_if_no_room plan p w (inr it) none = it
 
 -- and so it is if there is no room, or the line is dead, and it isn't dead
-no_more_if_alive : (plan : Plan) (p : Progress) (w : Waiting) → (has_room_to_ask plan p w ≡ false) ⊎ (not (is_dead plan p w) ≡ false) → is_dead plan p w ≡ false → NoMoreIfAllTimedOut p w
+no_more_if_alive : (plan : Plan) (p : Progress) (w : Waiting) → (has_room (width_of plan) w.all w.current p.exchange ≡ false) ⊎ (not (is_dead plan p w) ≡ false) → is_dead plan p w ≡ false → NoMoreIfAllTimedOut p w
 no_more_if_alive plan p w (inl none) alive = no_more_if_no_room plan p w (lacks_by_test plan p w none)
 no_more_if_alive plan p w (inr dead) alive = let both : true ≡ false = sym (not-false (is_dead plan p w) dead) ∙ alive in cc
 
 -- if there is no room, or the line is dead, no command may be sent where something is in flight that hasn't timed out
-nothing_if_no_room : (plan : Plan) (p : Progress) (w : Waiting) → (has_room_to_ask plan p w ≡ false) ⊎ (not (is_dead plan p w) ≡ false) → 0 < w.current → NothingMayGo plan p w
+nothing_if_no_room : (plan : Plan) (p : Progress) (w : Waiting) → (has_room (width_of plan) w.all w.current p.exchange ≡ false) ⊎ (not (is_dead plan p w) ≡ false) → 0 < w.current → NothingMayGo plan p w
 nothing_if_no_room plan p w (inl none) some = by_test (lacks_by_test plan p w none) where
   -- the lemma above, by what there is no room for
   by_test : LacksRoom plan p w → NothingMayGo plan p w
@@ -195,9 +196,9 @@ nothing_if_no_room plan p w (inr dead) some = let none = (dead_parts plan p w (n
 pub room_for : (plan : Plan) (p : Progress) (w : Waiting) (o : Action) → IsAtWork p → (HasRoomToAsk plan p w → is_dead plan p w ≡ false → Holds plan p w o)
     → Holds plan p w (action_room plan p w o)
 room_for plan p w o work step =
-    cond_both (has_room_to_ask plan p w && not (is_dead plan p w)) o _ (Holds plan p w)
-    (λ e. let it = and_parts (has_room_to_ask plan p w) (not (is_dead plan p w)) e in step (room_by_test plan p w it.0) (not-true (is_dead plan p w) it.1))
-    (λ e. let lacks = and_cases (has_room_to_ask plan p w) (not (is_dead plan p w)) e in waiting_for plan p w work (nothing_if_no_room plan p w lacks) (no_more_if_alive plan p w lacks))
+    cond_both (has_room (width_of plan) w.all w.current p.exchange && not (is_dead plan p w)) o _ (Holds plan p w)
+    (λ e. let it = and_parts (has_room (width_of plan) w.all w.current p.exchange) (not (is_dead plan p w)) e in step (room_by_test plan p w it.0) (not-true (is_dead plan p w) it.1))
+    (λ e. let lacks = and_cases (has_room (width_of plan) w.all w.current p.exchange) (not (is_dead plan p w)) e in waiting_for plan p w work (nothing_if_no_room plan p w lacks) (no_more_if_alive plan p w lacks))
 
 -- for a station at work, `Holds` is true of `action_to_send` with the action o, if it is true of o
 -- where there is room, the line isn't dead and the count `behind` is below seven, and a null procedure is wanted where that

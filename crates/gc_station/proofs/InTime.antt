@@ -9,7 +9,7 @@ use Rattle.gc_texts.specs.declared.tasks.Task.{Task}
 use Rattle.gc_links.specs.Acts.{Act, Told, Gave, Silent, Opened}
 use Rattle.gc_station.specs.CallTimes.{MayTakeTime, CallsReturn}
 use Rattle.gc_station.specs.Cycles.{ClockRises}
-use Rattle.gc_station.specs.Deciding.{has_begun, is_between_chains, setup_permits, is_out_of_time, waits_out, is_overdue, is_stale, is_stopping, is_held_back, is_preparing, is_finished, is_idle, is_dead, is_up, may_abandon, waits_for_all, action_in, action_on, action_overdue, action_of_phase, action_without_turns, action_begun, action_beginning, action_waiting, action_preparing, action_in_setup, action_cycle, action_held, action_settled, action_done, may_ask}
+use Rattle.gc_station.specs.Deciding.{has_begun, load_of, the_choices, is_between_chains, setup_permits, is_out_of_time, waits_out, is_overdue, is_stale, is_stopping, is_held_back, is_preparing, is_finished, is_idle, is_up, may_abandon, waits_for_all, action_in, action_on, action_overdue, action_of_phase, action_without_turns, action_begun, action_beginning, action_waiting, action_preparing, action_in_setup, action_cycle, action_held, action_settled, action_done}
 use Rattle.gc_station.specs.Model.{Model, opening, action_at, waiting_of, with_rest, with_progress, moved, after, Performs, Runs}
 use Rattle.gc_station.specs.Progressing.{turned}
 use Rattle.gc_station.specs.Quiet.{IsAsking}
@@ -27,8 +27,9 @@ use Rattle.gc_station.specs.declared.progress.Action.TheVariants as actions
 use Rattle.gc_station.specs.declared.progress.Phase.{Phase}
 use Rattle.gc_station.specs.declared.progress.Phase.TheVariants as phase
 use Rattle.gc_station.specs.declared.progress.Progress.{Progress}
-use Rattle.gc_station.specs.declared.progress.Until.TheVariants.{Limit, Due}
+use Rattle.gc_station.specs.declared.progress.Until.TheVariants.{Due}
 use Rattle.gc_station.specs.declared.progress.Waiting.{Waiting}
+use Rattle.gc_session.proofs.Choosing.{synchronizing_chosen, waiting_chosen}
 use Rattle.gc_station.proofs.Always.{always, always_of_progress}
 use Rattle.gc_station.proofs.BehindRaw.{raws_within}
 use Rattle.gc_station.proofs.CallTimes.{IsTimely, SentBefore, sent_last, timely, calls_front}
@@ -59,7 +60,7 @@ module _ (plan : Plan) (p : Progress) (w : Waiting) where
 
   -- no action of a station that waits sends a request
   waiting_mum : Mum (action_waiting plan p w)
-  waiting_mum = cond_both (is_dead plan p w) (actions.Close cause.Dead) _ Mum (λ e o. o) (λ e. cond_both (nat_eq w.current 0) actions.Renew (actions.Read Limit) Mum (λ e o. o) (λ e o. o))
+  waiting_mum = waiting_chosen the_choices (load_of plan p w) p.exchange Mum (λ o. o) (λ o. o) (λ o. o)
 
   -- no action of a cycle that is overdue sends a request
   overdue_mum : Mum (action_overdue p w)
@@ -72,8 +73,7 @@ module _ (plan : Plan) (p : Progress) (w : Waiting) where
   beginning_mum =
       cond_both (is_finished w.commands p) (actions.Close cause.Done) _ Mum (λ e o. o)
       (λ e. cond_both (is_idle plan p) (actions.Read Due) _ Mum (λ e o. o)
-      (λ e. cond_both (may_ask p) _ (actions.Read Limit) Mum
-      (λ e. cond_both (is_dead plan p w) (actions.Close cause.Dead) actions.Ask Mum (λ e o. o) (λ e o. o)) (λ e o. o)))
+      (λ e. synchronizing_chosen the_choices (load_of plan p w) p.exchange Mum (λ o. o) (λ o. o) (λ o. o)))
 
   -- once all is done, no action of a cycle sends a request
   finished_mum : is_finished w.commands p ≡ true → Mum (action_cycle plan p w)

@@ -6,6 +6,9 @@
 -- that are left: neither sent, nor recorded without being sent, nor left out.
 use Rattle.std.specs.Prelude.{ℕ, ◌-◌, ◌&&◌, ◌||◌, Bool, true, false, not, if◌then◌else◌, nat_lt, nat_le, nat_eq, min, max, is_some}
 pub use Rattle.gc_catalogue.specs.Moments.{later}
+use Rattle.gc_session.specs.declared.choices.Choices.{Choices}
+use Rattle.gc_session.specs.declared.load.Load.{Load}
+use Rattle.gc_session.specs.Choices.{is_line_dead, next_waiting, next_room, next_flush, next_to_send, next_synchronizing}
 use Rattle.gc_session.specs.Exchange as exchange
 use Rattle.gc_texts.specs.ValueItems.{lack}
 use Rattle.gc_station.specs.declared.plan.Plan.{Plan}
@@ -63,9 +66,23 @@ dead_after plan = later plan.deadline plan.deadline
 abbrev pub is_silent : Plan → Progress → Waiting → Bool
 is_silent plan p w = exchange.is_silent (dead_after plan) p.moment.elapsed w.all p.exchange
 
+-- what counts of the station's requests
+abbrev pub load_of : Plan → Progress → Waiting → Load
+load_of plan p w = record {
+  width = width_of plan;
+  patience = dead_after plan;
+  now = p.moment.elapsed;
+  all = w.all;
+  current = w.current;
+}
+
+-- what may be next on a connection that is ready, beside the commands, and what is between cycles
+abbrev pub the_choices : Choices Action
+the_choices = record { close = Close Dead; renew = Renew; read = Read Limit; flush = Flush; null = Ask }
+
 -- whether the line is dead: it is silent, and all outstanding requests have timed out
 abbrev pub is_dead : Plan → Progress → Waiting → Bool
-is_dead plan p w = exchange.is_dead (dead_after plan) p.moment.elapsed w.all w.current p.exchange
+is_dead plan p w = is_line_dead (load_of plan p w) p.exchange
 
 -- whether the run is stale: no answer of a good quality was recorded for as long as the plan allows, counted from `fresh`; false
 -- if the plan sets no limit (`stale` is 0)
@@ -93,10 +110,9 @@ is_stopping p w = p.stops && is_resting p w
 abbrev pub is_held_back : Progress → Waiting → Bool
 is_held_back p w = (p.stops && is_between_chains p) && nat_lt 0 w.current
 
--- the next action if nothing may be sent: to close a dead line; to resynchronize, if all outstanding requests have timed out; and
--- else to read, as a reply may still come
+-- the next action of a station that waits: nothing may be sent
 abbrev pub action_waiting : Plan → Progress → Waiting → Action
-action_waiting plan p w = if is_dead plan p w then Close Dead else if nat_eq w.current 0 then Renew else Read Limit
+action_waiting plan p w = next_waiting the_choices (load_of plan p w) p.exchange
 
 -- whether the next cycle is due: the first one is at once, unless cycles begin by the clock (`at`), and each other one `period`
 -- milliseconds after `began`, the moment that counts as the beginning of the one before it. Whether a cycle is left (`left`) isn't
@@ -131,41 +147,27 @@ is_finished count p = nat_eq p.left 0 && nat_eq p.unsent 0 && nat_eq count 0
 abbrev pub action_unless_idle : Plan → Progress → Waiting → Action → Action
 action_unless_idle plan p w action = if is_finished w.commands p then Close Done else if is_idle plan p then Read Due else action
 
--- whether the null procedure of the first id that isn't answered may be sent: no busy answer has the station wait, and the deadline of the
--- null procedure that was sent last has come
-abbrev pub may_ask : Progress → Bool
-may_ask p = exchange.may_ask p.moment.elapsed p.exchange
-
--- the next action while the station synchronizes, unless the run is done or the station idle (`action_unless_idle`): to read until
--- it may ask (`may_ask`); and else to close the connection if the line is dead, and to send the
--- null procedure of the first id that isn't answered if it isn't
+-- the next action while the station synchronizes, unless the run is done or the station idle
 abbrev pub action_beginning : Plan → Progress → Waiting → Action
-action_beginning plan p w =
-    action_unless_idle plan p w (if may_ask p then (if is_dead plan p w then Close Dead else Ask) else Read Limit)
+action_beginning plan p w = action_unless_idle plan p w (next_synchronizing the_choices (load_of plan p w) p.exchange)
 
 -- the next action if each command of the cycle is settled: to close the connection if no cycle is left, to begin the next cycle
 -- if it is wanted, and else to read until it is due
 abbrev pub action_done : Plan → Progress → Action
 action_done plan p = if nat_eq p.left 0 then Close Done else if is_wanted plan p then Begin else Read Due
 
--- whether there is room for another request: the test of `HasRoomToAsk`
-abbrev pub has_room_to_ask : Plan → Progress → Waiting → Bool
-has_room_to_ask plan p w = exchange.has_room (width_of plan) w.all w.current p.exchange
-
 -- `action`, which sends a request, if there is room for one and the line isn't dead; otherwise the action of a station that waits
 abbrev pub action_room : Plan → Progress → Waiting → Action → Action
-action_room plan p w action = if has_room_to_ask plan p w && not (is_dead plan p w) then action else action_waiting plan p w
+action_room plan p w action = next_room the_choices (load_of plan p w) p.exchange action
 
--- the next action if nothing but a null procedure may be sent: to send one, if all outstanding requests have timed out or none is
--- outstanding, and there is room; its reply settles them. Otherwise it is the action of a station that waits
+-- the next action if nothing but a null procedure may be sent, which settles the outstanding requests once all have timed out
 abbrev pub action_flush : Plan → Progress → Waiting → Action
-action_flush plan p w = if nat_eq w.current 0 then action_room plan p w Flush else action_waiting plan p w
+action_flush plan p w = next_flush the_choices (load_of plan p w) p.exchange
 
--- the next action when the next command may be sent, of a cycle (`action` is `Send`) or of the setup (`Prepare`): that of
--- `action_room`, if one of the seven requests before it is a call of the table that a reply ended (`behind`). Else, as after each
--- synchronization, that of `action_flush`, since a null procedure has to be sent first
+-- the next action when the next command may be sent, of a cycle (`action` is `Send`) or of the setup (`Prepare`): to send it, or first a
+-- null procedure
 abbrev pub action_to_send : Plan → Progress → Waiting → Action → Action
-action_to_send plan p w action = if exchange.is_near p.exchange then action_room plan p w action else action_flush plan p w
+action_to_send plan p w action = next_to_send the_choices (load_of plan p w) p.exchange action
 
 -- whether a value that the next command takes of a file wasn't there at the moment read last
 abbrev pub lacks_value : Progress → Bool

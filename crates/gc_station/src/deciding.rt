@@ -71,20 +71,34 @@
 //! follows, and without a connection `Over`.
 
 ghost use Rattle.std.specs.Prelude.{◌≡◌};
-ghost use Rattle.gc_station.specs.Deciding.{is_dead, goes_on, is_finished, has_room_to_ask, lacks_value, may_go, waits_for_all, action_again, action_of, action_on, action_ready, action_begun, action_beginning, action_to_send, action_room, action_flush, action_held, action_settled, action_done, action_waiting, is_stale, is_between_chains, is_cut, is_resting, is_stopping, is_held_back, action_cycle, action_to_prepare, action_preparing, action_in_setup, is_preparing, action_draining};
+ghost use Rattle.gc_station.specs.Deciding.{load_of, goes_on, is_finished, lacks_value, may_go, waits_for_all, action_again, action_of, action_on, action_ready, action_begun, action_beginning, action_to_send, action_flush, action_held, action_settled, action_done, action_waiting, is_stale, is_between_chains, is_cut, is_resting, is_stopping, is_held_back, action_cycle, action_to_prepare, action_preparing, action_in_setup, is_preparing, action_draining};
 
 use crate::cause::Cause;
 use crate::plan::Plan;
 use crate::progress::{Action, Phase, Progress, Until, Waiting, dead_after, width};
+use gc_session::{Choices, Load};
+
+// What may be next on a connection that is ready, beside the commands, and what is between cycles.
+const CHOICES: Choices<Action> = Choices {
+    close: Action::Close(Cause::Dead),
+    renew: Action::Renew,
+    read: Action::Read(Until::Limit),
+    flush: Action::Flush,
+    null: Action::Ask,
+};
 
 impl Progress {
-    // Whether the line is dead: it is silent, and all outstanding requests have timed out.
-    fn is_dead(&self, plan: &Plan, waiting: Waiting) -> bool
-        ensures { result ≡ is_dead plan.now self.now waiting }
+    // What counts of the station's requests.
+    fn load(&self, plan: &Plan, waiting: Waiting) -> Load
+        ensures { result ≡ load_of plan.now self.now waiting }
     {
-        let now = self.moment.elapsed;
-        self.exchange
-            .is_dead(dead_after(plan), now, waiting.all, waiting.current)
+        Load {
+            width: width(plan),
+            patience: dead_after(plan),
+            now: self.moment.elapsed,
+            all: waiting.all,
+            current: waiting.current,
+        }
     }
 
     // Whether no answer of a good quality was recorded for as long as the plan allows; `false` if it sets no limit (`stale` is 0).
@@ -233,26 +247,17 @@ impl Progress {
             Action::Close(Cause::Done)
         } else if self.is_idle(plan) {
             Action::Read(Until::Due)
-        } else if !self.exchange.may_ask(self.moment.elapsed) {
-            Action::Read(Until::Limit)
-        } else if self.is_dead(plan, waiting) {
-            Action::Close(Cause::Dead)
         } else {
-            Action::Ask
+            CHOICES.synchronizing(self.load(plan, waiting), &self.exchange)
         }
     }
 
-    // The next action when the next command may be sent, of a cycle (`action` is `Send`) or of the setup (`Prepare`): that of
-    // `action_room`, if one of the seven requests before it is a call of the table that a reply ended. Else, as after each
-    // synchronization, that of `action_flush`, since a null procedure has to be sent first.
+    // The next action when the next command may be sent, of a cycle (`action` is `Send`) or of the setup (`Prepare`): to send it, or
+    // first a null procedure.
     fn action_to_send(&self, plan: &Plan, waiting: Waiting, action: Action) -> Action
         ensures { result ≡ action_to_send plan.now self.now waiting action }
     {
-        if self.exchange.is_near() {
-            self.action_room(plan, waiting, action)
-        } else {
-            self.action_flush(plan, waiting)
-        }
+        CHOICES.to_send(self.load(plan, waiting), &self.exchange, action)
     }
 
     // The next action once the station has synchronized: that of a station that waits, if it only waits for what is in flight
@@ -408,38 +413,11 @@ impl Progress {
         waiting.well && self.chain_unbroken && !self.lacks_value()
     }
 
-    // The next action if nothing but a null procedure may be sent: to send one, if all outstanding requests have timed out or
-    // none is outstanding, and there is room; its reply settles them. Otherwise it is the action of a station that waits.
+    // The next action if nothing but a null procedure may be sent, which settles the outstanding requests once all have timed out.
     fn action_flush(&self, plan: &Plan, waiting: Waiting) -> Action
         ensures { result ≡ action_flush plan.now self.now waiting }
     {
-        if waiting.current == 0 {
-            self.action_room(plan, waiting, Action::Flush)
-        } else {
-            self.action_waiting(plan, waiting)
-        }
-    }
-
-    // Whether another request may be sent, of which fewer than `width` allows are in flight that haven't timed out. Once a stray shows that
-    // a line was altered, a sign-on that the instrument was switched on or off, or an unexpected answer that it isn't as the text takes it
-    // to be, nothing is sent before the next synchronization; and after a busy answer nothing before the wait is over.
-    fn has_room_to_ask(&self, plan: &Plan, waiting: Waiting) -> bool
-        ensures { result ≡ has_room_to_ask plan.now self.now waiting }
-    {
-        let (all, current) = (waiting.all, waiting.current);
-        self.exchange.has_room(width(plan), all, current)
-    }
-
-    // `action`, which sends a request, if there is room for one and the line isn't dead; otherwise the action of a station that
-    // waits.
-    fn action_room(&self, plan: &Plan, waiting: Waiting, action: Action) -> Action
-        ensures { result ≡ action_room plan.now self.now waiting action }
-    {
-        if self.has_room_to_ask(plan, waiting) && !self.is_dead(plan, waiting) {
-            action
-        } else {
-            self.action_waiting(plan, waiting)
-        }
+        CHOICES.flush(self.load(plan, waiting), &self.exchange)
     }
 
     // The next action if each command of the cycle is settled: to close the connection if no cycle is left, to begin the next
@@ -456,17 +434,10 @@ impl Progress {
         }
     }
 
-    // The next action if nothing may be sent: to close a dead line; to resynchronize if all outstanding requests have timed
-    // out; and else to read, as a reply may still come.
+    // The next action of a station that waits: nothing may be sent.
     fn action_waiting(&self, plan: &Plan, waiting: Waiting) -> Action
         ensures { result ≡ action_waiting plan.now self.now waiting }
     {
-        if self.is_dead(plan, waiting) {
-            Action::Close(Cause::Dead)
-        } else if waiting.current == 0 {
-            Action::Renew
-        } else {
-            Action::Read(Until::Limit)
-        }
+        CHOICES.waiting(self.load(plan, waiting), &self.exchange)
     }
 }

@@ -1,7 +1,7 @@
 //! Doubts. A stray that can't repeat the reply that settled last shows that a line was altered: the stray, or the line that settled
 //! last. The book is told of it. A sign-on shows that the instrument was switched on or off, and so may an answer whose values the text
 //! didn't expect. After any of the three, and after a busy answer (`busy.rt`), nothing is sent before the next synchronization
-//! (`has_room_to_ask` of `deciding.rt`), after which the setup comes first.
+//! (`has_room` of an exchange), after which the setup comes first.
 
 ghost use Rattle.std.specs.Prelude.{◌≡◌, false};
 ghost use Rattle.gc_session.specs.Lines.{calls_for_renewal};
