@@ -11,7 +11,7 @@ use Rattle.gc_client.specs.OneForOne.{of_pending, of_settled, begun, course}
 use Rattle.gc_client.specs.declared.pending.Pending.{Pending}
 use Rattle.gc_client.specs.Rule.{ById, Settlement, send_unless_full, settled_by_line, pending_of, settle}
 use Rattle.gc_instrument.specs.State.{KeptReply}
-use Rattle.gc_station.specs.Parts.{client_after}
+use Rattle.gc_session.specs.Courses.{client_after}
 use Rattle.gc_station.proofs.Booking.{settled_by, settled_append, course_settled}
 use Rattle.gc_world.specs.Clients.{by_ids, by_numbers}
 use Rattle.gc_field.specs.World.{Ends, Numbered, Wire, World, requested}

@@ -15,17 +15,19 @@ use Rattle.gc_texts.specs.Tasks.{call_at}
 use Rattle.gc_texts.specs.declared.tasks.Task.{Task}
 use Rattle.gc_texts.specs.Endings.{End, line_of}
 use Rattle.gc_texts.specs.Endings as end
-use Rattle.gc_station.specs.Behind.{IsNearTheTable}
+use Rattle.gc_session.specs.Laws.{IsNearTheTable}
+use Rattle.gc_session.specs.Courses.{client_after}
+use Rattle.gc_session.proofs.Courses.{course_client}
 use Rattle.gc_station.specs.Beginnings.{unanswered_after}
 use Rattle.gc_station.specs.Begun.{AreBegun, heard_in}
 use Rattle.gc_station.specs.Marks.{occasion_of, record_of, records_of}
-use Rattle.gc_station.specs.Parts.{Part, parts_joined, MarksAsk, parts_of, went_out, sent_of, timeless, client_after}
+use Rattle.gc_station.specs.Parts.{Part, parts_joined, MarksAsk, parts_of, went_out, sent_of, timeless}
 use Rattle.gc_station.specs.Records.{Record}
 use Rattle.gc_station.specs.Runs.{state_after}
 use Rattle.gc_station.specs.Model.{Model, opening}
 use Rattle.gc_station.proofs.Asked.{parts_begun}
 use Rattle.gc_station.proofs.SentWell.{behind_the_table}
-use Rattle.gc_station.proofs.Booking.{Books, settled_by, sent_by, settled_append, sent_append, course_settled, course_sent, course_client, marks_ask_at, all_records, restarting}
+use Rattle.gc_station.proofs.Booking.{Books, settled_by, sent_by, settled_append, sent_append, course_settled, course_sent, marks_ask_at, all_records, restarting}
 use Rattle.gc_station.proofs.CountedIds.{CountUp, counted_at, ids_count}
 use Rattle.gc_station.proofs.EachRun.{invariant_opening, each_once}
 use Rattle.gc_station.proofs.Following.{BooksInParts, follows}

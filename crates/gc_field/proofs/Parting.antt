@@ -13,7 +13,7 @@ use Rattle.gc_client.specs.Rule.{ById, Settlement, restarts, lost}
 use Rattle.gc_instrument.specs.State.{KeptReply}
 use Rattle.gc_session.specs.Events.{ClientEvent, Stepped, AreInTurn, left_among, steps_among}
 use Rattle.gc_world.specs.Clients.{by_ids}
-use Rattle.gc_station.proofs.Behind.{course_append}
+use Rattle.gc_session.proofs.Courses.{course_append}
 use Rattle.gc_station.proofs.Lists.{all_append, all_on}
 use Rattle.gc_field.specs.World.{Ends}
 use Rattle.gc_field.specs.Begin.{InFlight, IsWellFormed, LacksTheWord, AreTurns, Asks, Comes, Foreign, Reaches, Up_lose, Up_repeat, Down_lose, Down_repeat, Anew, Changes, SyncModel, SyncTurn, UnderWay, asks, begins, comes, leaves, turned, turns}

@@ -10,7 +10,7 @@ use Rattle.gc_client.specs.OneForOne as step
 use Rattle.gc_client.specs.OneForOne.{Course, Step, begun, course, course_after, sent_on}
 use Rattle.gc_client.specs.Rule.{ById, Outcome, Answered, Late, Lost, Sending, sends}
 use Rattle.gc_instrument.specs.State.{KeptReply}
-use Rattle.gc_station.specs.Behind.{IsNearTheTable}
+use Rattle.gc_session.specs.Laws.{IsNearTheTable}
 use Rattle.gc_field.specs.World.{Ends}
 use Rattle.gc_world.proofs.Places.{element_at}
 use Rattle.gc_world.specs.Worlds.{of_sent}

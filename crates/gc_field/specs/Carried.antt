@@ -4,6 +4,7 @@ use Rattle.gc_client.specs.declared.window.TheConstants.{WINDOW}
 use Rattle.gc_client.specs.Rule.{fresh}
 use Rattle.gc_instrument.specs.State.{KeptReply, IsFittingState}
 use Rattle.gc_links.specs.Acts.{Act}
+use Rattle.gc_session.specs.Courses.{client_after}
 use Rattle.gc_field.specs.Simulator.{simulator_ends}
 use Rattle.gc_field.specs.World.{Ends}
 use Rattle.gc_field.specs.Begin.{UnderWay}
@@ -12,7 +13,6 @@ use Rattle.gc_field.specs.Field.{Move, seen}
 use Rattle.gc_field.specs.Instrument.{OfAnyInstrument}
 use Rattle.gc_field.specs.Laws.{kept_of}
 use Rattle.gc_field.specs.Meaning.{AllMean}
-use Rattle.gc_station.specs.Parts.{client_after}
 
 -- acts of a station, and the moves of the line and of an instrument that go with them. Before these acts the station has
 -- synchronized cleanly, which left `u` in flight; `rest` are the bytes of an unfinished line that the last piece of the

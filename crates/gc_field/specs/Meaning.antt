@@ -11,8 +11,8 @@ use Rattle.gc_client.specs.OneForOne.{Step, Send, Hear, Expire}
 use Rattle.gc_client.specs.Rule.{ById, Sending, sends}
 use Rattle.gc_links.specs.declared.link.Moment.{Moment}
 use Rattle.gc_links.specs.Acts.{Act, Told, Untold, Put, Cut, Gave, Silent, Ended, Broke, Closed, Opened, Unopened}
+use Rattle.gc_session.specs.Courses.{client_after}
 use Rattle.gc_station.specs.Model.{lines_completed}
-use Rattle.gc_station.specs.Parts.{client_after}
 
 -- these bytes are the line of a request that the client sends by this step
 pub record IsSentRequest (client : ById Asked) (bytes : List ℕ) (steps : List (Step Asked)) : Type 0 where

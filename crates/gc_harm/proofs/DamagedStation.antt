@@ -15,11 +15,13 @@ use Rattle.gc_client.specs.declared.window.TheConstants.{WINDOW}
 use Rattle.gc_instrument.specs.Execution.{exec}
 use Rattle.gc_instrument.specs.Replying.{handed}
 use Rattle.gc_texts.specs.Nears.{is_elsewhere}
+use Rattle.gc_session.specs.Laws.{last_ended, last_ended_at}
+use Rattle.gc_session.specs.Courses.{client_after, client_stepped}
 use Rattle.gc_station.proofs.Going.{runs-append}
-use Rattle.gc_station.specs.HoldingBack.{IsHeldBack, last_ended, last_ended_at}
+use Rattle.gc_station.specs.HoldingBack.{IsHeldBack}
 use Rattle.gc_station.specs.Links.{parts}
 use Rattle.gc_station.specs.Model.{opening}
-use Rattle.gc_station.specs.Parts.{Part, client_after, client_stepped, idle_part}
+use Rattle.gc_station.specs.Parts.{Part, idle_part}
 use Rattle.gc_field.specs.Begin.{begins}
 use Rattle.gc_field.specs.Simulator.{simulator_ends}
 use Rattle.gc_field.specs.Witness.{plan, replies, scope}

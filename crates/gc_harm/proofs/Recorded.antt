@@ -10,10 +10,11 @@ use Rattle.gc_client.specs.OneForOne.{Restart}
 use Rattle.gc_client.specs.declared.pending.Pending.{Pending}
 use Rattle.gc_client.specs.Rule.{Settlement, fresh, lost}
 use Rattle.gc_texts.specs.declared.tasks.Task.{Task}
+use Rattle.gc_session.specs.Courses.{client_after}
 use Rattle.gc_station.specs.Marks.{commands_in, record_of, records_of}
 use Rattle.gc_station.specs.Model.{Model}
 use Rattle.gc_texts.specs.declared.near.Expected.{Expected}
-use Rattle.gc_station.specs.Parts.{Part, MarksAsk, client_after, mark_of, sent_of, timeless, went_out}
+use Rattle.gc_station.specs.Parts.{Part, MarksAsk, mark_of, sent_of, timeless, went_out}
 use Rattle.gc_station.specs.Records.{Record}
 use Rattle.gc_station.specs.Scopes.{Reads}
 use Rattle.gc_station.proofs.Booking.{sent_append, sent_by, settled_append, settled_by}

@@ -4,14 +4,14 @@ use Rattle.std.proofs.Common.{◌≡◌, ℕ, ◌+◌, ◌-◌, ◌<◌, ◌≤�
 use Rattle.std.specs.List.{AllByRecursion}
 use Rattle.gc_values.proofs.Every.{every_behind as all_behind}
 use Rattle.gc_catalogue.specs.declared.asked.Asked.{Asked}
-use Rattle.gc_client.specs.OneForOne.{Course, Step, Send, Wanted, course_after, sent_on}
+use Rattle.gc_client.specs.OneForOne.{Course, Step, Send, Wanted, course_after, sent_on, course_at}
 use Rattle.gc_client.specs.Rule.{ById, Settlement, heard, hears, send_unless_full}
 use Rattle.gc_client.specs.declared.window.TheConstants.{WINDOW}
 use Rattle.gc_instrument.specs.State.{KeptReply}
 use Rattle.gc_session.specs.Exchange.{ended_last}
+use Rattle.gc_session.specs.Laws.{last_ended, last_ended_at}
+use Rattle.gc_session.specs.Courses.{client_after, client_stepped}
 use Rattle.gc_station.proofs.Booking.{sent_by}
-use Rattle.gc_station.specs.HoldingBack.{last_ended, last_ended_at}
-use Rattle.gc_station.specs.Parts.{client_after, client_stepped, course_at}
 use Rattle.gc_world.specs.Clients.{by_ids}
 use Rattle.gc_field.specs.World.{Numbered, Ends, down_delivered}
 use Rattle.gc_field.specs.Field.{Move, Sends, Tells, Comes, Foreign, OnLine, Anew, Changes, Joins, IsPossible}

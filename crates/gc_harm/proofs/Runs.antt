@@ -21,12 +21,13 @@ use Rattle.gc_texts.specs.declared.occasion.Occasion.{Occasion}
 use Rattle.gc_texts.specs.declared.tasks.Task.{Task}
 use Rattle.gc_texts.specs.declared.wish.Wish.{Wish}
 use Rattle.gc_texts.proofs.TaskMoments.{at_any_moment}
+use Rattle.gc_session.specs.Courses.{client_after}
 use Rattle.gc_station.specs.Beginnings.{unanswered_after}
 use Rattle.gc_station.specs.Begun.{AreBegun, heard_in}
 use Rattle.gc_station.specs.HoldingBack.{IsHeldBack}
 use Rattle.gc_station.specs.Model.{opening}
 use Rattle.gc_station.specs.Marks.{occasion_of, records_of}
-use Rattle.gc_station.specs.Parts.{Part, MarkAsks, MarksAsk, client_after, mark_of, occasion_in, sent_at, went_out}
+use Rattle.gc_station.specs.Parts.{Part, MarkAsks, MarksAsk, mark_of, occasion_in, sent_at, went_out}
 use Rattle.gc_station.specs.Records.{Record}
 use Rattle.gc_station.specs.Runs.{state_after}
 use Rattle.gc_station.proofs.HoldingBack.{held_back}

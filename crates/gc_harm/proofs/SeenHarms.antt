@@ -4,8 +4,9 @@ use Rattle.gc_catalogue.specs.declared.asked.Asked.{Asked}
 use Rattle.gc_client.specs.OneForOne.{Course, Step, course, course_after, settled_on}
 use Rattle.gc_client.specs.Rule.{ById, fresh, hears, hears_line}
 use Rattle.gc_instrument.specs.State.{KeptReply}
-use Rattle.gc_station.proofs.Booking.{course_sent, course_settled, course_client, sent_by, settled_by}
-use Rattle.gc_station.specs.Parts.{client_after}
+use Rattle.gc_session.proofs.Courses.{course_client}
+use Rattle.gc_session.specs.Courses.{client_after}
+use Rattle.gc_station.proofs.Booking.{course_sent, course_settled, sent_by, settled_by}
 use Rattle.gc_world.specs.Worlds.{of_sent}
 use Rattle.gc_field.specs.World.{Ends, World, with_settled}
 use Rattle.gc_field.specs.Begun.{nulls, nulls_settled}

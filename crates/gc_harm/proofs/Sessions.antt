@@ -16,9 +16,9 @@ use Rattle.gc_session.specs.Laws.{RequestsAreHeldBack, SessionsAreTheirClients}
 use Rattle.gc_session.specs.Laws as session
 use Rattle.gc_session.specs.Sessions.{Session, opening}
 use Rattle.gc_session.proofs.InTable.{AreInTable, IsInTable, calls_in_table}
-use Rattle.gc_station.proofs.Booking.{course_client, course_settled, sent_by, settled_append, settled_by}
-use Rattle.gc_station.specs.HoldingBack as station
-use Rattle.gc_station.specs.Parts.{client_after, client_stepped}
+use Rattle.gc_session.proofs.Courses.{course_client}
+use Rattle.gc_session.specs.Courses.{client_after, client_stepped}
+use Rattle.gc_station.proofs.Booking.{course_settled, sent_by, settled_append, settled_by}
 use Rattle.gc_values.proofs.Every.{every_front as all_front}
 use Rattle.gc_field.specs.World.{Ends}
 use Rattle.gc_field.specs.Begin.{IsWellFormed, SyncModel, UnderWay, begins}
@@ -109,14 +109,6 @@ sends_by_steps Holds steps none h front later target call deadline e =
 
 -- Holding back.
 
--- a session's count of what the last line ended is a station's
-same_last : (c : ById Asked) (last : ℕ) (steps : List (Step Asked)) → session.last_ended c last steps ≡ station.last_ended c last steps
-same_last c last [] = refl
-same_last c last (one.Send target call deadline ∷ steps) = same_last (client_stepped c (one.Send target call deadline)) last steps
-same_last c last (one.Hear line ∷ steps) = same_last (client_stepped c (one.Hear line)) (station.last_ended_at c last (one.Hear line)) steps
-same_last c last (one.Expire now ∷ steps) = same_last (client_stepped c (one.Expire now)) last steps
-same_last c last (one.Restart ∷ steps) = same_last (client_stepped c one.Restart) last steps
-
 -- after these steps there is room for one more request
 abbrev HasRoom : (target : ℕ) → Asked → List (Step Asked) → Type 0
 HasRoom target call steps = length (course WINDOW begun steps).client.waiting + session.last_ended fresh 1 steps < WINDOW
@@ -124,8 +116,7 @@ HasRoom target call steps = length (course WINDOW begun steps).client.waiting + 
 -- a client that has room at each of its sends holds back
 holds_back : (steps : List (Step Asked)) → AllByRecursion IsNoRestart steps → OfSends HasRoom [] (map Stepped steps) → HoldsBackFrom fresh 1 steps
 holds_back steps none h front later target call deadline e =
-    subst (λ n. length (client_after fresh front).waiting + n < WINDOW) (same_last fresh 1 front)
-    (subst (λ (c : ById Asked). length c.waiting + session.last_ended fresh 1 front < WINDOW) (course_client front begun) (sends_by_steps HasRoom steps none h front later target call deadline e))
+    subst (λ (c : ById Asked). length c.waiting + session.last_ended fresh 1 front < WINDOW) (course_client front begun) (sends_by_steps HasRoom steps none h front later target call deadline e)
 
 -- What is asked.
 

@@ -18,13 +18,14 @@ use Rattle.gc_client.specs.Rule.{ById, heard, hears, sends}
 use Rattle.gc_links.specs.declared.link.Moment.{Moment}
 use Rattle.gc_links.specs.Acts.{Act, Told, Untold, Put, Cut, Gave, Silent, Ended, Broke, Closed, Opened, Unopened}
 use Rattle.gc_scenes.specs.SceneState.{SceneState}
+use Rattle.gc_client.specs.OneForOne.{course_at}
+use Rattle.gc_session.specs.Courses.{client_after}
 use Rattle.gc_station.proofs.Booking.{sending_of, sends_with_room}
 use Rattle.gc_station.proofs.Lists.{cons_head, cons_tail}
 use Rattle.gc_station.specs.Beginnings.{unanswered_after}
 use Rattle.gc_station.specs.Begun.{heard_in}
 use Rattle.gc_station.specs.Model.{lines_completed}
 use Rattle.gc_station.specs.Parts as part
-use Rattle.gc_station.specs.Parts.{client_after, course_at}
 use Rattle.gc_world.specs.Clients.{by_ids}
 use Rattle.gc_field.specs.Asking.{IsNullOrLineFeed, IsHeardOrDiscarded, MeansSyncSteps}
 use Rattle.gc_field.specs.Begin as begin

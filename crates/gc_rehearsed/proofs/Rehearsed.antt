@@ -3,12 +3,13 @@ use Rattle.std.proofs.Common.{◌≡◌, ◌⊎◌, inl, inr, ℕ, ◌<◌, ◌&
 use Rattle.gc_catalogue.specs.Asked.{IsAskedFitting, asked_line}
 use Rattle.gc_catalogue.specs.declared.asked.Asked.{Asked}
 use Rattle.gc_client.specs.OneForOne as client
-use Rattle.gc_client.specs.OneForOne.{Wanted}
+use Rattle.gc_client.specs.OneForOne.{Wanted, course_at}
 use Rattle.gc_client.specs.Rule.{ById, fresh}
 use Rattle.gc_session.specs.Exchange.{is_none_left}
 use Rattle.gc_links.specs.Acts.{Act, Told, Untold, Put, Cut, Gave, Silent, Ended, Broke, Closed, Opened, Unopened}
 use Rattle.gc_scenes.specs.SceneState.{SceneState}
 use Rattle.gc_texts.specs.declared.tasks.Task.{Task}
+use Rattle.gc_session.specs.Courses.{client_after}
 use Rattle.gc_station.specs.declared.plan.Plan.{Plan}
 use Rattle.gc_station.specs.Beginnings.{unanswered_after}
 use Rattle.gc_station.specs.Begun.{heard_in}
@@ -16,7 +17,7 @@ use Rattle.gc_station.specs.Deciding.{has_begun}
 use Rattle.gc_station.specs.Marks.{occasion_of}
 use Rattle.gc_station.specs.Model.{Model, Performs, Runs, action_at, after, after_all, losing, moved, opening, waiting_of, with_progress}
 use Rattle.gc_station.specs.Parts as part
-use Rattle.gc_station.specs.Parts.{MarksAsk, MarkAsks, Part, sync_part, client_part, in_front, idle_part, parts_of, put_part, client_after, course_at}
+use Rattle.gc_station.specs.Parts.{MarksAsk, MarkAsks, Part, sync_part, client_part, in_front, idle_part, parts_of, put_part}
 use Rattle.gc_station.specs.Progressing.{is_over, loses_all, turned}
 use Rattle.gc_station.proofs.Asked.{FirstHasNoSyncSteps, begun_if_nothing_lost, first_part_no_sync_steps, word_empty}
 use Rattle.gc_station.proofs.Booking.{sends_with_room, sent_by}

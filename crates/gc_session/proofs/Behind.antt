@@ -33,13 +33,13 @@ abbrev pub CountsBehind : Course Asked → (b : ℕ) → Type 0
 CountsBehind x b = b < WINDOW → IsAtMostBehind x b
 
 -- what is at place n of two lists in a row is what is at place k of the second, if n is k more than the length of the first
-get_behind : {A : Type 0} (xs ys : List A) (n k : ℕ) → n ≡ length xs + k → slice_get (xs ++ ys) n ≡ slice_get ys k
+pub get_behind : {A : Type 0} (xs ys : List A) (n k : ℕ) → n ≡ length xs + k → slice_get (xs ++ ys) n ≡ slice_get ys k
 get_behind [] ys n k e = let same : n ≡ k = omega (arith, e) in ap (slice_get ys) same
 get_behind (x ∷ xs) ys zero k e = absurd (omega (arith, e))
 get_behind (x ∷ xs) ys (suc n) k e = get_behind xs ys n k (omega (arith, e))
 
 -- what a reply ended isn't lost
-met_lost : (given_up : Bool) (line : List ℕ) → (if given_up then Late else Answered line) ≡ Lost → ⊥
+pub met_lost : (given_up : Bool) (line : List ℕ) → (if given_up then Late else Answered line) ≡ Lost → ⊥
 met_lost true line e = cc
 met_lost false line e = cc
 
@@ -85,7 +85,7 @@ ends_replied c line (Some id) e = by_test _ _ refl e where
       }
 
 -- a course that accounts for its sends sent as many requests as it has settlements and outstanding requests
-settled_and_waiting : (x : Course Asked) → AccountsForSends x → length x.settlements + length x.client.waiting ≡ length x.sent
+pub settled_and_waiting : (x : Course Asked) → AccountsForSends x → length x.settlements + length x.client.waiting ≡ length x.sent
 settled_and_waiting x one =
     let a = length-append (map of_settled x.settlements) (map of_pending x.client.waiting) in
     let b = length-map x.settlements of_settled in

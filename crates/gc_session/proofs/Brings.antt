@@ -7,59 +7,28 @@ use Rattle.std.proofs.lemmas.List.Elements.{filter-append}
 use Rattle.gc_lines.proofs.Lists.{all_append}
 use Rattle.gc_catalogue.specs.declared.asked.Asked.{Asked}
 use Rattle.gc_client.specs.Beginning.{the_word, left_by}
-use Rattle.gc_client.specs.OneForOne.{Course, Step, Send, Hear, Expire, Restart, Wanted, begun, course_after, course, sent_on, AccountsForSends}
+use Rattle.gc_client.specs.OneForOne.{Course, Step, Send, Hear, Expire, Restart, Wanted, begun, course_at, course_after, course, sent_on, AccountsForSends}
 use Rattle.gc_client.specs.Rule.{ById, Settlement, Sending, fresh, heard, hears_line, sends, send_unless_full, expires, restarts}
 use Rattle.gc_client.specs.declared.window.TheConstants.{WINDOW}
 use Rattle.gc_client.proofs.OneForOne.{accounts_for_sends}
 use Rattle.gc_session.specs.declared.exchange.Exchange.{Exchange}
 use Rattle.gc_session.specs.declared.session.TheConstants.{OWN}
+use Rattle.gc_session.specs.Courses.{client_stepped, client_after}
 use Rattle.gc_session.specs.Events.{ClientEvent, Null, Came, Stepped, left_by_step}
 use Rattle.gc_session.specs.Exchange.{has_begun, is_none_left, one_more_in_window, ended_last}
-use Rattle.gc_session.specs.Laws.{IsNearTheTable, IsNullIfOwn, client_stepped, last_ended, last_ended_at, is_of_caller}
+use Rattle.gc_session.specs.Laws.{IsNearTheTable, IsNullIfOwn, last_ended, last_ended_at, is_of_caller}
 use Rattle.gc_session.specs.Lines.{calls_for_renewal, ends_with_table}
 use Rattle.gc_session.specs.Sessions.{client_sent}
 use Rattle.gc_session.proofs.Behind.{CountsBehind, behind_step, counts_step, counts_one_more, near_by_count}
+use Rattle.gc_session.proofs.Courses.{course_of, course_append, sent_client, client_of, course_client}
 use Rattle.gc_session.proofs.Places.{Place, moved, moved_all, moved_append, since_after, Along, along_both}
 
 -- Courses.
-
--- the course of a new client over these steps
-abbrev pub course_of : List (Step Asked) → Course Asked
-course_of steps = course WINDOW begun steps
-
--- the course over steps and then one more
-course_append : (first : List (Step Asked)) (step : Step Asked) (x : Course Asked) → course WINDOW x (first ++ step ∷ []) ≡ course_after WINDOW (course WINDOW x first) step
-course_append [] step x = refl
-course_append (s ∷ first) step x = course_append first step (course_after WINDOW x s)
-
--- the client of a course after a send
-sent_client : (x : Course Asked) (target : ℕ) (call : Asked) (o : Option (Sending (ById Asked))) → (sent_on x target call o).client ≡ client_sent x.client o
-sent_client x target call None = refl
-sent_client x target call (Some s) = refl
 
 -- a send settles nothing
 sent_settles : (x : Course Asked) (target : ℕ) (call : Asked) (o : Option (Sending (ById Asked))) → (sent_on x target call o).settlements ≡ x.settlements ++ []
 sent_settles x target call None = sym (append-nil x.settlements)
 sent_settles x target call (Some s) = sym (append-nil x.settlements)
-
--- the client of a course after a step
-client_of : (x : Course Asked) (step : Step Asked) → (course_after WINDOW x step).client ≡ client_stepped x.client step
-client_of x (Send target call deadline) =
-    let o = sends WINDOW x.client target call deadline in
-    sent_client x target call o ∙ sym (sent_client (record { sent = []; settlements = []; client = x.client }) target call o)
-client_of x (Hear line) = refl
-client_of x (Expire now) = refl
-client_of x Restart = refl
-
--- this client after these steps
-abbrev client_after : ById Asked → List (Step Asked) → ById Asked
-client_after c [] = c
-client_after c (step ∷ steps) = client_after (client_stepped c step) steps
-
--- the client of a course after steps
-client_of_all : (steps : List (Step Asked)) (x : Course Asked) → (course WINDOW x steps).client ≡ client_after x.client steps
-client_of_all [] x = refl
-client_of_all (step ∷ steps) x = client_of_all steps (course_after WINDOW x step) ∙ ap (λ c. client_after c steps) (client_of x step)
 
 -- how many requests the last line ended that ended any, after one more step
 last_ended_more : (steps : List (Step Asked)) (step : Step Asked) (c : ById Asked) (last : ℕ) → last_ended c last (steps ++ step ∷ []) ≡ last_ended_at (client_after c steps) (last_ended c last steps) step
@@ -238,7 +207,7 @@ fits_step : (c d : ById Asked) (x y : Exchange) (p : Place) (step : Step Asked) 
     → (y.doubtful ≡ false → (x.doubtful ≡ false) × IsCalmAt c step) → AllByRecursion IsNullIfOwn (course_after WINDOW p.reached step).sent → Fits d y (moved (Stepped step) p)
 fits_step c d x y p step f since word none client ended behind calm own =
     let z = course_of p.since in
-    let more = course_append p.since step begun in
+    let more = course_append WINDOW p.since (step ∷ []) begun in
     let one = subst (λ (w : Course Asked). AccountsForSends w) more (accounts_for_sends WINDOW (p.since ++ step ∷ [])) in
     let counts = counts_step z x.behind step one f.behind in
     record {
@@ -248,7 +217,7 @@ fits_step c d x y p step f since word none client ended behind calm own =
           client ∙ ap (λ (k : ById Asked). client_stepped k step) f.part ∙ sym (client_of z step) ∙ ap (λ (w : Course Asked). w.client) (sym more)
           ∙ ap (λ l. (course_of l).client) (sym since);
       ended =
-          ended ∙ ap (λ (k : ById Asked). last_ended_at k x.last_ended step) (f.part ∙ client_of_all p.since begun)
+          ended ∙ ap (λ (k : ById Asked). last_ended_at k x.last_ended step) (f.part ∙ course_client p.since begun)
           ∙ ap (λ n. last_ended_at (client_after fresh p.since) n step) f.ended ∙ sym (last_ended_more p.since step fresh 1) ∙ ap (λ l. last_ended fresh 1 l) (sym since);
       behind =
           subst (λ (b : ℕ). CountsBehind (course_of (since_after p.since step)) b) (sym behind)
@@ -256,7 +225,7 @@ fits_step c d x y p step f since word none client ended behind calm own =
           (subst (λ (w : Course Asked). CountsBehind w (behind_step c x.behind step)) (sym more)
           (subst (λ (k : ById Asked). CountsBehind (course_after WINDOW z step) (behind_step k x.behind step)) (sym f.part) counts)));
       calm = λ e. subst (λ l. IsCalm fresh l) (sym since)
-          (calm_more p.since step fresh (f.calm (calm e).0) (subst (λ (k : ById Asked). IsCalmAt k step) (f.part ∙ client_of_all p.since begun) (calm e).1));
+          (calm_more p.since step fresh (f.calm (calm e).0) (subst (λ (k : ById Asked). IsCalmAt k step) (f.part ∙ course_client p.since begun) (calm e).1));
       new = λ e. absurd (not_begun y word e);
       own = own;
     }
@@ -348,7 +317,7 @@ module _ (c : ById Asked) (x y : Exchange) (p : Place) (f : Fits c x p) (done : 
         );
         fits =
             fits_step c (client_sent c o) x y p (Send target call deadline) f refl (word ∙ none_left x.word done) refl
-            (sym (sent_client (record { sent = []; settlements = []; client = c }) target call o)) ended behind (λ e. (doubtful e, tt))
+            (sym (sent_client (course_at c) target call o)) ended behind (λ e. (doubtful e, tt))
             (subst (λ (l : List (Wanted Asked)). AllByRecursion IsNullIfOwn l) (sym more) (all_append IsNullIfOwn p.reached.sent (one ∷ []) f.own (own, tt)));
         settled = sent_settles p.reached target call (sends WINDOW p.reached.client target call deadline);
         taken = ap (filter is_of_caller) more ∙ filter-append is_of_caller p.reached.sent (one ∷ []) ∙ ap (λ l. filter is_of_caller p.reached.sent ++ l) are;

@@ -1,7 +1,6 @@
 -- The laws of any calls on a new session, from where their events bring its client.
 use Rattle.std.proofs.Common.{◌≡◌, ℕ, ◌+◌, ◌<◌, List, ◌∷◌, ◌++◌, length, map, filter, refl, sym, ap, ◌∙◌, subst}
 use Rattle.std.specs.List.{AllByRecursion}
-use Rattle.gc_catalogue.specs.Asked.{is_of_table}
 use Rattle.gc_catalogue.specs.declared.asked.Asked.{Asked}
 use Rattle.gc_client.specs.OneForOne.{Course, Step, Send, Wanted, begun, course, of_settled, of_pending}
 use Rattle.gc_client.specs.Rule.{ById, fresh}
@@ -58,8 +57,7 @@ none_in_doubt settings calls front later target call deadline before between lin
 
 -- a session's own requests are null procedures
 pub own_are_null : OwnRequestsAreNullProcedures
-own_are_null settings calls front later call deadline e =
-    ap is_of_table ((sent_where_it_may settings calls front later OWN call deadline e).own refl)
+own_are_null settings calls front later call deadline e = (sent_where_it_may settings calls front later OWN call deadline e).own refl
 
 -- what is settled, and what is outstanding then, is what the caller asked, and null procedures
 pub asks_accounted : AccountsForAsks

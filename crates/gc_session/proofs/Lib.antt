@@ -1,10 +1,11 @@
-mod Behind
+pub mod Behind
 mod Brings
 mod Calls
 pub mod Choosing
+pub mod Courses
 mod Drains
 pub mod InTable
 pub mod Lawful
 mod Nexts
 mod Places
-mod Stretches
+pub mod Stretches

@@ -196,7 +196,7 @@ calls_grow (call ∷ calls) s most =
     }
 
 -- what holds of all holds of one among them
-all_among : {X : Type 0} (P : X → Type 0) (front : List X) (x : X) (later : List X) → AllByRecursion P (front ++ x ∷ later) → P x
+pub all_among : {X : Type 0} (P : X → Type 0) (front : List X) (x : X) (later : List X) → AllByRecursion P (front ++ x ∷ later) → P x
 all_among P [] x later all = all.0
 all_among P (y ∷ front) x later all = all_among P front x later all.1
 

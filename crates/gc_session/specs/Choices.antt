@@ -1,14 +1,18 @@
 -- What is next of a client on a connection that is ready, this project's own, as one of what may be next (`choices`): requests are outstanding
 -- as `load` says, and the exchange is as far as `x`.
-use Rattle.std.specs.Prelude.{◌&&◌, Bool, not, if◌then◌else◌, nat_eq}
+use Rattle.std.specs.Prelude.{ℕ, ◌&&◌, Bool, not, if◌then◌else◌, nat_eq}
 use Rattle.gc_session.specs.declared.choices.Choices.{Choices}
 use Rattle.gc_session.specs.declared.load.Load.{Load}
 use Rattle.gc_session.specs.declared.exchange.Exchange.{Exchange}
-use Rattle.gc_session.specs.Exchange.{has_room, is_dead, is_near, may_ask}
+use Rattle.gc_session.specs.Exchange.{has_room, is_dead, is_near, later, may_ask}
+
+-- after how many milliseconds without a reply line the line is dead: twice the longest wait
+abbrev pub dead_after : Load → ℕ
+dead_after load = later load.patience load.patience
 
 -- whether the line is dead
 abbrev pub is_line_dead : Load → Exchange → Bool
-is_line_dead load x = is_dead load.patience load.now load.all load.current x
+is_line_dead load x = is_dead (dead_after load) load.now load.all load.current x
 
 module _ {A : Type 0} (choices : Choices A) (load : Load) (x : Exchange) where
   -- if nothing may be sent: to close a dead line; to synchronize anew, if all outstanding requests have timed out; and else to read, as a

@@ -16,6 +16,7 @@ use Rattle.gc_session.specs.declared.settings.Want.{Want}
 use Rattle.gc_session.specs.declared.standing.Phase.TheVariants as phase
 use Rattle.gc_session.specs.declared.session.TheConstants.{OWN}
 use Rattle.gc_session.specs.Calls.{Call, Asks, Closes, after, after_all, events_all, settled_all, Steps, Comes, Opens}
+use Rattle.gc_session.specs.Courses.{client_stepped}
 use Rattle.gc_session.specs.Events.{ClientEvent, Stepped, AreInTurn, left_among, steps_among, steps_since}
 use Rattle.gc_session.specs.Exchange.{ended_last}
 use Rattle.gc_session.specs.Lines.{calls_for_renewal}
@@ -51,10 +52,6 @@ RequestsAreSentNearTheTable =
     events_all calls (opening settings) ≡ front ++ Stepped (Send target call deadline) ∷ later → target ≢ OWN
     → IsNearTheTable (course WINDOW begun (steps_since [] front))
 
--- the client `c` after a step, with a window of seven
-abbrev pub client_stepped : ById Asked → Step Asked → ById Asked
-client_stepped c step = (course WINDOW (record { sent = []; settlements = []; client = c }) (step ∷ [])).client
-
 -- how many requests the last line ended that ended any, after a step of this client; `last` before it
 abbrev pub last_ended_at : ById Asked → (last : ℕ) → Step Asked → ℕ
 last_ended_at c last (Hear line) = ended_last (length (hears_line c line).settlements) last
@@ -81,11 +78,11 @@ NothingIsSentInDoubt =
     events_all calls (opening settings) ≡ front ++ Stepped (Send target call deadline) ∷ later → steps_since [] front ≡ before ++ Hear line ∷ between
     → calls_for_renewal (course WINDOW begun before).client line ≡ false
 
--- no request of the session's own is for the caller's, and no request of the caller's has its number
+-- wherever a request with the target of the session's own ones is sent among the events of any calls, it is a null procedure
 abbrev pub OwnRequestsAreNullProcedures : Type 0
 OwnRequestsAreNullProcedures =
     (settings : Settings) (calls : List Call) (front later : List ClientEvent) (call : Asked) (deadline : ℕ) →
-    events_all calls (opening settings) ≡ front ++ Stepped (Send OWN call deadline) ∷ later → is_of_table call ≡ true
+    events_all calls (opening settings) ≡ front ++ Stepped (Send OWN call deadline) ∷ later → call ≡ Table NullProc
 
 -- Settlements.
 

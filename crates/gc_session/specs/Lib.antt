@@ -4,5 +4,6 @@ pub mod Choices
 pub mod Sessions
 pub mod Events
 pub mod Calls
+pub mod Courses
 pub mod Laws
 pub mod Witness

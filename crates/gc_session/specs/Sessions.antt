@@ -59,10 +59,6 @@ is_up phase.Clearing = true
 is_up phase.Draining = true
 is_up phase.Ready = true
 
--- after how many milliseconds without a reply line the line is dead: twice the longest wait so far
-abbrev pub patience_for : Standing → ℕ
-patience_for t = later t.patience t.patience
-
 -- a standing whose time without a want ends at the moment `now`, if there was one (`rests`): that time counts for no dead line
 abbrev pub alive_after : (rests : Option ℕ) → (now alive : ℕ) → ℕ
 alive_after None now alive = alive
@@ -153,7 +149,7 @@ the_choices = record { close = next.Close; renew = next.Renew; read = next.Read;
 abbrev pub load_of : Session → Load
 load_of s = record {
   width = s.settings.width;
-  patience = patience_for s.standing;
+  patience = s.standing.patience;
   now = s.standing.moment;
   all = all_of s;
   current = current_of s;

@@ -29,7 +29,7 @@ impl Session {
     {
         Load {
             width: self.settings.width,
-            patience: self.standing.dead_after(),
+            patience: self.standing.patience,
             now: self.standing.moment,
             all: self.client.waiting(),
             current: self.client.current(),

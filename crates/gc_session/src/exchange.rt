@@ -2,7 +2,8 @@
 //! what a line that comes changes of that. Times are in milliseconds of the caller's clock.
 
 ghost use Rattle.std.specs.Prelude.{◌≡◌, ◌≤◌, length};
-ghost use Rattle.gc_session.specs.Exchange.{new_exchange, has_begun, is_past, is_silent, is_dead, may_ask, has_room, is_near, hold_left, moment_read, moment_passed, request_noted, null_noted, line_noted, behind_noted, ended_noted, doubt_noted, hold_noted, line_synchronizing, cleared, renewed, drained, pause_doubled, later};
+ghost use Rattle.gc_session.specs.Choices.{dead_after, is_line_dead};
+ghost use Rattle.gc_session.specs.Exchange.{new_exchange, has_begun, is_past, is_silent, may_ask, has_room, is_near, hold_left, moment_read, moment_passed, request_noted, null_noted, line_noted, behind_noted, ended_noted, doubt_noted, hold_noted, line_synchronizing, cleared, renewed, drained, pause_doubled, later};
 
 use crate::lines::is_reply;
 use crate::load::Load;
@@ -85,19 +86,19 @@ impl Exchange {
     }
 
     /// Whether the line is silent: a request was sent on this connection, and since then no reply line came; a request is outstanding, or a
-    /// null procedure of the synchronization was sent on this connection; and the client's patience has passed since `alive`.
+    /// null procedure of the synchronization was sent on this connection; and twice the client's patience has passed since `alive`.
     pub fn is_silent(&self, load: Load) -> bool
-        ensures { result ≡ is_silent load.patience load.now load.all self.now }
+        ensures { result ≡ is_silent (dead_after load) load.now load.all self.now }
     {
         self.asked
             && (load.all > 0 || self.again > 0)
-            && load.patience <= load.now.saturating_sub(self.alive)
+            && load.dead_after() <= load.now.saturating_sub(self.alive)
     }
 
     /// Whether the line is dead: it is silent, and each of the outstanding requests has timed out. A request that was just sent still has
     /// its deadline, so that a close loses no reply in time.
     pub fn is_dead(&self, load: Load) -> bool
-        ensures { result ≡ is_dead load.patience load.now load.all load.current self.now }
+        ensures { result ≡ is_line_dead load self.now }
     {
         load.current == 0 && self.is_silent(load)
     }

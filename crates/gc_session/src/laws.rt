@@ -28,7 +28,7 @@ pub fn nothing_is_sent_in_doubt()
     ensures { NothingIsSentInDoubt }
 {}
 
-/// The requests that a session sends on its own, with the target [`OWN`](crate::OWN), are calls of the table.
+/// The requests that a session sends on its own, with the target [`OWN`](crate::OWN), are null procedures.
 pub fn own_requests_are_null_procedures()
     ensures { OwnRequestsAreNullProcedures }
 {}

@@ -1,11 +1,16 @@
 //! What counts of a client's requests when something is to be sent.
 
+ghost use Rattle.std.specs.Prelude.{◌≡◌};
+ghost use Rattle.gc_session.specs.Choices.{dead_after};
+
+use crate::exchange::later;
+
 /// What is outstanding, and what the client allows. Times are in milliseconds of the caller's clock.
 #[derive(Clone, Copy)]
 pub struct Load {
     /// How many requests that haven't timed out may be outstanding.
     pub width: u8,
-    /// After how long without a reply line the line is dead.
+    /// The longest wait of a request for its reply.
     pub patience: u64,
     /// The last moment that the client was told.
     pub now: u64,
@@ -13,4 +18,13 @@ pub struct Load {
     pub all: usize,
     /// Those of `all` that haven't timed out.
     pub current: usize,
+}
+
+impl Load {
+    /// After how long without a reply line the line is dead: twice the longest wait.
+    pub(crate) fn dead_after(self) -> u64
+        ensures { result ≡ dead_after self }
+    {
+        later(self.patience, self.patience)
+    }
 }

@@ -1,7 +1,7 @@
 //! How far a session is with its connections: its phase, its moments and its counts, beside the exchange.
 
 ghost use Rattle.std.specs.Prelude.{◌≡◌, ◌≤◌, length, true, if◌then◌else◌, nat_eq};
-ghost use Rattle.gc_session.specs.Sessions.{new_standing, is_up, timed, attended, quieted, phase_cleared, restarted, unconnected, connected, met, sign_on_noted, patience_for, requested, phase_anew, met_in};
+ghost use Rattle.gc_session.specs.Sessions.{new_standing, is_up, timed, attended, quieted, phase_cleared, restarted, unconnected, connected, met, sign_on_noted, requested, phase_anew, met_in};
 ghost use Rattle.gc_session.specs.Exchange.{request_noted, null_noted, line_synchronizing, later};
 
 use crate::exchange::{Exchange, later};
@@ -262,12 +262,5 @@ impl Standing {
         if is_sign_on && self.has_asked {
             self.sign_ons = later(self.sign_ons, 1);
         }
-    }
-
-    // After how many milliseconds without a reply line the line is dead.
-    pub(crate) fn dead_after(&self) -> u64
-        ensures { result ≡ patience_for self.now }
-    {
-        later(self.patience, self.patience)
     }
 }

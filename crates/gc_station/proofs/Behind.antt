@@ -1,149 +1,19 @@
--- Where commands are sent after calls of the table. A course is what a client has sent and settled so far, and the client after
--- that; its steps are to send, to hear a line, to read the clock and to restart. `behind_by` counts, over steps, the requests
--- after the last call of the table that a reply ended, and `CountsBehind` says that a count is right for a course. A part reaches
--- from one synchronization to the next. An act is one call on the link, with its result.
-use Rattle.std.proofs.Common.{◌≡◌, ℕ, zero, suc, ◌+◌, ◌-◌, ◌<◌, ◌≤◌, Bool, true, false, List, [], ◌∷◌, ◌++◌, length, map, Option, Some, None, refl, sym, ap, ◌∙◌, subst, arith, append_assoc, append-nil, if◌then◌else◌, nat_lt}
-use Rattle.std.specs.Prelude.{slice_get}
-use Rattle.std.proofs.lemmas.Bool.{ltb-true, cond_both, ltb-false}
-use Rattle.std.proofs.lemmas.List.{length-map, length-append}
-use Rattle.gc_catalogue.specs.Asked.{is_of_table}
+-- Where commands are sent after calls of the table: `behind_by` counts, over steps, the requests after the last call of the table that a
+-- reply ended, and `CountsBehind` says that a count is right for a course.
+use Rattle.std.proofs.Common.{◌≡◌, ℕ, List, [], ◌∷◌, ◌++◌, sym, ap, ◌∙◌, subst, append_assoc, append-nil}
 use Rattle.gc_catalogue.specs.declared.asked.Asked.{Asked}
-use Rattle.gc_client.specs.OneForOne.{Course, Step, Send, Hear, Expire, Restart, begun, sent_on, course_after, course, of_settled, of_pending, AccountsForSends}
-use Rattle.gc_client.specs.Rule.{ById, Sending, Settlement, Lost, heard, hears, settles_at, lost, settled_by_line, settle, sends, restarts}
-use Rattle.gc_client.specs.declared.pending.Pending.{Pending}
+use Rattle.gc_client.specs.OneForOne.{Course, Step, begun, course_after, AccountsForSends}
+use Rattle.gc_client.specs.Rule.{ById}
 use Rattle.gc_client.specs.declared.window.TheConstants.{WINDOW}
-use Rattle.gc_client.proofs.OneForOne.{accounts_for_sends, length-settle}
-use Rattle.gc_session.specs.Exchange.{one_more_in_window}
-use Rattle.gc_session.specs.Lines.{is_some_of_table, ends_with_table}
-use Rattle.gc_station.specs.Parts.{client_stepped}
-use Rattle.gc_station.specs.Behind.{IsRepliedTableCall, IsNearTheTable}
-use Rattle.gc_station.proofs.Booking.{course_client}
-use Rattle.gc_station.proofs.Meets.{met_lost}
-use Rattle.gc_station.proofs.Lists.{get_more, get_behind}
-
--- Steps.
-
--- the count after one step of this client, if it was `b` before: how many requests were sent, up to seven, after the last call of
--- the table that a reply ended
-abbrev pub behind_step : ById Asked → (b : ℕ) → Step Asked → ℕ
-behind_step c b (Send target call deadline) = one_more_in_window b
-behind_step c b (Hear line) = if ends_with_table (hears c line (heard line)).settlements then length (hears c line (heard line)).client.waiting else b
-behind_step c b (Expire now) = b
-behind_step c b Restart = b
+use Rattle.gc_client.proofs.OneForOne.{accounts_for_sends}
+use Rattle.gc_session.specs.Courses.{client_stepped}
+use Rattle.gc_session.proofs.Behind.{behind_step, CountsBehind, counts_step}
+use Rattle.gc_session.proofs.Courses.{course_of, course_append, client_of}
 
 -- the count after these steps of this client, in order, if it was `b` before
 abbrev pub behind_by : ById Asked → (b : ℕ) → List (Step Asked) → ℕ
 behind_by c b [] = b
 behind_by c b (step ∷ steps) = behind_by (client_stepped c step) (behind_step c b step) steps
-
--- at most `b` requests were sent after some call of the table that a reply ended
-abbrev pub IsAtMostBehind : Course Asked → (b : ℕ) → Type 0
-IsAtMostBehind x b =
-    (k : ℕ) × (s : Settlement Asked) × (slice_get x.settlements k ≡ Some s) × IsRepliedTableCall s × (length x.sent ≤ suc k + b)
-
--- if the count `b` is below seven, `IsAtMostBehind` holds of it
-abbrev pub CountsBehind : Course Asked → (b : ℕ) → Type 0
-CountsBehind x b = b < WINDOW → IsAtMostBehind x b
-
--- the last of the requests that a reply settles isn't lost
-last_settled_not_lost : (k : ℕ) (line : List ℕ) (ps : List (Pending Asked)) (x : Settlement Asked) → k < length ps → slice_get (settle k line ps) k ≡ Some x → x.outcome ≡ Lost → ⊥
-last_settled_not_lost k line [] x low e lost = absurd (omega (arith, low))
-last_settled_not_lost zero line (p ∷ ps) x low e lost = met_lost p.given_up line (ap (λ (y : Settlement Asked). y.outcome) same ∙ lost) where
-  -- the only settlement is that of the first request
-  same : settled_by_line p line ≡ x
-  same = cc
-last_settled_not_lost (suc k) line (p ∷ ps) x low e lost = last_settled_not_lost k line ps x (omega (arith, low)) e lost
-
--- a list of settlements ends with one that is of the table and was replied to
-record EndsReplied (xs : List (Settlement Asked)) : Type 0 where
-  last : Settlement Asked
-  some : 0 < length xs
-  at : slice_get xs (length xs - 1) ≡ Some last
-  replied : IsRepliedTableCall last
-
--- if the test `is_some_of_table` holds of what may be a settlement, there is a settlement, and it is of a call of the table
-table_one : (o : Option (Settlement Asked)) → is_some_of_table o ≡ true → (x : Settlement Asked) × (o ≡ Some x) × (is_of_table x.call ≡ true)
-table_one None e = cc
-table_one (Some x) e = (x, refl, e)
-
--- if the last request that a line settles is a call of the table, a reply ended it
-ends_replied : (c : ById Asked) (line : List ℕ) (o : Option ℕ) → ends_with_table (hears c line o).settlements ≡ true → EndsReplied (hears c line o).settlements
-ends_replied c line None e = cc
-ends_replied c line (Some id) e = by_test _ _ refl e where
-  -- the lemma above, by whether the id is of an outstanding request (`true`)
-  by_test : (k : ℕ) (b : Bool) → nat_lt k (length c.waiting) ≡ b → ends_with_table (settles_at c line k b).settlements ≡ true → EndsReplied (settles_at c line k b).settlements
-  by_test k false fits e = cc
-  by_test k true fits e =
-      let low = ltb-true k (length c.waiting) fits in
-      let xs = settle k line c.waiting in
-      let many = length-settle k line c.waiting low in
-      let at : length xs - 1 ≡ k = omega (arith, many) in
-      let last = table_one (slice_get xs (length xs - 1)) e in
-      record {
-        last = last.0;
-        some = omega (arith, many);
-        at = last.1;
-        replied = (last.2, last_settled_not_lost k line c.waiting last.0 low (ap (slice_get xs) (sym at) ∙ last.1));
-      }
-
--- a course that accounts for its sends sent as many requests as it has settlements and outstanding requests
-pub settled_and_waiting : (x : Course Asked) → AccountsForSends x → length x.settlements + length x.client.waiting ≡ length x.sent
-settled_and_waiting x one =
-    let a = length-append (map of_settled x.settlements) (map of_pending x.client.waiting) in
-    let b = length-map x.settlements of_settled in
-    let d = length-map x.client.waiting of_pending in
-    let e = ap length one in
-    omega (arith, a, b, d, e)
-
--- `IsAtMostBehind` is preserved if settlements are added, whatever client is left
-at_most_more : (x : Course Asked) (more : List (Settlement Asked)) (client : ById Asked) (b : ℕ) → IsAtMostBehind x b
-    → IsAtMostBehind (record { sent = x.sent; settlements = x.settlements ++ more; client = client }) b
-at_most_more x more client b (k, s, at, replied, near) = (k, s, get_more x.settlements more k s at, replied, near)
-
--- `IsAtMostBehind` is preserved by a send, with the count one higher, whether the client refuses the send (`None`) or not
-at_most_sent : (x : Course Asked) (target : ℕ) (call : Asked) (o : Option (Sending (ById Asked))) (b : ℕ) → IsAtMostBehind x b → IsAtMostBehind (sent_on x target call o) (b + 1)
-at_most_sent x target call None b (k, s, at, replied, near) = (k, s, at, replied, omega (arith, near))
-at_most_sent x target call (Some sending) b (k, s, at, replied, near) =
-    let more = length-append x.sent (record { target = target; call = call } ∷ []) in (k, s, at, replied, omega (arith, more, near))
-
--- if `one_more_in_window` of a number is below seven, so is the number, and the former is the number plus 1
-one_more_if_below : (b : ℕ) → one_more_in_window b < WINDOW → (b < WINDOW) × (one_more_in_window b ≡ b + 1)
-one_more_if_below b low = cond_both (nat_lt b WINDOW) (b + 1) b (λ n. n < WINDOW → (b < WINDOW) × (n ≡ b + 1)) (λ e l. (ltb-true b WINDOW e, refl))
-    (λ e l. let high : WINDOW ≤ b = ltb-false b WINDOW e in absurd (omega (arith, l, high))) low
-
--- a step preserves `CountsBehind`, with the count that `behind_step` gives, if the course after the step accounts for its sends
-counts_step : (x : Course Asked) (b : ℕ) (step : Step Asked) → AccountsForSends (course_after WINDOW x step) → CountsBehind x b
-    → CountsBehind (course_after WINDOW x step) (behind_step x.client b step)
-counts_step x b (Send target call deadline) one h low =
-    let is = one_more_if_below b low in
-    subst (λ (n : ℕ). IsAtMostBehind (course_after WINDOW x (Send target call deadline)) n) (sym is.1) (at_most_sent x target call (sends WINDOW x.client target call deadline) b (h is.0))
-counts_step x b (Hear line) one h low = by_test (ends_with_table (hears x.client line (heard line)).settlements) refl low where
-  -- the lemma above, by whether the last request that the line settles is a call of the table (`t`)
-  by_test : (t : Bool) → ends_with_table (hears x.client line (heard line)).settlements ≡ t → (if t then length (hears x.client line (heard line)).client.waiting else b) < WINDOW
-      → IsAtMostBehind (course_after WINDOW x (Hear line)) (if t then length (hears x.client line (heard line)).client.waiting else b)
-  by_test false e low = let y = hears x.client line (heard line) in at_most_more x y.settlements y.client b (h low)
-  by_test true e low =
-      let y = hears x.client line (heard line) in
-      let last = ends_replied x.client line (heard line) e in
-      let k = length x.settlements + (length y.settlements - 1) in
-      let many = length-append x.settlements y.settlements in
-      let all = settled_and_waiting (course_after WINDOW x (Hear line)) one in
-      (k, last.last, get_behind x.settlements y.settlements k (length y.settlements - 1) refl ∙ last.at, last.replied, omega (arith, many, all, last.some))
-counts_step x b (Expire now) one h low = h low
-counts_step x b Restart one h low = at_most_more x (restarts x.client).settlements (restarts x.client).client b (h low)
-
--- the course from x over the steps `first` and then `later` is that over `later`, from the course from x over `first` on
-pub course_append : (width : ℕ) (first later : List (Step Asked)) (x : Course Asked) → course width x (first ++ later) ≡ course width (course width x first) later
-course_append width [] later x = refl
-course_append width (step ∷ first) later x = course_append width first later (course_after width x step)
-
--- the course of a new client after these steps
-abbrev pub course_of : List (Step Asked) → Course Asked
-course_of steps = course WINDOW begun steps
-
--- the course of a new client after one step more is its course before that step, and then the step
-course_of_more : (done : List (Step Asked)) (step : Step Asked) → course_of (done ++ step ∷ []) ≡ course_after WINDOW (course_of done) step
-course_of_more done step = course_append WINDOW done (step ∷ []) begun
 
 -- if `CountsBehind` holds of the count b after the steps `done`, it holds after further steps of the count that `behind_by` makes
 -- of b
@@ -152,17 +22,10 @@ counts_steps done [] b h = subst (λ (l : List (Step Asked)). CountsBehind (cour
 counts_steps done (step ∷ steps) b h =
     let x = course_of done in
     let next = done ++ step ∷ [] in
-    let more = course_of_more done step in
+    let more = course_append WINDOW done (step ∷ []) begun in
     let one : AccountsForSends (course_after WINDOW x step) = subst (λ (y : Course Asked). AccountsForSends y) more (accounts_for_sends WINDOW next) in
     let here : CountsBehind (course_of next) (behind_step x.client b step) = subst (λ (y : Course Asked). CountsBehind y (behind_step x.client b step)) (sym more) (counts_step x b step one h) in
     let there = counts_steps next steps (behind_step x.client b step) here in
-    let client : (course_of next).client ≡ client_stepped x.client step = ap (λ (y : Course Asked). y.client) more ∙ client_of_step x step in
+    let client : (course_of next).client ≡ client_stepped x.client step = ap (λ (y : Course Asked). y.client) more ∙ client_of x step in
     subst (λ (l : List (Step Asked)). CountsBehind (course_of l) (behind_by x.client b (step ∷ steps))) (append_assoc done (step ∷ []) steps)
-    (subst (λ (c : ById Asked). CountsBehind (course_of (next ++ steps)) (behind_by c (behind_step x.client b step) steps)) client there) where
-      -- the client of a course after a step is its client before it with that step made, whatever was sent and settled before
-      client_of_step : (x : Course Asked) (step : Step Asked) → (course_after WINDOW x step).client ≡ client_stepped x.client step
-      client_of_step x step = course_client (step ∷ []) x
-
--- if `CountsBehind` holds of a count below seven, `IsNearTheTable` holds of the course
-pub near_by_count : (x : Course Asked) (b : ℕ) → CountsBehind x b → b < WINDOW → IsNearTheTable x
-near_by_count x b h low = let it = h low in (it.0, it.1, it.2, it.3, let near = it.4 in omega (arith, near, low))
+    (subst (λ (c : ById Asked). CountsBehind (course_of (next ++ steps)) (behind_by c (behind_step x.client b step) steps)) client there)

@@ -10,21 +10,24 @@ use Rattle.std.proofs.lemmas.Bool.{ne_eqb}
 use Rattle.std.proofs.lemmas.Option.{same_Some}
 use Rattle.gc_catalogue.specs.declared.asked.Asked.{Asked}
 use Rattle.gc_client.specs.declared.window.TheConstants.{WINDOW}
-use Rattle.gc_client.specs.OneForOne.{Wanted, Course, Step, Send, Hear, Expire, Restart, sent_on, course_after, course, of_settled, of_pending}
+use Rattle.gc_client.specs.OneForOne.{Wanted, Course, Step, Send, Hear, Expire, Restart, sent_on, course_after, course, of_settled, of_pending, course_at}
 use Rattle.gc_client.specs.Rule.{ById, Outcome, Answered, Late, Lost, Sending, Settlement, fresh, heard, hears, expires, lost, send_unless_full, sends}
 use Rattle.gc_client.proofs.OneForOne.{heard_parts, lost_parts}
 use Rattle.gc_texts.specs.Zeroed.{as_zero}
 use Rattle.gc_texts.specs.Endings.{End}
 use Rattle.gc_texts.specs.declared.near.Expected.{Expected}
 use Rattle.gc_texts.specs.declared.tasks.Task.{Task}
+use Rattle.gc_session.specs.Sessions.{client_sent}
+use Rattle.gc_session.specs.Courses.{client_stepped, client_after}
 use Rattle.gc_station.specs.declared.mark.Mark.{Mark}
 use Rattle.gc_station.specs.declared.station.sending.Outgoing.{Outgoing}
 use Rattle.gc_station.specs.Marks.{end_of, record_of, records_of}
 use Rattle.gc_station.specs.Records.{Record}
 use Rattle.gc_station.specs.Requests.{of_command}
 use Rattle.gc_station.specs.Deciding.{later}
-use Rattle.gc_station.specs.Model.{client_sent, sent_to}
-use Rattle.gc_station.specs.Parts.{SyncStep, Part, only_sync_steps, only_steps, idle_part, parts_joined, request_part, MarkAsks, MarksAsk, went_out, sent_of, timeless, course_at, client_stepped, client_after}
+use Rattle.gc_station.specs.Model.{sent_to}
+use Rattle.gc_station.specs.Parts.{SyncStep, Part, only_sync_steps, only_steps, idle_part, parts_joined, request_part, MarkAsks, MarksAsk, went_out, sent_of, timeless}
+use Rattle.gc_session.proofs.Courses.{client_of}
 use Rattle.gc_station.specs.Scopes.{Reads}
 use Rattle.gc_station.proofs.Lists.{all_append, all_at}
 use Rattle.gc_station.proofs.Records.{answer_along, records-none, records-append}
@@ -66,24 +69,21 @@ settled_append c first later = added_append (λ (x : Course Asked). x.settlement
 pub sent_append : (c : ById Asked) (first later : List (Step Asked)) → sent_by c (first ++ later) ≡ sent_by c first ++ sent_by (client_after c first) later
 sent_append c first later = added_append (λ (x : Course Asked). x.sent) c first later
 
--- a send adds the same to any course as to one at its start with the same client, and leaves the same client
+-- a send adds the same to any course as to one at its start with the same client
 sent_parts : (x : Course Asked) (target : ℕ) (call : Asked) (o : Option (Sending (ById Asked)))
     → ((sent_on x target call o).settlements ≡ x.settlements ++ (sent_on (course_at x.client) target call o).settlements)
     × ((sent_on x target call o).sent ≡ x.sent ++ (sent_on (course_at x.client) target call o).sent)
-    × ((sent_on x target call o).client ≡ (sent_on (course_at x.client) target call o).client)
-sent_parts x target call None = (sym (append-nil x.settlements), sym (append-nil x.sent), refl)
-sent_parts x target call (Some s) = (sym (append-nil x.settlements), refl, refl)
+sent_parts x target call None = (sym (append-nil x.settlements), sym (append-nil x.sent))
+sent_parts x target call (Some s) = (sym (append-nil x.settlements), refl)
 
--- a step adds the same to any course as to one at its start with the same client, and makes that client the one that
--- `client_stepped` gives
+-- so does a step
 step_parts : (x : Course Asked) (s : Step Asked)
     → ((course_after WINDOW x s).settlements ≡ x.settlements ++ (course_after WINDOW (course_at x.client) s).settlements)
     × ((course_after WINDOW x s).sent ≡ x.sent ++ (course_after WINDOW (course_at x.client) s).sent)
-    × ((course_after WINDOW x s).client ≡ client_stepped x.client s)
 step_parts x (Send target call deadline) = sent_parts x target call (sends WINDOW x.client target call deadline)
-step_parts x (Hear line) = (refl, sym (append-nil x.sent), refl)
-step_parts x (Expire now) = (sym (append-nil x.settlements), sym (append-nil x.sent), refl)
-step_parts x Restart = (refl, sym (append-nil x.sent), refl)
+step_parts x (Hear line) = (refl, sym (append-nil x.sent))
+step_parts x (Expire now) = (sym (append-nil x.settlements), sym (append-nil x.sent))
+step_parts x Restart = (refl, sym (append-nil x.sent))
 
 -- steps add to one list of a course what they add to it from its client on, if each step adds the same to any course as to one at
 -- its start with the same client
@@ -94,7 +94,7 @@ course_added list adds [] x = sym (append-nil (list x))
 course_added list adds (s ∷ ss) x =
     let y = course_after WINDOW x s in
     let now = list (course_after WINDOW (course_at x.client) s) in
-    course_added list adds ss y ∙ ap (λ l. l ++ added_by list y.client ss) (adds x s) ∙ ap (λ c. (list x ++ now) ++ added_by list c ss) (step_parts x s).2
+    course_added list adds ss y ∙ ap (λ l. l ++ added_by list y.client ss) (adds x s) ∙ ap (λ c. (list x ++ now) ++ added_by list c ss) (client_of x s)
     ∙ append_assoc (list x) now (added_by list (client_stepped x.client s) ss)
 
 -- steps add to the settlements of a course what they settle from its client on
@@ -104,11 +104,6 @@ course_settled steps x = course_added (λ (y : Course Asked). y.settlements) (λ
 -- steps add to the requests of a course what they send from its client on
 pub course_sent : (steps : List (Step Asked)) (x : Course Asked) → (course WINDOW x steps).sent ≡ x.sent ++ sent_by x.client steps
 course_sent steps x = course_added (λ (y : Course Asked). y.sent) (λ y s. (step_parts y s).1) steps x
-
--- the client of a course after steps is its client after them
-pub course_client : (steps : List (Step Asked)) (x : Course Asked) → (course WINDOW x steps).client ≡ client_after x.client steps
-course_client [] x = refl
-course_client (s ∷ ss) x = course_client ss (course_after WINDOW x s) ∙ ap (λ c. client_after c ss) (step_parts x s).2
 
 -- Lists.
 

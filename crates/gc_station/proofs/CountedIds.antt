@@ -5,11 +5,12 @@ use Rattle.std.specs.Prelude.{slice_get}
 use Rattle.std.specs.List.{AllByRecursion}
 use Rattle.std.proofs.lemmas.Option.{same_Some}
 use Rattle.gc_catalogue.specs.declared.asked.Asked.{Asked}
-use Rattle.gc_client.specs.OneForOne.{Hear, Expire, sent_on}
+use Rattle.gc_client.specs.OneForOne.{Hear, Expire, sent_on, course_at}
 use Rattle.gc_client.specs.Rule.{ById, Sending, fresh, fits, heard, hears, place_in, settles_at}
 use Rattle.gc_client.specs.declared.window.TheConstants.{IDS}
 use Rattle.gc_links.specs.Acts.{Act, Told, Put, Cut, Gave, Silent}
 use Rattle.gc_texts.specs.declared.tasks.Task.{Task}
+use Rattle.gc_session.specs.Courses.{client_after, client_stepped}
 use Rattle.gc_station.specs.declared.mark.Mark.{Mark}
 use Rattle.gc_station.specs.declared.plan.Plan.{Plan}
 use Rattle.gc_station.specs.declared.progress.Action.{Action}
@@ -18,7 +19,7 @@ use Rattle.gc_station.specs.Deciding.{has_begun}
 use Rattle.gc_station.specs.Links.{parts}
 use Rattle.gc_station.specs.Model.{Model, action_at, after, is_heard, lines_completed, losing, mark_sent, mark_setup_sent, moved, opening, request_or_null, Runs, waiting_of, with_losses, with_progress, Performs}
 use Rattle.gc_station.specs.NextCommand.{commands_left}
-use Rattle.gc_station.specs.Parts.{Part, client_after, client_part, client_stepped, course_at, first_request_part, heard_steps, in_front, parts_of, put_part, sync_part}
+use Rattle.gc_station.specs.Parts.{Part, client_part, first_request_part, heard_steps, in_front, parts_of, put_part, sync_part}
 use Rattle.gc_station.specs.Progressing.{loses_all, turned}
 use Rattle.gc_station.specs.Scopes.{Scope}
 use Rattle.gc_station.proofs.Asked.{marks_none}

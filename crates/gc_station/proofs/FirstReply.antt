@@ -15,12 +15,13 @@ use Rattle.gc_client.specs.declared.window.TheConstants.{WINDOW}
 use Rattle.gc_client.proofs.OneForOne.{accounts_for_sends}
 use Rattle.gc_session.specs.Exchange.{one_more_in_window}
 use Rattle.gc_session.specs.Lines.{ends_with_table}
+use Rattle.gc_session.specs.Courses.{client_stepped}
+use Rattle.gc_session.proofs.Behind.{behind_step, settled_and_waiting, met_lost}
+use Rattle.gc_session.proofs.Courses.{course_of, course_append, course_client}
 use Rattle.gc_station.specs.NullFirst.{HasEndedANull}
-use Rattle.gc_station.specs.Parts.{client_stepped}
-use Rattle.gc_station.proofs.Behind.{behind_step, behind_by, course_of, course_append, settled_and_waiting}
-use Rattle.gc_station.proofs.Booking.{course_settled, course_sent, course_client, settled_by, sent_by}
+use Rattle.gc_station.proofs.Behind.{behind_by}
+use Rattle.gc_station.proofs.Booking.{course_settled, course_sent, settled_by, sent_by}
 use Rattle.gc_station.proofs.Lists.{get_more, all_append}
-use Rattle.gc_station.proofs.Meets.{met_lost}
 
 -- an outstanding request is a null procedure
 abbrev IsNull : Pending Asked → Type 0

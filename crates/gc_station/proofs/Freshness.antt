@@ -8,6 +8,7 @@ use Rattle.std.proofs.lemmas.Bool.Decides.{nat_tests}
 use Rattle.std.proofs.Math.Nat.{min-eq_left, min-le_right}
 use Rattle.gc_texts.specs.Endings.{End}
 use Rattle.gc_texts.specs.declared.tasks.Task.{Task}
+use Rattle.gc_session.proofs.Stretches.{all_among}
 use Rattle.gc_station.specs.declared.watching.Watch.{Watch}
 use Rattle.gc_station.specs.Marks.{ended_confirmed}
 use Rattle.gc_station.specs.Watching.{watched_at, watched_in, unanswered, renews, renewed_if, renewed, cut_to, older, oldest_from, oldest, fresh_in, fresh_of}
@@ -39,11 +40,6 @@ next_is_mapped f xs now i d new is below e =
 pub all_mapped : {X : Type 0} (P Q : X → Type 0) (f : X → X) → ((x : X) → P x → Q (f x)) → (xs : List X) → AllByRecursion P xs → AllByRecursion Q (map f xs)
 all_mapped P Q f each [] all = tt
 all_mapped P Q f each (x ∷ xs) all = (each x all.0, all_mapped P Q f each xs all.1)
-
--- what holds of all items holds of one among them
-pub all_among : {X : Type 0} (P : X → Type 0) (front : List X) (x : X) (later : List X) → AllByRecursion P (front ++ x ∷ later) → P x
-all_among P [] x later all = all.0
-all_among P (y ∷ front) x later all = all_among P front x later all.1
 
 -- The oldest.
 

@@ -11,7 +11,7 @@ use Rattle.std.proofs.lemmas.List.{length-map, length-append, nil_from_length}
 use Rattle.gc_values.proofs.Every.{every_drop}
 use Rattle.gc_catalogue.specs.Asked.{is_of_table}
 use Rattle.gc_catalogue.specs.declared.asked.Asked.{Asked}
-use Rattle.gc_client.specs.OneForOne.{Step, Send, Hear, Expire, Restart, sent_on}
+use Rattle.gc_client.specs.OneForOne.{Step, Send, Hear, Expire, Restart, sent_on, course_at}
 use Rattle.gc_client.specs.Rule.{ById, heard, hears, settles_at, send_unless_full, settle, expired, pending_of}
 use Rattle.gc_client.specs.declared.pending.Pending.{Pending}
 use Rattle.gc_client.specs.declared.window.TheConstants.{WINDOW}
@@ -24,6 +24,8 @@ use Rattle.gc_session.specs.Exchange.{has_room, one_more_in_window}
 use Rattle.gc_session.specs.Lines.{is_some_of_table, ends_with_table}
 use Rattle.gc_links.specs.declared.link.Moment.{Moment}
 use Rattle.gc_links.specs.Acts.{Act, Told, Put, Cut, Gave, Silent}
+use Rattle.gc_session.specs.Courses.{client_stepped, client_after}
+use Rattle.gc_session.proofs.Behind.{behind_step}
 use Rattle.gc_station.specs.declared.mark.Mark.{Mark}
 use Rattle.gc_station.specs.declared.plan.Plan.{Plan}
 use Rattle.gc_station.specs.declared.progress.Action.{Action}
@@ -33,14 +35,14 @@ use Rattle.gc_station.specs.declared.progress.Waiting.{Waiting}
 use Rattle.gc_station.specs.Behind.{AreOfTable, AwaitsFirstReply, IsNotHeldUp, TheTableIsNeverHeldUp}
 use Rattle.gc_station.specs.Deciding.{has_begun, is_dead, action_to_send, action_room, action_waiting, width_of}
 use Rattle.gc_station.specs.Marks.{commands_in, occasion_of}
-use Rattle.gc_station.specs.Parts.{put_part, request_part, first_request_part, client_part, sync_part, part_of_act, client_stepped, client_after, course_at}
+use Rattle.gc_station.specs.Parts.{put_part, request_part, first_request_part, client_part, sync_part, part_of_act}
 use Rattle.gc_station.specs.Progressing.{turned, time_passed, is_over, loses_all}
 use Rattle.gc_station.specs.Reasons.{HoldsBefore}
 use Rattle.gc_station.specs.Runs.{state_after}
 use Rattle.gc_station.specs.Model.{Model, opening, action_at, waiting_of, is_heard, with_progress, with_rest, lines_completed, moved, losing, after, Performs, with_losses, request_or_null, mark_sent, mark_setup_sent}
 use Rattle.gc_station.specs.NextCommand.{place_next}
 use Rattle.gc_station.proofs.Always.{always}
-use Rattle.gc_station.proofs.Behind.{behind_by, behind_step}
+use Rattle.gc_station.proofs.Behind.{behind_by}
 use Rattle.gc_station.proofs.Counts.{losing_progress}
 use Rattle.gc_station.proofs.EachRun.{invariant_holds}
 use Rattle.gc_station.proofs.Facts.{action_for}

@@ -16,17 +16,19 @@ use Rattle.gc_session.specs.Exchange.{is_none_left, ended_last}
 use Rattle.gc_session.specs.Lines.{calls_for_renewal}
 use Rattle.gc_links.specs.Acts.{Act, Told, Untold, Put, Cut, Gave, Silent}
 use Rattle.gc_links.specs.declared.link.Moment.{Moment}
+use Rattle.gc_session.specs.Laws.{last_ended}
+use Rattle.gc_session.specs.Courses.{client_after, client_stepped}
 use Rattle.gc_station.specs.declared.mark.Mark.{Mark}
 use Rattle.gc_station.specs.declared.plan.Plan.{Plan}
 use Rattle.gc_station.specs.declared.progress.Action.{Action}
 use Rattle.gc_station.specs.declared.progress.Action.TheVariants as action
 use Rattle.gc_station.specs.declared.progress.Progress.{Progress}
 use Rattle.gc_station.specs.Deciding.{has_begun}
-use Rattle.gc_station.specs.HoldingBack.{last_ended, RequestsAreHeldBack}
+use Rattle.gc_station.specs.HoldingBack.{RequestsAreHeldBack}
 use Rattle.gc_station.specs.InDoubt.{NothingIsSentInDoubt}
 use Rattle.gc_station.specs.Links.{parts}
 use Rattle.gc_station.specs.Marks.{any_unexpected}
-use Rattle.gc_station.specs.Parts.{Part, parts_joined, put_part, first_request_part, heard_steps, client_part, sync_part, part_of_act, in_front, parts_of, client_after, client_stepped}
+use Rattle.gc_station.specs.Parts.{Part, parts_joined, put_part, first_request_part, heard_steps, client_part, sync_part, part_of_act, in_front, parts_of}
 use Rattle.gc_station.specs.Progressing.{turned, time_passed, is_over, loses_all}
 use Rattle.gc_station.specs.Reasons.{HoldsBefore}
 use Rattle.gc_station.specs.Model.{Model, opening, action_at, waiting_of, is_heard, with_progress, with_rest, line_came, lines_came, line_busy, line_news, lines_completed, after_piece, moved, losing, after, Performs, Runs, with_losses, mark_sent}

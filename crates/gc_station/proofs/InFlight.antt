@@ -12,13 +12,14 @@ use Rattle.gc_texts.specs.declared.tasks.Task.{Task}
 use Rattle.gc_texts.specs.declared.wish.Wish.{Wish}
 use Rattle.gc_links.specs.Acts.{Act, Told}
 use Rattle.gc_links.specs.declared.link.Moment.{Moment}
+use Rattle.gc_session.specs.Sessions.{client_sent}
 use Rattle.gc_station.specs.Cycles.{ClockRises}
 use Rattle.gc_catalogue.specs.declared.asked.Asked.TheVariants.{Table}
 use Rattle.gc_catalogue.specs.declared.call.Call.TheVariants.{NullProc}
 use Rattle.gc_station.specs.Deciding.{later}
 use Rattle.gc_station.specs.Progressing.{turned, moment_noted, cycle_start, due_at, time_passed, loses_all}
 use Rattle.gc_station.specs.Marks.{occasion_of}
-use Rattle.gc_station.specs.Model.{Model, sent_to, client_sent, with_progress, with_moment, with_rest, waiting_of, line_came, lines_completed, is_heard, piece_at, Performs, moved, asks_for, asks_first, asks_setup, null_request, request_or_null, with_losses, mark_sent, mark_setup_sent}
+use Rattle.gc_station.specs.Model.{Model, sent_to, with_progress, with_moment, with_rest, waiting_of, line_came, lines_completed, is_heard, piece_at, Performs, moved, asks_for, asks_first, asks_setup, null_request, request_or_null, with_losses, mark_sent, mark_setup_sent}
 use Rattle.gc_station.specs.NextCommand.{place_next}
 use Rattle.gc_station.specs.Requests.{command_at}
 use Rattle.gc_station.specs.Quiet.{IsAsking}

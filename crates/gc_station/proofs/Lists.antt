@@ -4,13 +4,8 @@ use Rattle.std.proofs.Common.{◌≡◌, ℕ, zero, suc, ◌+◌, ◌<◌, ◌�
 use Rattle.std.specs.Prelude.{slice_get}
 use Rattle.std.specs.List.{AllByRecursion}
 pub use Rattle.gc_lines.proofs.Lists.{all_append, all_at, get_more, cons_head, cons_tail}
+pub use Rattle.gc_session.proofs.Behind.{get_behind}
 pub use Rattle.gc_values.proofs.Every.{every_weaker as all_on}
-
--- what is at place n of two lists in a row is what is at place k of the second, if n is k more than the length of the first
-pub get_behind : {A : Type 0} (xs ys : List A) (n k : ℕ) → n ≡ length xs + k → slice_get (xs ++ ys) n ≡ slice_get ys k
-get_behind [] ys n k e = let same : n ≡ k = omega (arith, e) in ap (slice_get ys) same
-get_behind (x ∷ xs) ys zero k e = absurd (omega (arith, e))
-get_behind (x ∷ xs) ys (suc n) k e = get_behind xs ys n k (omega (arith, e))
 
 -- the element at place k + n of a list is at place n after its first k
 pub get_dropped : {A : Type 0} (k n j : ℕ) (xs : List A) (x : A) → j ≡ k + n → slice_get xs j ≡ Some x → slice_get (drop k xs) n ≡ Some x

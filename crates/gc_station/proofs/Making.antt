@@ -15,6 +15,7 @@ use Rattle.gc_texts.specs.declared.near.Expected.{Expected}
 use Rattle.gc_texts.specs.declared.tasks.Task.{Task}
 use Rattle.gc_texts.specs.declared.turn.Turn.{Turn}
 use Rattle.gc_links.specs.declared.link.Moment.{Moment}
+use Rattle.gc_session.specs.Sessions.{client_sent}
 use Rattle.gc_station.specs.declared.firsts.FirstAnswer.{FirstAnswer}
 use Rattle.gc_station.specs.declared.mark.Mark.{Mark}
 use Rattle.gc_station.specs.declared.plan.Plan.{Plan}
@@ -31,7 +32,7 @@ use Rattle.gc_station.specs.Marks.{is_well, ended_confirmed, last_well, occasion
 use Rattle.gc_station.specs.Progressing.{failing, unsent_at}
 use Rattle.gc_station.specs.Records.{Record}
 use Rattle.gc_station.specs.ActKinds.{Puts, ReadsLink}
-use Rattle.gc_station.specs.Model.{Model, client_sent, sent_to, request_for, request_or_null, asks_for, asks_first, end_unsent, first_unsent_record, with_progress, with_listed, with_more_records, after_put, after_read, text_or_null, next_request_text}
+use Rattle.gc_station.specs.Model.{Model, sent_to, request_for, request_or_null, asks_for, asks_first, end_unsent, first_unsent_record, with_progress, with_listed, with_more_records, after_put, after_read, text_or_null, next_request_text}
 use Rattle.gc_station.specs.Stations.{Refines, Took, cut_progress, as_seen, station_asking, MakesMove, Moves, KeepsToModel}
 use Rattle.gc_station.specs.Scopes.{AreReadings}
 use Rattle.gc_station.specs.Attempts.{listed_after}

@@ -21,6 +21,7 @@ use Rattle.gc_texts.specs.Endings.{End, line_of}
 use Rattle.gc_texts.specs.Endings as ends
 use Rattle.gc_texts.specs.Zeroed.{as_zero}
 use Rattle.gc_texts.specs.declared.near.Expected.{Expected}
+use Rattle.gc_session.proofs.Behind.{met_lost}
 use Rattle.gc_station.specs.declared.mark.Mark.{Mark}
 use Rattle.gc_station.specs.declared.plan.Plan.{Plan}
 use Rattle.gc_links.specs.Acts.{Act}
@@ -73,11 +74,6 @@ met_answered false line l e = let same : l ≡ line = cc in (same, refl)
 met_late : (given_up : Bool) (line : List ℕ) → met_outcome given_up line ≡ Late → given_up ≡ true
 met_late true line e = refl
 met_late false line e = cc
-
--- a request whose own reply comes isn't lost
-pub met_lost : (given_up : Bool) (line : List ℕ) → met_outcome given_up line ≡ Lost → ⊥
-met_lost true line e = cc
-met_lost false line e = cc
 
 -- where P holds of the request at the place `at`, whose id was heard, `EndedBy` holds of its settlement by the line
 met_ended : (P : ℕ → ℕ → Pending Asked → Option Mark → Type 0) (c : ById Asked) (o : Option ℕ) (line : List ℕ) (number at : ℕ) (p : Pending Asked) (mark : Option Mark)

@@ -18,6 +18,7 @@ use Rattle.gc_texts.specs.declared.near.Expected.{Expected}
 use Rattle.gc_texts.specs.Tasks.{call_at}
 use Rattle.gc_texts.specs.declared.tasks.Task.{Task}
 use Rattle.gc_texts.specs.Endings.{End}
+use Rattle.gc_session.specs.Sessions.{client_sent}
 use Rattle.gc_station.specs.declared.mark.Mark.{Mark}
 use Rattle.gc_station.specs.declared.plan.Plan.{Plan}
 use Rattle.gc_station.specs.declared.progress.Phase.{Phase}
@@ -31,7 +32,7 @@ use Rattle.gc_station.specs.Parts.{MarksAsk, MarkAsks, went_out}
 use Rattle.gc_station.specs.Records.{Record}
 use Rattle.gc_station.specs.Reasons.{IsFinished}
 use Rattle.gc_station.specs.Tasked.{IsOfItsTask}
-use Rattle.gc_station.specs.Model.{Model, client_sent, losing, with_losses, cycle_length}
+use Rattle.gc_station.specs.Model.{Model, losing, with_losses, cycle_length}
 use Rattle.gc_station.specs.Scopes.{Reads}
 use Rattle.gc_station.proofs.Each.{row_in_text_moment, row_in_text_settles, row_in_text_null, row_in_text_sent, row_in_text_skipped, reached_past, reached_next, reached_whole, reached_none, row_in_text_prepared, row}
 use Rattle.gc_station.proofs.Invariant.{Invariant, is_before_requests, says_done}

@@ -15,20 +15,24 @@ use Rattle.gc_client.specs.declared.window.TheConstants.{WINDOW}
 use Rattle.gc_client.specs.Rule.{ById, fresh, deadlines}
 use Rattle.gc_texts.specs.declared.tasks.Task.{Task}
 use Rattle.gc_links.specs.Acts.{Act}
+use Rattle.gc_session.specs.Laws.{IsNearTheTable}
+use Rattle.gc_session.specs.Courses.{client_after}
+use Rattle.gc_session.proofs.Behind.{CountsBehind, near_by_count}
+use Rattle.gc_session.proofs.Courses.{course_of, course_append, course_client}
 use Rattle.gc_station.specs.declared.mark.Mark.{Mark}
 use Rattle.gc_station.specs.declared.plan.Plan.{Plan}
 use Rattle.gc_station.specs.declared.progress.Action.{Action}
 use Rattle.gc_station.specs.declared.progress.Action.TheVariants as action
 use Rattle.gc_station.specs.declared.progress.Progress.{Progress}
-use Rattle.gc_station.specs.Behind.{IsNearTheTable, CommandsAreSentNearTheTable}
+use Rattle.gc_station.specs.Behind.{CommandsAreSentNearTheTable}
 use Rattle.gc_station.specs.Deciding.{has_begun}
 use Rattle.gc_station.specs.NullFirst.{HasEndedANull, HasAllUnanswered, SynchronizationsEndWithANull, null_asked}
-use Rattle.gc_station.specs.Parts.{Part, parts_joined, client_part, sync_part, part_of_act, in_front, parts_of, client_after}
+use Rattle.gc_station.specs.Parts.{Part, parts_joined, client_part, sync_part, part_of_act, in_front, parts_of}
 use Rattle.gc_station.specs.Progressing.{turned, loses_all, is_over}
 use Rattle.gc_station.specs.Reasons.{HoldsBefore}
 use Rattle.gc_station.specs.Model.{Model, opening, action_at, waiting_of, with_progress, moved, losing, after, Performs, Runs, with_losses}
-use Rattle.gc_station.proofs.Behind.{behind_by, CountsBehind, counts_steps, near_by_count, course_of, course_append}
-use Rattle.gc_station.proofs.Booking.{sent_by, course_sent, course_client, sent_append, marks_ask_length}
+use Rattle.gc_station.proofs.Behind.{behind_by, counts_steps}
+use Rattle.gc_station.proofs.Booking.{sent_by, course_sent, sent_append, marks_ask_length}
 use Rattle.gc_station.proofs.Counts.{losing_progress}
 use Rattle.gc_station.proofs.EachRun.{invariant_after, invariant_opening}
 use Rattle.gc_station.proofs.Facts.{action_for}

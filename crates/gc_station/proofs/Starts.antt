@@ -10,12 +10,13 @@ use Rattle.gc_texts.specs.SignOns.{is_sign_on}
 use Rattle.gc_texts.specs.declared.tasks.Task.{Task}
 use Rattle.gc_session.specs.Lines.{raises_doubt}
 use Rattle.gc_links.specs.Acts.{Act, Gave}
+use Rattle.gc_session.specs.Courses.{client_stepped}
 use Rattle.gc_station.specs.declared.plan.Plan.{Plan}
 use Rattle.gc_station.specs.declared.progress.Action.TheVariants.{Send}
 use Rattle.gc_station.specs.declared.progress.Action.{Action}
 use Rattle.gc_station.specs.Deciding.{has_begun}
 use Rattle.gc_station.specs.Model.{Model, opening, action_at, waiting_of, is_heard, lines_completed, with_progress, Performs, moved, after, after_all, Runs}
-use Rattle.gc_station.specs.Parts.{client_part, client_stepped}
+use Rattle.gc_station.specs.Parts.{client_part}
 use Rattle.gc_station.specs.Progressing.{turned}
 use Rattle.gc_station.specs.Reasons.{HoldsBefore}
 use Rattle.gc_station.specs.Runs.{state_after}

@@ -13,6 +13,7 @@ use Rattle.gc_client.specs.Rule.{heard, hears, lost}
 use Rattle.gc_texts.specs.declared.tasks.Task.{Task}
 use Rattle.gc_links.specs.Acts.{Act, Told, Gave, Closed}
 use Rattle.gc_links.specs.declared.link.Moment.{Moment}
+use Rattle.gc_session.proofs.Stretches.{all_among}
 use Rattle.gc_station.specs.declared.cause.Cause.{Cause}
 use Rattle.gc_station.specs.declared.cause.Cause.TheVariants as cause
 use Rattle.gc_station.specs.declared.mark.Mark.{Mark}
@@ -48,7 +49,7 @@ use Rattle.gc_station.proofs.Records.{fresh-append}
 use Rattle.gc_station.proofs.Silences.{closes_at_its_end, ended_by_close, not_closing}
 use Rattle.gc_station.proofs.Turns.{no_act_in_over}
 use Rattle.gc_station.proofs.Unbroken.{unbroken_holds, resting_sends_no_chained}
-use Rattle.gc_station.proofs.Freshness.{all_mapped, all_among, oldest_among, fresh_below, renewed_place, unwell_renews_none, unwell_changes_none}
+use Rattle.gc_station.proofs.Freshness.{all_mapped, oldest_among, fresh_below, renewed_place, unwell_renews_none, unwell_changes_none}
 use Rattle.gc_station.proofs.Walk.{asked_along, came_along, quieted_along, closed_along, walk, piece_before}
 
 -- Records.

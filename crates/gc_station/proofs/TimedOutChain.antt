@@ -16,9 +16,10 @@ use Rattle.gc_texts.specs.declared.tasks.Task.{Task}
 use Rattle.gc_session.specs.Lines.{is_reply}
 use Rattle.gc_links.specs.Acts.{Act}
 use Rattle.gc_links.specs.declared.link.Moment.{Moment}
+use Rattle.gc_session.specs.Sessions.{client_sent}
 use Rattle.gc_station.specs.Deciding.{later}
 use Rattle.gc_station.specs.Marks.{commands_in, records_of, end_of, is_well, last_well}
-use Rattle.gc_station.specs.Model.{Model, waiting_of, with_progress, with_moment, line_came, line_doubted, line_settles, is_heard, client_sent, sent_to, asks_for, null_request, end_unsent, first_unsent_record, moved, Performs}
+use Rattle.gc_station.specs.Model.{Model, waiting_of, with_progress, with_moment, line_came, line_doubted, line_settles, is_heard, sent_to, asks_for, null_request, end_unsent, first_unsent_record, moved, Performs}
 use Rattle.gc_station.specs.NextCommand.{mark_next, commands_left}
 use Rattle.gc_station.specs.Progressing.{turned, moment_noted, line_noted}
 use Rattle.gc_station.specs.Reasons.{HoldsBefore, MayGo}

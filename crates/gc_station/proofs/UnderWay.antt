@@ -16,9 +16,10 @@ use Rattle.gc_client.proofs.OneForOne.{length-settle}
 use Rattle.gc_texts.specs.declared.tasks.Task.{Task}
 use Rattle.gc_texts.specs.declared.wish.Wish.{Wish}
 use Rattle.gc_session.specs.Lines.{is_reply, ends_with_table, is_some_of_table}
+use Rattle.gc_session.specs.Sessions.{client_sent}
 use Rattle.gc_station.specs.Deciding.{later, has_begun, is_up, is_preparing, setup_permits}
 use Rattle.gc_station.specs.Marks.{commands_in, last_well, records_of}
-use Rattle.gc_station.specs.Model.{Model, waiting_of, with_progress, sent_to, client_sent, line_came, line_doubted, line_settles, losing, with_losses}
+use Rattle.gc_station.specs.Model.{Model, waiting_of, with_progress, sent_to, line_came, line_doubted, line_settles, losing, with_losses}
 use Rattle.gc_station.specs.Progressing.{failing, is_over, is_over_in, loses_all, line_noted}
 use Rattle.gc_station.specs.RecordedInTime.{raw_count}
 use Rattle.gc_station.specs.Records.{Record}

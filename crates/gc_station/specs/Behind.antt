@@ -3,13 +3,13 @@
 -- a row no two have one id. Procedures that aren't in the table may leave what it keeps. So no command is sent unless one of the
 -- seven requests before it is a call of the table that a reply ended. As no reply has ended a request of a client that is new, the
 -- first one after a synchronization is a null procedure (`NullFirst`). A part reaches from one synchronization to the next (`Parts`).
-use Rattle.std.specs.Prelude.{◌≡◌, ◌⊎◌, ℕ, ◌+◌, ◌≤◌, true, false, List, ◌∷◌, ◌++◌, length, Some, slice_get}
+use Rattle.std.specs.Prelude.{◌≡◌, ◌⊎◌, ℕ, true, false, List, ◌∷◌, ◌++◌, length, Some, slice_get}
 use Rattle.std.specs.List.{AllByRecursion}
 use Rattle.gc_catalogue.specs.Asked.{is_of_table}
 use Rattle.gc_catalogue.specs.declared.asked.Asked.{Asked}
-use Rattle.gc_client.specs.OneForOne.{Course, Step, Send, begun, course}
-use Rattle.gc_client.specs.Rule.{Settlement, Lost}
+use Rattle.gc_client.specs.OneForOne.{Step, Send, begun, course}
 use Rattle.gc_client.specs.declared.window.TheConstants.{WINDOW}
+use Rattle.gc_session.specs.Laws.{IsNearTheTable}
 use Rattle.gc_texts.specs.declared.tasks.Task.{Task}
 use Rattle.gc_station.specs.declared.mark.Mark.{Mark}
 use Rattle.gc_station.specs.declared.plan.Plan.{Plan}
@@ -21,17 +21,6 @@ use Rattle.gc_station.specs.Model.{Model, waiting_of}
 use Rattle.gc_station.specs.Parts.{Part}
 use Rattle.gc_station.specs.Progressing.{is_over}
 use Rattle.gc_station.specs.Runs.{state_after, OfEachRun}
-
--- the settlement `x` is of a call of the table that a reply ended: it was answered, or late
-abbrev pub IsRepliedTableCall : Settlement Asked → Type 0
-IsRepliedTableCall x = (is_of_table x.call ≡ true) × (x.outcome ≡ Lost → ⊥)
-
--- of the requests that a client sent since its synchronization (`x.sent`), one of the last seven is a call of the table that a
--- reply ended: request `k`, with its settlement `s`
-abbrev pub IsNearTheTable : Course Asked → Type 0
-IsNearTheTable x =
-    (k : ℕ) × (s : Settlement Asked) × (slice_get x.settlements k ≡ Some s) × IsRepliedTableCall s
-    × (length x.sent ≤ k + WINDOW)
 
 -- wherever a command is sent in this part of a run, one of the seven requests before it in the part is a call of the table that a
 -- reply ended (`IsNearTheTable`). `front` are the client's steps before the command

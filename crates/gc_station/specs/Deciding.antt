@@ -70,7 +70,7 @@ is_silent plan p w = exchange.is_silent (dead_after plan) p.moment.elapsed w.all
 abbrev pub load_of : Plan → Progress → Waiting → Load
 load_of plan p w = record {
   width = width_of plan;
-  patience = dead_after plan;
+  patience = plan.deadline;
   now = p.moment.elapsed;
   all = w.all;
   current = w.current;

@@ -2,25 +2,16 @@
 -- allows may take the replies that are still in flight for those of later requests with the same ids. So no request is sent unless the
 -- outstanding ones, and those that the last line ended that ended any, are together fewer than seven. That is what the laws on damaged
 -- lines ask of a client (`gc_damage`). A part reaches from one synchronization to the next (`Parts`).
-use Rattle.std.specs.Prelude.{◌≡◌, ℕ, ◌+◌, ◌<◌, List, [], ◌∷◌, ◌++◌, length, Some, slice_get}
+use Rattle.std.specs.Prelude.{◌≡◌, ℕ, ◌+◌, ◌<◌, List, ◌∷◌, ◌++◌, length, Some, slice_get}
 use Rattle.gc_catalogue.specs.declared.asked.Asked.{Asked}
-use Rattle.gc_client.specs.OneForOne.{Step, Send, Hear}
-use Rattle.gc_client.specs.Rule.{ById, fresh, heard, hears}
+use Rattle.gc_client.specs.OneForOne.{Step, Send}
+use Rattle.gc_client.specs.Rule.{fresh}
 use Rattle.gc_client.specs.declared.window.TheConstants.{WINDOW}
-use Rattle.gc_session.specs.Exchange.{ended_last}
+use Rattle.gc_session.specs.Courses.{client_after}
+use Rattle.gc_session.specs.Laws.{last_ended}
 use Rattle.gc_station.specs.Links.{parts}
-use Rattle.gc_station.specs.Parts.{Part, client_after, client_stepped}
+use Rattle.gc_station.specs.Parts.{Part}
 use Rattle.gc_station.specs.Runs.{OfEachRun}
-
--- how many requests the last line ended that ended any, after a step of this client; `last` before it
-abbrev pub last_ended_at : ById Asked → (last : ℕ) → Step Asked → ℕ
-last_ended_at c last (Hear line) = ended_last (length (hears c line (heard line)).settlements) last
-last_ended_at c last _ = last
-
--- the same after these steps of this client, in order
-abbrev pub last_ended : ById Asked → (last : ℕ) → List (Step Asked) → ℕ
-last_ended c last [] = last
-last_ended c last (step ∷ steps) = last_ended (client_stepped c step) (last_ended_at c last step) steps
 
 -- wherever a request is sent in this part of a run, null procedures of the station's own too: the outstanding requests, and those that
 -- the last line ended that ended any, are together fewer than seven. The part begins as if a line had ended one

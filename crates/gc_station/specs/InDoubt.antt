@@ -7,8 +7,9 @@ use Rattle.gc_catalogue.specs.declared.asked.Asked.{Asked}
 use Rattle.gc_client.specs.OneForOne.{Step, Send, Hear}
 use Rattle.gc_client.specs.Rule.{fresh}
 use Rattle.gc_session.specs.Lines.{calls_for_renewal}
+use Rattle.gc_session.specs.Courses.{client_after}
 use Rattle.gc_station.specs.Links.{parts}
-use Rattle.gc_station.specs.Parts.{Part, client_after}
+use Rattle.gc_station.specs.Parts.{Part}
 use Rattle.gc_station.specs.Runs.{OfEachRun}
 
 -- no line of this part of a run calls for a synchronization after which a request is sent, be it a null procedure of the station's own. `front` are the

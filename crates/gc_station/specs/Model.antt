@@ -12,12 +12,13 @@ use Rattle.gc_catalogue.specs.declared.call.Call.TheVariants.{NullProc}
 use Rattle.gc_catalogue.specs.Texts.{request_line}
 use Rattle.gc_catalogue.specs.Asked.{asked_line}
 use Rattle.gc_client.specs.declared.window.TheConstants.{WINDOW}
-use Rattle.gc_client.specs.Rule.{ById, Settlement, Settled, Sending, fresh, sends, hears, heard, expires, restarts, deadlines}
+use Rattle.gc_client.specs.Rule.{ById, Settlement, Settled, fresh, sends, hears, heard, expires, restarts, deadlines}
 use Rattle.gc_texts.specs.Tasks.{call_at}
 use Rattle.gc_texts.specs.declared.occasion.Occasion.{Occasion}
 use Rattle.gc_texts.specs.declared.tasks.Task.{Task}
 use Rattle.gc_texts.specs.declared.wish.Wish.{Wish}
 use Rattle.gc_session.specs.Exchange.{is_none_left}
+use Rattle.gc_session.specs.Sessions.{client_sent}
 use Rattle.gc_session.specs.Lines.{is_reply, calls_for_renewal, ends_with_table}
 use Rattle.gc_links.specs.declared.link.Moment.{Moment}
 use Rattle.gc_station.specs.declared.plan.Plan.{Plan}
@@ -184,11 +185,6 @@ with_progress f s = record s { progress = f s.progress }
 -- the model `s` after the moment `m`: requests whose deadline has come have timed out, and each of `fresh` is cut to `m`
 abbrev pub with_moment : Moment → Model → Model
 with_moment m s = record s { client = expires s.client m.elapsed; fresh = map (cut_to m.elapsed) s.fresh }
-
--- the client after a send with this result; if the send was refused (`None`), `client` as it was
-abbrev pub client_sent : ById Asked → Option (Sending (ById Asked)) → ById Asked
-client_sent client None = client
-client_sent client (Some x) = x.client
 
 -- `client` after a send of `command` at the moment `now`, whose request waits for `wait` milliseconds. `width` is how many
 -- requests may wait at once

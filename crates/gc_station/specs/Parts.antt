@@ -6,10 +6,7 @@ use Rattle.std.specs.List.{AllZip}
 use Rattle.gc_catalogue.specs.declared.asked.Asked.{Asked}
 use Rattle.gc_catalogue.specs.declared.asked.Asked.TheVariants.{Table}
 use Rattle.gc_catalogue.specs.declared.call.Call.TheVariants.{NullProc}
-use Rattle.gc_client.specs.declared.window.TheConstants.{WINDOW}
-use Rattle.gc_client.specs.OneForOne.{Wanted, Step, Send, Hear, Expire, course_after}
-pub use Rattle.gc_client.specs.OneForOne.{course_at}
-use Rattle.gc_client.specs.Rule.{ById}
+use Rattle.gc_client.specs.OneForOne.{Wanted, Step, Send, Hear, Expire}
 use Rattle.gc_texts.specs.declared.near.Expected.{Expected}
 use Rattle.gc_texts.specs.declared.occasion.Occasion.{Occasion}
 use Rattle.gc_texts.specs.declared.tasks.Task.{Task}
@@ -55,15 +52,6 @@ only_steps steps = record { sync_steps = []; steps = steps; marks = [] }
 -- the part in which nothing happens
 abbrev pub idle_part : Part
 idle_part = only_steps []
-
--- this client after one step, by its rule with the window of seven
-abbrev pub client_stepped : ById Asked → Step Asked → ById Asked
-client_stepped c s = (course_after WINDOW (course_at c) s).client
-
--- this client after these steps, in order
-abbrev pub client_after : ById Asked → List (Step Asked) → ById Asked
-client_after c [] = c
-client_after c (s ∷ ss) = client_after (client_stepped c s) ss
 
 -- one part from what happens in `p` and then in `q`
 abbrev pub parts_joined : (p q : Part) → Part

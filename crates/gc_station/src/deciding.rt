@@ -75,7 +75,7 @@ ghost use Rattle.gc_station.specs.Deciding.{load_of, goes_on, is_finished, lacks
 
 use crate::cause::Cause;
 use crate::plan::Plan;
-use crate::progress::{Action, Phase, Progress, Until, Waiting, dead_after, width};
+use crate::progress::{Action, Phase, Progress, Until, Waiting, width};
 use gc_session::{Choices, Load};
 
 // What may be next on a connection that is ready, beside the commands, and what is between cycles.
@@ -94,7 +94,7 @@ impl Progress {
     {
         Load {
             width: width(plan),
-            patience: dead_after(plan),
+            patience: plan.deadline,
             now: self.moment.elapsed,
             all: waiting.all,
             current: waiting.current,

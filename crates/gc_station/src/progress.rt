@@ -1,7 +1,7 @@
 //! Progress: how far a station is. What it does next is decided in `deciding.rt`, by looking at nothing else.
 
 ghost use Rattle.std.specs.Prelude.{◌≡◌};
-ghost use Rattle.gc_station.specs.Deciding.{width_of, is_up, is_unquiet, may_abandon, is_quiet, has_begun, dead_after};
+ghost use Rattle.gc_station.specs.Deciding.{width_of, is_up, is_unquiet, may_abandon, is_quiet, has_begun};
 ghost use Rattle.gc_station.specs.Keeping.{reads_clock_alone};
 ghost use Rattle.gc_station.specs.Progressing.{at_start};
 ghost use Rattle.gc_station.specs.Model.{is_heard};
@@ -9,7 +9,7 @@ ghost use Rattle.gc_station.specs.Model.{is_heard};
 use crate::cause::Cause;
 use crate::plan::Plan;
 use gc_links::Moment;
-use gc_session::{Exchange, later};
+use gc_session::Exchange;
 use gc_texts::Needs;
 use gc_values::no_values;
 
@@ -170,14 +170,6 @@ pub(crate) fn width(plan: &Plan) -> u8
     ensures { result ≡ width_of plan.now }
 {
     plan.width.max(1).min(7)
-}
-
-// After how many milliseconds without a reply line the line is silent (`is_silent`): twice the longest deadline, at most the greatest
-// `u64`.
-pub(crate) fn dead_after(plan: &Plan) -> u64
-    ensures { result ≡ dead_after plan.now }
-{
-    later(plan.deadline, plan.deadline)
 }
 
 impl Action {

@@ -1,6 +1,6 @@
 use Rattle.std.proofs.Common.{sym, ◌∙◌}
 use Rattle.gc_client.specs.OneForOne.{begun}
-use Rattle.gc_station.proofs.Booking.{course_client}
+use Rattle.gc_session.proofs.Courses.{course_client}
 use Rattle.gc_instrument.specs.State.{IsFittingState}
 use Rattle.gc_field.specs.Simulator.{simulator_ends}
 use Rattle.gc_field.specs.Laws.{kept_of}

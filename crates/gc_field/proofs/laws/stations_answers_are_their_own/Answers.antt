@@ -1,6 +1,6 @@
 use Rattle.std.proofs.Common.{sym, ◌∙◌}
 use Rattle.gc_client.specs.OneForOne.{begun}
-use Rattle.gc_station.proofs.Booking.{course_client}
+use Rattle.gc_session.proofs.Courses.{course_client}
 use Rattle.gc_field.specs.Field.{seen}
 use Rattle.gc_field.specs.Instrument.{AnyState}
 use Rattle.gc_field.proofs.InTime.{clean_faithful}

@@ -1,0 +1,15 @@
+-- Where steps bring a client whose requests are commands, by its rule with the window of seven.
+use Rattle.std.specs.Prelude.{List, [], ◌∷◌}
+use Rattle.gc_catalogue.specs.declared.asked.Asked.{Asked}
+use Rattle.gc_client.specs.OneForOne.{Step, course_at, course_after}
+use Rattle.gc_client.specs.Rule.{ById}
+use Rattle.gc_client.specs.declared.window.TheConstants.{WINDOW}
+
+-- this client after one step
+abbrev pub client_stepped : ById Asked → Step Asked → ById Asked
+client_stepped c step = (course_after WINDOW (course_at c) step).client
+
+-- this client after these steps, in order
+abbrev pub client_after : ById Asked → List (Step Asked) → ById Asked
+client_after c [] = c
+client_after c (step ∷ steps) = client_after (client_stepped c step) steps
