@@ -1,12 +1,13 @@
 -- An exchange with an instrument over its connections, this project's own: when a request may be sent, when the line is dead, and what a
 -- request, a line that comes and a moment change of that. Times are in milliseconds of one clock.
-use Rattle.std.specs.Prelude.{ℕ, ◌+◌, ◌-◌, ◌&&◌, ◌||◌, Bool, true, false, not, if◌then◌else◌, nat_lt, nat_le, nat_eq, min, max, List, [], ◌∷◌}
+use Rattle.std.specs.Prelude.{ℕ, ◌+◌, ◌-◌, ◌&&◌, ◌||◌, Bool, true, false, not, if◌then◌else◌, nat_lt, nat_le, nat_eq, min, max, List, [], ◌∷◌, length}
 pub use Rattle.gc_catalogue.specs.Moments.{later}
+use Rattle.gc_catalogue.specs.declared.asked.Asked.{Asked}
 use Rattle.gc_client.specs.Beginning.{the_word, is_answered, left_by}
-use Rattle.gc_client.specs.Rule.{heard}
+use Rattle.gc_client.specs.Rule.{Settlement, heard}
 use Rattle.gc_client.specs.declared.window.TheConstants.{WINDOW}
 use Rattle.gc_session.specs.declared.exchange.Exchange.{Exchange}
-use Rattle.gc_session.specs.Lines.{is_reply}
+use Rattle.gc_session.specs.Lines.{ends_with_table, is_reply}
 
 -- an exchange in which nothing has happened
 abbrev pub new_exchange : Exchange
@@ -100,18 +101,18 @@ null_noted now wait x = let y = request_noted now x in record y { again = later 
 abbrev pub line_noted : (now : ℕ) (is_reply : Bool) → Exchange → Exchange
 line_noted now is_reply x = record x { alive = if is_reply then now else x.alive; asked = if is_reply then false else x.asked }
 
--- once a line was heard after which `waiting` requests are outstanding. `of_table`: it settled requests, and the last of them, to which it
--- is the reply, is a call of the table. Then the outstanding requests are those sent after that call
-abbrev pub behind_noted : (of_table : Bool) (waiting : ℕ) → Exchange → Exchange
-behind_noted of_table waiting x = record x { behind = if of_table then waiting else x.behind }
-
 -- how many requests the last line ended that ended any, once a line came that ended `more`; `last` before it
 abbrev pub ended_last : (more last : ℕ) → ℕ
 ended_last more last = if nat_lt 0 more then more else last
 
--- once a line was heard that ended `more` requests
-abbrev pub ended_noted : (more : ℕ) → Exchange → Exchange
-ended_noted more x = record x { last_ended = ended_last more x.last_ended }
+-- once a line was heard at the moment `now` that is a reply or isn't, settled these requests, and after which `waiting` requests are
+-- outstanding. If the last one that it settled, to which it is the reply, is a call of the table, the outstanding requests are those sent
+-- after that call
+abbrev pub heard_noted : (now : ℕ) (is_reply : Bool) (settlements : List (Settlement Asked)) (waiting : ℕ) → Exchange → Exchange
+heard_noted now is_reply settlements waiting x = record (line_noted now is_reply x) {
+  behind = if ends_with_table settlements then waiting else x.behind;
+  last_ended = ended_last (length settlements) x.last_ended;
+}
 
 -- once something came that called for a synchronization, or not (`raised`): the exchange is in doubt until the next one
 abbrev pub doubt_noted : (raised : Bool) → Exchange → Exchange

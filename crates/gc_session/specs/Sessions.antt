@@ -27,7 +27,7 @@ use Rattle.gc_session.specs.declared.load.Load.{Load}
 use Rattle.gc_session.specs.Choices.{next_flush, next_to_send, next_synchronizing}
 use Rattle.gc_session.specs.Exchange as exchange
 use Rattle.gc_session.specs.Exchange.{later}
-use Rattle.gc_session.specs.Lines.{is_reply, calls_for_renewal, ends_with_table}
+use Rattle.gc_session.specs.Lines.{is_reply, calls_for_renewal}
 
 -- a session as its caller sees it: what was chosen, how far it is, and its client, by the client's rule
 pub record Session : Type 0 where
@@ -317,10 +317,7 @@ came now s = record s { standing = met_in (is_up s.standing.phase) now s.standin
 -- what a line notes in the exchange of a client that has synchronized: `x` is what it settles
 abbrev pub exchange_heard : (now : ℕ) → ById Asked → List ℕ → Settled Asked (ById Asked) → Exchange → Exchange
 exchange_heard now client line x y =
-    exchange.line_noted now (is_reply line)
-    (exchange.ended_noted (length x.settlements)
-    (exchange.behind_noted (ends_with_table x.settlements) (length x.client.waiting)
-    (exchange.doubt_noted (calls_for_renewal client line) y)))
+    exchange.heard_noted now (is_reply line) x.settlements (length x.client.waiting) (exchange.doubt_noted (calls_for_renewal client line) y)
 
 -- the exchange once a line settled so many requests: the next pause is as long as the quiet time if it settled any
 abbrev pub pause_reset : (settled : ℕ) → Exchange → Exchange

@@ -1,13 +1,15 @@
 //! How far an exchange with an instrument is, over its connections: all rules on when a request may be sent, when the line is dead, and
 //! what a line that comes changes of that. Times are in milliseconds of the caller's clock.
 
-ghost use Rattle.std.specs.Prelude.{◌≡◌, ◌≤◌, length};
+ghost use Rattle.std.specs.Prelude.{◌≡◌, ◌≤◌, length, map};
+ghost use Rattle.gc_client.specs.Settlements.{settlement_seen};
 ghost use Rattle.gc_session.specs.Choices.{dead_after, is_line_dead};
-ghost use Rattle.gc_session.specs.Exchange.{new_exchange, has_begun, is_past, is_silent, may_ask, has_room, is_near, hold_left, moment_read, moment_passed, request_noted, null_noted, line_noted, behind_noted, ended_noted, doubt_noted, hold_noted, line_synchronizing, cleared, renewed, drained, pause_doubled, later};
+ghost use Rattle.gc_session.specs.Exchange.{new_exchange, has_begun, is_past, is_silent, may_ask, has_room, is_near, hold_left, moment_read, moment_passed, request_noted, null_noted, line_noted, heard_noted, doubt_noted, hold_noted, line_synchronizing, cleared, renewed, drained, pause_doubled, later};
 
-use crate::lines::is_reply;
+use crate::lines::{ends_with_table, is_reply};
 use crate::load::Load;
-use gc_client::{Beginning, WINDOW};
+use gc_catalogue::Asked;
+use gc_client::{Beginning, Settlement, WINDOW};
 
 /// How far an exchange is. A moment is 0 as long as there is none.
 #[derive(Drop)]
@@ -177,8 +179,8 @@ impl Exchange {
         self.again = later(now, wait);
     }
 
-    /// Notes that a line was heard. If it is a reply, it shows that the other end is alive; any other line changes nothing.
-    pub fn note_line(&mut self, now: u64, is_reply: bool)
+    // Notes that a line was heard. If it is a reply, it shows that the other end is alive; any other line changes nothing.
+    fn note_line(&mut self, now: u64, is_reply: bool)
         ensures { self.new ≡ line_noted now is_reply self.old }
     {
         if is_reply {
@@ -187,23 +189,24 @@ impl Exchange {
         }
     }
 
-    /// Notes that a line was heard after which `waiting` requests are outstanding. `of_table`: it settled requests, and the last of them, to
-    /// which it is the reply, is a call of the table. Then the outstanding requests are those sent after that call.
-    pub fn note_behind(&mut self, of_table: bool, waiting: usize)
-        ensures { self.new ≡ behind_noted of_table waiting self.old }
+    /// Notes that a line was heard at the moment `now` that settled these requests, and after which `waiting` are outstanding. If the last one
+    /// that it settled, to which it is the reply, is a call of the table, the outstanding ones are those sent after that call.
+    pub fn note_heard(
+        &mut self,
+        now: u64,
+        is_reply: bool,
+        settled: &[Settlement<Asked>],
+        waiting: usize,
+    )
+        ensures { self.new ≡ heard_noted now is_reply (map settlement_seen settled.now) waiting self.old }
     {
-        if of_table {
+        if ends_with_table(settled) {
             self.behind = waiting;
         }
-    }
-
-    /// Notes that a line was heard that ended so many requests, if it ended any.
-    pub fn note_ended(&mut self, requests: usize)
-        ensures { self.new ≡ ended_noted requests self.old }
-    {
-        if requests > 0 {
-            self.last_ended = requests;
+        if !settled.is_empty() {
+            self.last_ended = settled.len();
         }
+        self.note_line(now, is_reply);
     }
 
     /// Notes whether something came that calls for a synchronization, which stays noted until the next one.

@@ -14,7 +14,7 @@ mod standing;
 
 pub use choices::Choices;
 pub use exchange::{Exchange, hold_left, later};
-pub use lines::{calls_for_renewal, ends_with_table, heard_reply, is_reply, raises_doubt};
+pub use lines::{calls_for_renewal, heard_reply, is_reply, raises_doubt};
 pub use load::Load;
 pub use next::Next;
 pub use session::{NotTaken, OWN, Session};

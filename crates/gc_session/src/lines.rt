@@ -50,8 +50,8 @@ pub fn calls_for_renewal(client: &Client<SlotsOf<Asked>>, line: &[u8]) -> bool
     raises_doubt(client, line) || is_sign_on(line)
 }
 
-/// Whether the last of these settlements is of a call of the table; `false` if there is none.
-pub fn ends_with_table(settlements: &[Settlement<Asked>]) -> bool
+// Whether the last of these settlements is of a call of the table; `false` if there is none.
+pub(crate) fn ends_with_table(settlements: &[Settlement<Asked>]) -> bool
     ensures { result ≡ ends_with_table (map settlement_seen settlements.now) }
 {
     match settlements.last() {

@@ -16,7 +16,7 @@ ghost use Rattle.gc_session.specs.Exchange.{has_begun};
 ghost use Rattle.gc_session.specs.declared.settings.Want.TheVariants.{Send};
 
 use crate::exchange::{Exchange, later};
-use crate::lines::{calls_for_renewal, ends_with_table, is_reply};
+use crate::lines::{calls_for_renewal, heard_reply};
 use crate::next::Next;
 use crate::settings::{Act, Settings, Want};
 use crate::standing::{Phase, Standing};
@@ -280,15 +280,12 @@ impl Session {
     {
         let doubt = calls_for_renewal(&self.client, line);
         let hearing = self.client.hear(line, settled);
-        let of_table = ends_with_table(settled.as_slice());
         let waiting = self.client.waiting();
         let (moment, settings) = (self.standing.moment, self.settings);
         self.standing.note_waiting(waiting, &settings);
         let exchange = &mut self.standing.exchange;
         exchange.note_doubt(doubt);
-        exchange.note_behind(of_table, waiting);
-        exchange.note_ended(settled.len());
-        exchange.note_line(moment, is_reply(line));
+        exchange.note_heard(moment, heard_reply(hearing), settled.as_slice(), waiting);
         if !settled.is_empty() {
             exchange.pause = 0;
         }

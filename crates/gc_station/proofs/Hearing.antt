@@ -40,7 +40,7 @@ use Rattle.gc_station.specs.Counters.{counts_after_settlements}
 use Rattle.gc_station.specs.Firsts.{firsts_after}
 use Rattle.gc_station.specs.Marks.{commands_in, records_of, last_well, any_unexpected}
 use Rattle.gc_station.specs.Watching.{fresh_after, cut_to}
-use Rattle.gc_station.specs.Progressing.{behind_noted, ended_noted, doubt_noted, hold_noted, line_noted, bytes_noted, early_noted, after_failure, closed, failing, lines_synchronizing, line_synchronizing}
+use Rattle.gc_station.specs.Progressing.{doubt_noted, hold_noted, line_noted, bytes_noted, early_noted, after_failure, closed, failing, lines_synchronizing, line_synchronizing}
 use Rattle.gc_station.specs.Records.{Record, Grew, texts_of, WritesPart, WritesBy}
 use Rattle.gc_station.specs.Model.{Model, Performs, line_called, line_came, lines_came, lines_completed, lines_taken, with_rest, with_progress, with_moment, waiting_of, settles, piece_heard}
 use Rattle.gc_station.specs.Stations.{waiting_of_station, Refines, Took, TookPart, RefinesOrTookPart, Makes, ReadsMoment, DropsMarks, as_seen, station_expiring}
@@ -382,21 +382,12 @@ pub refines_held : (mid : Station) (p : Progress) (k k' : ℕ) (s : Model) → R
     → Refines (record mid { progress = p }) (with_progress (hold_noted k') s)
 refines_held mid p k k' s stands e is = refines_with mid p (hold_noted k') s stands (is ∙ ap (λ n. hold_noted n mid.progress) e)
 
--- a station that noted whether a line was a reply is as the model that noted it
-pub refines_noted : (mid : Station) (p : Progress) (b b' : Bool) (s : Model) → Refines mid s → b ≡ b' → p ≡ line_noted b mid.progress
-    → Refines (record mid { progress = p }) (with_progress (line_noted b') s)
-refines_noted mid p b b' s stands e is = refines_with mid p (line_noted b') s stands (is ∙ ap (λ t. line_noted t mid.progress) e)
-
--- a station that noted what a line settled is as the model that noted it
-pub refines_settled : (mid : Station) (p : Progress) (t t' : Bool) (n n' : ℕ) (s : Model) → Refines mid s → t ≡ t' → n ≡ n' → p ≡ behind_noted t n mid.progress
-    → Refines (record mid { progress = p }) (with_progress (behind_noted t' n') s)
-refines_settled mid p t t' n n' s stands e f is =
-    refines_with mid p (behind_noted t' n') s stands (is ∙ ap (λ b. behind_noted b n mid.progress) e ∙ ap (λ m. behind_noted t' m mid.progress) f)
-
--- a station that noted how many requests a line ended is as the model that noted it
-pub refines_ended : (mid : Station) (p : Progress) (n n' : ℕ) (s : Model) → Refines mid s → n ≡ n' → p ≡ ended_noted n mid.progress
-    → Refines (record mid { progress = p }) (with_progress (ended_noted n') s)
-refines_ended mid p n n' s stands e is = refines_with mid p (ended_noted n') s stands (is ∙ ap (λ m. ended_noted m mid.progress) e)
+-- a station that noted what a line was and settled is as the model that noted it
+pub refines_noted : (mid : Station) (p : Progress) (b b' : Bool) (l l' : List (Settlement Asked)) (n n' : ℕ) (s : Model) → Refines mid s → b ≡ b' → l ≡ l' → n ≡ n'
+    → p ≡ line_noted b l n mid.progress → Refines (record mid { progress = p }) (with_progress (line_noted b' l' n') s)
+refines_noted mid p b b' l l' n n' s stands e f h is =
+    refines_with mid p (line_noted b' l' n') s stands
+    (is ∙ ap (λ t. line_noted t l n mid.progress) e ∙ ap (λ t. line_noted b' t n mid.progress) f ∙ ap (λ t. line_noted b' l' t mid.progress) h)
 
 -- a station whose progress changed, and whose requests timed out at a moment, is as the model at that moment
 pub refines_expired : (station new : Station) (p q : Progress) (m : Moment) (s : Model) → Refines station s → p ≡ q

@@ -34,6 +34,7 @@ use Rattle.gc_station.specs.Reasons.{HoldsBefore}
 use Rattle.gc_station.specs.Model.{Model, opening, action_at, waiting_of, is_heard, with_progress, with_rest, line_came, lines_came, line_busy, line_news, lines_completed, after_piece, moved, losing, after, Performs, Runs, with_losses, mark_sent}
 use Rattle.gc_station.specs.NextCommand.{place_next}
 use Rattle.gc_station.specs.Scopes.{Scope}
+use Rattle.gc_station.proofs.Booking.{client_append}
 use Rattle.gc_station.proofs.Asked.{steps_none, begun_if_nothing_lost}
 use Rattle.gc_station.proofs.Counts.{losing_progress}
 use Rattle.gc_station.proofs.EachRun.{invariant_after, invariant_opening}
@@ -263,12 +264,7 @@ module _ (plan : Plan) (commands : List Task) (s : Model) where
 
 -- Parts.
 
--- the client after some steps and then others is that after the others, from that after the first ones on
-client_append : (c : ById Asked) (first later : List (Step Asked)) → client_after c (first ++ later) ≡ client_after (client_after c first) later
-client_append c [] later = refl
-client_append c (step ∷ first) later = client_append (client_stepped c step) first later
-
--- and so it is of what is noted
+-- what is noted after some steps and then others is that after the others, from that after the first ones on
 noted_append : (c : ById Asked) (n : Noted) (first later : List (Step Asked)) → noted_by c n (first ++ later) ≡ noted_by (client_after c first) (noted_by c n first) later
 noted_append c n [] later = refl
 noted_append c n (step ∷ first) later = noted_append (client_stepped c step) _ first later

@@ -15,9 +15,8 @@ use Rattle.gc_texts.specs.declared.tasks.Task.{Task}
 use Rattle.gc_session.specs.Lines.{is_reply, ends_with_table, is_some_of_table}
 use Rattle.gc_station.specs.Deciding.{has_begun}
 use Rattle.gc_station.specs.Marks.{commands_in}
-use Rattle.gc_station.specs.Model.{Model, with_progress, line_came, line_doubted, line_settles}
+use Rattle.gc_station.specs.Model.{Model, line_came, line_doubted, line_settles}
 use Rattle.gc_station.specs.Parts.{MarksAsk}
-use Rattle.gc_station.specs.Progressing.{line_noted}
 use Rattle.gc_station.specs.declared.mark.Mark.{Mark}
 use Rattle.gc_station.specs.declared.progress.Progress.{Progress}
 use Rattle.gc_station.proofs.Records.{commands-append}
@@ -191,7 +190,7 @@ Listens n x = NullsAreOfTable x.marks x.client.waiting × (length x.marks ≡ le
 
 -- what a line settles, and the model after it
 abbrev heard_as : (line : List ℕ) → Settled Asked (ById Asked) → Model → Model
-heard_as line y x = with_progress (line_noted (is_reply line)) (line_settles y x)
+heard_as line y x = line_settles (is_reply line) y x
 
 -- a line that settles requests keeps it
 some_heard : (n : ℕ) (x : Model) (line : List ℕ) (k : ℕ) → k < length x.client.waiting → Listens n x → Listens n (heard_as line (settles_at x.client line k true) x)

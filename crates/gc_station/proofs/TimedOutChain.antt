@@ -21,7 +21,7 @@ use Rattle.gc_station.specs.Deciding.{later}
 use Rattle.gc_station.specs.Marks.{commands_in, records_of, end_of, is_well, last_well}
 use Rattle.gc_station.specs.Model.{Model, waiting_of, with_progress, with_moment, line_came, line_doubted, line_settles, is_heard, sent_to, asks_for, null_request, end_unsent, first_unsent_record, moved, Performs}
 use Rattle.gc_station.specs.NextCommand.{mark_next, commands_left}
-use Rattle.gc_station.specs.Progressing.{turned, moment_noted, line_noted}
+use Rattle.gc_station.specs.Progressing.{turned, moment_noted}
 use Rattle.gc_station.specs.Reasons.{HoldsBefore, MayGo}
 use Rattle.gc_station.specs.Scopes.{Reads}
 use Rattle.gc_station.specs.declared.mark.Mark.{Mark}
@@ -125,7 +125,7 @@ CannotGoOn s = (length s.marks ≡ length s.client.waiting) × CommandsTimedOut 
 
 -- what a line settles, and the model after it
 abbrev heard_as : (line : List ℕ) → Settled Asked (ById Asked) → Model → Model
-heard_as line y x = with_progress (line_noted (is_reply line)) (line_settles y x)
+heard_as line y x = line_settles (is_reply line) y x
 
 -- a line that settles requests keeps it so
 some_heard : (x : Model) (line : List ℕ) (k : ℕ) → k < length x.client.waiting → CannotGoOn x → CannotGoOn (heard_as line (settles_at x.client line k true) x)

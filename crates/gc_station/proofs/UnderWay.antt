@@ -20,7 +20,7 @@ use Rattle.gc_session.specs.Sessions.{client_sent}
 use Rattle.gc_station.specs.Deciding.{later, has_begun, is_up, is_preparing, setup_permits}
 use Rattle.gc_station.specs.Marks.{commands_in, last_well, records_of}
 use Rattle.gc_station.specs.Model.{Model, waiting_of, with_progress, sent_to, line_came, line_doubted, line_settles, losing, with_losses}
-use Rattle.gc_station.specs.Progressing.{failing, is_over, is_over_in, loses_all, line_noted}
+use Rattle.gc_station.specs.Progressing.{failing, is_over, is_over_in, loses_all}
 use Rattle.gc_station.specs.RecordedInTime.{raw_count}
 use Rattle.gc_station.specs.Records.{Record}
 use Rattle.gc_station.specs.declared.cause.Cause.{Cause}
@@ -170,7 +170,7 @@ module _ (plan : Plan) (longest call turn loss : ℕ) (commands : List Task) whe
 
   -- what a line settles, and the model after it
   abbrev heard_as : (line : List ℕ) → Settled Asked (ById Asked) → Model → Model
-  heard_as line y x = with_progress (line_noted (is_reply line)) (line_settles y x)
+  heard_as line y x = line_settles (is_reply line) y x
 
   -- a line that settles nothing keeps a setup under way
   nothing_heard : (x : Model) (line : List ℕ) → IsUnderWay x → IsUnderWay (heard_as line (nothing_settled x.client) x)

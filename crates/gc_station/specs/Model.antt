@@ -19,7 +19,7 @@ use Rattle.gc_texts.specs.declared.tasks.Task.{Task}
 use Rattle.gc_texts.specs.declared.wish.Wish.{Wish}
 use Rattle.gc_session.specs.Exchange.{is_none_left}
 use Rattle.gc_session.specs.Sessions.{client_sent}
-use Rattle.gc_session.specs.Lines.{is_reply, calls_for_renewal, ends_with_table}
+use Rattle.gc_session.specs.Lines.{is_reply, calls_for_renewal}
 use Rattle.gc_links.specs.declared.link.Moment.{Moment}
 use Rattle.gc_station.specs.declared.plan.Plan.{Plan}
 use Rattle.gc_station.specs.declared.cause.Cause.{Cause}
@@ -43,7 +43,7 @@ use Rattle.gc_station.specs.Counters.{no_counts, with_before, counts_after_settl
 use Rattle.gc_station.specs.Firsts.{firsts_after, with_first}
 use Rattle.gc_station.specs.Marks.{commands_in, occasion_of, with_id, with_values, record_with, records_of, last_well, any_unexpected}
 use Rattle.gc_station.specs.NextCommand.{place_next, commands_left, cycles_begun, mark_next, mark_setup, commands_before, upcoming_after, first_upcoming}
-use Rattle.gc_station.specs.Progressing.{at_start, turned, moment_noted, cycle_begun, skipped, attempts_left_out, unsent_at, failing, opened, after_failure, cleared, request_noted, null_sent, resynchronized, sent, behind_noted, ended_noted, doubt_noted, hold_noted, line_noted, lines_synchronizing, bytes_noted, silent, early_noted, closed, loses_all, setup_sent}
+use Rattle.gc_station.specs.Progressing.{at_start, turned, moment_noted, cycle_begun, skipped, attempts_left_out, unsent_at, failing, opened, after_failure, cleared, request_noted, null_sent, resynchronized, sent, doubt_noted, hold_noted, line_noted, lines_synchronizing, bytes_noted, silent, early_noted, closed, loses_all, setup_sent}
 use Rattle.gc_station.specs.Records.{Record}
 use Rattle.gc_station.specs.Requests.{RunRequest, requests, of_task, command_at}
 use Rattle.gc_station.specs.Scopes.{Scope, Reads}
@@ -305,11 +305,10 @@ records_settled settlements s = record s {
 abbrev pub settles : Settled Asked (ById Asked) → Model → Model
 settles x s = record (records_settled x.settlements s) { client = x.client }
 
--- the model `s` once a line settled requests, as `x` says: with the records of these settlements, the number of requests sent after
--- the last call of the table that a reply ended, and how many the last line ended that ended any
-abbrev pub line_settles : Settled Asked (ById Asked) → Model → Model
-line_settles x s =
-    with_progress (λ p. ended_noted (length x.settlements) (behind_noted (ends_with_table x.settlements) (length x.client.waiting) p)) (settles x s)
+-- the model `s` once a line that is a reply or isn't settled requests, as `x` says: with the records of these settlements, and what its
+-- exchange notes of the line
+abbrev pub line_settles : (is_reply : Bool) → Settled Asked (ById Asked) → Model → Model
+line_settles is_reply x s = with_progress (line_noted is_reply x.settlements (length x.client.waiting)) (settles x s)
 
 -- the model `s` once it is noted whether `line`, which its client is about to hear, calls for a synchronization (`calls_for_renewal`)
 abbrev pub line_called : List ℕ → Model → Model
@@ -331,7 +330,7 @@ line_doubted line s =
 
 -- the model `s` after the client heard `line`
 abbrev pub line_came : Model → List ℕ → Model
-line_came s line = with_progress (line_noted (is_reply line)) (line_settles (hears s.client line (heard line)) (line_doubted line s))
+line_came s line = line_settles (is_reply line) (hears s.client line (heard line)) (line_doubted line s)
 
 -- the model `s` after the client heard these lines, in order
 abbrev pub lines_came : Model → List (List ℕ) → Model

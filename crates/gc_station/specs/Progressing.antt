@@ -2,6 +2,8 @@
 -- with the instrument is, the moment read last, and how many cycles, commands of the cycle, tries and turns are left. An act is one call
 -- on the link, with its result.
 use Rattle.std.specs.Prelude.{ℕ, ◌+◌, ◌-◌, ◌&&◌, ◌||◌, Bool, true, false, not, if◌then◌else◌, nat_lt, nat_le, nat_eq, min, max, List, [], ◌∷◌}
+use Rattle.gc_catalogue.specs.declared.asked.Asked.{Asked}
+use Rattle.gc_client.specs.Rule.{Settlement}
 use Rattle.gc_session.specs.Exchange as exchange
 use Rattle.gc_session.specs.declared.exchange.Exchange.{Exchange}
 use Rattle.gc_values.specs.FileValues.{no_values}
@@ -247,18 +249,9 @@ sent next p = advanced 1 next true (request_noted p)
 abbrev pub setup_sent : Plan → Progress → Progress
 setup_sent plan p = let q = request_noted p in record q { prepared = min (p.prepared + 1) plan.setup; chain_unbroken = false }
 
--- the progress after a line was heard, which is a reply (`is_reply`) or isn't
-abbrev pub line_noted : (is_reply : Bool) → Progress → Progress
-line_noted is_reply p = with_exchange (exchange.line_noted p.moment.elapsed is_reply) p
-
--- the progress once a line was heard after which `waiting` requests are outstanding. `of_table`: it settled requests, and the
--- last of them, to which it is the reply, is a call of the table
-abbrev pub behind_noted : (of_table : Bool) (waiting : ℕ) → Progress → Progress
-behind_noted of_table waiting p = with_exchange (exchange.behind_noted of_table waiting) p
-
--- the progress once a line was heard that ended `more` requests
-abbrev pub ended_noted : (more : ℕ) → Progress → Progress
-ended_noted more p = with_exchange (exchange.ended_noted more) p
+-- the progress after a line was heard, which is a reply (`is_reply`) or isn't, and settled these requests: `waiting` are outstanding after it
+abbrev pub line_noted : (is_reply : Bool) (settlements : List (Settlement Asked)) (waiting : ℕ) → Progress → Progress
+line_noted is_reply settlements waiting p = with_exchange (exchange.heard_noted p.moment.elapsed is_reply settlements waiting) p
 
 -- the progress once a line came that called for a synchronization, or not (`raised`): the station is in doubt until it resynchronizes
 abbrev pub doubt_noted : (raised : Bool) → Progress → Progress

@@ -12,7 +12,7 @@ use crate::plan::Plan;
 use crate::progress::Until;
 use gc_lines::{Lent, Line, PortFailed};
 use gc_links::{Came, Link, Moment};
-use gc_session::{ends_with_table, heard_reply};
+use gc_session::heard_reply;
 
 impl Station {
     // Hears the line of a frame; nothing happens if the frame is no line. Once the station has synchronized (`begun`), what the
@@ -45,14 +45,13 @@ impl Station {
         self.progress
             .exchange
             .note_busy(self.progress.moment.elapsed, self.recorded.busy);
-        let of_table = ends_with_table(self.settled.as_slice());
-        self.progress
-            .exchange
-            .note_behind(of_table, self.client.waiting());
-        self.progress.exchange.note_ended(self.settled.len());
-        self.progress
-            .exchange
-            .note_line(self.progress.moment.elapsed, heard_reply(hearing));
+        let (is_reply, waiting) = (heard_reply(hearing), self.client.waiting());
+        self.progress.exchange.note_heard(
+            self.progress.moment.elapsed,
+            is_reply,
+            self.settled.as_slice(),
+            waiting,
+        );
         Ok(())
     }
 

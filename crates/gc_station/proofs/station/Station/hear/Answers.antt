@@ -4,16 +4,16 @@ use Rattle.gc_client.specs.Rule.{hears, heard}
 use Rattle.gc_client.specs.Settlements.{settlement_seen}
 use Rattle.gc_lines.specs.Frames.{line_in}
 use Rattle.gc_lines.specs.Lent.{lent_seen}
-use Rattle.gc_session.specs.Lines.{is_reply, ends_with_table}
+use Rattle.gc_session.specs.Lines.{is_reply}
 use Rattle.gc_session.specs.declared.exchange.Exchange.{Exchange}
 use Rattle.gc_station.specs.declared.progress.Progress.{Progress}
-use Rattle.gc_station.specs.Model.{Model, settles, line_busy, line_called, line_news, line_settles, lines_taken, with_progress}
+use Rattle.gc_station.specs.Model.{Model, settles, line_busy, line_called, line_news, lines_taken, with_progress}
 use Rattle.gc_station.specs.Marks.{any_unexpected}
-use Rattle.gc_station.specs.Progressing.{behind_noted, doubt_noted, hold_noted, line_synchronizing}
+use Rattle.gc_station.specs.Progressing.{doubt_noted, hold_noted, line_synchronizing}
 use Rattle.gc_station.specs.Stations.{Refines, Took, TookPart}
 use Rattle.gc_station.specs.declared.station.Station.{Station}
 use Rattle.std.specs.Option.{option_to_list}
-use Rattle.gc_station.proofs.Hearing.{hears_paired, settles_ok, settles_part, settles_busy, settles_unexpected, refines_called, refines_doubted, refines_held, refines_settled, refines_ended, refines_noted, no_line, taken_none}
+use Rattle.gc_station.proofs.Hearing.{hears_paired, settles_ok, settles_part, settles_busy, settles_unexpected, refines_called, refines_doubted, refines_held, refines_noted, no_line, taken_none}
 use Rattle.gc_station.proofs.Making.{refines_with}
 use Rattle.gc_station.proofs.station.Station.hear.Goals as goal
 
@@ -31,7 +31,7 @@ returns-clause-hears g c old start stood took =
     let client = c.hear-hearing.ensures.client short in
     let items = c.hear-hearing.new.settled.items in
     let same = (c.hear-hearing.ensures.settled short).seen ∙ ap (λ y. y.settlements) seen in
-    let reply = c.heard_reply.ensures _ _ line _ (c.hear-hearing.ensures.heard short) in
+    let reply = c.heard_reply-is_reply.ensures _ _ line _ (c.hear-hearing.ensures.heard short) in
     let t = settles_ok text c.doubt.new.self _ s x (map settlement_seen items) stands
     (record {
       ids_are = ap (λ w. w.ids) client ∙ ap (λ y. y.client) seen;
@@ -82,17 +82,11 @@ returns-clause-hears g c old start stood took =
     let v = with_progress (hold_noted (line_busy line old)) u in
     let held : Refines (record c.write.new.self { progress = (noting c.note_busy.new.self) }) (settles x v) =
     refines_held (record c.write.new.self { progress = (noting c.note_doubt.new.self) }) (noting c.note_busy.new.self) c.write.new.self.recorded.busy (line_busy line old) (settles x u) doubted busy (ap noting c.note_busy.ensures) in
-    let table = c.ends_with_table-of_table.ensures ∙ ap (λ l. ends_with_table (map settlement_seen l)) c.as_slice.ensures.value ∙ ap
-    (λ (st : Station). ends_with_table (map settlement_seen st.settled.items)) after ∙ ap ends_with_table same in
-    let waits = c.waiting.ensures.waiting ∙ ap (λ (st : Station). length st.client.ids.waiting) after ∙ ap (λ w. length w.ids.waiting) client ∙ ap (λ y. length y.client.waiting) seen in
-    let caught = refines_settled (record c.write.new.self { progress = (noting c.note_busy.new.self) }) (noting c.note_behind.new.self) c.ends_with_table-of_table.result (ends_with_table x.settlements) c.waiting.result (length x.client.waiting) (settles x v) held
-    table waits (ap noting c.note_behind.ensures) in
-    let many = c.len.ensures.value ∙ ap (λ (st : Station). length st.settled.items) after ∙ sym (length-map items settlement_seen) ∙ ap length same in
-    let noted = refines_ended (record c.write.new.self { progress = (noting c.note_behind.new.self) }) (noting c.note_ended.new.self) c.len.result (length x.settlements) (with_progress (behind_noted (ends_with_table x.settlements) (length x.client.waiting)) (settles x v))
-    caught many (ap noting c.note_ended.ensures) in
+    let waits = c.waiting-waiting.ensures.waiting ∙ ap (λ (st : Station). length st.client.ids.waiting) after ∙ ap (λ w. length w.ids.waiting) client ∙ ap (λ y. length y.client.waiting) seen in
+    let settled = ap (map settlement_seen) (c.as_slice.ensures.value ∙ ap (λ (st : Station). st.settled.items) after) ∙ same in
     rw c.if-not-begun.false (rw c.in-Line.is (
-      refines_noted (record c.write.new.self { progress = (noting c.note_ended.new.self) }) (noting c.note_line.new.self) c.heard_reply.result
-          (is_reply line) (line_settles x v) noted reply (ap noting c.note_line.ensures),
+      refines_noted (record c.write.new.self { progress = (noting c.note_busy.new.self) }) (noting c.note_heard.new.self) c.heard_reply-is_reply.result (is_reply line)
+          (map settlement_seen c.as_slice.result.now) x.settlements c.waiting-waiting.result (length x.client.waiting) (settles x v) held reply settled waits (ap noting c.note_heard.ensures),
       subst (λ f. Took f start (g.B.Book.taken c.write.new.book) (settles x s)) c.doubt.ensures.form t.1,
     ))
 
