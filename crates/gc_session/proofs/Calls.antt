@@ -1,6 +1,6 @@
 -- What each call of a session's caller brings about, and what any calls do.
 use Rattle.std.proofs.Common.{◌≡◌, ◌≢◌, ℕ, ◌&&◌, Bool, true, false, not, if◌then◌else◌, nat_eq, List, [], ◌∷◌, refl, sym, ap, ◌∙◌, subst, arith, ◌||◌}
-use Rattle.std.proofs.lemmas.Bool.{or_parts}
+use Rattle.std.proofs.lemmas.Bool.{or_parts, and_parts}
 use Rattle.std.proofs.lemmas.Bool.Decides.{nat_tests}
 use Rattle.gc_catalogue.specs.declared.asked.Asked.{Asked}
 use Rattle.gc_catalogue.specs.declared.asked.Asked.TheVariants.{Table}
@@ -108,11 +108,6 @@ asks_hold s next.Renew e holds = cc
 asks_hold s next.Read e holds = cc
 asks_hold s next.Close e holds = cc
 
--- both of two tests
-both_of : (a b : Bool) → (a && b) ≡ true → (a ≡ true) × (b ≡ true)
-both_of true b e = (refl, e)
-both_of false b e = cc
-
 -- a request of the caller's, taken or not
 ask_brings : (s : Session) (target : ℕ) (call : Asked) (wait : ℕ) (p : Place) → FitsIn s p
     → BringsTo p (ask_events (takes target s) target call (later s.standing.moment wait)) [] (taken_if (takes target s) target call) (asked_if (takes target s) target call wait s)
@@ -122,7 +117,7 @@ ask_brings s target call wait p f = by_test (takes target s) refl where
       → BringsTo p (ask_events b target call (later s.standing.moment wait)) [] (taken_if b target call) (asked_if b target call wait s)
   by_test false e = brings_none s.client s.standing.exchange s.standing.exchange p f (keeps_all s.standing.exchange)
   by_test true e =
-      let both = both_of (not (nat_eq target OWN)) (may_send (next_of Send s)) e in
+      let both = and_parts (not (nat_eq target OWN)) (may_send (next_of Send s)) e in
       let holds = asks_hold s (next_of Send s) both.1 (next_holds s Send) in
       let other : target ≢ OWN = grind (arith, nat_tests, both.0) in
       brings_send s.client s.standing.exchange (exchange.request_noted s.standing.moment s.standing.exchange) p f holds.0 target call (later s.standing.moment wait)

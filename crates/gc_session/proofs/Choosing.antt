@@ -1,16 +1,21 @@
 -- What is next of a client on a connection that is ready is one of its choices: what is so of each that may be taken is so of it.
-use Rattle.std.proofs.Common.{◌≡◌, ◌&&◌, Bool, true, false, not, nat_eq, refl}
-use Rattle.std.proofs.lemmas.Bool.{cond_both}
+use Rattle.std.proofs.Common.{◌≡◌, ℕ, ◌+◌, ◌<◌, ◌&&◌, true, false, not, nat_eq, nat_lt}
+use Rattle.std.proofs.lemmas.Bool.{and_parts, cond_both, eqb-true, ltb-true, not-true}
+use Rattle.gc_client.specs.declared.window.TheConstants.{WINDOW}
 use Rattle.gc_session.specs.declared.choices.Choices.{Choices}
 use Rattle.gc_session.specs.declared.exchange.Exchange.{Exchange}
 use Rattle.gc_session.specs.declared.load.Load.{Load}
 use Rattle.gc_session.specs.Exchange.{has_room, is_near, may_ask}
 use Rattle.gc_session.specs.Choices.{is_line_dead, next_waiting, next_room, next_flush, next_to_send, next_synchronizing}
 
--- both tests hold where their conjunction does
-pub first_of : (a b : Bool) → (a && b) ≡ true → a ≡ true
-first_of true b e = refl
-first_of false b e = cc
+-- where there is room, each of its tests holds
+pub room_of : (width all current : ℕ) (x : Exchange) → has_room width all current x ≡ true
+    → (current < width) × (all + x.last_ended < WINDOW) × (x.doubtful ≡ false) × (x.hold ≡ 0)
+room_of width all current x e =
+    let free = and_parts (nat_lt current width && nat_lt (all + x.last_ended) WINDOW && not x.doubtful) (nat_eq x.hold 0) e in
+    let both = and_parts (nat_lt current width && nat_lt (all + x.last_ended) WINDOW) (not x.doubtful) free.0 in
+    let it = and_parts (nat_lt current width) (nat_lt (all + x.last_ended) WINDOW) both.0 in
+    (ltb-true current width it.0, ltb-true (all + x.last_ended) WINDOW it.1, not-true x.doubtful both.1, eqb-true x.hold 0 free.1)
 
 module _ {A : Type 0} (choices : Choices A) (load : Load) (x : Exchange) (Claim : A → Type 0) (close : Claim choices.close) where
   module _ (renew : Claim choices.renew) (read : Claim choices.read) where
@@ -22,7 +27,7 @@ module _ {A : Type 0} (choices : Choices A) (load : Load) (x : Exchange) (Claim 
     pub room_chosen : (send : A) → (has_room load.width load.all load.current x ≡ true → Claim send) → Claim (next_room choices load x send)
     room_chosen send sent =
         let room = has_room load.width load.all load.current x in
-        cond_both (room && not (is_line_dead load x)) _ _ Claim (λ e. sent (first_of room (not (is_line_dead load x)) e)) (λ _. waiting_chosen)
+        cond_both (room && not (is_line_dead load x)) _ _ Claim (λ e. sent (and_parts room (not (is_line_dead load x)) e).0) (λ _. waiting_chosen)
 
     module _ (flush : has_room load.width load.all load.current x ≡ true → Claim choices.flush) where
       -- if nothing but a null procedure may be sent

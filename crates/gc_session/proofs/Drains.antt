@@ -1,6 +1,7 @@
 -- From when the quiet time counts: as long as the clock doesn't go back, from no earlier than the line feed of a connection, and than what
 -- came last.
 use Rattle.std.proofs.Common.{◌≡◌, ℕ, ◌-◌, ◌≤◌, ◌&&◌, Bool, true, false, if◌then◌else◌, min, List, [], ◌∷◌, refl, sym, ap, ◌∙◌, subst, arith}
+use Rattle.std.proofs.lemmas.Bool.{and_parts}
 use Rattle.std.proofs.lemmas.Bool.Decides.{nat_tests}
 use Rattle.gc_catalogue.specs.declared.asked.Asked.{Asked}
 use Rattle.gc_texts.specs.SignOns.{is_sign_on}
@@ -122,15 +123,10 @@ from_clear want start s e =
     let moment = it.1 in
     subst (λ (n : Next). IsBetween start start (done n (at_step want start s))) (sym e) (omega (arith, moment), omega (arith, moment))
 
--- both of two tests
-both_of : (a b : Bool) → (a && b) ≡ true → (a ≡ true) × (b ≡ true)
-both_of true b e = (refl, e)
-both_of false b e = cc
-
 -- a session that drains, and is ready after a step, was quiet for long enough at that
 ready_past : (want : Want) (now : ℕ) (s : Session) → s.standing.phase ≡ phase.Draining → (stepped want now s).standing.phase ≡ phase.Ready
     → is_past s.settings.quiet now (timed now (attended want now s.standing)).exchange ≡ true
-ready_past want now s drains ready = (both_of t.listened (is_past s.settings.quiet now t.exchange) (by_test (t.listened && is_past s.settings.quiet now t.exchange) refl)).1 where
+ready_past want now s drains ready = (and_parts t.listened (is_past s.settings.quiet now t.exchange) (by_test (t.listened && is_past s.settings.quiet now t.exchange) refl)).1 where
   -- the standing at that moment
   t : Standing
   t = timed now (attended want now s.standing)

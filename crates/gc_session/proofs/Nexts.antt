@@ -1,9 +1,8 @@
 -- What holds of a session wherever something is next in it.
-use Rattle.std.proofs.Common.{◌≡◌, ℕ, ◌+◌, ◌<◌, ◌&&◌, Bool, true, false, not, nat_eq, nat_lt, refl, arith}
+use Rattle.std.proofs.Common.{◌≡◌, ◌+◌, ◌<◌, true, false, arith}
 use Rattle.std.proofs.lemmas.Bool.{cond_both}
 use Rattle.std.proofs.lemmas.Bool.Decides.{nat_tests}
 use Rattle.gc_client.specs.declared.window.TheConstants.{WINDOW}
-use Rattle.gc_session.specs.declared.exchange.Exchange.{Exchange}
 use Rattle.gc_session.specs.declared.next.Next.{Next}
 use Rattle.gc_session.specs.declared.next.Next.TheVariants as next
 use Rattle.gc_session.specs.declared.settings.Want.{Want}
@@ -13,7 +12,7 @@ use Rattle.gc_session.specs.declared.standing.Phase.TheVariants as phase
 use Rattle.gc_session.specs.Choices.{next_synchronizing}
 use Rattle.gc_session.specs.Exchange.{has_begun, has_room}
 use Rattle.gc_session.specs.Sessions.{Session, all_of, current_of, load_of, the_choices, next_ready, next_in, next_of, wanted_of}
-use Rattle.gc_session.proofs.Choosing.{flush_chosen, to_send_chosen, synchronizing_chosen}
+use Rattle.gc_session.proofs.Choosing.{room_of, flush_chosen, to_send_chosen, synchronizing_chosen}
 
 -- the outstanding requests, and those that the last line ended that ended any, are together fewer than the window has places, and nothing
 -- called for a synchronization
@@ -29,20 +28,10 @@ HoldsAt s next.Renew = has_begun s.standing.exchange ≡ true
 HoldsAt s next.Ask = (has_begun s.standing.exchange ≡ true) × HasPlace s × (s.standing.exchange.behind < WINDOW)
 HoldsAt s _ = Unit {0}
 
--- where there is room, that is so
-place_of : (width all current : ℕ) (x : Exchange) → has_room width all current x ≡ true → (all + x.last_ended < WINDOW) × (x.doubtful ≡ false)
-place_of width all current x e = by_tests (nat_lt current width) (nat_lt (all + x.last_ended) WINDOW) x.doubtful (nat_eq x.hold 0) refl e where
-  -- the lemma above, by the tests
-  by_tests : (a b d h : Bool) → nat_lt (all + x.last_ended) WINDOW ≡ b → (a && b && not d && h) ≡ true → (all + x.last_ended < WINDOW) × (d ≡ false)
-  by_tests true true false h is e = (grind (arith, nat_tests, is), refl)
-  by_tests true true true h is e = cc
-  by_tests true false d h is e = cc
-  by_tests false b d h is e = cc
-
 module _ (s : Session) where
   -- there is place where there is room
   place : has_room s.settings.width (all_of s) (current_of s) s.standing.exchange ≡ true → HasPlace s
-  place = place_of s.settings.width (all_of s) (current_of s) s.standing.exchange
+  place e = let it = room_of s.settings.width (all_of s) (current_of s) s.standing.exchange e in (it.1, it.2)
 
   -- of what is next while the client synchronizes
   synchronizing_holds : has_begun s.standing.exchange ≡ false → HoldsAt s (next_synchronizing the_choices (load_of s) s.standing.exchange)

@@ -207,7 +207,7 @@ sent_last plan commands s o act obeys = by_action o obeys where
 -- Calls that return in time.
 
 -- what is read by a moment among acts is so among the first of them
-by_front : (n : ℕ) (xs ys : List Act) → IsReadBy n (xs ++ ys) → IsReadBy n xs
+pub by_front : (n : ℕ) (xs ys : List Act) → IsReadBy n (xs ++ ys) → IsReadBy n xs
 by_front n [] ys by = tt
 by_front n (Told m ∷ xs) ys by = by
 by_front n (Gave bytes m ∷ xs) ys by = by

@@ -15,6 +15,7 @@ use Rattle.gc_station.specs.declared.progress.Until.TheVariants.{Limit, Due}
 use Rattle.gc_station.specs.declared.progress.Waiting.{Waiting}
 use Rattle.gc_station.specs.Reasons.{HoldsBefore, IsBetweenChains, IsFinished, IsHeld, HasRoomToAsk, MayGo, MayRetry, NothingMayGo, WaitsForWhatIsInFlight, IsAtItsEnd, IsOverdue, IsResting, MayAskNoMore, StaysInItsChain, HasConnectionFor, WantsNull, IsInItsTurn, IsOutOfTime}
 use Rattle.gc_session.specs.Exchange.{has_room}
+use Rattle.gc_session.proofs.Choosing.{room_of}
 use Rattle.gc_station.specs.Deciding.{width_of, has_begun, is_up, is_unquiet, is_silent, is_dead, is_wanted, is_finished, lacks_value, may_go, waits_for_all, action_again, action_held, action_settled, action_done, action_to_send, action_room, action_waiting, is_between_chains, is_resting, is_cut, is_stopping, is_held_back, action_cycle, is_preparing}
 
 -- Tests.
@@ -47,14 +48,6 @@ not_zero n some = grind (arith, nat_tests, some)
 
 -- Room for a request.
 
--- where the test says so, there is room
-room_by_test : (plan : Plan) (p : Progress) (w : Waiting) → has_room (width_of plan) w.all w.current p.exchange ≡ true → HasRoomToAsk plan p w
-room_by_test plan p w e =
-    let free = and_parts (nat_lt w.current (width_of plan) && nat_lt (w.all + p.exchange.last_ended) WINDOW && not p.exchange.doubtful) (nat_eq p.exchange.hold 0) e in
-    let both = and_parts (nat_lt w.current (width_of plan) && nat_lt (w.all + p.exchange.last_ended) WINDOW) (not p.exchange.doubtful) free.0 in
-    let it = and_parts (nat_lt w.current (width_of plan)) (nat_lt (w.all + p.exchange.last_ended) WINDOW) both.0 in
-    (ltb-true w.current (width_of plan) it.0, ltb-true (w.all + p.exchange.last_ended) WINDOW it.1, not-true p.exchange.doubtful both.1, eqb-true p.exchange.hold 0 free.1)
-
 -- if there is room, fewer than seven requests are outstanding
 pub within_window : (all last : ℕ) → all + last < WINDOW → all < WINDOW
 within_window all last room = omega (arith, room)
@@ -64,7 +57,7 @@ within_window all last room = omega (arith, room)
 abbrev pub LacksRoom : Plan → Progress → Waiting → Type 0
 LacksRoom plan p w = (width_of plan ≤ w.current) ⊎ MayAskNoMore p w
 
--- so it is where the test says so
+-- so it is where the test of room fails
 lacks_by_test : (plan : Plan) (p : Progress) (w : Waiting) → has_room (width_of plan) w.all w.current p.exchange ≡ false → LacksRoom plan p w
 lacks_by_test plan p w e = by_hold (and_cases (nat_lt w.current (width_of plan) && nat_lt (w.all + p.exchange.last_ended) WINDOW && not p.exchange.doubtful) (nat_eq p.exchange.hold 0) e) where
   -- the lemma above, by which of the first two tests fails
@@ -197,7 +190,7 @@ pub room_for : (plan : Plan) (p : Progress) (w : Waiting) (o : Action) → IsAtW
     → Holds plan p w (action_room plan p w o)
 room_for plan p w o work step =
     cond_both (has_room (width_of plan) w.all w.current p.exchange && not (is_dead plan p w)) o _ (Holds plan p w)
-    (λ e. let it = and_parts (has_room (width_of plan) w.all w.current p.exchange) (not (is_dead plan p w)) e in step (room_by_test plan p w it.0) (not-true (is_dead plan p w) it.1))
+    (λ e. let it = and_parts (has_room (width_of plan) w.all w.current p.exchange) (not (is_dead plan p w)) e in step (room_of (width_of plan) w.all w.current p.exchange it.0) (not-true (is_dead plan p w) it.1))
     (λ e. let lacks = and_cases (has_room (width_of plan) w.all w.current p.exchange) (not (is_dead plan p w)) e in waiting_for plan p w work (nothing_if_no_room plan p w lacks) (no_more_if_alive plan p w lacks))
 
 -- for a station at work, `Holds` is true of `action_to_send` with the action o, if it is true of o

@@ -7,7 +7,7 @@ use Rattle.std.proofs.lemmas.Bool.Decides.{nat_tests}
 use Rattle.gc_catalogue.specs.Asked.{is_of_table}
 use Rattle.gc_catalogue.specs.declared.asked.Asked.{Asked}
 use Rattle.gc_client.specs.OneForOne.{of_pending, Wanted}
-use Rattle.gc_client.specs.Rule.{ById, Settled, hears, heard, settles_at, fits, place_in, settle, expired}
+use Rattle.gc_client.specs.Rule.{hears, heard, settles_at, fits, place_in, settle, expired}
 use Rattle.gc_client.specs.declared.pending.Pending.{Pending}
 use Rattle.gc_client.specs.declared.window.TheConstants.{WINDOW}
 use Rattle.gc_client.proofs.OneForOne.{length-settle}
@@ -188,12 +188,8 @@ nulls_if_neither behind marks none near = by_tests (nat_lt 0 (commands_in marks)
 abbrev pub Listens : (n : ℕ) → Model → Type 0
 Listens n x = NullsAreOfTable x.marks x.client.waiting × (length x.marks ≡ length x.client.waiting) × (length x.client.waiting ≤ 7) × (nulls_left x.progress.exchange.behind x.marks ≤ n)
 
--- what a line settles, and the model after it
-abbrev heard_as : (line : List ℕ) → Settled Asked (ById Asked) → Model → Model
-heard_as line y x = line_settles (is_reply line) y x
-
 -- a line that settles requests keeps it
-some_heard : (n : ℕ) (x : Model) (line : List ℕ) (k : ℕ) → k < length x.client.waiting → Listens n x → Listens n (heard_as line (settles_at x.client line k true) x)
+some_heard : (n : ℕ) (x : Model) (line : List ℕ) (k : ℕ) → k < length x.client.waiting → Listens n x → Listens n (line_settles (is_reply line) (settles_at x.client line k true) x)
 some_heard n x line k below h =
     let ws = x.client.waiting in
     let many = length-settle k line ws below in
@@ -252,10 +248,10 @@ some_heard n x line k below h =
 pub line_heard : (n : ℕ) (x : Model) (line : List ℕ) → Listens n x → Listens n (line_came x line)
 line_heard n x line h = by_id (heard line) where
   -- by the id of the line
-  by_id : (o : Option ℕ) → Listens n (heard_as line (hears x.client line o) (line_doubted line x))
+  by_id : (o : Option ℕ) → Listens n (line_settles (is_reply line) (hears x.client line o) (line_doubted line x))
   by_id None = h
   by_id (Some id) = by_test (place_in x.client id) (fits x.client (Some id)) refl where
     -- whether a request has that id
-    by_test : (k : ℕ) (b : Bool) → nat_lt k (length x.client.waiting) ≡ b → Listens n (heard_as line (settles_at x.client line k b) (line_doubted line x))
+    by_test : (k : ℕ) (b : Bool) → nat_lt k (length x.client.waiting) ≡ b → Listens n (line_settles (is_reply line) (settles_at x.client line k b) (line_doubted line x))
     by_test k true e = some_heard n (line_doubted line x) line k (grind (arith, nat_tests, e)) h
     by_test k false e = h

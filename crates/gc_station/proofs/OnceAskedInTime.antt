@@ -34,7 +34,7 @@ use Rattle.gc_station.proofs.InFlight.{EndsBy, EndsEarly, EndsAfter, expired_aft
 use Rattle.gc_station.proofs.InTime.{asked_stays}
 use Rattle.gc_station.proofs.OnceAsked.{ends_soon}
 use Rattle.gc_station.proofs.OnceAskedInChain.{finishes_its_chain}
-use Rattle.gc_station.proofs.CallTimes.{latest_append, deadlines_within, waits_in_flight, read_if_slow}
+use Rattle.gc_station.proofs.CallTimes.{latest_append, deadlines_within, waits_in_flight, read_if_slow, by_front}
 use Rattle.gc_station.proofs.OnceAskedOfTable.{finishes_a_table_chain}
 use Rattle.gc_station.proofs.RealTime.{slow_or_quick, latest_rises, rises_behind, LastSlow, last_slow, quick_behind, read_by}
 use Rattle.gc_station.proofs.Staying.{gave_stays, silent_stays}
@@ -189,14 +189,6 @@ module _ (plan : Plan) (commands : List Task) (longest : ℕ) (few : plan.deadli
 
 -- Acts before others.
 
--- a moment that is read by `limit` in acts is read by `limit` in the first of them, if they read one
-read_before : (limit : ℕ) (xs ys : List Act) → IsReadBy limit (xs ++ ys) → IsReadBy limit xs
-read_before limit [] ys by = tt
-read_before limit (Told m ∷ xs) ys by = by
-read_before limit (Gave bytes m ∷ xs) ys by = by
-read_before limit (Silent m ∷ xs) ys by = by
-read_before limit (x ∷ xs) ys by = read_before limit xs ys by
-
 -- acts read a moment, the first of them no later than the last; or none, so that the moment read last stays, and whether the end of the
 -- run was asked for
 first_read : (now : ℕ) (asked : Bool) (xs : List Act) → ClockRises now xs
@@ -276,7 +268,7 @@ module _ (plan : Plan) (commands : List Task) (scope : Scope) (longest call read
   near_if_read limit earlier later act order first past by short quick others at are =
       let row : all ≡ (earlier ++ act ∷ quick) ++ others = order ∙ ap (λ (xs : List Act). earlier ++ act ∷ xs) at ∙ sym (append_assoc earlier (act ∷ quick) others) in
       let returned = readings_before plan commands scope readings (earlier ++ act ∷ quick) others (subst (λ (xs : List Act). ReadingsReturn plan commands scope readings xs) row back) in
-      let first_by = read_before first (act ∷ quick) others (subst (λ (xs : List Act). IsReadBy first (act ∷ xs)) at by) in
+      let first_by = by_front first (act ∷ quick) others (subst (λ (xs : List Act). IsReadBy first (act ∷ xs)) at by) in
       let last_by = read_by plan commands scope readings first earlier (act ∷ quick) past first_by are returned in
       subst (λ (xs : List Act). latest 0 xs ≤ limit) (sym (append_assoc earlier (act ∷ []) quick)) (omega (arith, last_by, short))
 
@@ -343,7 +335,7 @@ module _ (plan : Plan) (commands : List Task) (scope : Scope) (longest call read
     by_last (inr found) = subst Claim (sym found.order) (by_slow found.before found.quick found.act found.slow found.are) order asked are
     by_last (inl quick_first) =
         let row : all ≡ (earlier ++ quick) ++ others = order ∙ ap (λ (xs : List Act). earlier ++ xs) at ∙ sym (append_assoc earlier quick others) in
-        let first_by = read_before call (earlier ++ quick) others (subst (λ (xs : List Act). IsReadBy call xs) row calls.first) in
+        let first_by = by_front call (earlier ++ quick) others (subst (λ (xs : List Act). IsReadBy call xs) row calls.first) in
         let returned = readings_before plan commands scope readings (earlier ++ quick) others (subst (λ (xs : List Act). ReadingsReturn plan commands scope readings xs) row back) in
         let both = quick_append plan commands scope [] earlier quick quick_first are in
         let last_by = read_by plan commands scope readings call [] (earlier ++ quick) (omega arith) first_by (quick_behind plan commands scope [] (earlier ++ quick) both) returned in

@@ -9,9 +9,8 @@ use Rattle.gc_catalogue.specs.declared.asked.Asked.TheVariants.{Table}
 use Rattle.gc_catalogue.specs.declared.call.Call.TheVariants.{NullProc}
 use Rattle.gc_client.specs.declared.pending.Pending.{Pending}
 use Rattle.gc_client.specs.declared.window.TheConstants.{WINDOW}
-use Rattle.gc_client.specs.Rule.{ById, Settled, hears, heard, expired, deadlines, pending_of, settles_at, settle, fits, place_in, send_unless_full, Answered, Late}
+use Rattle.gc_client.specs.Rule.{hears, heard, expired, deadlines, pending_of, settles_at, settle, fits, place_in, send_unless_full, Answered, Late}
 use Rattle.gc_client.proofs.OneForOne.{length-settle}
-use Rattle.gc_texts.specs.Endings.{End}
 use Rattle.gc_texts.specs.declared.tasks.Task.{Task}
 use Rattle.gc_session.specs.Lines.{is_reply}
 use Rattle.gc_links.specs.Acts.{Act}
@@ -19,7 +18,7 @@ use Rattle.gc_links.specs.declared.link.Moment.{Moment}
 use Rattle.gc_session.specs.Sessions.{client_sent}
 use Rattle.gc_station.specs.Deciding.{later}
 use Rattle.gc_station.specs.Marks.{commands_in, records_of, end_of, is_well, last_well}
-use Rattle.gc_station.specs.Model.{Model, waiting_of, with_progress, with_moment, line_came, line_doubted, line_settles, is_heard, sent_to, asks_for, null_request, end_unsent, first_unsent_record, moved, Performs}
+use Rattle.gc_station.specs.Model.{Model, waiting_of, with_progress, with_moment, line_came, line_doubted, line_settles, is_heard, sent_to, asks_for, null_request, first_unsent_record, moved, Performs}
 use Rattle.gc_station.specs.NextCommand.{mark_next, commands_left}
 use Rattle.gc_station.specs.Progressing.{turned, moment_noted}
 use Rattle.gc_station.specs.Reasons.{HoldsBefore, MayGo}
@@ -29,9 +28,10 @@ use Rattle.gc_station.specs.declared.plan.Plan.{Plan}
 use Rattle.gc_station.specs.declared.progress.Action.{Action}
 use Rattle.gc_station.specs.declared.progress.Action.TheVariants as actions
 use Rattle.gc_station.specs.declared.progress.Progress.{Progress}
+use Rattle.gc_station.proofs.Making.{unwell_end}
 use Rattle.gc_station.proofs.InCycle.{within_window}
 use Rattle.gc_station.proofs.Records.{commands-append, records-none, last-append}
-use Rattle.gc_station.proofs.Walk.{came_along, unsent_along, walk}
+use Rattle.gc_station.proofs.Walk.{came_along, walk}
 
 -- Requests of commands that have timed out.
 
@@ -123,12 +123,8 @@ last_not_well line reads utc (suc k) (Some mark ∷ marks) (q ∷ qs) before h s
 abbrev pub CannotGoOn : Model → Type 0
 CannotGoOn s = (length s.marks ≡ length s.client.waiting) × CommandsTimedOut s.marks s.client.waiting × (commands_in s.marks ≡ 0 → last_well false s.records ≡ false)
 
--- what a line settles, and the model after it
-abbrev heard_as : (line : List ℕ) → Settled Asked (ById Asked) → Model → Model
-heard_as line y x = line_settles (is_reply line) y x
-
 -- a line that settles requests keeps it so
-some_heard : (x : Model) (line : List ℕ) (k : ℕ) → k < length x.client.waiting → CannotGoOn x → CannotGoOn (heard_as line (settles_at x.client line k true) x)
+some_heard : (x : Model) (line : List ℕ) (k : ℕ) → k < length x.client.waiting → CannotGoOn x → CannotGoOn (line_settles (is_reply line) (settles_at x.client line k true) x)
 some_heard x line k below h =
     let ws = x.client.waiting in
     let many = length-settle k line ws below in
@@ -163,11 +159,11 @@ line_heard x line h = by_id (heard line) where
       ∙ ap (last_well (last_well false x.records)) (records-none x.reads x.progress.moment.utc x.marks) ∙ h.2 none
 
   -- by the id of the line
-  by_id : (o : Option ℕ) → CannotGoOn (heard_as line (hears x.client line o) (line_doubted line x))
+  by_id : (o : Option ℕ) → CannotGoOn (line_settles (is_reply line) (hears x.client line o) (line_doubted line x))
   by_id None = (h.0, h.1, same)
   by_id (Some id) = by_test (place_in x.client id) (fits x.client (Some id)) refl where
     -- whether a request has that id
-    by_test : (k : ℕ) (b : Bool) → nat_lt k (length x.client.waiting) ≡ b → CannotGoOn (heard_as line (settles_at x.client line k b) (line_doubted line x))
+    by_test : (k : ℕ) (b : Bool) → nat_lt k (length x.client.waiting) ≡ b → CannotGoOn (line_settles (is_reply line) (settles_at x.client line k b) (line_doubted line x))
     by_test k true e = some_heard (line_doubted line x) line k (grind (arith, nat_tests, e)) h
     by_test k false e = (h.0, h.1, same)
 
@@ -178,14 +174,10 @@ moment_read m s h =
     let same = h.0 in
     (omega (arith, many, same), timed_expired m.elapsed s.marks s.client.waiting h.1, h.2)
 
--- a command that isn't sent isn't answered well
-unsent_not_well : (p : Progress) → is_well (end_unsent p) ≡ false
-unsent_not_well p = unsent_along (λ (end : End). is_well end ≡ false) refl refl refl p
-
 -- nor is the last command once its record was made
 unsent_last : (p : Progress) (m : Moment) (mark : Mark) (left : List Task) (before : Bool) → before ≡ false → last_well before (first_unsent_record p m mark left) ≡ false
 unsent_last p m mark [] before e = e
-unsent_last p m mark (task ∷ others) before e = unsent_not_well p
+unsent_last p m mark (task ∷ others) before e = unwell_end p
 
 module _ (plan : Plan) (commands : List Task) where
   -- a null procedure keeps it so, if there is room for one

@@ -9,7 +9,7 @@ use Rattle.std.proofs.lemmas.Bool.{both_ways}
 use Rattle.std.proofs.lemmas.Bool.Decides.{nat_tests}
 use Rattle.gc_values.proofs.Every.{every_drop}
 use Rattle.gc_catalogue.specs.declared.asked.Asked.{Asked}
-use Rattle.gc_client.specs.Rule.{ById, Settled, hears, heard, settles_at, nothing_settled, fits, place_in, settle, pending_of, send_unless_full}
+use Rattle.gc_client.specs.Rule.{ById, hears, heard, settles_at, nothing_settled, fits, place_in, settle, pending_of, send_unless_full}
 use Rattle.gc_client.specs.declared.window.TheConstants.{WINDOW}
 use Rattle.gc_client.specs.declared.pending.Pending.{Pending}
 use Rattle.gc_client.proofs.OneForOne.{length-settle}
@@ -168,12 +168,8 @@ module _ (plan : Plan) (longest call turn loss : ℕ) (commands : List Task) whe
 
   -- Lines.
 
-  -- what a line settles, and the model after it
-  abbrev heard_as : (line : List ℕ) → Settled Asked (ById Asked) → Model → Model
-  heard_as line y x = line_settles (is_reply line) y x
-
   -- a line that settles nothing keeps a setup under way
-  nothing_heard : (x : Model) (line : List ℕ) → IsUnderWay x → IsUnderWay (heard_as line (nothing_settled x.client) x)
+  nothing_heard : (x : Model) (line : List ℕ) → IsUnderWay x → IsUnderWay (line_settles (is_reply line) (nothing_settled x.client) x)
   nothing_heard x line h = (
     h.0,
     h.1,
@@ -182,7 +178,7 @@ module _ (plan : Plan) (longest call turn loss : ℕ) (commands : List Task) whe
 
   -- a line that settles requests keeps a setup under way: if it answers the last command well, that was alone
   some_heard : (x : Model) (line : List ℕ) (k : ℕ) → k < length x.client.waiting → IsUnderWay x → AllByRecursion (EndsAfter x.progress.moment.elapsed) x.client.waiting
-      → x.progress.clock_due ≡ false → IsUnderWay (heard_as line (settles_at x.client line k true) x)
+      → x.progress.clock_due ≡ false → IsUnderWay (line_settles (is_reply line) (settles_at x.client line k true) x)
   some_heard x line k below h after read =
       let ws = x.client.waiting in
       let many = length-settle k line ws below in
@@ -215,7 +211,7 @@ module _ (plan : Plan) (longest call turn loss : ℕ) (commands : List Task) whe
             (ap (λ n. is_some_of_table (slice_get (settle k line x.client.waiting) n)) last_at ∙ e)
 
         -- null procedures that were settled
-        flushed : GoesNext x → GoesNext (heard_as line (settles_at x.client line k true) x)
+        flushed : GoesNext x → GoesNext (line_settles (is_reply line) (settles_at x.client line k true) x)
         flushed (inl it) = let empty : length x.client.waiting ≡ 0 = ap length it.0 in absurd (omega (arith, empty, below))
         flushed (inr it) =
             let same = counts true (settle_tables k line x.client.waiting below it.tables) in
@@ -230,7 +226,7 @@ module _ (plan : Plan) (longest call turn loss : ℕ) (commands : List Task) whe
 
         -- the lemma above, whether commands were outstanding before
         by_test : x.progress.prepared < plan.setup → commands_in (drop (suc k) x.marks) ≡ 0 → last_well false (x.records ++ news) ≡ true
-            → (b : Bool) → nat_eq (commands_in x.marks) 0 ≡ b → GoesNext (heard_as line (settles_at x.client line k true) x)
+            → (b : Bool) → nat_eq (commands_in x.marks) 0 ≡ b → GoesNext (line_settles (is_reply line) (settles_at x.client line k true) x)
         by_test few none well true e =
             let settled : commands_in x.marks ≡ 0 = grind (arith, nat_tests, e) in
             let no_news : news ≡ [] = none_recorded x.reads x.progress.moment.utc x.marks (settle k line x.client.waiting) settled in
@@ -247,7 +243,7 @@ module _ (plan : Plan) (longest call turn loss : ℕ) (commands : List Task) whe
           left = let f : k + 1 ≡ suc k = omega arith in ap (λ (j : ℕ). drop j x.client.waiting) f ∙ it.0
 
           -- the lemma above, whether the last command is a call of the table
-          by_table : (b : Bool) → is_some_of_table (slice_get (settle k line x.client.waiting) k) ≡ b → GoesNext (heard_as line (settles_at x.client line k true) x)
+          by_table : (b : Bool) → is_some_of_table (slice_get (settle k line x.client.waiting) k) ≡ b → GoesNext (line_settles (is_reply line) (settles_at x.client line k true) x)
           by_table true e =
               let near = counts true e in
               let none_left : length (drop (k + 1) x.client.waiting) ≡ 0 = ap length left in
@@ -267,11 +263,11 @@ module _ (plan : Plan) (longest call turn loss : ℕ) (commands : List Task) whe
   pub line_heard : (x : Model) (line : List ℕ) → Listens x → Listens (line_came x line)
   line_heard x line h = (λ on some. by_id (heard line) (h.0 on some), all_heard (EndsAfter x.progress.moment.elapsed) x.client line (heard line) h.1, h.2) where
     -- by the id of the line
-    by_id : (o : Option ℕ) → IsUnderWay x → IsUnderWay (heard_as line (hears x.client line o) (line_doubted line x))
+    by_id : (o : Option ℕ) → IsUnderWay x → IsUnderWay (line_settles (is_reply line) (hears x.client line o) (line_doubted line x))
     by_id None under = nothing_heard (line_doubted line x) line under
     by_id (Some id) under = by_test (place_in x.client id) (fits x.client (Some id)) refl where
       -- whether a request has that id
-      by_test : (k : ℕ) (b : Bool) → nat_lt k (length x.client.waiting) ≡ b → IsUnderWay (heard_as line (settles_at x.client line k b) (line_doubted line x))
+      by_test : (k : ℕ) (b : Bool) → nat_lt k (length x.client.waiting) ≡ b → IsUnderWay (line_settles (is_reply line) (settles_at x.client line k b) (line_doubted line x))
       by_test k true e = some_heard (line_doubted line x) line k (grind (arith, nat_tests, e)) under h.1 h.2
       by_test k false e = nothing_heard (line_doubted line x) line under
 
