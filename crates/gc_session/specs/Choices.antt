@@ -1,10 +1,14 @@
 -- What is next of a client on a connection that is ready, this project's own, as one of what may be next (`choices`): requests are outstanding
 -- as `load` says, and the exchange is as far as `x`.
-use Rattle.std.specs.Prelude.{ℕ, ◌&&◌, Bool, not, if◌then◌else◌, nat_eq}
+use Rattle.std.specs.Prelude.{ℕ, ◌&&◌, Bool, not, if◌then◌else◌, nat_eq, min, max}
 use Rattle.gc_session.specs.declared.choices.Choices.{Choices}
 use Rattle.gc_session.specs.declared.load.Load.{Load}
 use Rattle.gc_session.specs.declared.exchange.Exchange.{Exchange}
 use Rattle.gc_session.specs.Exchange.{has_room, is_dead, is_near, later, may_ask}
+
+-- the width that counts for one that was chosen: a number outside of 1 to 7 counts as the nearest of these
+abbrev pub width_within : (width : ℕ) → ℕ
+width_within width = min (max width 1) 7
 
 -- after how many milliseconds without a reply line the line is dead: twice the longest wait
 abbrev pub dead_after : Load → ℕ

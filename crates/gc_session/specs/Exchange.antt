@@ -39,6 +39,10 @@ has_begun x = is_none_left x.word
 abbrev pub is_past : (wait now : ℕ) → Exchange → Bool
 is_past wait now x = nat_le wait (now - x.since)
 
+-- the moment from which on that is so
+abbrev pub past_at : (wait : ℕ) → Exchange → ℕ
+past_at wait x = later x.since wait
+
 -- whether the line is silent at the moment `now`: a request was sent on it, and since then no reply line came (`asked`); a request is
 -- outstanding (`all` are), or a null procedure of the synchronization has a deadline (`again`) other than 0; and `patience` has passed
 -- since `alive`
@@ -53,6 +57,10 @@ is_dead patience now all current x = nat_eq current 0 && is_silent patience now 
 -- deadline of the null procedure that was sent last has come
 abbrev pub may_ask : (now : ℕ) → Exchange → Bool
 may_ask now x = nat_eq x.hold 0 && nat_le x.again now
+
+-- the moment from which on that is so
+abbrev pub asks_at : Exchange → ℕ
+asks_at x = max x.again x.hold
 
 -- whether there is room for another request: fewer than `width` haven't timed out; all that are outstanding, and those that the last line
 -- ended that ended any, are together fewer than the window has places; nothing called for a synchronization; and there is no hold

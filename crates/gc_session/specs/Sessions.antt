@@ -1,6 +1,6 @@
 -- A session with an instrument over any number of connections, this project's own: what is next, and what each call of its caller makes
 -- of it. A session has neither a port nor a clock: its caller makes connections, writes and reads, and says when.
-use Rattle.std.specs.Prelude.{◌≡◌, ℕ, ◌-◌, ◌&&◌, Bool, true, false, not, if◌then◌else◌, nat_lt, nat_eq, min, max, is_some, List, [], ◌∷◌, length, Option, Some, None}
+use Rattle.std.specs.Prelude.{◌≡◌, ℕ, ◌-◌, ◌&&◌, Bool, true, false, not, if◌then◌else◌, nat_lt, nat_eq, max, is_some, List, [], ◌∷◌, length, Option, Some, None}
 use Rattle.gc_catalogue.specs.declared.asked.Asked.{Asked}
 use Rattle.gc_catalogue.specs.declared.asked.Asked.TheVariants.{Table}
 use Rattle.gc_catalogue.specs.declared.call.Call.TheVariants.{NullProc}
@@ -24,7 +24,7 @@ use Rattle.gc_session.specs.declared.next.Next.{Next}
 use Rattle.gc_session.specs.declared.next.Next.TheVariants as next
 use Rattle.gc_session.specs.declared.choices.Choices.{Choices}
 use Rattle.gc_session.specs.declared.load.Load.{Load}
-use Rattle.gc_session.specs.Choices.{next_flush, next_to_send, next_synchronizing}
+use Rattle.gc_session.specs.Choices.{width_within, next_flush, next_to_send, next_synchronizing}
 use Rattle.gc_session.specs.Exchange as exchange
 use Rattle.gc_session.specs.Exchange.{later}
 use Rattle.gc_session.specs.Lines.{is_reply, calls_for_renewal}
@@ -186,7 +186,7 @@ next_of want s = next_in s.standing.phase (wanted_of want (all_of s)) s
 
 -- the settings that count for those chosen: a width outside of 1 to 7 counts as the nearest of these, and a timeout of 0 as 1
 abbrev pub sound : Settings → Settings
-sound settings = record settings { width = min (max settings.width 1) 7; timeout = max settings.timeout 1 }
+sound settings = record settings { width = width_within settings.width; timeout = max settings.timeout 1 }
 
 -- a session at its start
 abbrev pub opening : Settings → Session
@@ -266,13 +266,13 @@ until_deadline (Some deadline) = deadline
 -- outstanding requests does
 abbrev pub until_ready : Want → (earliest : Option ℕ) → Exchange → ℕ
 until_ready Nothing earliest x = until_deadline earliest
-until_ready want earliest x = if exchange.has_begun x then until_deadline earliest else max x.again x.hold
+until_ready want earliest x = if exchange.has_begun x then until_deadline earliest else exchange.asks_at x
 
 -- until when a wait or a read of the session lasts at most in this phase
 abbrev pub until_in : Phase → Want → (earliest : Option ℕ) → Session → ℕ
 until_in phase.Down want earliest s = 18446744073709551615
-until_in phase.Pausing want earliest s = later s.standing.exchange.since s.standing.exchange.pause
-until_in phase.Draining want earliest s = later s.standing.exchange.since s.settings.quiet
+until_in phase.Pausing want earliest s = exchange.past_at s.standing.exchange.pause s.standing.exchange
+until_in phase.Draining want earliest s = exchange.past_at s.settings.quiet s.standing.exchange
 until_in _ want earliest s = until_ready want earliest s.standing.exchange
 
 -- what the caller does for what is next, which lasts until this moment at most

@@ -6,7 +6,7 @@ ghost use Rattle.gc_session.specs.Sessions.{IsActFor, all_of, load_of, next_of, 
 ghost use Rattle.gc_session.specs.Sessions;
 
 use crate::choices::Choices;
-use crate::exchange::{Exchange, later};
+use crate::exchange::Exchange;
 use crate::load::Load;
 use crate::next::Next;
 use crate::session::Session;
@@ -106,8 +106,8 @@ impl Session {
         let exchange = &self.standing.exchange;
         match self.standing.phase {
             Phase::Down => u64::MAX,
-            Phase::Pausing => later(exchange.since, exchange.pause),
-            Phase::Draining => later(exchange.since, self.settings.quiet),
+            Phase::Pausing => exchange.past_at(exchange.pause),
+            Phase::Draining => exchange.past_at(self.settings.quiet),
             _ => until_ready(want, earliest, exchange),
         }
     }
@@ -150,7 +150,7 @@ fn until_ready(want: Want, earliest: u64, exchange: &Exchange) -> u64
             if exchange.has_begun() {
                 earliest
             } else {
-                exchange.again.max(exchange.hold)
+                exchange.asks_at()
             }
         }
     }

@@ -4,7 +4,7 @@
 ghost use Rattle.std.specs.Prelude.{◌≡◌, ◌≤◌, length, map};
 ghost use Rattle.gc_client.specs.Settlements.{settlement_seen};
 ghost use Rattle.gc_session.specs.Choices.{dead_after, is_line_dead};
-ghost use Rattle.gc_session.specs.Exchange.{new_exchange, has_begun, is_past, is_silent, may_ask, has_room, is_near, hold_left, moment_read, moment_passed, request_noted, null_noted, line_noted, heard_noted, doubt_noted, hold_noted, line_synchronizing, cleared, renewed, drained, pause_doubled, later};
+ghost use Rattle.gc_session.specs.Exchange.{new_exchange, has_begun, is_past, past_at, is_silent, may_ask, asks_at, has_room, is_near, hold_left, moment_read, moment_passed, request_noted, null_noted, line_noted, heard_noted, doubt_noted, hold_noted, line_synchronizing, cleared, renewed, drained, pause_doubled, later};
 
 use crate::lines::{ends_with_table, is_reply};
 use crate::load::Load;
@@ -87,6 +87,13 @@ impl Exchange {
         wait <= now.saturating_sub(self.since)
     }
 
+    /// The moment from which on that is so.
+    pub fn past_at(&self, wait: u64) -> u64
+        ensures { result ≡ past_at wait self.now }
+    {
+        later(self.since, wait)
+    }
+
     /// Whether the line is silent: a request was sent on this connection, and since then no reply line came; a request is outstanding, or a
     /// null procedure of the synchronization was sent on this connection; and twice the client's patience has passed since `alive`.
     pub fn is_silent(&self, load: Load) -> bool
@@ -111,6 +118,13 @@ impl Exchange {
         ensures { result ≡ may_ask now self.now }
     {
         self.hold == 0 && self.again <= now
+    }
+
+    /// The moment from which on that is so.
+    pub fn asks_at(&self) -> u64
+        ensures { result ≡ asks_at self.now }
+    {
+        self.again.max(self.hold)
     }
 
     /// Whether there is room for another request: fewer than the client's width haven't timed out; all that are outstanding, and those that

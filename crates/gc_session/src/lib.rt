@@ -15,7 +15,7 @@ mod standing;
 pub use choices::Choices;
 pub use exchange::{Exchange, hold_left, later};
 pub use lines::{calls_for_renewal, heard_reply, is_reply, raises_doubt};
-pub use load::Load;
+pub use load::{Load, width_within};
 pub use next::Next;
 pub use session::{NotTaken, OWN, Session};
 pub use settings::{Act, Settings, Want};

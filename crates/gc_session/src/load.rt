@@ -1,7 +1,7 @@
 //! What counts of a client's requests when something is to be sent.
 
 ghost use Rattle.std.specs.Prelude.{◌≡◌};
-ghost use Rattle.gc_session.specs.Choices.{dead_after};
+ghost use Rattle.gc_session.specs.Choices.{dead_after, width_within};
 
 use crate::exchange::later;
 
@@ -18,6 +18,13 @@ pub struct Load {
     pub all: usize,
     /// Those of `all` that haven't timed out.
     pub current: usize,
+}
+
+/// The width that counts for one that was chosen: a number outside of 1 to 7 counts as the nearest of these.
+pub fn width_within(width: u8) -> u8
+    ensures { result ≡ width_within width }
+{
+    width.max(1).min(7)
 }
 
 impl Load {

@@ -17,6 +17,7 @@ ghost use Rattle.gc_session.specs.declared.settings.Want.TheVariants.{Send};
 
 use crate::exchange::{Exchange, later};
 use crate::lines::{calls_for_renewal, heard_reply};
+use crate::load::width_within;
 use crate::next::Next;
 use crate::settings::{Act, Settings, Want};
 use crate::standing::{Phase, Standing};
@@ -73,7 +74,7 @@ impl Session {
         ensures { result ≡ opening settings }
     {
         let settings = Settings {
-            width: settings.width.max(1).min(7),
+            width: width_within(settings.width),
             timeout: settings.timeout.max(1),
             quiet: settings.quiet,
         };

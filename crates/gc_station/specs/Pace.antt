@@ -9,6 +9,7 @@ use Rattle.gc_station.specs.declared.progress.Phase.TheVariants as phase
 use Rattle.gc_station.specs.declared.progress.Progress.{Progress}
 use Rattle.gc_station.specs.declared.progress.Until.{Until}
 use Rattle.gc_station.specs.declared.progress.Until.TheVariants.{Limit, Due}
+use Rattle.gc_session.specs.Exchange.{asks_at, past_at}
 use Rattle.gc_station.specs.Deciding.{later, has_begun, is_due, is_out_of_time}
 use Rattle.gc_station.specs.NextCommand.{cycles_begun}
 use Rattle.gc_station.specs.Progressing.{is_idle, due_at}
@@ -16,7 +17,7 @@ use Rattle.gc_station.specs.Progressing.{is_idle, due_at}
 -- the moment of the next attempt to connect: the end of the pause, or, if no connection is wanted before the next cycle is due,
 -- that due moment if it is later
 abbrev pub retry_at : Plan → Progress → ℕ
-retry_at plan p = if is_idle plan p then max (later p.exchange.since p.exchange.pause) (due_at p) else later p.exchange.since p.exchange.pause
+retry_at plan p = let retry = past_at p.exchange.pause p.exchange in if is_idle plan p then max retry (due_at p) else retry
 
 -- the moment from which on the run is stale, if no answer of a good quality is recorded until then; the greatest `u64` if it
 -- never is. `fresh` is when such an answer was recorded last; 0 if none was; an earlier moment if the clock went back past it
@@ -33,8 +34,8 @@ longest_timeout plan = if plan.watched then 1000 else 60000
 -- procedure, or the end of the wait after a busy answer if that is later; otherwise the greatest `u64`, since only the deadlines of requests matter
 abbrev pub read_end_in : Phase → Plan → Progress → ℕ
 read_end_in phase.Pausing plan p = retry_at plan p
-read_end_in phase.Draining plan p = later p.exchange.since plan.quiet
-read_end_in _ plan p = if has_begun p then 18446744073709551615 else max p.exchange.again p.exchange.hold
+read_end_in phase.Draining plan p = past_at plan.quiet p.exchange
+read_end_in _ plan p = if has_begun p then 18446744073709551615 else asks_at p.exchange
 
 -- as `read_end_in` in the phase of `p`, except that a read that only waits for the next cycle ends when that cycle is due
 abbrev pub read_end_without_deadline : Plan → Progress → Until → ℕ

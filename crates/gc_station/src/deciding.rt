@@ -75,8 +75,8 @@ ghost use Rattle.gc_station.specs.Deciding.{load_of, goes_on, is_finished, lacks
 
 use crate::cause::Cause;
 use crate::plan::Plan;
-use crate::progress::{Action, Phase, Progress, Until, Waiting, width};
-use gc_session::{Choices, Load};
+use crate::progress::{Action, Phase, Progress, Until, Waiting};
+use gc_session::{Choices, Load, width_within};
 
 // What may be next on a connection that is ready, beside the commands, and what is between cycles.
 const CHOICES: Choices<Action> = Choices {
@@ -93,7 +93,7 @@ impl Progress {
         ensures { result ≡ load_of plan.now self.now waiting }
     {
         Load {
-            width: width(plan),
+            width: width_within(plan.width),
             patience: plan.deadline,
             now: self.moment.elapsed,
             all: waiting.all,

@@ -52,7 +52,7 @@ impl Progress {
     fn retry_at(&self, plan: &Plan) -> u64
         ensures { result ≡ retry_at plan.now self.now }
     {
-        let retry = later(self.exchange.since, self.exchange.pause);
+        let retry = self.exchange.past_at(self.exchange.pause);
         if self.is_idle(plan) {
             retry.max(self.due_at())
         } else {
@@ -69,12 +69,12 @@ impl Progress {
     {
         match self.phase {
             Phase::Pausing => self.retry_at(plan),
-            Phase::Draining => later(self.exchange.since, plan.quiet),
+            Phase::Draining => self.exchange.past_at(plan.quiet),
             _ => {
                 if self.has_begun() {
                     u64::MAX
                 } else {
-                    self.exchange.again.max(self.exchange.hold)
+                    self.exchange.asks_at()
                 }
             }
         }

@@ -1,7 +1,7 @@
 //! Progress: how far a station is. What it does next is decided in `deciding.rt`, by looking at nothing else.
 
 ghost use Rattle.std.specs.Prelude.{◌≡◌};
-ghost use Rattle.gc_station.specs.Deciding.{width_of, is_up, is_unquiet, may_abandon, is_quiet, has_begun};
+ghost use Rattle.gc_station.specs.Deciding.{is_up, is_unquiet, may_abandon, is_quiet, has_begun};
 ghost use Rattle.gc_station.specs.Keeping.{reads_clock_alone};
 ghost use Rattle.gc_station.specs.Progressing.{at_start};
 ghost use Rattle.gc_station.specs.Model.{is_heard};
@@ -163,13 +163,6 @@ pub(crate) struct Progress {
     pub attempt: u64,
     /// Whether the end of the run was asked for by a moment that was read.
     pub stops: bool,
-}
-
-// How many requests that haven't timed out may be in flight: the plan's width, clamped to 1 to 7.
-pub(crate) fn width(plan: &Plan) -> u8
-    ensures { result ≡ width_of plan.now }
-{
-    plan.width.max(1).min(7)
 }
 
 impl Action {
