@@ -30,6 +30,20 @@ zip_at R (a ∷ xs) [] i x y h e f = absurd h
 zip_at R (a ∷ xs) (b ∷ ys) zero x y h e f = subst (λ z. R z y) (same_Some a x e) (subst (λ z. R a z) (same_Some b y f) h.0)
 zip_at R (a ∷ xs) (b ∷ ys) (suc i) x y h e f = zip_at R xs ys i x y h.1 e f
 
+-- where R holds of the elements of two lists, place by place, and R implies Q, Q holds of them
+pub zip_on : {A B : Type 0} (R Q : A → B → Type 0) → ((x : A) (y : B) → R x y → Q x y) → (xs : List A) (ys : List B) → AllZip R xs ys → AllZip Q xs ys
+zip_on R Q f [] [] h = tt
+zip_on R Q f [] (y ∷ ys) h = absurd h
+zip_on R Q f (x ∷ xs) [] h = absurd h
+zip_on R Q f (x ∷ xs) (y ∷ ys) h = (f x y h.0, zip_on R Q f xs ys h.1)
+
+-- where R implies P of the second element, P holds of each element of the second list
+pub zip_each : {A B : Type 0} (R : A → B → Type 0) (P : B → Type 0) → ((x : A) (y : B) → R x y → P y) → (xs : List A) (ys : List B) → AllZip R xs ys → AllByRecursion P ys
+zip_each R P f [] [] h = tt
+zip_each R P f [] (y ∷ ys) h = absurd h
+zip_each R P f (x ∷ xs) [] h = absurd h
+zip_each R P f (x ∷ xs) (y ∷ ys) h = (f x y h.0, zip_each R P f xs ys h.1)
+
 -- what holds of the element at each place holds of each element
 pub each_at : {A : Type 0} (P : A → Type 0) (xs : List A) → ((i : ℕ) (x : A) → slice_get xs i ≡ Some x → P x) → AllByRecursion P xs
 each_at P [] f = tt

@@ -14,8 +14,7 @@ use Rattle.gc_station.proofs.Going.{runs-append}
 use Rattle.gc_station.specs.Model.{Runs, opening}
 use Rattle.gc_links.specs.Acts.{Told}
 use Rattle.gc_field.specs.Begin.{begins}
-use Rattle.gc_field.specs.BeginsAnew.{IsAnsweredAnew, acts, acts_anew, acts_until_anew, answer, commands, from, later_replies, left_by_first}
-use Rattle.gc_field.specs.BeginsAnew.{moves, moves_anew, plan, program, scope, six_unanswered, sixth_reply, turns}
+use Rattle.gc_field.specs.BeginsAnew.{IsAnsweredAnew, acts, acts_anew, acts_until_anew, answer, commands, from, later_replies, left_by_first, moves, moves_anew, plan, program, scope, six_unanswered, sixth_reply, turns}
 use Rattle.gc_field.specs.Begun.{WasMadeOn}
 use Rattle.gc_field.specs.CountingChain.{at_start, null_replies, counting, first_reply}
 use Rattle.gc_field.specs.Field.{seen}

@@ -15,23 +15,19 @@ use Rattle.gc_instrument.specs.State.{KeptReply}
 use Rattle.gc_world.specs.Clients.{ByNumber, by_numbers}
 use Rattle.gc_world.specs.Exchange.{IsExchange}
 use Rattle.gc_world.specs.Order.{Rising, numbers}
-use Rattle.gc_world.specs.Record.{IsReplyTo}
 use Rattle.gc_field.specs.World.{Ends, Numbered, Request, Wire, World, written}
-use Rattle.gc_world.proofs.Booked.{has_at}
 use Rattle.gc_world.proofs.Replay.{IsAsSent}
 use Rattle.gc_world.specs.Worlds.{of_sent}
-use Rattle.gc_world.proofs.Settled as settled
 use Rattle.gc_world.proofs.Sound.{IsGoing, IsComing, Sound}
 use Rattle.gc_field.specs.Begin.{UnderWay}
-use Rattle.gc_field.specs.Begun.{ArePossibleOnceBegun, IsBehindTheTable, IsClean, IsFaithful, IsSafe, WasMadeOn, WentOutBehindTheTable}
-use Rattle.gc_field.specs.Begun.{eighth_null, of_eighth, ids_begun, numbers_begun, nulls, nulls_settled, world_once_begun}
+use Rattle.gc_field.specs.Begun.{ArePossibleOnceBegun, IsBehindTheTable, IsClean, IsFaithful, IsSafe, WasMadeOn, WentOutBehindTheTable, eighth_null, of_eighth, ids_begun, numbers_begun, nulls, nulls_settled, world_once_begun}
 use Rattle.gc_field.specs.Field.{Move, Sends, AsksOnly, moved, seen}
 use Rattle.gc_field.specs.Instrument.{IsAnInstrument, IsAnInstrumentFor, all_known}
-use Rattle.gc_field.specs.Once.{ExecutesOnce, IsInOrder}
 use Rattle.gc_field.proofs.BeginLists.{each_map}
+use Rattle.gc_field.proofs.Faithful.{faithful_from}
 use Rattle.gc_field.proofs.Fresh.{AllBut, AnyLine, AnyRequest, AllExcepted, asks_all, near_the_table, renewed}
 use Rattle.gc_field.proofs.Instruments.{alike_knows_all, exchange_of}
-use Rattle.gc_field.proofs.Moving.{Both, both_all, first_reply, IsOwnSettlement, IsVouchedFor, RepliesHave, replies_have_later, vouched_for, trusted_all, made_here}
+use Rattle.gc_field.proofs.Moving.{Both, both_all, IsOwnSettlement, IsVouchedFor, RepliesHave, replies_have_later, vouched_for, trusted_all, made_here}
 use Rattle.gc_field.proofs.Possible.{front_possible, later_possible, moved_append}
 use Rattle.gc_field.proofs.Seen.{same_all}
 use Rattle.gc_field.proofs.KeptReplies.{KeptIs}
@@ -251,11 +247,7 @@ module _ {State : Type 0} (ends : Ends State) (Good : State → Type 0) (kept : 
     pub faithful : (ms : List (Move State)) → ArePossibleOnceBegun width ends u Good kept ms → IsFaithful width ends u ms Good kept
     faithful ms p =
         let a = world_once_begun width ends u ms in
-        let b = moved ends (by_numbers width) ms (numbers_begun u) in
-        let both = both_all width narrow ends Good exchange kept ms (ids_begun u) (numbers_begun u) p both_begun in
-        let same : a.wire ≡ b.wire = both.agree.wire in
         let one = same_all width ends keeper.hears Good kept ms course_after_nulls (ids_begun u) p (record { sent = refl; settled = refl; client = refl }) in
-        let x = course width course_after_nulls (seen ms) in
         let y = course width begun (seen ms) in
         let from = prefixed_all width (map of_sent nulls) nulls_settled (seen ms) course_after_nulls begun begun_prefixed in
         let settlements : a.wire.settled ≡ nulls_settled ++ y.settlements = sym one.settled ∙ from.settled in
@@ -264,30 +256,6 @@ module _ {State : Type 0} (ends : Ends State) (Good : State → Type 0) (kept : 
         ap (λ l. map of_settled l ++ map of_pending a.client.waiting) settlements
         ∙ ap (λ (c : ById Asked). map of_settled (nulls_settled ++ y.settlements) ++ map of_pending c.waiting) (sym stands)
         ∙ ap (λ l. map of_sent nulls ++ l) (accounts_for_sends width (seen ms)) ∙ sym from.sent ∙ one.sent in
-        let pairs = settled.one_for_one a.wire.settled a.client.waiting a.wire.sent parts in
-        let M : ℕ → Asked → List ℕ → Type 0 = λ n call line. WasMadeOn width ends u ms n call line in
-        let all = vouched_for width narrow is_of_table ends Good exchange kept keeper 8 AnyRequest ⊥ AnyLine b (all_excepted ms p) in
-        let own : (m : ℕ) (s : Settlement Asked) → 8 ≤ m → IsSafe width ends u Good kept ms m → slice_get a.wire.settled m ≡ Some s → IsOwnSettlement ends Good M a.wire m s =
-        λ m s ge safe e. subst (λ (w : Wire State). IsOwnSettlement ends Good M w m s) (sym same)
-        (safe_own ms p m s ge safe (subst (λ (w : Wire State). slice_get w.settled m ≡ Some s) same e)) in
-        record {
-          settled = settlements;
-          stands = stands;
-          accounted = parts;
-          one_for_one = pairs;
-          booked = λ m s sure e bytes answered.
-              let v = (own m s sure.0 sure.1 e).answered bytes answered in
-              let right = (pairs.same m s v.request e v.found).1 in
-              (has_at _ a.wire.made v.among, subst (λ call. IsReplyTo ends Good call bytes) (sym right) v.reply);
-          executed = λ m s sure e bytes answered. has_at m a.wire.executed ((own m s sure.0 sure.1 e).answered bytes answered).acted;
-          made_on = λ m s sure e bytes answered.
-              let v = (own m s sure.0 sure.1 e).answered bytes answered in
-              subst (λ call. M m call bytes) (sym (pairs.same m s v.request e v.found).1) v.on;
-          in_order = subst (λ (w : Wire State). IsInOrder w.executed) (sym same) all.order;
-          late = λ m s sure e late.
-              let v = (own m s sure.0 sure.1 e).late late in
-              (v.0, subst (λ call. M m call v.0) (sym (pairs.same m s v.1.request e v.1.found).1) v.1.on);
-          once = λ keeps k. subst (λ (w : Wire State). ExecutesOnce keeps w.sent w.executed w.starts) (sym same) (all.once keeps k);
-          agrees = same;
-          first_reply = λ n line rest e le. first_reply width narrow ends Good exchange kept a b n line rest both e le;
-        }
+        let all = vouched_for width narrow is_of_table ends Good exchange kept keeper 8 AnyRequest ⊥ AnyLine (moved ends (by_numbers width) ms (numbers_begun u)) (all_excepted ms p) in
+        faithful_from ends Good kept keeper width narrow (ids_begun u) (numbers_begun u) both_begun ms p nulls_settled (λ m. (8 ≤ m) × IsSafe width ends u Good kept ms m) settlements stands parts all
+        (λ m s sure e. safe_own ms p m s sure.0 sure.1 e)

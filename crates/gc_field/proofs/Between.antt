@@ -16,7 +16,7 @@ use Rattle.gc_client.specs.Rule.{ById, Sending, sends}
 use Rattle.gc_instrument.specs.Replying.{Handed}
 use Rattle.gc_instrument.specs.State.{KeptReply}
 use Rattle.gc_world.specs.Clients.{by_ids}
-use Rattle.gc_field.specs.World.{Ends, Request, Sent, Numbered, Step, Send, Up_deliver, Up_lose, Up_repeat, Down_deliver, Down_lose, Down_repeat, Expire, Restart_client, Restart_instrument, Nothing, World, Wire, without, doubled, replied, up_delivered, with_up, with_down, started, requested, down_delivered, happens}
+use Rattle.gc_field.specs.World.{Ends, Request, Sent, Numbered, Step, Up_deliver, Up_lose, Up_repeat, Down_lose, Down_repeat, Nothing, World, Wire, without, doubled, replied, up_delivered, with_up, with_down, started, requested, down_delivered, happens}
 use Rattle.gc_world.proofs.Places.{get_more, get_push}
 use Rattle.gc_world.proofs.Rows.{each_without, each_doubled}
 use Rattle.gc_field.specs.Begin.{UnderWay}
@@ -231,17 +231,13 @@ module _ {State : Type 0} (ends : Ends State) where
 
   -- where the wire is `IsConsistent`, and a step of the line happens, `Goes` holds
   goes_line : (w : World (ById Asked) State) (quiet still : Type 0) (step : Step) → IsLineStep step → IsConsistent w.wire → Goes w.wire (happens ends (by_ids 7 ends) w step).wire quiet still
-  goes_line w quiet still (Send target call deadline) p k = absurd p
   goes_line w quiet still Up_deliver p k = goes_up w.wire quiet still w.wire.up refl k
   goes_line w quiet still (Up_lose i) p k = goes_with_up w.wire quiet still (without i w.wire.up) (ltb i (length w.wire.up)) (each_without _ i w.wire.up k.known) k
   goes_line w quiet still (Up_repeat i) p k = goes_with_up w.wire quiet still (doubled i w.wire.up) (ltb i (length w.wire.up)) (each_doubled _ i w.wire.up k.known) k
-  goes_line w quiet still Down_deliver p k = absurd p
   goes_line w quiet still (Down_lose i) p k = goes_with_down w.wire quiet still (without i w.wire.down) (ltb i (length w.wire.down)) k
   goes_line w quiet still (Down_repeat i) p k = goes_with_down w.wire quiet still (doubled i w.wire.down) (ltb i (length w.wire.down)) k
-  goes_line w quiet still (Expire now) p k = absurd p
-  goes_line w quiet still Restart_client p k = absurd p
-  goes_line w quiet still Restart_instrument p k = absurd p
   goes_line w quiet still Nothing p k = goes_same w.wire _ quiet still refl refl refl refl k.known k
+  goes_line w quiet still other p k = absurd p
 
   -- where `Goes` holds over one move with the premises p and r, and over the moves after it with q and s, and q implies p, and s
   -- implies r, `Goes` holds over all of these moves with q and s

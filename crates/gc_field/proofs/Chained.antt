@@ -23,16 +23,15 @@ use Rattle.gc_station.specs.Runs.{state_after}
 use Rattle.gc_station.specs.Scopes.{Scope}
 use Rattle.gc_station.specs.Model.{Runs, opening}
 use Rattle.gc_station.proofs.Booking.{marks_ask_length}
-use Rattle.gc_station.proofs.Lists.{all_at, get_more, all_on, cons_head, cons_tail}
+use Rattle.gc_station.proofs.Lists.{all_at, get_more, all_on}
 use Rattle.gc_station.proofs.Going.{runs_front}
 use Rattle.gc_field.specs.World.{Ends, Up_deliver}
 use Rattle.std.proofs.lemmas.Option.{same_Some, slice_get_within}
-use Rattle.gc_field.specs.Begin.{AreTurns, UnderWay, begins, leaves, left_by_turns}
-use Rattle.gc_field.specs.Begin.{SyncModel}
+use Rattle.gc_field.specs.Begin.{AreTurns, UnderWay, begins, leaves, left_by_turns, SyncModel}
 use Rattle.gc_field.specs.Beginnings.{ArePossibleIfBegun, AreRuns, Run, after_turns, left_by_run}
 use Rattle.gc_field.specs.Begun.{IsSafe, WasMadeOn, world_once_begun, ids_begun}
 use Rattle.gc_field.specs.Chains.{AreExecutedInChain, IsChainedTo, IsExecutedInChain}
-use Rattle.gc_field.specs.Field.{Move, Sends, Tells, Comes, Foreign, OnLine, Anew, Changes, Joins, seen}
+use Rattle.gc_field.specs.Field.{Move, OnLine, seen}
 use Rattle.gc_field.specs.Instrument.{IsAnInstrument}
 use Rattle.gc_field.specs.Laws.{asked}
 use Rattle.gc_station.specs.Links.{AreChained, IsBefore, IsAnsweredEarlier, ChainsStay, MarksGoOn, RecordsStay, parts}
@@ -40,49 +39,15 @@ use Rattle.gc_field.specs.Runs.{IsInField, IsItsOwn, IsOwnAnswer, Program, own_s
 use Rattle.gc_field.specs.Shown.{AreShownAs, Stretch, shown, stretches}
 use Rattle.gc_field.proofs.InTime.{clean_of, front_nil}
 use Rattle.gc_field.proofs.Possible.{front_possible}
+use Rattle.gc_field.proofs.Safe.{SplitSeen, split_seen}
 use Rattle.gc_field.proofs.Among.{get_drop, zip_at}
-use Rattle.gc_field.proofs.Joining.{Fits, IsSafePart, all_fitting, run_faithful, safe_in}
+use Rattle.gc_field.proofs.Joining.{Fits, Matches, joined, run_faithful}
 use Rattle.gc_field.proofs.Ordered.{executed_behind, in_front_at}
 use Rattle.gc_station.proofs.PartFronts.{IsFront, front_parts, front_last}
 use Rattle.gc_field.proofs.PartFronts.{IsLastSyncWhole, LastIsMarked, last_marked, whole_parts}
 use Rattle.std.proofs.lemmas.Bool.{cases_order}
 
 -- The stretches of a front.
-
--- these moves are cut after those whose steps a client sees as `xs`
-record SplitSeen {State : Type 0} (ms : List (Move State)) (xs : List (step.Step Asked)) : Type 0 where
-  front : List (Move State)
-  later : List (Move State)
-  order : ms ≡ front ++ later
-  steps : seen front ≡ xs
-
--- `SplitSeen` is preserved if a move, m, that the client sees as the step x is put before the moves, and x before the steps
-split_visible : {State : Type 0} (m : Move State) (st x : step.Step Asked) (ms : List (Move State)) (xs ys : List (step.Step Asked))
-    → ((l : List (Move State)) → seen (m ∷ l) ≡ st ∷ seen l) → (seen ms ≡ xs ++ ys → SplitSeen ms xs) → seen (m ∷ ms) ≡ x ∷ (xs ++ ys)
-    → SplitSeen (m ∷ ms) (x ∷ xs)
-split_visible m st x ms xs ys shows again e =
-    let both : st ∷ seen ms ≡ x ∷ (xs ++ ys) = sym (shows ms) ∙ e in
-    let h = again (cons_tail st x (seen ms) (xs ++ ys) both) in
-    record {
-      front = m ∷ h.front;
-      later = h.later;
-      order = ap (λ l. m ∷ l) h.order;
-      steps = shows h.front ∙ ap (λ l. st ∷ l) h.steps ∙ ap (λ z. z ∷ xs) (cons_head st x (seen ms) (xs ++ ys) both);
-    }
-
--- moves that show the client two lists of steps, one after the other, can be cut between the two
-split_seen : {State : Type 0} (ms : List (Move State)) (xs ys : List (step.Step Asked)) → seen ms ≡ xs ++ ys → SplitSeen ms xs
-split_seen ms [] ys e = record { front = []; later = ms; order = refl; steps = refl }
-split_seen [] (x ∷ xs) ys e = cc
-split_seen (Sends target call deadline ∷ ms) (x ∷ xs) ys e = split_visible (Sends target call deadline) (step.Send target call deadline) x ms xs ys (λ l. refl) (λ f. split_seen ms xs ys f) e
-split_seen (Tells now ∷ ms) (x ∷ xs) ys e = split_visible (Tells now) (step.Expire now) x ms xs ys (λ l. refl) (λ f. split_seen ms xs ys f) e
-split_seen (Comes line ∷ ms) (x ∷ xs) ys e = split_visible (Comes line) (step.Hear line) x ms xs ys (λ l. refl) (λ f. split_seen ms xs ys f) e
-split_seen (Foreign line ∷ ms) (x ∷ xs) ys e = split_visible (Foreign line) (step.Hear line) x ms xs ys (λ l. refl) (λ f. split_seen ms xs ys f) e
-split_seen (OnLine s ∷ ms) (x ∷ xs) ys e = let h = split_seen ms (x ∷ xs) ys e in record { front = OnLine s ∷ h.front; later = h.later; order = ap (λ l. OnLine s ∷ l) h.order; steps = h.steps }
-split_seen (Anew ∷ ms) (x ∷ xs) ys e = let h = split_seen ms (x ∷ xs) ys e in record { front = Anew ∷ h.front; later = h.later; order = ap (λ l. Anew ∷ l) h.order; steps = h.steps }
-split_seen (Changes state ∷ ms) (x ∷ xs) ys e = let h = split_seen ms (x ∷ xs) ys e in
-    record { front = Changes state ∷ h.front; later = h.later; order = ap (λ l. Changes state ∷ l) h.order; steps = h.steps }
-split_seen (Joins line ∷ ms) (x ∷ xs) ys e = let h = split_seen ms (x ∷ xs) ys e in record { front = Joins line ∷ h.front; later = h.later; order = ap (λ l. Joins line ∷ l) h.order; steps = h.steps }
 
 -- the stretch t is the front of the stretch s, up to some move
 record IsCutOf {State : Type 0} (t s : Stretch State) : Type 0 where
@@ -108,9 +73,9 @@ module _ {State : Type 0} (ends : Ends State) (Good : State → Type 0) (kept : 
 
   -- `CutRuns` of one part, p: its run is the first of possible runs, r, whose turns show those of p, cut after the moves that
   -- show the steps of p (`SplitSeen`)
-  cut_one : (p : Part) (u : UnderWay State) (r : Run State) (rs : List (Run State)) → shown ends r.turns (begins u) ≡ p.sync_steps → SplitSeen r.moves p.steps
+  cut_one : (p : Part) (u : UnderWay State) (r : Run State) (rs : List (Run State)) (more : List (step.Step Asked)) → shown ends r.turns (begins u) ≡ p.sync_steps → SplitSeen r.moves p.steps more
       → AreTurns ends Good kept r.turns (begins u) → ArePossibleIfBegun 7 ends Good kept (after_turns ends u r).left (after_turns ends u r) r.moves → CutRuns (p ∷ []) u (r ∷ rs)
-  cut_one p u r rs e x turns possible = record {
+  cut_one p u r rs more e x turns possible = record {
     runs = record { turns = r.turns; moves = x.front } ∷ [];
     shown = (e, x.steps, tt);
     possible = ((turns, possible_cut (after_turns ends u r).left (after_turns ends u r) r.moves x.front x.later x.order possible), tt);
@@ -152,7 +117,7 @@ module _ {State : Type 0} (ends : Ends State) (Good : State → Type 0) (kept : 
     by_whole (inl none) = absurd (marked none)
     by_whole (inr same) =
         let here : seen r.moves ≡ p.steps ++ h.front.0.steps = h.shown.1 ∙ ap (λ (x : Part). x.steps) h.front.1 in
-        cut_one p u r rs (h.shown.0 ∙ same) (split_seen r.moves p.steps h.front.0.steps here) h.possible.0.0 h.possible.0.1
+        cut_one p u r rs h.front.0.steps (h.shown.0 ∙ same) (split_seen r.moves p.steps h.front.0.steps here) h.possible.0.0 h.possible.0.1
 
   -- `CutRuns` is preserved if a part and the possible run that shows it are put before the parts and the runs
   cut_more : (p next : Part) (ps : List Part) (u : UnderWay State) (r : Run State) (rs : List (Run State)) → shown ends r.turns (begins u) ≡ p.sync_steps → seen r.moves ≡ p.steps
@@ -296,7 +261,7 @@ module _ {State : Type 0} (ends : Ends State) (Good : State → Type 0) (kept : 
       let cut = in_front_of acts sent.before sent.rest v rs sent.order marked h in
       let there = settled_there sent.before v cut.0.runs cut.1 q.k q.m b.cycle a sent.so_far sent.of_parts sent.count back many in
       let c = cut.0.last q.k there.0 q.stretch sent.last there.1 q.of_stretches in
-      let fit = zip_at (Fits ends Good kept is) (parts plan commands scope acts) ss q.k q.part q.stretch (all_fitting ends Good kept is v (run_of acts rs) h).0 q.of_parts q.of_stretches in
+      let fit = (zip_at (Matches ends Good kept is commands) (parts plan commands scope acts) ss q.k q.part q.stretch (joined ends Good kept is v (run_of acts rs) h).matched q.of_parts q.of_stretches).fits in
       let x : Settlement Asked = record { target = back.its.answer.command.target; call = back.its.answer.command.call; outcome = Answered back.its.good.line } in
       let w = (world_once_begun 7 ends q.stretch.from c.front).wire in
       let settled : slice_get (drop 8 w.settled) back.m ≡ Some x = subst (λ (t : Stretch State). slice_get (own_settled ends t) back.m ≡ Some x) c.is there.3 in
@@ -315,8 +280,8 @@ module _ {State : Type 0} (ends : Ends State) (Good : State → Type 0) (kept : 
       let same_cycle : back.its.answer.cycle ≡ b.cycle = back.its.own_cycle in
       let safe : IsSafe 7 ends q.stretch.from Good kept c.front (8 + back.m) =
       subst (λ (t : Stretch State). IsSafe 7 ends t.from Good kept t.moves (8 + back.m)) c.is
-      (zip_at (IsSafePart ends Good kept is) (parts plan commands scope sent.before) (stretches ends v cut.0.runs) q.k sent.so_far there.0
-      (safe_in ends Good kept is v (run_of sent.before cut.0.runs) cut.1) sent.of_parts there.1 back.m (mark_of back.expected back.its.answer) back.mark) in
+      ((zip_at (Matches ends Good kept is commands) (parts plan commands scope sent.before) (stretches ends v cut.0.runs) q.k sent.so_far there.0
+      (joined ends Good kept is v (run_of sent.before cut.0.runs) cut.1).matched sent.of_parts there.1).safe back.m (mark_of back.expected back.its.answer) back.mark) in
       record {
         earlier = record {
           k = back.its.k;

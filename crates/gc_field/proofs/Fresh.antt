@@ -10,7 +10,7 @@ use Rattle.gc_world.specs.Clients.{ByNumber}
 use Rattle.gc_field.specs.World.{Ends, Numbered, World}
 use Rattle.gc_world.proofs.Sound.{Sound}
 use Rattle.gc_field.specs.Begun.{IsBehindTheTable, IsByReply}
-use Rattle.gc_field.specs.Field.{Move, Sends, Tells, Comes, Foreign, OnLine, Anew, Changes, Joins, AsksOnly}
+use Rattle.gc_field.specs.Field.{Move, Sends, AsksOnly}
 use Rattle.gc_field.specs.Instrument.{IsAnInstrument, all_known}
 use Rattle.gc_field.proofs.Answered.{HoldsOfOutcome, holds_get, holds_below}
 use Rattle.gc_field.proofs.BeginLists.{each_both}
@@ -22,13 +22,7 @@ use Rattle.gc_field.proofs.Vouched.{AllVouched, Vouched}
 pub asks_all : {State : Type 0} (ms : List (Move State)) → AsksOnly all_known ms
 asks_all [] = tt
 asks_all (Sends target call deadline ∷ ms) = (refl, asks_all ms)
-asks_all (Tells now ∷ ms) = asks_all ms
-asks_all (Comes line ∷ ms) = asks_all ms
-asks_all (Foreign line ∷ ms) = asks_all ms
-asks_all (OnLine step ∷ ms) = asks_all ms
-asks_all (Anew ∷ ms) = asks_all ms
-asks_all (Changes state ∷ ms) = asks_all ms
-asks_all (Joins line ∷ ms) = asks_all ms
+asks_all (m ∷ ms) = asks_all ms
 
 -- request n is another one than m
 abbrev pub AllBut : (m n : ℕ) → Type 0

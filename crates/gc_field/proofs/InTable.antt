@@ -11,7 +11,7 @@ use Rattle.gc_values.proofs.Every.{every_behind as all_behind, every_front as al
 use Rattle.gc_field.specs.Begin.{UnderWay, begins}
 use Rattle.gc_field.specs.Beginnings.{Run, left_by_run}
 use Rattle.gc_field.specs.ClientRuns.{PlacedRun, events_of, events_over, placed_runs}
-use Rattle.gc_field.specs.Field.{Move, Sends, Tells, OnLine, Joins, AsksTheTable, seen}
+use Rattle.gc_field.specs.Field.{Move, Sends, Tells, AsksTheTable, seen}
 use Rattle.gc_field.specs.Field as field
 use Rattle.gc_field.specs.Instrument.{TreatsRawsAlike}
 use Rattle.gc_field.specs.Owned.{IsSafeRun}
@@ -24,10 +24,7 @@ table_moves (Sends target call deadline ∷ ms) h = (h.0, table_moves ms h.1)
 table_moves (Tells now ∷ ms) h = table_moves ms h.1
 table_moves (field.Comes line ∷ ms) h = table_moves ms h.1
 table_moves (field.Foreign line ∷ ms) h = table_moves ms h.1
-table_moves (OnLine step ∷ ms) h = table_moves ms h
-table_moves (field.Anew ∷ ms) h = table_moves ms h
-table_moves (field.Changes state ∷ ms) h = table_moves ms h
-table_moves (Joins line ∷ ms) h = table_moves ms h
+table_moves (m ∷ ms) h = table_moves ms h
 
 module _ {State : Type 0} (width : ℕ) (ends : Ends State) (Good : State → Type 0) (kept : State → Option KeptReply) where
   -- if a request that is no call of the table is to the instrument as all others, each run is safe

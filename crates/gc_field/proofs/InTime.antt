@@ -18,7 +18,7 @@ use Rattle.gc_field.specs.World.{Ends, Numbered, Wire, World, requested}
 use Rattle.gc_world.proofs.Sound.{IsComing}
 use Rattle.gc_field.specs.Begin.{UnderWay}
 use Rattle.gc_field.specs.Begun.{IsClean, IsFaithful, world_once_begun, ids_begun, nulls_settled, numbers_begun, ArePossibleOnceBegun}
-use Rattle.gc_field.specs.Field.{Move, Sends, Tells, Comes, Foreign, OnLine, Anew, Changes, Joins, moves, moved, seen}
+use Rattle.gc_field.specs.Field.{Move, Sends, Tells, Comes, Foreign, moves, moved, seen}
 use Rattle.gc_field.specs.Instrument.{IsAnInstrument}
 use Rattle.gc_field.specs.Laws.{asked}
 use Rattle.gc_field.specs.Runs.{IsFaithfulThroughout, SettlesByFirstReply, times_out, world}
@@ -40,10 +40,7 @@ seen_append (Sends target call deadline ∷ front) later = ap (λ xs. step.Send 
 seen_append (Tells now ∷ front) later = ap (λ xs. step.Expire now ∷ xs) (seen_append front later)
 seen_append (Comes line ∷ front) later = ap (λ xs. step.Hear line ∷ xs) (seen_append front later)
 seen_append (Foreign line ∷ front) later = ap (λ xs. step.Hear line ∷ xs) (seen_append front later)
-seen_append (OnLine s ∷ front) later = seen_append front later
-seen_append (Anew ∷ front) later = seen_append front later
-seen_append (Changes state ∷ front) later = seen_append front later
-seen_append (Joins line ∷ front) later = seen_append front later
+seen_append (m ∷ front) later = seen_append front later
 
 -- if more than k requests are outstanding (`ps`), what a reply to the one at place k settles has at place k the settlement of
 -- that request by the reply

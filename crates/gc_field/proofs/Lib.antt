@@ -57,5 +57,4 @@ pub mod Parting
 pub mod InTable
 pub mod SentNear
 mod Sessions
-pub mod Killed
 mod SessionWitness

@@ -1,6 +1,6 @@
 -- A step of the line alone leaves the client, and the lists of what was sent and settled, as they were.
 use Rattle.std.proofs.Common.{◌≡◌, ℕ, Bool, true, false, List, [], ◌∷◌, length, ltb, refl}
-use Rattle.gc_field.specs.World.{Request, Numbered, Ends, Rule, Step, Send, Up_deliver, Up_lose, Up_repeat, Down_deliver, Down_lose, Down_repeat, Expire, Restart_client, Restart_instrument, Nothing, World, without, doubled, up_delivered, with_up, with_down, on_wire, happens}
+use Rattle.gc_field.specs.World.{Request, Numbered, Ends, Rule, Step, Up_deliver, Up_lose, Up_repeat, Down_lose, Down_repeat, Nothing, World, without, doubled, up_delivered, with_up, with_down, on_wire, happens}
 use Rattle.gc_field.specs.Field.{IsLineStep}
 
 module _ {Client State : Type 0} where
@@ -28,14 +28,10 @@ module _ {Client State : Type 0} where
 
     -- `HaveTheSameClient` holds before and after a step of the line alone
     pub same_over_line : (step : Step) → IsLineStep step → HaveTheSameClient w (happens ends rule w step)
-    same_over_line (Send target call deadline) p = absurd p
     same_over_line Up_deliver p = same_up w.wire.up
     same_over_line (Up_lose k) p = same_with_up (without k w.wire.up) (ltb k (length w.wire.up))
     same_over_line (Up_repeat k) p = same_with_up (doubled k w.wire.up) (ltb k (length w.wire.up))
-    same_over_line Down_deliver p = absurd p
     same_over_line (Down_lose k) p = same_with_down (without k w.wire.down) (ltb k (length w.wire.down))
     same_over_line (Down_repeat k) p = same_with_down (doubled k w.wire.down) (ltb k (length w.wire.down))
-    same_over_line (Expire now) p = absurd p
-    same_over_line Restart_client p = absurd p
-    same_over_line Restart_instrument p = absurd p
     same_over_line Nothing p = record { sent = refl; settled = refl; client = refl }
+    same_over_line other p = absurd p

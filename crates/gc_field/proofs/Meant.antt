@@ -7,7 +7,7 @@ use Rattle.gc_texts.specs.declared.tasks.Task.{Task}
 use Rattle.gc_client.specs.OneForOne.{Expire}
 use Rattle.gc_links.specs.declared.link.Moment.{Moment}
 use Rattle.gc_station.specs.declared.plan.Plan.{Plan}
-use Rattle.gc_links.specs.Acts.{Act, Told, Untold, Put, Cut, Gave, Silent, Ended, Broke, Closed, Opened, Unopened}
+use Rattle.gc_links.specs.Acts.{Act, Put, Cut, Gave, Closed}
 use Rattle.gc_station.specs.Deciding.{has_begun}
 use Rattle.gc_station.specs.Parts.{Part, Hears, sync_part, client_part, heard_steps, put_part}
 use Rattle.gc_station.specs.Model.{Model, action_at, is_heard, lines_completed, Performs, after, Runs}
@@ -97,14 +97,8 @@ module _ (plan : Plan) (commands : List Task) where
         (put_by_client plan commands s (Cut bytes count) bytes fine obeys refl begun),
     same_rest s (Cut bytes count) obeys tt,
   )
-  act_means s (Told m) fine begun obeys = (refl, same_rest s (Told m) obeys tt)
-  act_means s Untold fine begun obeys = (refl, same_rest s Untold obeys tt)
-  act_means s (Silent m) fine begun obeys = (refl, same_rest s (Silent m) obeys tt)
-  act_means s Ended fine begun obeys = (refl, same_rest s Ended obeys tt)
-  act_means s Broke fine begun obeys = (refl, same_rest s Broke obeys tt)
   act_means s Closed fine begun obeys = (refl, no_rest s obeys)
-  act_means s Opened fine begun obeys = (refl, same_rest s Opened obeys tt)
-  act_means s Unopened fine begun obeys = (refl, same_rest s Unopened obeys tt)
+  act_means s act fine begun obeys = (refl, same_rest s act obeys tt)
 
   -- while a station synchronizes, an act that it performs means the steps of its part (`MeansSyncSteps`)
   sync_steps_mean : (s : Model) (act : Act) → has_begun s.progress ≡ false → Performs commands s (action_at plan s) act
@@ -122,14 +116,8 @@ module _ (plan : Plan) (commands : List Task) where
         (put_by_sync plan commands s (Cut bytes count) bytes obeys refl begins),
     same_rest s (Cut bytes count) obeys tt,
   )
-  sync_steps_mean s Untold begins obeys = (sync_steps_none s (action_at plan s) Untold tt, same_rest s Untold obeys tt)
-  sync_steps_mean s (Told m) begins obeys = (sync_steps_none s (action_at plan s) (Told m) tt, same_rest s (Told m) obeys tt)
-  sync_steps_mean s (Silent m) begins obeys = (sync_steps_none s (action_at plan s) (Silent m) tt, same_rest s (Silent m) obeys tt)
-  sync_steps_mean s Ended begins obeys = (sync_steps_none s (action_at plan s) Ended tt, same_rest s Ended obeys tt)
-  sync_steps_mean s Broke begins obeys = (sync_steps_none s (action_at plan s) Broke tt, same_rest s Broke obeys tt)
-  sync_steps_mean s Opened begins obeys = (sync_steps_none s (action_at plan s) Opened tt, same_rest s Opened obeys tt)
-  sync_steps_mean s Unopened begins obeys = (sync_steps_none s (action_at plan s) Unopened tt, same_rest s Unopened obeys tt)
   sync_steps_mean s Closed begins obeys = (sync_steps_none s (action_at plan s) Closed tt, no_rest s obeys)
+  sync_steps_mean s act begins obeys = (sync_steps_none s (action_at plan s) act tt, same_rest s act obeys tt)
 
   -- where the `Invariant` holds, an act that the station performs means its part, whether the station has synchronized (`b`) or
   -- not

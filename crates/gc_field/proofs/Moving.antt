@@ -14,7 +14,7 @@ use Rattle.gc_client.specs.Rule.{ById, Settlement, Answered, Late, settle}
 use Rattle.gc_instrument.specs.State.{KeptReply}
 use Rattle.gc_world.specs.Clients.{ByNumber, by_ids, by_numbers, ids_open, numbers_open, number_send, number_reply}
 use Rattle.gc_world.specs.Exchange.{IsExchange}
-use Rattle.gc_field.specs.World.{Request, Sent, Numbered, Ends, Step, Send, Up_deliver, Up_lose, Up_repeat, Down_deliver, Down_lose, Down_repeat, Expire, Restart_client, Restart_instrument, Nothing, World, Wire, without, doubled, replied, up_delivered, with_up, with_down, started, on_wire, requested, down_delivered, happens, written}
+use Rattle.gc_field.specs.World.{Request, Sent, Numbered, Ends, Step, Send, Up_deliver, Up_lose, Up_repeat, Down_deliver, Down_lose, Down_repeat, Expire, Nothing, World, Wire, without, doubled, replied, up_delivered, with_up, with_down, started, on_wire, requested, down_delivered, happens, written}
 use Rattle.gc_world.proofs.Agree.{Agree, agrees}
 use Rattle.std.proofs.lemmas.Option.{none-some}
 use Rattle.gc_world.proofs.Places.{all_at, get_push}
@@ -199,13 +199,7 @@ module _ {State : Type 0} (width : ℕ) (narrow : width ≤ 7) (knows : Asked �
   -- if the moves ask only what is known, so do those after the first
   pub asks_behind : (m : Move State) (ms : List (Move State)) → AsksOnly knows (m ∷ ms) → AsksOnly knows ms
   asks_behind (Sends target call deadline) ms h = h.1
-  asks_behind (Tells now) ms h = h
-  asks_behind (Comes line) ms h = h
-  asks_behind (Foreign line) ms h = h
-  asks_behind (OnLine step) ms h = h
-  asks_behind Anew ms h = h
-  asks_behind (Changes state) ms h = h
-  asks_behind (Joins line) ms h = h
+  asks_behind m ms h = h
 
   -- where `Both` holds of two worlds, `Trusted` is preserved by the first of these moves, which is possible, if `RepliesHave`
   -- holds of the moves and, where `MustKnow` holds, they ask only what is known
@@ -325,17 +319,13 @@ module _ {State : Type 0} (width : ℕ) (narrow : width ≤ 7) (knows : Asked �
 
     -- over a step of the line a fresh world stays fresh or becomes `TrustedIfKnown`
     fresh_line : (step : Step) → IsLineStep step → (IsFresh (happens ends (by_numbers width) b step) out) ⊎ TrustedIfKnown (happens ends (by_numbers width) b step)
-    fresh_line (Send target call deadline) p = absurd p
     fresh_line Up_deliver p = fresh_up b.wire.up refl
     fresh_line (Up_lose k) p = inl (fresh_with_up (without k b.wire.up) (ltb k (length b.wire.up)) (each_without _ k b.wire.up f.lines))
     fresh_line (Up_repeat k) p = inl (fresh_with_up (doubled k b.wire.up) (ltb k (length b.wire.up)) (each_doubled _ k b.wire.up f.lines))
-    fresh_line Down_deliver p = absurd p
     fresh_line (Down_lose k) p = inl (fresh_with_down (without k b.wire.down) (ltb k (length b.wire.down)) (ap (λ l. without k l) f.down))
     fresh_line (Down_repeat k) p = inl (fresh_with_down (doubled k b.wire.down) (ltb k (length b.wire.down)) (ap (λ l. doubled k l) f.down))
-    fresh_line (Expire now) p = absurd p
-    fresh_line Restart_client p = absurd p
-    fresh_line Restart_instrument p = absurd p
     fresh_line Nothing p = inl (record { since = f.since; count = f.count; down = f.down; executed = f.executed; settled = f.settled; sent = f.sent; lines = f.lines; known = f.known })
+    fresh_line other p = absurd p
 
   -- a fresh world in which no request was sent stays fresh if one is sent that is known, or if that is refused (`full`); at most
   -- one was sent then
@@ -384,9 +374,6 @@ module _ {State : Type 0} (width : ℕ) (narrow : width ≤ 7) (knows : Asked �
       fresh_all ms true _ _ (both_move width narrow ends Good ex kept a b (Sends target call deadline) p.0 h) p.1 k.1 l.1
       (replies_have_behind width ends M (Sends target call deadline) ms b on) (fresh_sent b target call deadline (eqb (length b.client.requests - b.client.count) width) k.0 f)
   fresh_all (Sends target call deadline ∷ ms) true a b h p k l on f = absurd (true≢false l.0)
-  fresh_all (Tells now ∷ ms) out a b h p k l on f =
-      fresh_all ms out _ _ (both_move width narrow ends Good ex kept a b (Tells now) p.0 h) p.1 k l (replies_have_behind width ends M (Tells now) ms b on)
-      (record { since = f.since; count = f.count; down = f.down; executed = f.executed; settled = f.settled; sent = f.sent; lines = f.lines; known = f.known })
   fresh_all (Comes line ∷ ms) out a b h p k l on f = absurd (nothing_down a b out _ p.0.1 h f p.0.2)
   fresh_all (Foreign line ∷ ms) out a b h p k l on f = fresh_all ms out a b h p.1 k l (replies_have_behind width ends M (Foreign line) ms b on) f
   fresh_all (OnLine step ∷ ms) out a b h p k l on f =
@@ -396,13 +383,10 @@ module _ {State : Type 0} (width : ℕ) (narrow : width ≤ 7) (knows : Asked �
         | inr t ↦ (vouched_for width narrow knows ends Good ex kept keeper 1 E (Unit {0}) M (moved ends (by_numbers width) ms (happens ends (by_numbers width) b step))
             (trusted_all width narrow knows ends Good ex kept keeper 1 E (Unit {0}) M ms _ _ both p.1 (λ plain. k) (replies_have_behind width ends M (OnLine step) ms b on) t))
       ]
-  fresh_all (Anew ∷ ms) out a b h p k l on f =
-      fresh_all ms out _ _ (both_move width narrow ends Good ex kept a b Anew p.0 h) p.1 k l (replies_have_behind width ends M Anew ms b on)
-      (record { since = f.since; count = f.count; down = f.down; executed = f.executed; settled = f.settled; sent = f.sent; lines = f.lines; known = f.known })
-  fresh_all (Changes state ∷ ms) out a b h p k l on f =
-      fresh_all ms out _ _ (both_move width narrow ends Good ex kept a b (Changes state) p.0 h) p.1 k l (replies_have_behind width ends M (Changes state) ms b on)
-      (record { since = f.since; count = f.count; down = f.down; executed = f.executed; settled = f.settled; sent = f.sent; lines = f.lines; known = f.known })
   fresh_all (Joins line ∷ ms) out a b h p k l on f = absurd p.0
+  fresh_all (m ∷ ms) out a b h p k l on f =
+      fresh_all ms out _ _ (both_move width narrow ends Good ex kept a b m p.0 h) p.1 k l (replies_have_behind width ends M m ms b on)
+      (record { since = f.since; count = f.count; down = f.down; executed = f.executed; settled = f.settled; sent = f.sent; lines = f.lines; known = f.known })
 
   -- from a good state of the instrument on, with a new client and nothing in flight: `IsVouchedFor` holds after possible moves of
   -- which `RepliesHave` holds, and which ask only what is known, the first request alone

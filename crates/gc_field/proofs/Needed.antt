@@ -1,5 +1,5 @@
 -- Each clause on instruments is needed: the instruments and runs of `specs/Needed.antt`, computed.
-use Rattle.std.proofs.Common.{◌≡◌, ℕ, ◌<◌, inl, inr, Bool, true, false, cond, List, [], ◌∷◌, Option, Some, None, refl, sym, ◌∙◌, ap, arith, lit<}
+use Rattle.std.proofs.Common.{◌≡◌, ◌⊎◌, ℕ, ◌<◌, inl, inr, Bool, true, false, cond, List, [], ◌∷◌, Option, Some, None, refl, sym, ◌∙◌, ap, arith, lit<}
 use Rattle.std.specs.List.{AllByRecursion}
 use Rattle.std.proofs.lemmas.Bool.{eqb-true, true≢false}
 use Rattle.std.specs.Prelude.{nat_eq, slice_get}
@@ -15,11 +15,11 @@ use Rattle.gc_world.proofs.Handing.{reply_heard}
 use Rattle.gc_world.proofs.Places.{all_at}
 use Rattle.gc_field.specs.Begin.{none_under_way}
 use Rattle.gc_field.specs.Begun.{IsClean, wire_over_empty_line}
-use Rattle.gc_field.specs.Instrument.{IsAnInstrument, MayBeKept, AnyState, never_kept, own_reply}
+use Rattle.gc_field.specs.Instrument.{IsAnInstrument, ReadsByGrammar, RepliesWithItsId, RepeatsWhatIsKept, StaysGoodOverRequests, StaysGoodOverStarts, MayBeKept, AnyState, never_kept, own_reply}
 use Rattle.gc_field.specs.Laws.{WasExecuted}
-use Rattle.gc_field.specs.Needed.{KeptNumber, IsAllNeeded, IsUnbroken, giving, refusal, keeper_kept, keeper, held, repeats_or_executes, keeper_handed, handed_if_known, breakable_handed, executes_again, refuses_raws, sound, forgets, repeated_request}
+use Rattle.gc_field.specs.Needed.{Clause, Hears, Replies, Repeats, StaysGood, StartsGood, IsAllBut, KeptNumber, IsAllNeeded, misheard, mistaken, pretends, wears_out, starts_broken, IsUnbroken, giving, refusal, keeper_kept, keeper, held, repeats_or_executes, keeper_handed, handed_if_known, breakable_handed, executes_again, refuses_raws, sound, forgets, repeated_request}
 use Rattle.gc_field.specs.Once.{ExecutesOnce}
-use Rattle.gc_field.specs.World.{Sent}
+use Rattle.gc_field.specs.World.{Ends, Sent}
 use Rattle.gc_field.proofs.Instruments.{keeps_none}
 
 -- where n is held for an id, the reply with that id and n is kept
@@ -191,6 +191,24 @@ clean_order = clean_none IsUnbroken never_kept false refl refl
 clean_kept : IsClean AnyState keeper_kept (none_under_way None)
 clean_kept = clean_none AnyState keeper_kept None tt refl
 
+-- moves are possible by which a request is sent, it reaches the instrument, and a line comes, if that line may come
+answered : {A B : Type 0} → A → B → Unit {0} × (Unit {0} × (A × B))
+answered comes later = (tt, (tt, (comes, later)))
+
+-- an instrument that keeps nothing meets the clauses on what is kept: so it meets all clauses but x, if it does those on what it reads, answers
+-- and repeats, and on its good states
+keeping_nothing : {State : Type 0} (x : Clause) (ends : Ends State) (Good : State → Type 0) → (x ≡ Hears) ⊎ ReadsByGrammar ends → (x ≡ Replies) ⊎ RepliesWithItsId ends Good
+    → (x ≡ Repeats) ⊎ RepeatsWhatIsKept ends Good never_kept → (x ≡ StaysGood) ⊎ StaysGoodOverRequests ends Good → (x ≡ StartsGood) ⊎ StaysGoodOverStarts ends Good → IsAllBut x ends Good never_kept
+keeping_nothing x ends Good hears replies repeats stays starts = record {
+  hears = hears;
+  replies = replies;
+  repeats = repeats;
+  keeps = inr (λ s id call good small. inl (inl refl));
+  starts = inr (λ s good. inl refl);
+  stays_good = stays;
+  starts_good = starts;
+}
+
 -- each clause on instruments is needed
 pub all_needed : IsAllNeeded
 unfolding header_at reply_at digits
@@ -199,47 +217,26 @@ all_needed =
       hears =
           record {
             all_but =
-                record {
-                  hears = inl refl;
-                  replies = inr (λ b id call good small. reads_giving id 0 small);
-                  repeats = inr (λ b id call good small not. absurd (true≢false not));
-                  keeps = inr (λ b id call good small. inl (inl refl));
-                  starts = inr (λ b good. inl refl);
-                  stays_good = inr (λ b id call good small. tt);
-                  starts_good = inr (λ b good. tt);
-                };
+                keeping_nothing Hears misheard AnyState (inl refl) (inr (λ b id call good small. reads_giving id 0 small))
+                (inr (λ b id call good small not. absurd (true≢false not))) (inr (λ b id call good small. tt)) (inr (λ b good. tt));
             good = tt;
-            booked = record { beyond = omega arith; clean = clean_any; field = (tt, (tt, ((8, [], refl), (tt, (tt, (tt, ((9, [], refl), tt))))))); settled = refl; executed = not_10 };
+            booked = record { beyond = omega arith; clean = clean_any; field = answered (8, [], refl) (tt, answered (9, [], refl) tt); settled = refl; executed = not_10 };
           };
       replies =
           record {
             all_but =
-                record {
-                  hears = inr (λ line. refl);
-                  replies = inl refl;
-                  repeats = inr (λ b id call good small not. absurd (true≢false not));
-                  keeps = inr (λ b id call good small. inl (inl refl));
-                  starts = inr (λ b good. inl refl);
-                  stays_good = inr (λ b id call good small. tt);
-                  starts_good = inr (λ b good. tt);
-                };
+                keeping_nothing Replies mistaken AnyState (inr (λ line. refl)) (inl refl)
+                (inr (λ b id call good small not. absurd (true≢false not))) (inr (λ b id call good small. tt)) (inr (λ b good. tt));
             good = tt;
-            booked = record { beyond = omega arith; clean = clean_any; field = (tt, (tt, ((8, [], refl), (tt, (tt, (tt, ((9, [], refl), tt))))))); settled = refl; executed = not_10 };
+            booked = record { beyond = omega arith; clean = clean_any; field = answered (8, [], refl) (tt, answered (9, [], refl) tt); settled = refl; executed = not_10 };
           };
       repeats =
           record {
             all_but =
-                record {
-                  hears = inr (λ line. refl);
-                  replies = inr (λ b id call good small. reads_giving id 0 small);
-                  repeats = inl refl;
-                  keeps = inr (λ b id call good small. inl (inl refl));
-                  starts = inr (λ b good. inl refl);
-                  stays_good = inr (λ b id call good small. tt);
-                  starts_good = inr (λ b good. tt);
-                };
+                keeping_nothing Repeats pretends AnyState (inr (λ line. refl)) (inr (λ b id call good small. reads_giving id 0 small))
+                (inl refl) (inr (λ b id call good small. tt)) (inr (λ b good. tt));
             good = tt;
-            booked = record { beyond = omega arith; clean = clean_any; field = (tt, (tt, ((8, [], refl), (tt, (tt, ((9, [], refl), tt)))))); settled = refl; executed = not_9_of_none };
+            booked = record { beyond = omega arith; clean = clean_any; field = answered (8, [], refl) (answered (9, [], refl) tt); settled = refl; executed = not_9_of_none };
           };
       keeps =
           record {
@@ -258,49 +255,9 @@ all_needed =
                 record {
                   beyond = omega arith;
                   clean = clean_kept;
-                  field = (
-                    tt,
-                    (
-                      tt,
-                      (
-                        (8, [], refl),
-                        (
-                          tt,
-                          (
-                            tt,
-                            (
-                              (9, [], refl),
-                              (
-                                tt,
-                                (
-                                  tt,
-                                  (
-                                    (10, [], refl),
-                                    (
-                                      tt,
-                                      (
-                                        tt,
-                                        (
-                                          (11, [], refl),
-                                          (
-                                            tt,
-                                            (
-                                              tt,
-                                              ((12, [], refl), (tt, (tt, ((13, [], refl), (tt, (tt, ((14, [], refl), (tt, (tt, ((15, [], refl), (tt, (tt, ((16, [], refl), tt))))))))))))),
-                                            ),
-                                          ),
-                                        ),
-                                      ),
-                                    ),
-                                  ),
-                                ),
-                              ),
-                            ),
-                          ),
-                        ),
-                      ),
-                    ),
-                  );
+                  field =
+                      answered (8, [], refl) (answered (9, [], refl) (answered (10, [], refl) (answered (11, [], refl) (answered (12, [], refl)
+                      (answered (13, [], refl) (answered (14, [], refl) (answered (15, [], refl) (answered (16, [], refl) tt))))))));
                   settled = refl;
                   executed = not_16;
                 };
@@ -318,85 +275,31 @@ all_needed =
                   starts_good = inr (λ k good. tt);
                 };
             good = tt;
-            booked = record { beyond = omega arith; clean = clean_kept; field = (tt, (tt, ((8, [], refl), (tt, (tt, (tt, ((9, [], refl), tt))))))); settled = refl; executed = not_9 };
+            booked = record { beyond = omega arith; clean = clean_kept; field = answered (8, [], refl) (tt, answered (9, [], refl) tt); settled = refl; executed = not_9 };
           };
       stays_good =
           record {
             all_but =
-                record {
-                  hears = inr (λ line. refl);
-                  replies = inr (λ b id call good small. breakable_reads b id good small);
-                  repeats = inr (λ b id call good small not. absurd (true≢false not));
-                  keeps = inr (λ b id call good small. inl (inl refl));
-                  starts = inr (λ b good. inl refl);
-                  stays_good = inl refl;
-                  starts_good = inr (λ b good. refl);
-                };
+                keeping_nothing StaysGood wears_out IsUnbroken (inr (λ line. refl)) (inr (λ b id call good small. breakable_reads b id good small))
+                (inr (λ b id call good small not. absurd (true≢false not))) (inl refl) (inr (λ b good. refl));
             good = refl;
-            booked = record { beyond = omega arith; clean = clean_order; field = (tt, (tt, ((8, [], refl), (tt, (tt, (tt, ((9, [], refl), tt))))))); settled = refl; executed = not_10 };
+            booked = record { beyond = omega arith; clean = clean_order; field = answered (8, [], refl) (tt, answered (9, [], refl) tt); settled = refl; executed = not_10 };
           };
       starts_good =
           record {
             all_but =
-                record {
-                  hears = inr (λ line. refl);
-                  replies = inr (λ b id call good small. breakable_reads b id good small);
-                  repeats = inr (λ b id call good small not. absurd (true≢false not));
-                  keeps = inr (λ b id call good small. inl (inl refl));
-                  starts = inr (λ b good. inl refl);
-                  stays_good = inr (λ b id call good small. good);
-                  starts_good = inl refl;
-                };
+                keeping_nothing StartsGood starts_broken IsUnbroken (inr (λ line. refl)) (inr (λ b id call good small. breakable_reads b id good small))
+                (inr (λ b id call good small not. absurd (true≢false not))) (inr (λ b id call good small. good)) (inl refl);
             good = refl;
-            booked = record { beyond = omega arith; clean = clean_order; field = (tt, (tt, ((8, [], refl), (tt, (tt, (tt, (tt, ((9, [], refl), tt)))))))); settled = refl; executed = not_10 };
+            booked = record { beyond = omega arith; clean = clean_order; field = answered (8, [], refl) (tt, (tt, answered (9, [], refl) tt)); settled = refl; executed = not_10 };
           };
       refuses_raws_is = refuses_raws_is;
       rule = λ raw. record {
         beyond = omega arith;
         clean = clean_kept;
-        field = (
-          tt,
-          (
-            tt,
-            (
-              (8, [], refl),
-              (
-                tt,
-                (
-                  tt,
-                  (
-                    (9, [], refl),
-                    (
-                      tt,
-                      (
-                        tt,
-                        (
-                          (10, [], refl),
-                          (
-                            tt,
-                            (
-                              tt,
-                              (
-                                (11, [], refl),
-                                (
-                                  tt,
-                                  (
-                                    tt,
-                                    ((12, [], refl), (tt, (tt, ((13, [], refl), (tt, (tt, ((14, [], refl), (tt, (tt, ((15, [], refl), (tt, (tt, ((16, [], refl), tt))))))))))))),
-                                  ),
-                                ),
-                              ),
-                            ),
-                          ),
-                        ),
-                      ),
-                    ),
-                  ),
-                ),
-              ),
-            ),
-          ),
-        );
+        field =
+            answered (8, [], refl) (answered (9, [], refl) (answered (10, [], refl) (answered (11, [], refl) (answered (12, [], refl)
+            (answered (13, [], refl) (answered (14, [], refl) (answered (15, [], refl) (answered (16, [], refl) tt))))))));
         settled = refl;
         executed = not_16;
       };
@@ -404,17 +307,17 @@ all_needed =
       changes_kept = record {
         beyond = omega arith;
         clean = clean_none {State = KeptNumber} AnyState never_kept None tt refl;
-        field = (tt, (tt, ((8, [], refl), ((tt, refl), (tt, (tt, ((9, [], refl), tt)))))));
+        field = answered (8, [], refl) ((tt, refl), answered (9, [], refl) tt);
         settled = refl;
         executed = not_9;
       };
       sound_is = sound_is;
-      changes_good = record { beyond = omega arith; clean = clean_any; field = (tt, (tt, ((8, [], refl), ((tt, refl), (tt, (tt, (tt, ((9, [], refl), tt)))))))); settled = refl; executed = not_10 };
+      changes_good = record { beyond = omega arith; clean = clean_any; field = answered (8, [], refl) ((tt, refl), (tt, answered (9, [], refl) tt)); settled = refl; executed = not_10 };
       again = record {
         instrument = executes_again_is;
         good = tt;
         clean = clean_kept;
-        field = (tt, (tt, ((8, [], refl), (tt, (tt, (tt, (tt, tt)))))));
+        field = answered (8, [], refl) (tt, (tt, (tt, (tt, tt))));
         twice = not_once (wire_over_empty_line executes_again None repeated_request).sent twice_sent refl refl;
       };
       again_keeps = λ k id call. refl;
@@ -423,7 +326,7 @@ all_needed =
         instrument = forgets_is;
         good = tt;
         clean = clean_any;
-        field = (tt, (tt, ((8, [], refl), (tt, (tt, (tt, (tt, tt)))))));
+        field = answered (8, [], refl) (tt, (tt, (tt, (tt, tt))));
         twice = not_once (wire_over_empty_line forgets false repeated_request).sent twice_sent refl refl;
       };
     }

@@ -1,6 +1,6 @@
 -- No line raises a doubt over a line that damages nothing: a reply that no request is outstanding for is to the request that was settled
 -- last. A *stretch* is a run once it has synchronized: what is in flight then, and its moves.
-use Rattle.std.proofs.Common.{◌≡◌, ◌⊎◌, inl, inr, ℕ, ◌+◌, ◌-◌, ◌%◌, ◌<◌, ◌≤◌, ◌&&◌, Bool, true, false, not, List, ◌∷◌, ◌++◌, length, nat_lt, nat_eq, Option, Some, refl, sym, ◌∙◌, ap, subst, arith, length-drop}
+use Rattle.std.proofs.Common.{◌≡◌, inl, inr, ℕ, ◌+◌, ◌-◌, ◌%◌, ◌<◌, ◌≤◌, ◌&&◌, Bool, true, false, not, List, ◌∷◌, ◌++◌, length, nat_lt, nat_eq, Option, Some, refl, sym, ◌∙◌, ap, subst, arith, length-drop}
 use Rattle.std.specs.List.{AllByRecursion}
 use Rattle.std.proofs.lemmas.Bool.{ltb-true, ltb-false, lt-ltb, and_right}
 use Rattle.gc_catalogue.specs.declared.asked.Asked.{Asked}
@@ -8,7 +8,7 @@ use Rattle.gc_client.specs.declared.pending.Pending.{Pending}
 use Rattle.gc_client.specs.Rule.{heard}
 use Rattle.gc_instrument.specs.State.{KeptReply}
 use Rattle.gc_texts.specs.Strays.{is_impossible}
-use Rattle.gc_world.specs.Clients.{by_ids, by_numbers}
+use Rattle.gc_world.specs.Clients.{by_numbers}
 use Rattle.gc_world.specs.Order.{Rising, numbers}
 use Rattle.gc_world.proofs.Ids.{place_within, place_before}
 use Rattle.gc_world.proofs.Sound.{IsComing}

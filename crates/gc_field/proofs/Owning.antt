@@ -24,11 +24,11 @@ asks_the_same : (r : Sent) (s : Settlement Asked) → s.target ≡ r.target → 
 asks_the_same r s t c = rw (t, c) refl
 
 -- an answer isn't lost
-answer_not_lost : (s : Settlement Asked) (line : List ℕ) → s.outcome ≡ Answered line → s.outcome ≡ Lost → ⊥
+pub answer_not_lost : (s : Settlement Asked) (line : List ℕ) → s.outcome ≡ Answered line → s.outcome ≡ Lost → ⊥
 answer_not_lost s line is lost = let both : Answered line ≡ Lost = rw (sym is) lost in cc
 
 -- nor is what is late
-late_not_lost : (s : Settlement Asked) → s.outcome ≡ Late → s.outcome ≡ Lost → ⊥
+pub late_not_lost : (s : Settlement Asked) → s.outcome ≡ Late → s.outcome ≡ Lost → ⊥
 late_not_lost s is lost = let both : Late ≡ Lost = rw (sym is) lost in cc
 
 module _ {State : Type 0} (width : ℕ) (ends : Ends State) (Good : State → Type 0) (kept : State → Option KeptReply) where

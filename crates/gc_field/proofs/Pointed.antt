@@ -33,7 +33,7 @@ use Rattle.std.proofs.lemmas.Option.{same_Some, slice_get_within}
 use Rattle.gc_world.proofs.Places.{get_map, element_at}
 use Rattle.gc_field.specs.Begin.{UnderWay}
 use Rattle.gc_field.specs.Chains.{AreCalls, HasNoStartAmong, IsUndisturbed, IsChainedTo, IsExecutedInChain, stretch_wire}
-use Rattle.gc_field.specs.Field.{Move, Sends, Tells, Comes, Foreign, OnLine, Anew, Changes, Joins}
+use Rattle.gc_field.specs.Field.{Move, Anew, Changes, Joins}
 use Rattle.gc_field.specs.Laws.{asked, kept_of}
 use Rattle.gc_field.specs.Pointing.{AreStill, IsPointedInChain, PointsAsLeft, SimulatorHasItsEffect, state_after_call, turns_telescope, PointsAs}
 use Rattle.gc_field.specs.Runs.{IsInField, Program, own_sent, program_parts, program_records, world}
@@ -79,14 +79,10 @@ has_effect =
 -- if nothing disturbs the instrument, it doesn't start
 no_start : (ms : List (Move State)) → IsUndisturbed ms → HasNoStartAmong ms
 no_start [] h = tt
-no_start (Sends target asked deadline ∷ ms) h = no_start ms h
-no_start (Tells now ∷ ms) h = no_start ms h
-no_start (Comes line ∷ ms) h = no_start ms h
-no_start (Foreign line ∷ ms) h = no_start ms h
-no_start (OnLine step ∷ ms) h = no_start ms h
 no_start (Anew ∷ ms) h = absurd h
 no_start (Changes state ∷ ms) h = absurd h
 no_start (Joins line ∷ ms) h = absurd h
+no_start (m ∷ ms) h = no_start ms h
 
 -- What a call that doesn't turn the telescope leaves.
 

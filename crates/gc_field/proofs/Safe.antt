@@ -1,5 +1,5 @@
 -- Each command of a station is safe in its stretch: it is sent after the table, as the station's rule says.
-use Rattle.std.proofs.Common.{◌≡◌, inr, ℕ, ◌+◌, ◌<◌, ◌≤◌, Bool, true, false, List, [], ◌∷◌, ◌++◌, length, map, Option, Some, None, refl, sym, ◌∙◌, ap, subst, arith, ltb}
+use Rattle.std.proofs.Common.{◌≡◌, inr, ℕ, ◌+◌, ◌<◌, ◌≤◌, Bool, true, false, List, [], ◌∷◌, ◌++◌, length, map, Option, Some, None, refl, sym, ◌∙◌, ap, subst, append_assoc, append-nil, arith, ltb}
 use Rattle.std.proofs.lemmas.Bool.{ltb-true, ltb-false}
 use Rattle.std.specs.Prelude.{slice_get}
 use Rattle.std.proofs.lemmas.List.{length-append, length-map, length_push}
@@ -15,11 +15,11 @@ use Rattle.gc_field.specs.World.{Ends}
 use Rattle.gc_world.proofs.Places.{element_at}
 use Rattle.gc_world.specs.Worlds.{of_sent}
 use Rattle.gc_field.specs.Begun.{IsBehindTheTable, IsByReply, WentOutBehindTheTable, world_once_begun, ids_begun, nulls, nulls_settled}
-use Rattle.gc_field.specs.Field.{Move, Sends, Tells, Comes, Foreign, OnLine, Anew, Changes, Joins, seen}
+use Rattle.gc_field.specs.Field.{Move, Sends, Tells, Comes, Foreign, seen}
 use Rattle.gc_field.specs.Instrument.{IsAnInstrument}
 use Rattle.gc_field.specs.Shown.{Stretch}
 use Rattle.gc_field.proofs.BegunFaithful.{sent_is}
-use Rattle.gc_field.proofs.InTime.{IsSoundStretch, faithful_throughout}
+use Rattle.gc_field.proofs.InTime.{IsSoundStretch, faithful_throughout, seen_append}
 use Rattle.gc_field.proofs.Possible.{front_possible}
 use Rattle.gc_station.proofs.Booking.{course_sent, sent_by}
 use Rattle.gc_station.proofs.Lists.{cons_head, cons_tail, get_behind, get_more}
@@ -97,12 +97,45 @@ split_at (step.Restart ∷ steps) x n low high =
     let r = split_at steps (course_after 7 x step.Restart) n low high in
     record { front = step.Restart ∷ r.front; later = r.later; target = r.target; call = r.call; deadline = r.deadline; split = ap (λ l. step.Restart ∷ l) r.split; number = r.number; sent = r.sent }
 
+-- these moves are cut after those whose steps a client sees as `xs`; it sees `ys` of the others
+pub record SplitSeen {State : Type 0} (ms : List (Move State)) (xs ys : List (Step Asked)) : Type 0 where
+  pub front : List (Move State)
+  pub later : List (Move State)
+  pub order : ms ≡ front ++ later
+  pub steps : seen front ≡ xs
+  pub rest : seen later ≡ ys
+
+-- `SplitSeen` is preserved if a move, m, that the client sees as the step x is put before the moves, and x before the steps
+split_visible : {State : Type 0} (m : Move State) (st x : Step Asked) (ms : List (Move State)) (xs ys : List (Step Asked))
+    → ((l : List (Move State)) → seen (m ∷ l) ≡ st ∷ seen l) → (seen ms ≡ xs ++ ys → SplitSeen ms xs ys) → seen (m ∷ ms) ≡ x ∷ (xs ++ ys)
+    → SplitSeen (m ∷ ms) (x ∷ xs) ys
+split_visible m st x ms xs ys shows again e =
+    let both : st ∷ seen ms ≡ x ∷ (xs ++ ys) = sym (shows ms) ∙ e in
+    let h = again (cons_tail st x (seen ms) (xs ++ ys) both) in
+    record {
+      front = m ∷ h.front;
+      later = h.later;
+      order = ap (λ l. m ∷ l) h.order;
+      steps = shows h.front ∙ ap (λ l. st ∷ l) h.steps ∙ ap (λ z. z ∷ xs) (cons_head st x (seen ms) (xs ++ ys) both);
+      rest = h.rest;
+    }
+
+-- moves that show the client two lists of steps, one after the other, can be cut between the two
+pub split_seen : {State : Type 0} (ms : List (Move State)) (xs ys : List (Step Asked)) → seen ms ≡ xs ++ ys → SplitSeen ms xs ys
+split_seen ms [] ys e = record { front = []; later = ms; order = refl; steps = refl; rest = e }
+split_seen [] (x ∷ xs) ys e = cc
+split_seen (Sends target call deadline ∷ ms) (x ∷ xs) ys e = split_visible (Sends target call deadline) (step.Send target call deadline) x ms xs ys (λ l. refl) (λ f. split_seen ms xs ys f) e
+split_seen (Tells now ∷ ms) (x ∷ xs) ys e = split_visible (Tells now) (step.Expire now) x ms xs ys (λ l. refl) (λ f. split_seen ms xs ys f) e
+split_seen (Comes line ∷ ms) (x ∷ xs) ys e = split_visible (Comes line) (step.Hear line) x ms xs ys (λ l. refl) (λ f. split_seen ms xs ys f) e
+split_seen (Foreign line ∷ ms) (x ∷ xs) ys e = split_visible (Foreign line) (step.Hear line) x ms xs ys (λ l. refl) (λ f. split_seen ms xs ys f) e
+split_seen (m ∷ ms) (x ∷ xs) ys e = let h = split_seen ms (x ∷ xs) ys e in record { front = m ∷ h.front; later = h.later; order = ap (λ l. m ∷ l) h.order; steps = h.steps; rest = h.rest }
+
 -- these moves, split at a send with this target, call and deadline: the client sees the steps `front` of the moves before it
-pub record IsSeen {State : Type 0} (ms : List (Move State)) (front : List (Step Asked)) (target : ℕ) (call : Asked) (deadline : ℕ) : Type 0 where
-  pub before : List (Move State)
-  pub after : List (Move State)
-  pub split : ms ≡ before ++ Sends target call deadline ∷ after
-  pub seen_before : seen before ≡ front
+record IsSeen {State : Type 0} (ms : List (Move State)) (front : List (Step Asked)) (target : ℕ) (call : Asked) (deadline : ℕ) : Type 0 where
+  before : List (Move State)
+  after : List (Move State)
+  split : ms ≡ before ++ Sends target call deadline ∷ after
+  seen_before : seen before ≡ front
 
 -- `IsSeen` is preserved by a move put before the others of which the client sees nothing
 seen_later : {State : Type 0} (m : Move State) (ms : List (Move State)) (front : List (Step Asked)) (target : ℕ) (call : Asked) (deadline : ℕ) → ((l : List (Move State)) → seen (m ∷ l) ≡ seen l)
@@ -110,46 +143,34 @@ seen_later : {State : Type 0} (m : Move State) (ms : List (Move State)) (front :
 seen_later m ms front target call deadline none h =
     record { before = m ∷ h.before; after = h.after; split = ap (λ l. m ∷ l) h.split; seen_before = none h.before ∙ h.seen_before }
 
--- `IsSeen` is preserved by a move put before the others of which the client sees the step s, with s put before `front`
-seen_more : {State : Type 0} (m : Move State) (s : Step Asked) (ms : List (Move State)) (front : List (Step Asked)) (target : ℕ) (call : Asked) (deadline : ℕ)
-    → ((l : List (Move State)) → seen (m ∷ l) ≡ s ∷ seen l) → IsSeen ms front target call deadline → IsSeen (m ∷ ms) (s ∷ front) target call deadline
-seen_more m s ms front target call deadline one h =
-    record { before = m ∷ h.before; after = h.after; split = ap (λ l. m ∷ l) h.split; seen_before = one h.before ∙ ap (λ l. s ∷ l) h.seen_before }
-
--- where the client sees a send after the steps `front` of these moves, that send is one of the moves, as `IsSeen` says
-pub seen_at : {State : Type 0} (ms : List (Move State)) (front later : List (Step Asked)) (target : ℕ) (call : Asked) (deadline : ℕ) → seen ms ≡ front ++ step.Send target call deadline ∷ later
-    → IsSeen ms front target call deadline
-seen_at [] [] later target call deadline e = let never : ⊥ = cc in absurd never
-seen_at [] (s ∷ front) later target call deadline e = let never : ⊥ = cc in absurd never
-seen_at (Sends t c d ∷ ms) [] later target call deadline e =
+-- where the first step that the client sees of these moves is a send, that send is one of the moves, and the client sees nothing of those
+-- before it
+sent_first : {State : Type 0} (ms : List (Move State)) (later : List (Step Asked)) (target : ℕ) (call : Asked) (deadline : ℕ) → seen ms ≡ step.Send target call deadline ∷ later
+    → IsSeen ms [] target call deadline
+sent_first [] later target call deadline e = let never : ⊥ = cc in absurd never
+sent_first (Sends t c d ∷ ms) later target call deadline e =
     record { before = []; after = ms; split = same (cons_head (step.Send t c d) (step.Send target call deadline) (seen ms) later e); seen_before = refl }
   where
     -- equal sends of the client are equal moves
     same : step.Send t c d ≡ step.Send target call deadline → Sends t c d ∷ ms ≡ Sends target call deadline ∷ ms
     same e = cc
-seen_at (Sends t c d ∷ ms) (s ∷ front) later target call deadline e =
-    subst (λ (x : Step Asked). IsSeen (Sends t c d ∷ ms) (x ∷ front) target call deadline) (cons_head (step.Send t c d) s (seen ms) (front ++ step.Send target call deadline ∷ later) e)
-    (seen_more (Sends t c d) (step.Send t c d) ms front target call deadline (λ l. refl)
-    (seen_at ms front later target call deadline (cons_tail (step.Send t c d) s (seen ms) (front ++ step.Send target call deadline ∷ later) e)))
-seen_at (Tells now ∷ ms) [] later target call deadline e = let never : ⊥ = cc in absurd never
-seen_at (Tells now ∷ ms) (s ∷ front) later target call deadline e =
-    subst (λ (x : Step Asked). IsSeen (Tells now ∷ ms) (x ∷ front) target call deadline) (cons_head (step.Expire now) s (seen ms) (front ++ step.Send target call deadline ∷ later) e)
-    (seen_more (Tells now) (step.Expire now) ms front target call deadline (λ l. refl)
-    (seen_at ms front later target call deadline (cons_tail (step.Expire now) s (seen ms) (front ++ step.Send target call deadline ∷ later) e)))
-seen_at (Comes line ∷ ms) [] later target call deadline e = let never : ⊥ = cc in absurd never
-seen_at (Comes line ∷ ms) (s ∷ front) later target call deadline e =
-    subst (λ (x : Step Asked). IsSeen (Comes line ∷ ms) (x ∷ front) target call deadline) (cons_head (step.Hear line) s (seen ms) (front ++ step.Send target call deadline ∷ later) e)
-    (seen_more (Comes line) (step.Hear line) ms front target call deadline (λ l. refl)
-    (seen_at ms front later target call deadline (cons_tail (step.Hear line) s (seen ms) (front ++ step.Send target call deadline ∷ later) e)))
-seen_at (Foreign line ∷ ms) [] later target call deadline e = let never : ⊥ = cc in absurd never
-seen_at (Foreign line ∷ ms) (s ∷ front) later target call deadline e =
-    subst (λ (x : Step Asked). IsSeen (Foreign line ∷ ms) (x ∷ front) target call deadline) (cons_head (step.Hear line) s (seen ms) (front ++ step.Send target call deadline ∷ later) e)
-    (seen_more (Foreign line) (step.Hear line) ms front target call deadline (λ l. refl)
-    (seen_at ms front later target call deadline (cons_tail (step.Hear line) s (seen ms) (front ++ step.Send target call deadline ∷ later) e)))
-seen_at (OnLine m ∷ ms) front later target call deadline e = seen_later (OnLine m) ms front target call deadline (λ l. refl) (seen_at ms front later target call deadline e)
-seen_at (Anew ∷ ms) front later target call deadline e = seen_later Anew ms front target call deadline (λ l. refl) (seen_at ms front later target call deadline e)
-seen_at (Changes state ∷ ms) front later target call deadline e = seen_later (Changes state) ms front target call deadline (λ l. refl) (seen_at ms front later target call deadline e)
-seen_at (Joins line ∷ ms) front later target call deadline e = seen_later (Joins line) ms front target call deadline (λ l. refl) (seen_at ms front later target call deadline e)
+sent_first (Tells now ∷ ms) later target call deadline e = let never : ⊥ = cc in absurd never
+sent_first (Comes line ∷ ms) later target call deadline e = let never : ⊥ = cc in absurd never
+sent_first (Foreign line ∷ ms) later target call deadline e = let never : ⊥ = cc in absurd never
+sent_first (m ∷ ms) later target call deadline e = seen_later m ms [] target call deadline (λ l. refl) (sent_first ms later target call deadline e)
+
+-- where the client sees a send after the steps `front` of these moves, that send is one of the moves, as `IsSeen` says
+seen_at : {State : Type 0} (ms : List (Move State)) (front later : List (Step Asked)) (target : ℕ) (call : Asked) (deadline : ℕ) → seen ms ≡ front ++ step.Send target call deadline ∷ later
+    → IsSeen ms front target call deadline
+seen_at ms front later target call deadline e =
+    let cut = split_seen ms front (step.Send target call deadline ∷ later) e in
+    let first = sent_first cut.later later target call deadline cut.rest in
+    record {
+      before = cut.front ++ first.before;
+      after = first.after;
+      split = cut.order ∙ ap (λ l. cut.front ++ l) first.split ∙ sym (append_assoc cut.front first.before (Sends target call deadline ∷ first.after));
+      seen_before = seen_append cut.front first.before ∙ ap (λ l. l ++ seen first.before) cut.steps ∙ ap (λ l. front ++ l) first.seen_before ∙ append-nil front;
+    }
 
 -- What is near the table by the steps is so by the moves.
 

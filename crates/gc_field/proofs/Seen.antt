@@ -12,7 +12,7 @@ use Rattle.gc_field.specs.World.{Numbered, Ends, Step, World, requested, with_se
 use Rattle.gc_world.specs.Worlds.{of_sent}
 use Rattle.gc_field.specs.Instrument.{ReadsByGrammar}
 use Rattle.gc_field.proofs.LineSteps.{same_over_line}
-use Rattle.gc_field.specs.Field.{Move, Sends, Tells, Comes, Foreign, OnLine, Anew, Changes, Joins, IsLineStep, moved, ArePossible, seen}
+use Rattle.gc_field.specs.Field.{Move, Sends, Tells, Comes, Foreign, OnLine, Joins, IsLineStep, moved, ArePossible, seen}
 
 module _ {State : Type 0} (width : ℕ) (ends : Ends State) (same_heard : ReadsByGrammar ends) (Good : State → Type 0) (kept : State → Option KeptReply) where
   -- the course of a client and the world have the same requests, settlements and client
@@ -72,9 +72,8 @@ module _ {State : Type 0} (width : ℕ) (ends : Ends State) (same_heard : ReadsB
   same_all (Comes line ∷ ms) x w p h = same_all ms _ _ p.1 (same_comes x w line p.0.0 p.0.1 p.0.2 h)
   same_all (Foreign line ∷ ms) x w p h = same_all ms _ _ p.1 (same_foreign x w line p.0 h)
   same_all (OnLine step ∷ ms) x w p h = same_all ms x _ p.1 (same_line x w step p.0 h)
-  same_all (Anew ∷ ms) x w p h = same_all ms x _ p.1 (record { sent = h.sent; settled = h.settled; client = h.client })
-  same_all (Changes state ∷ ms) x w p h = same_all ms x _ p.1 (record { sent = h.sent; settled = h.settled; client = h.client })
   same_all (Joins line ∷ ms) x w p h = absurd p.0
+  same_all (m ∷ ms) x w p h = same_all ms x _ p.1 (record { sent = h.sent; settled = h.settled; client = h.client })
 
   -- `SameAs` holds at the start
   pub same_open : (state : State) → SameAs begun (ids_open state)

@@ -1,5 +1,5 @@
 -- Calls on a session that meet each premise of `EachSessionIsOwn`, computed: so the laws that say it aren't about nothing.
-use Rattle.std.proofs.Common.{◌≡◌, ◌⊎◌, ℕ, Bool, true, false, List, [], ◌∷◌, ◌++◌, None, inl, inr, refl, sym, ap, ◌∙◌, arith}
+use Rattle.std.proofs.Common.{◌≡◌, ◌⊎◌, ℕ, Bool, true, false, List, [], ◌∷◌, ◌++◌, map, None, inl, inr, refl, sym, ap, ◌∙◌, arith}
 use Rattle.std.specs.Prelude.{codes, take, drop}
 use Rattle.std.specs.Fmt.{digits}
 use Rattle.gc_lines.specs.Readers.{header_at, reply_at}
@@ -8,14 +8,13 @@ use Rattle.gc_catalogue.specs.declared.asked.Asked.TheVariants.{Table, Raw}
 use Rattle.gc_catalogue.specs.declared.raw.RawCall.{RawCall}
 use Rattle.gc_catalogue.specs.declared.call.Call.TheVariants.{InstrumentNo, NullProc}
 use Rattle.gc_client.specs.Beginning.{the_word}
-use Rattle.gc_client.specs.OneForOne as one
-use Rattle.gc_client.specs.Rule.{ById, Settlement, Answered, fresh, pending_of}
+use Rattle.gc_client.specs.Rule.{ById, Settlement, fresh, pending_of}
 use Rattle.gc_client.specs.declared.window.TheConstants.{WINDOW}
 use Rattle.gc_instrument.specs.Execution.{exec}
 use Rattle.gc_instrument.specs.Replying.{handed}
 use Rattle.gc_instrument.specs.State.{IsFittingState, simulator_opening}
 use Rattle.gc_session.specs.Calls.{Call, Steps, Asks, Hears, Opens, Restarts, after, events_all, events_of, settled_all, settles}
-use Rattle.gc_session.specs.Events.{ClientEvent, Null, Came, Stepped}
+use Rattle.gc_session.specs.Events.{ClientEvent}
 use Rattle.gc_session.specs.Sessions.{Session, opening}
 use Rattle.gc_session.specs.declared.session.TheConstants.{OWN}
 use Rattle.gc_session.specs.declared.settings.Want.TheVariants.{Send}
@@ -26,7 +25,7 @@ use Rattle.gc_field.specs.Simulator.{simulator_ends}
 use Rattle.gc_field.specs.CountingChain.{counting, kept_by}
 use Rattle.gc_field.specs.Instrument.{AnyState}
 use Rattle.gc_field.specs.Laws.{kept_of}
-use Rattle.gc_field.specs.SessionWitness.{Exchange, IsSessionInField, SomeSessionIsInField, calls, counting_exchange, events, moves, old_reply, old_reply_alone, runs, settings, simulator_exchange}
+use Rattle.gc_field.specs.SessionWitness.{Exchange, IsSessionInField, SomeSessionIsInField, counting_exchange, events, moves, old_reply, old_reply_alone, runs, settings, simulator_exchange}
 use Rattle.gc_field.proofs.CountingChain.{counted_in_field}
 use Rattle.gc_field.proofs.Instruments.{simulator_is_an_instrument}
 use Rattle.gc_field.proofs.Witness.{opening_fits, units}
@@ -54,96 +53,79 @@ at_point phase stretch has_asked word again asked behind client = record {
   client = client;
 }
 
--- these calls have these events and settlements, from the session s on
-record Walks (calls : List Call) (s : Session) (es : List ClientEvent) (ss : List (Settlement Asked)) : Type 0 where
-  events : events_all calls s ≡ es
-  settled : settled_all calls s ≡ ss
+-- a call, and the session after it
+abbrev Step : Type 0
+Step = Call × Session
 
--- no calls have none
-walks_none : (s : Session) → Walks [] s [] []
-walks_none s = record { events = refl; settled = refl }
+-- these steps, one after the other, lead from the session s on
+abbrev AreSteps : Session → List Step → Type 0
+AreSteps s [] = Unit {0}
+AreSteps s (x ∷ xs) = (after x.0 s ≡ x.1) × AreSteps x.1 xs
 
--- one call more, which leads to the session t
-goes : (call : Call) (calls : List Call) (s t : Session) (front es : List ClientEvent) (first ss : List (Settlement Asked)) → after call s ≡ t → events_of call s ≡ front → settles call s ≡ first
-    → Walks calls t es ss → Walks (call ∷ calls) s (front ++ es) (first ++ ss)
-goes call calls s t front es first ss a e f w = record {
-  events = ap (λ l. l ++ events_all calls (after call s)) e ∙ ap (λ u. front ++ events_all calls u) a ∙ ap (λ l. front ++ l) w.events;
-  settled = ap (λ l. l ++ settled_all calls (after call s)) f ∙ ap (λ u. first ++ settled_all calls u) a ∙ ap (λ l. first ++ l) w.settled;
-}
+-- the events of steps from the session s on
+abbrev events_in : Session → List Step → List ClientEvent
+events_in s [] = []
+events_in s (x ∷ xs) = events_of x.0 s ++ events_in x.1 xs
 
--- what is settled in these calls
-abbrev settled_in : Exchange → List (Settlement Asked)
-settled_in x =
-    record { target = OWN; call = Table NullProc; outcome = Answered x.null } ∷ record { target = 7; call = Table InstrumentNo; outcome = Answered x.one }
-    ∷ record { target = 8; call = x.asked; outcome = Answered x.other } ∷ []
+-- what steps from the session s on settle
+abbrev settled_in : Session → List Step → List (Settlement Asked)
+settled_in s [] = []
+settled_in s (x ∷ xs) = settles x.0 s ++ settled_in x.1 xs
 
--- the calls over the instrument that counts, one after the other
-walk_counting : (raw : RawCall) → Walks (calls (counting_exchange raw)) (opening settings) (events (counting_exchange raw)) (settled_in (counting_exchange raw))
+-- the calls of steps have the events of the steps, and settle what these do
+walked : (s : Session) (xs : List Step) → AreSteps s xs → (events_all (map (λ (x : Step). x.0) xs) s ≡ events_in s xs) × (settled_all (map (λ (x : Step). x.0) xs) s ≡ settled_in s xs)
+walked s [] h = (refl, refl)
+walked s (x ∷ xs) h =
+    let calls = map (λ (x : Step). x.0) xs in
+    let more = walked x.1 xs h.1 in (
+      ap (λ l. events_of x.0 s ++ l) (ap (λ u. events_all calls u) h.0 ∙ more.0),
+      ap (λ l. settles x.0 s ++ l) (ap (λ u. settled_all calls u) h.0 ∙ more.1),
+    )
+
+-- one step more, which is computed
+on : {S R : Type 0} {s : S} → R → (s ≡ s) × R
+on r = (refl, r)
+
+-- the session while it synchronizes: these ids of the word aren't answered
+abbrev synchronizing : (word : List ℕ) → (again : ℕ) → (asked : Bool) → Session
+synchronizing word again asked = at_point phase.Ready 0 false word again asked 7 fresh
+
+-- the steps in which these lines answer the ids of the word, and before each line but the first a null procedure is asked for
+abbrev answering : (lines : List (List ℕ)) → (word : List ℕ) → List Step → List Step
+answering (line ∷ []) (id ∷ word) later = (Hears line, synchronizing word 0 false) ∷ later
+answering (line ∷ next ∷ lines) (id ∷ word) later = (Hears line, synchronizing word 0 false) ∷ (Steps Send 0, synchronizing word 100 true) ∷ answering (next ∷ lines) word later
+answering _ _ later = later
+
+-- the steps of these calls; `behind` says how many requests follow the last call of the table that a reply ended, once all are answered
+abbrev steps : (behind : ℕ) → Exchange → List Step
+steps behind x =
+    let first = pending_of 7 (Table InstrumentNo) 9 in
+    let second = pending_of 8 x.asked 9 in
+    (Opens 0, at_point phase.Clearing 0 false the_word 0 false 7 fresh)
+    ∷ (Steps Send 0, synchronizing the_word 0 false)
+    ∷ (Steps Send 0, synchronizing the_word 100 true)
+    ∷ (Hears old_reply, synchronizing the_word 100 false)
+    ∷ answering x.nulls the_word
+    ((Steps Send 0, at_point phase.Ready 0 false [] 0 true 7 (record { next = 1; waiting = pending_of OWN (Table NullProc) 100 ∷ [] }))
+    ∷ (Hears x.null, at_point phase.Ready 0 false [] 0 false 0 (record { next = 1; waiting = [] }))
+    ∷ (Asks 7 (Table InstrumentNo) 9, at_point phase.Ready 0 true [] 0 true 1 (record { next = 2; waiting = first ∷ [] }))
+    ∷ (Asks 8 x.asked 9, at_point phase.Ready 0 true [] 0 true 2 (record { next = 3; waiting = first ∷ second ∷ [] }))
+    ∷ (Hears x.one, at_point phase.Ready 0 true [] 0 false 1 (record { next = 3; waiting = second ∷ [] }))
+    ∷ (Hears x.other, at_point phase.Ready 0 true [] 0 false behind (record { next = 3; waiting = [] }))
+    ∷ (Restarts, at_point phase.Clearing 1 true the_word 0 false 7 fresh)
+    ∷ (Steps Send 0, at_point phase.Ready 1 true the_word 0 false 7 fresh)
+    ∷ (Steps Send 0, at_point phase.Ready 1 true the_word 100 true 7 fresh)
+    ∷ [])
+
+-- the steps over the instrument that counts, computed
+steps_counting : (raw : RawCall) → AreSteps (opening settings) (steps 1 (counting_exchange raw))
 unfolding header_at reply_at
-walk_counting raw =
-    goes (Opens 0) _ _ (at_point phase.Clearing 0 false the_word 0 false 7 fresh) [] _ [] _ refl refl refl (
-    goes (Steps Send 0) _ _ (at_point phase.Ready 0 false the_word 0 false 7 fresh) [] _ [] _ refl refl refl (
-    goes (Steps Send 0) _ _ (at_point phase.Ready 0 false the_word 100 true 7 fresh) (Null ∷ []) _ [] _ refl refl refl (
-    goes (Hears old_reply) _ _ (at_point phase.Ready 0 false the_word 100 false 7 fresh) (Came old_reply ∷ []) _ [] _ refl refl refl (
-    goes (Hears (codes "%R1P,0,6:0,28")) _ _ (at_point phase.Ready 0 false (5 ∷ 4 ∷ 3 ∷ 2 ∷ 1 ∷ 0 ∷ 7 ∷ []) 0 false 7 fresh) (Came (codes "%R1P,0,6:0,28") ∷ []) _ [] _ refl refl refl (
-    goes (Steps Send 0) _ _ (at_point phase.Ready 0 false (5 ∷ 4 ∷ 3 ∷ 2 ∷ 1 ∷ 0 ∷ 7 ∷ []) 100 true 7 fresh) (Null ∷ []) _ [] _ refl refl refl (
-    goes (Hears (codes "%R1P,0,5:0,29")) _ _ (at_point phase.Ready 0 false (4 ∷ 3 ∷ 2 ∷ 1 ∷ 0 ∷ 7 ∷ []) 0 false 7 fresh) (Came (codes "%R1P,0,5:0,29") ∷ []) _ [] _ refl refl refl (
-    goes (Steps Send 0) _ _ (at_point phase.Ready 0 false (4 ∷ 3 ∷ 2 ∷ 1 ∷ 0 ∷ 7 ∷ []) 100 true 7 fresh) (Null ∷ []) _ [] _ refl refl refl (
-    goes (Hears (codes "%R1P,0,4:0,30")) _ _ (at_point phase.Ready 0 false (3 ∷ 2 ∷ 1 ∷ 0 ∷ 7 ∷ []) 0 false 7 fresh) (Came (codes "%R1P,0,4:0,30") ∷ []) _ [] _ refl refl refl (
-    goes (Steps Send 0) _ _ (at_point phase.Ready 0 false (3 ∷ 2 ∷ 1 ∷ 0 ∷ 7 ∷ []) 100 true 7 fresh) (Null ∷ []) _ [] _ refl refl refl (
-    goes (Hears (codes "%R1P,0,3:0,31")) _ _ (at_point phase.Ready 0 false (2 ∷ 1 ∷ 0 ∷ 7 ∷ []) 0 false 7 fresh) (Came (codes "%R1P,0,3:0,31") ∷ []) _ [] _ refl refl refl (
-    goes (Steps Send 0) _ _ (at_point phase.Ready 0 false (2 ∷ 1 ∷ 0 ∷ 7 ∷ []) 100 true 7 fresh) (Null ∷ []) _ [] _ refl refl refl (
-    goes (Hears (codes "%R1P,0,2:0,32")) _ _ (at_point phase.Ready 0 false (1 ∷ 0 ∷ 7 ∷ []) 0 false 7 fresh) (Came (codes "%R1P,0,2:0,32") ∷ []) _ [] _ refl refl refl (
-    goes (Steps Send 0) _ _ (at_point phase.Ready 0 false (1 ∷ 0 ∷ 7 ∷ []) 100 true 7 fresh) (Null ∷ []) _ [] _ refl refl refl (
-    goes (Hears (codes "%R1P,0,1:0,33")) _ _ (at_point phase.Ready 0 false (0 ∷ 7 ∷ []) 0 false 7 fresh) (Came (codes "%R1P,0,1:0,33") ∷ []) _ [] _ refl refl refl (
-    goes (Steps Send 0) _ _ (at_point phase.Ready 0 false (0 ∷ 7 ∷ []) 100 true 7 fresh) (Null ∷ []) _ [] _ refl refl refl (
-    goes (Hears (codes "%R1P,0,0:0,34")) _ _ (at_point phase.Ready 0 false (7 ∷ []) 0 false 7 fresh) (Came (codes "%R1P,0,0:0,34") ∷ []) _ [] _ refl refl refl (
-    goes (Steps Send 0) _ _ (at_point phase.Ready 0 false (7 ∷ []) 100 true 7 fresh) (Null ∷ []) _ [] _ refl refl refl (
-    goes (Hears (codes "%R1P,0,7:0,35")) _ _ (at_point phase.Ready 0 false [] 0 false 7 fresh) (Came (codes "%R1P,0,7:0,35") ∷ []) _ [] _ refl refl refl (
-    goes (Steps Send 0) _ _ (at_point phase.Ready 0 false [] 0 true 7 (record { next = 1; waiting = pending_of OWN (Table NullProc) 100 ∷ [] })) (Stepped (one.Expire 0) ∷ Stepped (one.Send OWN (Table NullProc) 100) ∷ []) _ [] _ refl refl refl (
-    goes (Hears (codes "%R1P,0,0:0,36")) _ _ (at_point phase.Ready 0 false [] 0 false 0 (record { next = 1; waiting = [] })) (Stepped (one.Hear (codes "%R1P,0,0:0,36")) ∷ []) _ (record { target = OWN; call = Table NullProc; outcome = Answered (codes "%R1P,0,0:0,36") } ∷ []) _ refl refl refl (
-    goes (Asks 7 (Table InstrumentNo) 9) _ _ (at_point phase.Ready 0 true [] 0 true 1 (record { next = 2; waiting = pending_of 7 (Table InstrumentNo) 9 ∷ [] })) (Stepped (one.Send 7 (Table InstrumentNo) 9) ∷ []) _ [] _ refl refl refl (
-    goes (Asks 8 (Raw raw) 9) _ _ (at_point phase.Ready 0 true [] 0 true 2 (record { next = 3; waiting = pending_of 7 (Table InstrumentNo) 9 ∷ pending_of 8 (Raw raw) 9 ∷ [] })) (Stepped (one.Send 8 (Raw raw) 9) ∷ []) _ [] _ refl refl refl (
-    goes (Hears (codes "%R1P,0,1:0,37")) _ _ (at_point phase.Ready 0 true [] 0 false 1 (record { next = 3; waiting = pending_of 8 (Raw raw) 9 ∷ [] })) (Stepped (one.Hear (codes "%R1P,0,1:0,37")) ∷ []) _ (record { target = 7; call = Table InstrumentNo; outcome = Answered (codes "%R1P,0,1:0,37") } ∷ []) _ refl refl refl (
-    goes (Hears (codes "%R1P,0,2:0,38")) _ _ (at_point phase.Ready 0 true [] 0 false 1 (record { next = 3; waiting = [] })) (Stepped (one.Hear (codes "%R1P,0,2:0,38")) ∷ []) _ (record { target = 8; call = Raw raw; outcome = Answered (codes "%R1P,0,2:0,38") } ∷ []) _ refl refl refl (
-    goes (Restarts) _ _ (at_point phase.Clearing 1 true the_word 0 false 7 fresh) (Stepped one.Restart ∷ []) _ [] _ refl refl refl (
-    goes (Steps Send 0) _ _ (at_point phase.Ready 1 true the_word 0 false 7 fresh) [] _ [] _ refl refl refl (
-    goes (Steps Send 0) _ _ (at_point phase.Ready 1 true the_word 100 true 7 fresh) (Null ∷ []) _ [] _ refl refl refl (
-    walks_none _))))))))))))))))))))))))))))
+steps_counting raw = on (on (on (on (on (on (on (on (on (on (on (on (on (on (on (on (on (on (on (on (on (on (on (on (on (on (on (on tt)))))))))))))))))))))))))))
 
--- the calls over the simulator, one after the other
-walk_simulator : Walks (calls simulator_exchange) (opening settings) (events simulator_exchange) (settled_in simulator_exchange)
+-- the steps over the simulator, computed
+steps_simulator : AreSteps (opening settings) (steps 0 simulator_exchange)
 unfolding header_at reply_at
-walk_simulator =
-    goes (Opens 0) _ _ (at_point phase.Clearing 0 false the_word 0 false 7 fresh) [] _ [] _ refl refl refl (
-    goes (Steps Send 0) _ _ (at_point phase.Ready 0 false the_word 0 false 7 fresh) [] _ [] _ refl refl refl (
-    goes (Steps Send 0) _ _ (at_point phase.Ready 0 false the_word 100 true 7 fresh) (Null ∷ []) _ [] _ refl refl refl (
-    goes (Hears old_reply) _ _ (at_point phase.Ready 0 false the_word 100 false 7 fresh) (Came old_reply ∷ []) _ [] _ refl refl refl (
-    goes (Hears (codes "%R1P,0,6:0")) _ _ (at_point phase.Ready 0 false (5 ∷ 4 ∷ 3 ∷ 2 ∷ 1 ∷ 0 ∷ 7 ∷ []) 0 false 7 fresh) (Came (codes "%R1P,0,6:0") ∷ []) _ [] _ refl refl refl (
-    goes (Steps Send 0) _ _ (at_point phase.Ready 0 false (5 ∷ 4 ∷ 3 ∷ 2 ∷ 1 ∷ 0 ∷ 7 ∷ []) 100 true 7 fresh) (Null ∷ []) _ [] _ refl refl refl (
-    goes (Hears (codes "%R1P,0,5:0")) _ _ (at_point phase.Ready 0 false (4 ∷ 3 ∷ 2 ∷ 1 ∷ 0 ∷ 7 ∷ []) 0 false 7 fresh) (Came (codes "%R1P,0,5:0") ∷ []) _ [] _ refl refl refl (
-    goes (Steps Send 0) _ _ (at_point phase.Ready 0 false (4 ∷ 3 ∷ 2 ∷ 1 ∷ 0 ∷ 7 ∷ []) 100 true 7 fresh) (Null ∷ []) _ [] _ refl refl refl (
-    goes (Hears (codes "%R1P,0,4:0")) _ _ (at_point phase.Ready 0 false (3 ∷ 2 ∷ 1 ∷ 0 ∷ 7 ∷ []) 0 false 7 fresh) (Came (codes "%R1P,0,4:0") ∷ []) _ [] _ refl refl refl (
-    goes (Steps Send 0) _ _ (at_point phase.Ready 0 false (3 ∷ 2 ∷ 1 ∷ 0 ∷ 7 ∷ []) 100 true 7 fresh) (Null ∷ []) _ [] _ refl refl refl (
-    goes (Hears (codes "%R1P,0,3:0")) _ _ (at_point phase.Ready 0 false (2 ∷ 1 ∷ 0 ∷ 7 ∷ []) 0 false 7 fresh) (Came (codes "%R1P,0,3:0") ∷ []) _ [] _ refl refl refl (
-    goes (Steps Send 0) _ _ (at_point phase.Ready 0 false (2 ∷ 1 ∷ 0 ∷ 7 ∷ []) 100 true 7 fresh) (Null ∷ []) _ [] _ refl refl refl (
-    goes (Hears (codes "%R1P,0,2:0")) _ _ (at_point phase.Ready 0 false (1 ∷ 0 ∷ 7 ∷ []) 0 false 7 fresh) (Came (codes "%R1P,0,2:0") ∷ []) _ [] _ refl refl refl (
-    goes (Steps Send 0) _ _ (at_point phase.Ready 0 false (1 ∷ 0 ∷ 7 ∷ []) 100 true 7 fresh) (Null ∷ []) _ [] _ refl refl refl (
-    goes (Hears (codes "%R1P,0,1:0")) _ _ (at_point phase.Ready 0 false (0 ∷ 7 ∷ []) 0 false 7 fresh) (Came (codes "%R1P,0,1:0") ∷ []) _ [] _ refl refl refl (
-    goes (Steps Send 0) _ _ (at_point phase.Ready 0 false (0 ∷ 7 ∷ []) 100 true 7 fresh) (Null ∷ []) _ [] _ refl refl refl (
-    goes (Hears (codes "%R1P,0,0:0")) _ _ (at_point phase.Ready 0 false (7 ∷ []) 0 false 7 fresh) (Came (codes "%R1P,0,0:0") ∷ []) _ [] _ refl refl refl (
-    goes (Steps Send 0) _ _ (at_point phase.Ready 0 false (7 ∷ []) 100 true 7 fresh) (Null ∷ []) _ [] _ refl refl refl (
-    goes (Hears (codes "%R1P,0,7:0")) _ _ (at_point phase.Ready 0 false [] 0 false 7 fresh) (Came (codes "%R1P,0,7:0") ∷ []) _ [] _ refl refl refl (
-    goes (Steps Send 0) _ _ (at_point phase.Ready 0 false [] 0 true 7 (record { next = 1; waiting = pending_of OWN (Table NullProc) 100 ∷ [] })) (Stepped (one.Expire 0) ∷ Stepped (one.Send OWN (Table NullProc) 100) ∷ []) _ [] _ refl refl refl (
-    goes (Hears (codes "%R1P,0,0:0")) _ _ (at_point phase.Ready 0 false [] 0 false 0 (record { next = 1; waiting = [] })) (Stepped (one.Hear (codes "%R1P,0,0:0")) ∷ []) _ (record { target = OWN; call = Table NullProc; outcome = Answered (codes "%R1P,0,0:0") } ∷ []) _ refl refl refl (
-    goes (Asks 7 (Table InstrumentNo) 9) _ _ (at_point phase.Ready 0 true [] 0 true 1 (record { next = 2; waiting = pending_of 7 (Table InstrumentNo) 9 ∷ [] })) (Stepped (one.Send 7 (Table InstrumentNo) 9) ∷ []) _ [] _ refl refl refl (
-    goes (Asks 8 (Table InstrumentNo) 9) _ _ (at_point phase.Ready 0 true [] 0 true 2 (record { next = 3; waiting = pending_of 7 (Table InstrumentNo) 9 ∷ pending_of 8 (Table InstrumentNo) 9 ∷ [] })) (Stepped (one.Send 8 (Table InstrumentNo) 9) ∷ []) _ [] _ refl refl refl (
-    goes (Hears (codes "%R1P,0,1:0,123456")) _ _ (at_point phase.Ready 0 true [] 0 false 1 (record { next = 3; waiting = pending_of 8 (Table InstrumentNo) 9 ∷ [] })) (Stepped (one.Hear (codes "%R1P,0,1:0,123456")) ∷ []) _ (record { target = 7; call = Table InstrumentNo; outcome = Answered (codes "%R1P,0,1:0,123456") } ∷ []) _ refl refl refl (
-    goes (Hears (codes "%R1P,0,2:0,123456")) _ _ (at_point phase.Ready 0 true [] 0 false 0 (record { next = 3; waiting = [] })) (Stepped (one.Hear (codes "%R1P,0,2:0,123456")) ∷ []) _ (record { target = 8; call = Table InstrumentNo; outcome = Answered (codes "%R1P,0,2:0,123456") } ∷ []) _ refl refl refl (
-    goes (Restarts) _ _ (at_point phase.Clearing 1 true the_word 0 false 7 fresh) (Stepped one.Restart ∷ []) _ [] _ refl refl refl (
-    goes (Steps Send 0) _ _ (at_point phase.Ready 1 true the_word 0 false 7 fresh) [] _ [] _ refl refl refl (
-    goes (Steps Send 0) _ _ (at_point phase.Ready 1 true the_word 100 true 7 fresh) (Null ∷ []) _ [] _ refl refl refl (
-    walks_none _))))))))))))))))))))))))))))
+steps_simulator = on (on (on (on (on (on (on (on (on (on (on (on (on (on (on (on (on (on (on (on (on (on (on (on (on (on (on (on tt)))))))))))))))))))))))))))
 
 -- the events of the runs over the instrument that counts
 runs_counting : (raw : RawCall) → events_over WINDOW counting (old_reply_alone (record { count = 27; keeps = None })) (runs (counting_exchange raw)) ≡ events (counting_exchange raw)
@@ -164,13 +146,13 @@ over_counting raw =
       lines = record { ids = tt; good = tt };
       may = one_reply_isnt_the_word;
       over = record {
-        events = (walk_counting raw).events ∙ sym (runs_counting raw);
+        events = (walked (opening settings) (steps 1 (counting_exchange raw)) (steps_counting raw)).0 ∙ sym (runs_counting raw);
         possible = (
           (units 25, (tt, (tt, (tt, ((8, [], refl), (tt, (tt, (tt, (tt, ((9, record { number = 10; line = codes "%R1P,0,2:0,38" } ∷ [], refl), ((10, [], refl), tt))))))))))),
           (((tt, tt), tt), tt),
         );
       };
-      settlements = (walk_counting raw).settled;
+      settlements = (walked (opening settings) (steps 1 (counting_exchange raw)) (steps_counting raw)).1;
       first_made_on = record {
         front = take 6 (moves (counting_exchange raw));
         later = drop 7 (moves (counting_exchange raw));
@@ -181,16 +163,7 @@ over_counting raw =
         executed = refl;
         reply = refl;
       };
-      second_made_on = record {
-        front = take 7 (moves (counting_exchange raw));
-        later = drop 8 (moves (counting_exchange raw));
-        split = refl;
-        id = 2;
-        rest = [];
-        reaches = refl;
-        executed = refl;
-        reply = refl;
-      };
+      second_made_on = record { front = take 7 (moves (counting_exchange raw)); later = drop 8 (moves (counting_exchange raw)); split = refl; id = 2; rest = []; reaches = refl; executed = refl; reply = refl };
     }
 
 -- the calls over the simulator meet every premise of `EachSessionIsOwn` (`IsSessionInField`)
@@ -202,13 +175,13 @@ over_simulator =
       lines = record { ids = tt; good = opening_fits };
       may = one_reply_isnt_the_word;
       over = record {
-        events = walk_simulator.events ∙ sym runs_simulator;
+        events = (walked (opening settings) (steps 0 simulator_exchange) steps_simulator).0 ∙ sym runs_simulator;
         possible = (
           (units 25, (tt, (tt, (tt, ((8, [], refl), (tt, (tt, (tt, (tt, ((9, record { number = 10; line = codes "%R1P,0,2:0,123456" } ∷ [], refl), ((10, [], refl), tt))))))))))),
           (((tt, tt), tt), tt),
         );
       };
-      settlements = walk_simulator.settled;
+      settlements = (walked (opening settings) (steps 0 simulator_exchange) steps_simulator).1;
       first_made_on = record {
         front = take 6 (moves simulator_exchange);
         later = drop 7 (moves simulator_exchange);
@@ -219,16 +192,7 @@ over_simulator =
         executed = refl;
         reply = refl;
       };
-      second_made_on = record {
-        front = take 7 (moves simulator_exchange);
-        later = drop 8 (moves simulator_exchange);
-        split = refl;
-        id = 2;
-        rest = [];
-        reaches = refl;
-        executed = refl;
-        reply = refl;
-      };
+      second_made_on = record { front = take 7 (moves simulator_exchange); later = drop 8 (moves simulator_exchange); split = refl; id = 2; rest = []; reaches = refl; executed = refl; reply = refl };
     }
 
 -- the law: there are calls on a session that meet every premise of the laws

@@ -5,7 +5,7 @@ use Rattle.gc_station.specs.Beginnings.{unanswered_after}
 use Rattle.gc_station.specs.Begun.{heard_in}
 use Rattle.gc_station.proofs.Asked.{heard_append, left_append}
 use Rattle.gc_field.specs.World.{Ends}
-use Rattle.gc_field.specs.Begin.{InFlight, SyncModel, SyncTurn, Asks, Comes, Foreign, Reaches, Up_lose, Up_repeat, Down_lose, Down_repeat, Anew, Changes, comes, reaches, asks, turned, turns}
+use Rattle.gc_field.specs.Begin.{InFlight, SyncModel, SyncTurn, Asks, Comes, Reaches, comes, reaches, asks, turned, turns}
 use Rattle.gc_field.specs.Shown.{first_heard, shown, shows}
 
 module _ {State : Type 0} (ends : Ends State) where
@@ -28,14 +28,8 @@ module _ {State : Type 0} (ends : Ends State) where
   left_turn : (s : SyncModel State) (t : SyncTurn State) → (turns ends s t).left ≡ unanswered_after s.left (heard_in (shows s t))
   left_turn s Asks = left_asks s s.left
   left_turn s Comes = left_comes s s.down
-  left_turn s (Foreign line) = refl
   left_turn s Reaches = left_reaches s s.up
-  left_turn s (Up_lose k) = refl
-  left_turn s (Up_repeat k) = refl
-  left_turn s (Down_lose k) = refl
-  left_turn s (Down_repeat k) = refl
-  left_turn s Anew = refl
-  left_turn s (Changes state) = refl
+  left_turn s other = refl
 
   -- turns leave of the word what the lines that they show to the station leave of it
   pub left_is : (ts : List (SyncTurn State)) (s : SyncModel State) → (turned ends ts s).left ≡ unanswered_after s.left (heard_in (shown ends ts s))

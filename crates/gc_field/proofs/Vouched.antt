@@ -16,7 +16,7 @@ use Rattle.gc_instrument.specs.Replying.{Handed}
 use Rattle.gc_instrument.specs.State.{KeptReply}
 use Rattle.gc_world.specs.Clients.{ByNumber, number_send, number_reply, by_numbers}
 use Rattle.gc_world.specs.Order.{Rising, numbers}
-use Rattle.gc_field.specs.World.{Request, Sent, Numbered, Ends, Step, Send, Up_deliver, Up_lose, Up_repeat, Down_deliver, Down_lose, Down_repeat, Expire, Restart_client, Restart_instrument, Nothing, World, without, doubled, replied, up_delivered, with_up, with_down, started, on_wire, requested, with_settled, down_delivered, happens, written}
+use Rattle.gc_field.specs.World.{Request, Sent, Numbered, Ends, Step, Up_deliver, Up_lose, Up_repeat, Down_lose, Down_repeat, Nothing, World, without, doubled, replied, up_delivered, with_up, with_down, started, on_wire, requested, with_settled, down_delivered, happens, written}
 use Rattle.gc_world.proofs.Booked.{Has, has_more, has_push}
 use Rattle.std.proofs.lemmas.Option.{same_Some, none-some}
 use Rattle.gc_world.proofs.Places.{get_more, get_push, all_at}
@@ -342,6 +342,32 @@ module _ {State : Type 0} (width : ℕ) (narrow : width ≤ 7) (knows : Asked �
     chosen false not = vouched_again w x rest hd (knows x.line.call) q is refl (same not) now s h
     chosen true exe = vouched_new w x rest hd (knows x.line.call) q is refl exe (on exe) now s h
 
+  -- `AllVouchedIn` is preserved if nothing is sent, executed or made, and what is in flight, settled and kept meets its clauses
+  vouched_still : (w : World (ByNumber Asked) State) (count : ℕ) (settled : List (Settlement Asked)) (up : List (Numbered Request)) (down : List (Numbered (List ℕ))) (starts : List ℕ) (retained : Option KeptReply)
+      → (h : AllVouched w) → count ≤ h.top → AllByRecursion (λ x. h.top ≤ x.number + 1) up → AllByRecursion (IsAsSent written w.wire.sent) up → AllByRecursion (λ x. x.number < h.top) down
+      → AllByRecursion (λ x. Vouched w.wire.sent w.wire.executed w.wire.made h.last x.number x.line) down → HoldsOfAll (Vouched w.wire.sent w.wire.executed w.wire.made h.last) 0 settled
+      → KeptIs (Vouched w.wire.sent w.wire.executed w.wire.made h.last) w.client.since h.top h.last retained
+      → ((keeps : Asked → Bool) → KeepsItsReply ends Good kept keeps → IsClimbing keeps w.client.since h.top
+      (record { sent = w.wire.sent; executed = w.wire.executed; starts = starts; retained = retained }))
+      → AllVouchedIn (record (fields_of kept w) { count = count; settled = settled; up = up; down = down; starts = starts; retained = retained })
+  vouched_still w count settled up down starts retained h counted above lines below coming answers holds once = record {
+    top = h.top;
+    last = h.last;
+    counted = counted;
+    within = h.within;
+    lower = h.lower;
+    least = h.least;
+    above = above;
+    below = below;
+    holds = holds;
+    lines = lines;
+    near = h.near;
+    coming = coming;
+    answers = answers;
+    order = h.order;
+    once = once;
+  }
+
   -- `AllVouchedIn` is preserved if the front reply comes, if the settlements that there are then (`settled`) are vouched for;
   -- `count` says how many requests are settled then
   reply_came : (w : World (ByNumber Asked) State) (x : Numbered (List ℕ)) (rest : List (Numbered (List ℕ))) (count : ℕ) (settled : List (Settlement Asked)) → w.wire.down ≡ x ∷ rest
@@ -350,23 +376,9 @@ module _ {State : Type 0} (width : ℕ) (narrow : width ≤ 7) (knows : Asked �
   reply_came w x rest count settled e h few answers =
       let v = w.wire in
       let P = Vouched v.sent v.executed v.made h.last in
-      record {
-        top = h.top;
-        last = h.last;
-        counted = few;
-        within = h.within;
-        lower = h.lower;
-        least = h.least;
-        above = h.above;
-        below = (subst (λ (q : List (Numbered (List ℕ))). AllByRecursion (λ (y : Numbered (List ℕ)). y.number < h.top) q) e h.below).1;
-        holds = h.holds;
-        lines = h.lines;
-        near = h.near;
-        coming = (subst (λ (q : List (Numbered (List ℕ))). AllByRecursion (λ (y : Numbered (List ℕ)). P y.number y.line) q) e h.coming).1;
-        answers = answers;
-        order = h.order;
-        once = h.once;
-      }
+      vouched_still w count settled v.up rest v.starts (kept v.state) h few h.above h.lines
+      (subst (λ (q : List (Numbered (List ℕ))). AllByRecursion (λ (y : Numbered (List ℕ)). y.number < h.top) q) e h.below).1
+      (subst (λ (q : List (Numbered (List ℕ))). AllByRecursion (λ (y : Numbered (List ℕ)). P y.number y.line) q) e h.coming).1 answers h.holds h.once
 
   -- where `count` counts what is settled, `AllVouched` is preserved if the front reply comes, its request settled (`old`) or not
   vouched_reply : (w : World (ByNumber Asked) State) (x : Numbered (List ℕ)) (rest : List (Numbered (List ℕ))) (old : Bool) → ltb x.number w.client.count ≡ old
@@ -394,23 +406,8 @@ module _ {State : Type 0} (width : ℕ) (narrow : width ≤ 7) (knows : Asked �
       → AllVouchedIn (record (fields_of kept w) { starts = starts; retained = kept state })
   still_kept w starts state now h once =
       let v = w.wire in
-      record {
-        top = h.top;
-        last = h.last;
-        counted = h.counted;
-        within = h.within;
-        lower = h.lower;
-        least = h.least;
-        above = h.above;
-        below = h.below;
-        holds = kept_still (Vouched v.sent v.executed v.made h.last) w.client.since h.top h.last (kept v.state) (kept state) now h.holds;
-        lines = h.lines;
-        near = h.near;
-        coming = h.coming;
-        answers = h.answers;
-        order = h.order;
-        once = once;
-      }
+      vouched_still w w.client.count v.settled v.up v.down starts (kept state) h h.counted h.above h.lines h.below h.coming h.answers
+      (kept_still (Vouched v.sent v.executed v.made h.last) w.client.since h.top h.last (kept v.state) (kept state) now h.holds) once
 
   -- in a good state `AllVouched` is preserved whether the instrument starts again (`b`) or not, whatever is in flight
   pub vouched_started : (w : World (ByNumber Asked) State) (b : Bool) → Good w.wire.state → AllVouched w → AllVouched (on_wire w (started ends w.wire b))
@@ -432,23 +429,7 @@ module _ {State : Type 0} (width : ℕ) (narrow : width ≤ 7) (knows : Asked �
   vouched_queues : (w : World (ByNumber Asked) State) (up : List (Numbered Request)) (down : List (Numbered (List ℕ))) (h : AllVouched w)
       → AllByRecursion (λ x. h.top ≤ x.number + 1) up → AllByRecursion (IsAsSent written w.wire.sent) up → AllByRecursion (λ x. x.number < h.top) down
       → AllByRecursion (λ x. Vouched w.wire.sent w.wire.executed w.wire.made h.last x.number x.line) down → AllVouched (on_wire w (record w.wire { up = up; down = down }))
-  vouched_queues w up down h a l b c = record {
-    top = h.top;
-    last = h.last;
-    counted = h.counted;
-    within = h.within;
-    lower = h.lower;
-    least = h.least;
-    above = a;
-    below = b;
-    holds = h.holds;
-    lines = l;
-    near = h.near;
-    coming = c;
-    answers = h.answers;
-    order = h.order;
-    once = h.once;
-  }
+  vouched_queues w up down h a l b c = vouched_still w w.client.count w.wire.settled up down w.wire.starts (kept w.wire.state) h h.counted a l b c h.answers h.holds h.once
 
   -- in a sound world `AllVouched` is preserved if the front request, if any, reaches the instrument, and `ReplyHas` holds of it
   pub vouched_up : (w : World (ByNumber Asked) State) (q : List (Numbered Request)) → w.wire.up ≡ q
@@ -487,14 +468,10 @@ module _ {State : Type 0} (width : ℕ) (narrow : width ≤ 7) (knows : Asked �
   pub vouched_line : (w : World (ByNumber Asked) State) (step : Step) → IsLineStep step
       → ((x : Numbered Request) (rest : List (Numbered Request)) → step ≡ Up_deliver → w.wire.up ≡ x ∷ rest → ReplyHas ends M w x) → Sound width ends Good w → AllVouched w
       → AllVouched (happens ends (by_numbers width) w step)
-  vouched_line w (Send target call deadline) p on s h = absurd p
   vouched_line w Up_deliver p on s h = vouched_up w w.wire.up refl (λ x rest e. on x rest refl e) s h
   vouched_line w (Up_lose k) p on s h = vouched_with_up w (without k w.wire.up) (ltb k (length w.wire.up)) h (each_without _ k w.wire.up h.above) (each_without _ k w.wire.up h.lines)
   vouched_line w (Up_repeat k) p on s h = vouched_with_up w (doubled k w.wire.up) (ltb k (length w.wire.up)) h (each_doubled _ k w.wire.up h.above) (each_doubled _ k w.wire.up h.lines)
-  vouched_line w Down_deliver p on s h = absurd p
   vouched_line w (Down_lose k) p on s h = vouched_with_down w (without k w.wire.down) (ltb k (length w.wire.down)) h (each_without _ k w.wire.down h.below) (each_without _ k w.wire.down h.coming)
   vouched_line w (Down_repeat k) p on s h = vouched_with_down w (doubled k w.wire.down) (ltb k (length w.wire.down)) h (each_doubled _ k w.wire.down h.below) (each_doubled _ k w.wire.down h.coming)
-  vouched_line w (Expire now) p on s h = absurd p
-  vouched_line w Restart_client p on s h = absurd p
-  vouched_line w Restart_instrument p on s h = absurd p
   vouched_line w Nothing p on s h = h
+  vouched_line w other p on s h = absurd p

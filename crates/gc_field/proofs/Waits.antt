@@ -26,13 +26,7 @@ pending_after p (_ ∷ ms) = pending_after p ms
 pub pending_is : {State : Type 0} (p : Pending Asked) (ms : List (Move State)) → pending_after p ms ≡ record p { given_up = p.given_up || times_out p.deadline ms }
 pending_is p [] = ap (λ b. record p { given_up = b }) (sym (or-false p.given_up))
 pending_is p (Tells now ∷ ms) = pending_is (expired now p) ms ∙ ap (λ b. record p { given_up = b }) (or_assoc p.given_up (nat_le p.deadline now) (times_out p.deadline ms))
-pending_is p (Sends target call deadline ∷ ms) = pending_is p ms
-pending_is p (Comes line ∷ ms) = pending_is p ms
-pending_is p (Foreign line ∷ ms) = pending_is p ms
-pending_is p (OnLine step ∷ ms) = pending_is p ms
-pending_is p (Anew ∷ ms) = pending_is p ms
-pending_is p (Changes state ∷ ms) = pending_is p ms
-pending_is p (Joins line ∷ ms) = pending_is p ms
+pending_is p (m ∷ ms) = pending_is p ms
 
 -- where request n isn't settled yet (the first `size` requests are), it waits as `p`, at its place in the list of those that
 -- are outstanding

@@ -78,6 +78,11 @@ module _ {State : Type 0} (width : ℕ) (ends : Ends State) where
   left_by_runs u [] = u
   left_by_runs u (r ∷ rs) = left_by_runs (left_by_run u r) rs
 
+  -- how many runs in a row count as killed while they synchronized (`killed_by`), at the end of these, where `n` did before
+  abbrev pub killed_over : ℕ → UnderWay State → List (Run State) → ℕ
+  killed_over n u [] = n
+  killed_over n u (r ∷ rs) = killed_over (killed_by ends n u r) (left_by_run u r) rs
+
   -- at the end of each of these runs, at most five in a row count as killed while they synchronized, counted with the `n` before
   -- the first. A run during which none of its null procedures was answered leaves the count as it was (`killed_unless_begun`)
   abbrev pub AreFewKilled : ℕ → UnderWay State → List (Run State) → Type 0

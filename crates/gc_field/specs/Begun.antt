@@ -6,7 +6,7 @@ use Rattle.std.specs.List.{AllByRecursion}
 use Rattle.gc_catalogue.specs.declared.asked.Asked.{Asked}
 use Rattle.gc_catalogue.specs.declared.asked.Asked.TheVariants.{Table}
 use Rattle.gc_catalogue.specs.declared.call.Call.TheVariants.{NullProc}
-use Rattle.gc_catalogue.specs.Asked.{asked_line}
+use Rattle.gc_catalogue.specs.Asked.{asked_line, is_of_table}
 use Rattle.gc_client.specs.Beginning.{the_word}
 use Rattle.gc_client.specs.declared.pending.Pending.{Pending}
 use Rattle.gc_client.specs.declared.window.TheConstants.{WINDOW}
@@ -20,7 +20,6 @@ use Rattle.gc_field.specs.Field.{Move, Sends, ArePossible, AsksTheTable, moved}
 use Rattle.gc_field.specs.Instrument.{OfAnyInstrument, TreatsRawsAlike}
 use Rattle.gc_field.specs.Laws.{IsFaithfulFrom, kept_of}
 use Rattle.gc_field.specs.Made.{WasMadeFrom}
-use Rattle.gc_catalogue.specs.Asked.{is_of_table}
 
 -- Clean.
 

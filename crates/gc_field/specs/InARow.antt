@@ -7,37 +7,31 @@ use Rattle.gc_station.specs.Model.{Runs, opening}
 use Rattle.gc_field.specs.Simulator.{simulator_ends}
 use Rattle.gc_field.specs.World.{Ends}
 use Rattle.gc_field.specs.Begin.{IsWellFormed, UnderWay}
-use Rattle.gc_field.specs.Beginnings.{AreFewKilled, AreRuns, HasRisingIds, Run, killed_by, left_by_run, left_by_runs}
+use Rattle.gc_field.specs.Beginnings.{AreFewKilled, AreRuns, HasRisingIds, killed_over, left_by_runs}
 use Rattle.gc_field.specs.Instrument.{OfAnyInstrument}
 use Rattle.gc_field.specs.Laws.{kept_of}
 use Rattle.gc_field.specs.Runs.{IsRunFaithful, Program, program_parts}
 use Rattle.gc_field.specs.Shown.{AreShownAs}
 
-module _ {State : Type 0} (ends : Ends State) where
-  -- how many runs in a row count as killed while they synchronized (`killed_by`), at the end of these, where `n` did before
-  abbrev pub killed_over : ℕ → UnderWay State → List (Run State) → ℕ
-  killed_over n u [] = n
-  killed_over n u (r ∷ rs) = killed_over (killed_by ends n u r) (left_by_run WINDOW ends u r) rs
+module _ {State : Type 0} (ends : Ends State) (Good : State → Type 0) (kept : State → Option KeptReply) where
+  -- a program is a run of its station over what is in flight (`u`): what happens on the line is possible (`AreRuns`), and shows
+  -- the station that run (`AreShownAs`). At most five runs in a row count as killed while they synchronized, counted with the
+  -- `n` before the program (`AreFewKilled`); one during which none of its null procedures was answered doesn't count
+  pub record IsNextProgram (n : ℕ) (u : UnderWay State) (x : Program State) : Type 0 where
+    pub runs : Runs x.plan x.commands (opening x.plan x.scope) x.acts
+    pub shown : AreShownAs ends u x.runs (program_parts x)
+    pub possible : AreRuns WINDOW ends Good kept u x.runs
+    pub few : AreFewKilled WINDOW ends n u x.runs
 
-  module _ (Good : State → Type 0) (kept : State → Option KeptReply) where
-    -- a program is a run of its station over what is in flight (`u`): what happens on the line is possible (`AreRuns`), and shows
-    -- the station that run (`AreShownAs`). At most five runs in a row count as killed while they synchronized, counted with the
-    -- `n` before the program (`AreFewKilled`); one during which none of its null procedures was answered doesn't count
-    pub record IsNextProgram (n : ℕ) (u : UnderWay State) (x : Program State) : Type 0 where
-      pub runs : Runs x.plan x.commands (opening x.plan x.scope) x.acts
-      pub shown : AreShownAs ends u x.runs (program_parts x)
-      pub possible : AreRuns WINDOW ends Good kept u x.runs
-      pub few : AreFewKilled WINDOW ends n u x.runs
+  -- each of these programs is `IsNextProgram`, over what the one before it left
+  abbrev pub AreInARow : ℕ → UnderWay State → List (Program State) → Type 0
+  AreInARow n u [] = Unit {0}
+  AreInARow n u (x ∷ xs) = IsNextProgram n u x × AreInARow (killed_over WINDOW ends n u x.runs) (left_by_runs WINDOW ends u x.runs) xs
 
-    -- each of these programs is `IsNextProgram`, over what the one before it left
-    abbrev pub AreInARow : ℕ → UnderWay State → List (Program State) → Type 0
-    AreInARow n u [] = Unit {0}
-    AreInARow n u (x ∷ xs) = IsNextProgram n u x × AreInARow (killed_over n u x.runs) (left_by_runs WINDOW ends u x.runs) xs
-
-    -- each of these programs is a faithful run, over what the one before it left
-    abbrev pub AreFaithful : UnderWay State → List (Program State) → Type 0
-    AreFaithful u [] = Unit {0}
-    AreFaithful u (x ∷ xs) = IsRunFaithful ends Good kept u x × AreFaithful (left_by_runs WINDOW ends u x.runs) xs
+  -- each of these programs is a faithful run, over what the one before it left
+  abbrev pub AreFaithful : UnderWay State → List (Program State) → Type 0
+  AreFaithful u [] = Unit {0}
+  AreFaithful u (x ∷ xs) = IsRunFaithful ends Good kept u x × AreFaithful (left_by_runs WINDOW ends u x.runs) xs
 
 -- after a run that had synchronized, or over a line with nothing in flight (`HasRisingIds`, `IsWellFormed`): as long as fewer
 -- than six runs in a row end while they synchronize, each program of programs in a row (`AreInARow`) is a faithful run. `Good`

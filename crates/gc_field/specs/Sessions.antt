@@ -12,9 +12,8 @@ use Rattle.gc_session.specs.Sessions.{opening}
 use Rattle.gc_field.specs.Simulator.{simulator_ends}
 use Rattle.gc_field.specs.World.{Ends}
 use Rattle.gc_field.specs.Begin.{IsWellFormed, LacksTheWord, UnderWay}
-use Rattle.gc_field.specs.Beginnings.{AreFewKilled, HasRisingIds, Run, left_by_runs}
+use Rattle.gc_field.specs.Beginnings.{AreFewKilled, HasRisingIds, Run, killed_over, left_by_runs}
 use Rattle.gc_field.specs.ClientRuns.{PlacedRun, ArePossibleRuns, events_over, placed_runs}
-use Rattle.gc_field.specs.InARow.{killed_over}
 use Rattle.gc_field.specs.Instrument.{OfAnyInstrument}
 use Rattle.gc_field.specs.Laws.{kept_of}
 use Rattle.gc_field.specs.Owned.{AreOfRuns, IsOwn}
@@ -49,7 +48,7 @@ module _ {State : Type 0} (ends : Ends State) (Good : State → Type 0) (kept : 
   abbrev pub AreSessionsInARow : ℕ → UnderWay State → List (SessionRun State) → Type 0
   AreSessionsInARow n u [] = Unit {0}
   AreSessionsInARow n u (x ∷ xs) =
-      (IsSessionOver u x × AreFewKilled WINDOW ends n u x.runs) × AreSessionsInARow (killed_over ends n u x.runs) (left_by_runs WINDOW ends u x.runs) xs
+      (IsSessionOver u x × AreFewKilled WINDOW ends n u x.runs) × AreSessionsInARow (killed_over WINDOW ends n u x.runs) (left_by_runs WINDOW ends u x.runs) xs
 
   -- each of these sessions is as `IsSessionOwn` says, over what the one before it left
   abbrev pub AreSessionsOwn : UnderWay State → List (SessionRun State) → Type 0

@@ -3,7 +3,6 @@
 -- said of all such runs is said of some.
 use Rattle.std.specs.Prelude.{◌≡◌, ℕ, ◌+◌, false, List, [], ◌∷◌, codes, drop, pos, Some, None}
 use Rattle.gc_lines.specs.Lines.{with_end}
-use Rattle.gc_values.specs.FileValues.{no_values}
 use Rattle.gc_catalogue.specs.declared.answer.Answer.{Answer}
 use Rattle.gc_catalogue.specs.declared.answer.Answer.TheVariants.{Long}
 use Rattle.gc_catalogue.specs.declared.answer.Reading.TheVariants.{Value}
@@ -14,9 +13,9 @@ use Rattle.gc_instrument.specs.State.{State, IsFittingState, simulator_opening}
 use Rattle.gc_texts.specs.declared.tasks.Task.{Task}
 use Rattle.gc_texts.specs.Endings as end
 use Rattle.gc_texts.specs.declared.quality.Quality.TheVariants.{Fine}
-use Rattle.gc_links.specs.declared.link.Moment.{Moment}
 use Rattle.gc_station.specs.declared.plan.Plan.{Plan}
 use Rattle.gc_links.specs.Acts.{Act, Told, Put, Gave, Closed, Opened}
+pub use Rattle.gc_station.specs.BoundRuns.{at, null_lines, null_replies as replies}
 use Rattle.gc_station.specs.Scopes.{Scope, scoped}
 use Rattle.gc_field.specs.Plain.{plain_record, plain_task}
 use Rattle.gc_field.specs.Simulator.{simulator_ends}
@@ -48,18 +47,6 @@ scope_saying said = scoped 100 [] (λ form call line. Value said)
 -- the scope of this run: every reply is taken to say what the reply to the command says
 abbrev pub scope : Scope
 scope = scope_saying (Long (pos 123456))
-
--- the moment at which both clocks show this number
-abbrev pub at : ℕ → Moment
-at now = record { elapsed = now; utc = now; stops = false; touched = 0; values = no_values }
-
--- the lines of a synchronization's null procedures, in order
-abbrev pub null_lines : List (List ℕ)
-null_lines = codes "%R1Q,0,6:" ∷ codes "%R1Q,0,5:" ∷ codes "%R1Q,0,4:" ∷ codes "%R1Q,0,3:" ∷ codes "%R1Q,0,2:" ∷ codes "%R1Q,0,1:" ∷ codes "%R1Q,0,0:" ∷ codes "%R1Q,0,7:" ∷ []
-
--- the simulator's replies to a synchronization's null procedures, in order
-abbrev pub replies : List (List ℕ)
-replies = codes "%R1P,0,6:0" ∷ codes "%R1P,0,5:0" ∷ codes "%R1P,0,4:0" ∷ codes "%R1P,0,3:0" ∷ codes "%R1P,0,2:0" ∷ codes "%R1P,0,1:0" ∷ codes "%R1P,0,0:0" ∷ codes "%R1P,0,7:0" ∷ []
 
 -- the acts by which each of these lines is sent at the moment `now`, and its reply, the next of the second list, comes, until
 -- either list ends; and then `acts`

@@ -1,27 +1,18 @@
 -- The station's run of `specs/DamagedStation.antt` comes out as it says, by computation.
-use Rattle.std.proofs.Common.{◌≡◌, inl, inr, ℕ, zero, suc, ◌+◌, ◌<◌, false, List, [], ◌∷◌, ◌++◌, length, Some, refl, sym, ◌∙◌, ap, subst, arith, lit<}
-use Rattle.std.specs.Prelude.{codes, take, drop, slice_get}
+use Rattle.std.proofs.Common.{◌≡◌, inl, inr, false, [], ◌∷◌, ◌++◌, refl, sym, subst, arith, lit<}
+use Rattle.std.specs.Prelude.{codes, take, drop}
 use Rattle.std.specs.Fmt.{digits}
 use Rattle.std.specs.List.{AllZip}
-use Rattle.std.proofs.lemmas.Option.{same_Some, none-some}
 use Rattle.gc_lines.specs.Readers.{header_at, reply_at}
-use Rattle.gc_lines.proofs.Lists.{cons_head, cons_tail}
-use Rattle.gc_catalogue.specs.declared.asked.Asked.{Asked}
 use Rattle.gc_catalogue.specs.declared.asked.Asked.TheVariants.{Table}
 use Rattle.gc_catalogue.specs.declared.call.Call.TheVariants.{InstrumentNo}
-use Rattle.gc_client.specs.OneForOne.{Step, Send, Hear, Expire, Restart}
-use Rattle.gc_client.specs.Rule.{ById, fresh}
 use Rattle.gc_client.specs.declared.window.TheConstants.{WINDOW}
 use Rattle.gc_instrument.specs.Execution.{exec}
 use Rattle.gc_instrument.specs.Replying.{handed}
 use Rattle.gc_texts.specs.Nears.{is_elsewhere}
-use Rattle.gc_session.specs.Laws.{last_ended, last_ended_at}
-use Rattle.gc_session.specs.Courses.{client_after, client_stepped}
 use Rattle.gc_station.proofs.Going.{runs-append}
-use Rattle.gc_station.specs.HoldingBack.{IsHeldBack}
 use Rattle.gc_station.specs.Links.{parts}
 use Rattle.gc_station.specs.Model.{opening}
-use Rattle.gc_station.specs.Parts.{Part, idle_part}
 use Rattle.gc_field.specs.Begin.{begins}
 use Rattle.gc_field.specs.Simulator.{simulator_ends}
 use Rattle.gc_field.specs.Witness.{plan, replies, scope}
@@ -30,7 +21,6 @@ use Rattle.gc_harm.specs.DamagedStation.{IsDamagedStation, acts, answer, at_star
 use Rattle.gc_harm.specs.Harm.{Damages, WasMadeAmid}
 use Rattle.gc_harm.specs.Runs.{WasSettledByDamage}
 use Rattle.gc_harm.specs.Stretches.{IsSeenAs, once_synchronized, seen_harms, shown_harms}
-use Rattle.gc_harm.proofs.Room.{HoldsBackFrom}
 
 -- the run's parts are these: one with these steps, and with the two requests by place and moment; and the empty one after the end
 parts_are : parts plan commands scope acts ≡ one_part (asked_each replies) (seen_harms steps) ((0, 15, 1) ∷ (1, 20, 2) ∷ [])

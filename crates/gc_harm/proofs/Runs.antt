@@ -45,7 +45,7 @@ use Rattle.gc_field.specs.World.{Ends, Sent}
 use Rattle.gc_field.specs.Begin.{IsWellFormed, LacksTheWord, UnderWay, begins}
 use Rattle.gc_field.specs.Begun.{nulls, nulls_settled}
 use Rattle.gc_field.specs.Instrument.{IsAnInstrument, TreatsRawsAlike}
-use Rattle.gc_field.proofs.Among.{among_first}
+use Rattle.gc_field.proofs.Among.{among_first, zip_each}
 use Rattle.gc_field.proofs.BeginLists.{each_all}
 use Rattle.gc_field.proofs.Meant.{are_meant}
 use Rattle.gc_harm.specs.Harm.{IsByDamage, KeepsItsOwnAfter, IsOwn, WasMadeAmid, damaged_lines}
@@ -69,13 +69,6 @@ zip_get R [] ys k x h e = absurd (none-some x e)
 zip_get R (a ∷ xs) [] k x h e = absurd h
 zip_get R (a ∷ xs) (b ∷ ys) zero x h e = (b, refl, subst (λ z. R z b) (same_Some a x e) h.0)
 zip_get R (a ∷ xs) (b ∷ ys) (suc k) x h e = zip_get R xs ys k x h.1 e
-
--- what R of an element gives of the one beside it holds of each of these
-zip_each : {A B : Type 0} (R : A → B → Type 0) (P : B → Type 0) → ((x : A) (y : B) → R x y → P y) → (xs : List A) (ys : List B) → AllZip R xs ys → AllByRecursion P ys
-zip_each R P f [] [] h = tt
-zip_each R P f [] (y ∷ ys) h = absurd h
-zip_each R P f (x ∷ xs) [] h = absurd h
-zip_each R P f (x ∷ xs) (y ∷ ys) h = (f x y h.0, zip_each R P f xs ys h.1)
 
 -- where R holds of the elements of two lists, place by place, they are as many
 zip_long : {A B : Type 0} (R : A → B → Type 0) (xs : List A) (ys : List B) → AllZip R xs ys → length xs ≡ length ys

@@ -2,7 +2,6 @@
 -- because the session holds back.
 use Rattle.std.proofs.Common.{◌≡◌, ◌⊎◌, inl, inr, ℕ, ◌+◌, ◌<◌, List, [], ◌∷◌, ◌++◌, length, map, drop, Option, Some, None, refl, sym, ◌∙◌, ap, subst, append_assoc, append-nil}
 use Rattle.std.specs.List.{AllByRecursion}
-use Rattle.std.proofs.lemmas.List.{map-append}
 use Rattle.gc_catalogue.specs.declared.asked.Asked.{Asked}
 use Rattle.gc_client.specs.OneForOne as one
 use Rattle.gc_client.specs.OneForOne.{Step, Wanted, begun, course, sent_on}
@@ -19,13 +18,12 @@ use Rattle.gc_session.proofs.InTable.{AreInTable, IsInTable, calls_in_table}
 use Rattle.gc_session.proofs.Courses.{course_client}
 use Rattle.gc_session.specs.Courses.{client_after, client_stepped}
 use Rattle.gc_station.proofs.Booking.{course_settled, sent_by, settled_append, settled_by}
-use Rattle.gc_values.proofs.Every.{every_front as all_front}
+use Rattle.gc_station.specs.HoldingBack as station
 use Rattle.gc_field.specs.World.{Ends}
 use Rattle.gc_field.specs.Begin.{IsWellFormed, SyncModel, UnderWay, begins}
-use Rattle.gc_field.specs.Field as field
 use Rattle.gc_field.specs.Instrument.{IsAnInstrument, TreatsRawsAlike}
-use Rattle.gc_field.proofs.Parting.{steps_in_front, turned_one}
-use Rattle.gc_field.proofs.SentNear.{OfSends, sends_behind, sends_front, since_both, since_turn}
+use Rattle.gc_field.proofs.Parting.{IsNoRestart, no_restart_seen, since_both, steps_in_front, turned_one}
+use Rattle.gc_field.proofs.SentNear.{OfSends, sends_behind, sends_by_steps, sends_front}
 use Rattle.gc_harm.specs.Harm.{Harm, Does, Damages, Strikes, KeepsItsOwnAfter}
 use Rattle.gc_harm.specs.Runs.{IsLocal}
 use Rattle.gc_harm.specs.Sessions.{SessionsInHarmedFieldAreLocal, events_in, harm_event, harm_events, settled_in}
@@ -56,7 +54,7 @@ module _ {State : Type 0} (ends : Ends State) where
 
   -- nor does it add one since a restart
   since_harm : (s : SyncModel State) (t : SyncHarm State) (since : List (Step Asked)) → steps_since since (harm_event s t) ≡ since
-  since_harm s (sync.Does turn) since = since_turn s turn since
+  since_harm s (sync.Does turn) since = (turned_one WINDOW ends s turn).since since
   since_harm s (sync.Damages line) since = refl
   since_harm s (sync.Strikes id call) since = refl
 
@@ -69,43 +67,15 @@ module _ {State : Type 0} (ends : Ends State) where
 
 -- No restart is among the steps of a stretch.
 
--- the step is no restart
-abbrev IsNoRestart : Step Asked → Type 0
-IsNoRestart one.Restart = ⊥
-IsNoRestart step = Unit {0}
-
--- steps without a restart come after those since the last restart
-since_plain : (steps since : List (Step Asked)) → AllByRecursion IsNoRestart steps → steps_since since (map Stepped steps) ≡ since ++ steps
-since_plain [] since h = sym (append-nil since)
-since_plain (one.Send target call deadline ∷ steps) since h = since_plain steps (since ++ one.Send target call deadline ∷ []) h.1 ∙ append_assoc since (one.Send target call deadline ∷ []) steps
-since_plain (one.Hear line ∷ steps) since h = since_plain steps (since ++ one.Hear line ∷ []) h.1 ∙ append_assoc since (one.Hear line ∷ []) steps
-since_plain (one.Expire now ∷ steps) since h = since_plain steps (since ++ one.Expire now ∷ []) h.1 ∙ append_assoc since (one.Expire now ∷ []) steps
-since_plain (one.Restart ∷ steps) since h = absurd h.0
-
 -- no step that is seen at one of a stretch is a restart
 no_restart_at : {State : Type 0} (m : Harm State) → AllByRecursion IsNoRestart (seen_at m)
-no_restart_at (Does (field.Sends target call deadline)) = (tt, tt)
-no_restart_at (Does (field.Tells now)) = (tt, tt)
-no_restart_at (Does (field.Comes line)) = (tt, tt)
-no_restart_at (Does (field.Foreign line)) = (tt, tt)
-no_restart_at (Does (field.OnLine step)) = tt
-no_restart_at (Does field.Anew) = tt
-no_restart_at (Does (field.Changes state)) = tt
-no_restart_at (Does (field.Joins line)) = tt
+no_restart_at (Does move) = no_restart_seen (move ∷ [])
 no_restart_at (Damages line) = (tt, tt)
 no_restart_at (Strikes id call) = tt
 
 no_restarts : {State : Type 0} (ms : List (Harm State)) → AllByRecursion IsNoRestart (seen_harms ms)
 no_restarts [] = tt
 no_restarts (m ∷ ms) = all_append IsNoRestart (seen_at m) (seen_harms ms) (no_restart_at m) (no_restarts ms)
-
--- what holds of the sends among the events of steps without a restart holds by the steps before each
-sends_by_steps : (Holds : (target : ℕ) → Asked → List (Step Asked) → Type 0) (steps : List (Step Asked)) → AllByRecursion IsNoRestart steps → OfSends Holds [] (map Stepped steps)
-    → (front later : List (Step Asked)) (target : ℕ) (call : Asked) (deadline : ℕ) → steps ≡ front ++ one.Send target call deadline ∷ later → Holds target call front
-sends_by_steps Holds steps none h front later target call deadline e =
-    let plain = all_front IsNoRestart front (one.Send target call deadline ∷ later) (subst (λ l. AllByRecursion IsNoRestart l) e none) in
-    subst (λ l. Holds target call l) (since_plain front [] plain)
-    (h (map Stepped front) (map Stepped later) target call deadline (ap (λ l. map Stepped l) e ∙ map-append Stepped front (one.Send target call deadline ∷ later)))
 
 -- Holding back.
 

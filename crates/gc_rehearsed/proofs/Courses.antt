@@ -12,11 +12,10 @@ use Rattle.gc_station.specs.Parts.{Part, idle_part}
 use Rattle.gc_world.specs.Clients.{by_ids}
 use Rattle.gc_field.specs.Begin as begin
 use Rattle.gc_field.specs.Begin.{AreTurns, IsTurn, SyncModel, UnderWay, begins, leaves, turned, turns}
-use Rattle.gc_field.specs.Beginnings.{AreFewKilled, ArePossibleIfBegun, AreRuns, Run, after_turns, killed_by, killed_unless_begun, left_by_run, left_by_runs, left_if_begun, under_way_on}
+use Rattle.gc_field.specs.Beginnings.{AreFewKilled, ArePossibleIfBegun, AreRuns, Run, after_turns, killed_by, killed_over, killed_unless_begun, left_by_run, left_by_runs, left_if_begun, under_way_on}
 use Rattle.gc_field.specs.Begun.{ids_begun}
 use Rattle.gc_field.specs.Field.{Move, ArePossible, IsPossible, moved, moves, seen}
 use Rattle.gc_rehearsed.specs.Exchanges.{Exchange, exchange_of_move, exchange_of_turn, exchanges_if_begun, exchanges_of_moves, exchanges_of_runs, exchanges_of_turns}
-use Rattle.gc_field.specs.InARow.{killed_over}
 use Rattle.gc_field.specs.SceneField.{KeptReplyReads, scene_ends, scene_kept}
 use Rattle.gc_field.specs.Shown.{AreShownAs, shown, shows}
 use Rattle.gc_field.specs.World.{Numbered}
@@ -65,7 +64,7 @@ pub record Later (u : UnderWay SceneState) (rs : List (Run SceneState)) (coming 
   pub may : AreRuns WINDOW scene_ends KeptReplyReads scene_kept u rs
   pub holds : Holds (left_by_runs WINDOW scene_ends u rs) coming.lines
   pub few : AreFewKilled WINDOW scene_ends 0 u rs
-  pub ends : killed_over scene_ends 0 u rs ≤ killed_unless_begun coming.left 0
+  pub ends : killed_over WINDOW scene_ends 0 u rs ≤ killed_unless_begun coming.left 0
 
 -- if some ids of a run's synchronization aren't answered, no other run (`rs`) follows, and these are the ids that the station
 -- leaves unanswered at the end (`left`)
@@ -238,22 +237,22 @@ killed_first n u r (asked ∷ word) last rs e rest = inr (rest.0, ap (λ l. kill
 -- most `killed_unless_begun coming.left n`
 pub few_from : (n : ℕ) (u : UnderWay SceneState) (show : List part.SyncStep) (steps : List (client.Step Asked)) (coming : Sequel)
     → (f : FromBegin (begins u) show steps coming) → killed_unless_begun coming.left n ≤ 5
-    → AreFewKilled WINDOW scene_ends n u (run f.ts f.ms ∷ f.rs) × (killed_over scene_ends n u (run f.ts f.ms ∷ f.rs) ≤ killed_unless_begun coming.left n)
+    → AreFewKilled WINDOW scene_ends n u (run f.ts f.ms ∷ f.rs) × (killed_over WINDOW scene_ends n u (run f.ts f.ms ∷ f.rs) ≤ killed_unless_begun coming.left n)
 few_from n u show steps coming f small = by_end (killed_first n u (run f.ts f.ms) (turned scene_ends f.ts (begins u)).left coming.left f.rs refl f.rest) where
   -- if no run counts as killed in a row after the first run, at most five do
   none_killed : killed_by scene_ends n u (run f.ts f.ms) ≡ 0 → killed_by scene_ends n u (run f.ts f.ms) ≤ 5
   none_killed none = omega (arith, none)
 
   -- if `killed_over` counts no more with 0 before than the ids that are left say, it counts no more than they say with n before
-  at_the_end : killed_over scene_ends 0 (left_by_run WINDOW scene_ends u (run f.ts f.ms)) f.rs ≤ killed_unless_begun coming.left n
+  at_the_end : killed_over WINDOW scene_ends 0 (left_by_run WINDOW scene_ends u (run f.ts f.ms)) f.rs ≤ killed_unless_begun coming.left n
   at_the_end = let ends = f.later.ends in let more = killed_more 0 n coming.left (omega arith) in omega (arith, ends, more)
 
   -- the claim of `few_from`, by whether the first run has synchronized
   by_end : (killed_by scene_ends n u (run f.ts f.ms) ≡ 0) ⊎ ((f.rs ≡ []) × (killed_by scene_ends n u (run f.ts f.ms) ≡ killed_unless_begun coming.left n))
-      → AreFewKilled WINDOW scene_ends n u ((run f.ts f.ms) ∷ f.rs) × (killed_over scene_ends n u ((run f.ts f.ms) ∷ f.rs) ≤ killed_unless_begun coming.left n)
+      → AreFewKilled WINDOW scene_ends n u ((run f.ts f.ms) ∷ f.rs) × (killed_over WINDOW scene_ends n u ((run f.ts f.ms) ∷ f.rs) ≤ killed_unless_begun coming.left n)
   by_end (inl none) = (
     (none_killed none, subst (λ k. AreFewKilled WINDOW scene_ends k (left_by_run WINDOW scene_ends u (run f.ts f.ms)) f.rs) (sym none) f.later.few),
-    subst (λ k. killed_over scene_ends k (left_by_run WINDOW scene_ends u (run f.ts f.ms)) f.rs ≤ killed_unless_begun coming.left n) (sym none) at_the_end,
+    subst (λ k. killed_over WINDOW scene_ends k (left_by_run WINDOW scene_ends u (run f.ts f.ms)) f.rs ≤ killed_unless_begun coming.left n) (sym none) at_the_end,
   )
   by_end (inr killed) =
       let count = killed.1 in (
@@ -261,7 +260,7 @@ few_from n u show steps coming f small = by_end (killed_first n u (run f.ts f.ms
           omega (arith, count, small),
           subst (λ rs. AreFewKilled WINDOW scene_ends (killed_by scene_ends n u (run f.ts f.ms)) (left_by_run WINDOW scene_ends u (run f.ts f.ms)) rs) (sym killed.0) tt,
         ),
-        subst (λ rs. killed_over scene_ends (killed_by scene_ends n u (run f.ts f.ms)) (left_by_run WINDOW scene_ends u (run f.ts f.ms)) rs ≤ killed_unless_begun coming.left n) (sym killed.0)
+        subst (λ rs. killed_over WINDOW scene_ends (killed_by scene_ends n u (run f.ts f.ms)) (left_by_run WINDOW scene_ends u (run f.ts f.ms)) rs ≤ killed_unless_begun coming.left n) (sym killed.0)
             (omega (arith, count)),
       )
 

@@ -13,8 +13,8 @@ use Rattle.gc_station.specs.Parts as part
 use Rattle.gc_station.specs.Parts.{parts_of}
 use Rattle.gc_field.specs.Begin as begin
 use Rattle.gc_field.specs.Begin.{UnderWay, begins, leaves, none_under_way}
-use Rattle.gc_field.specs.Beginnings.{HasRisingIds, Run, killed_unless_begun, left_by_runs}
-use Rattle.gc_field.specs.InARow.{AreInARow, killed_over}
+use Rattle.gc_field.specs.Beginnings.{HasRisingIds, Run, killed_over, killed_unless_begun, left_by_runs}
+use Rattle.gc_field.specs.InARow.{AreInARow}
 use Rattle.gc_field.specs.SceneField.{KeptReplyReads, scene_ends, scene_kept}
 use Rattle.gc_field.specs.Shown.{AreShownAs}
 use Rattle.gc_field.proofs.InARow.{in_a_row, run}
@@ -141,8 +141,8 @@ goes_in_a_row n (x ∷ xs) hs before u l m quiet holds all told lives few =
     word_small two.leads (subst (Runs x.plan x.commands s) (sym two.fronts) lives.0.runs))) in
     let rs = run f.ts f.ms ∷ f.rs in
     let killed = few_from n u (first_part ps).sync_steps (first_part ps).steps (sequel (other_parts ps) two.middle left (waited ++ ran)) f few.0 in
-    let rest = goes_in_a_row (killed_over scene_ends n u rs) xs two.back x.after_run (left_by_runs WINDOW scene_ends u rs) two.middle m lives.0.quiet f.later.holds two.later two.backs lives.1
-    (few_end_with_fewer_before (killed_over scene_ends n u rs) (killed_unless_begun left n) xs killed.1 few.1) in
+    let rest = goes_in_a_row (killed_over WINDOW scene_ends n u rs) xs two.back x.after_run (left_by_runs WINDOW scene_ends u rs) two.middle m lives.0.quiet f.later.holds two.later two.backs lives.1
+    (few_end_with_fewer_before (killed_over WINDOW scene_ends n u rs) (killed_unless_begun left n) xs killed.1 few.1) in
     record {
       runs = rs ∷ rest.runs;
       each = ap suc rest.each;

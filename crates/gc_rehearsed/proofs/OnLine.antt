@@ -12,10 +12,10 @@ use Rattle.gc_station.specs.Parts.{occasion_in}
 use Rattle.gc_station.specs.Records.{Record}
 use Rattle.gc_world.proofs.Booked.{Has, has_at, has_more}
 use Rattle.gc_field.specs.Begin.{UnderWay, begins, left_by_turns}
-use Rattle.gc_field.specs.Beginnings.{AreRuns, ArePossibleIfBegun, Run, after_turns, left_by_run, left_by_runs, under_way_on}
+use Rattle.gc_field.specs.Beginnings.{AreRuns, ArePossibleIfBegun, Run, after_turns, killed_over, left_by_run, left_by_runs, under_way_on}
 use Rattle.gc_field.specs.Begun.{ids_begun}
-use Rattle.gc_field.specs.Field.{Move, OnLine, moves}
-use Rattle.gc_field.specs.InARow.{AreFaithful, AreInARow, killed_over}
+use Rattle.gc_field.specs.Field.{Move, OnLine}
+use Rattle.gc_field.specs.InARow.{AreFaithful, AreInARow}
 use Rattle.gc_field.specs.Runs.{IsOwnAnswer, Program, program_parts, program_records}
 use Rattle.gc_field.specs.SceneField.{KeptReplyReads, scene_ends, scene_handed, scene_kept}
 use Rattle.gc_field.specs.Shown.{Stretch, stretches}
@@ -106,5 +106,5 @@ all_on_line es n u (x ∷ xs) [] inside field faithful = tt
 all_on_line es n u (x ∷ xs) (rs ∷ rss) inside field faithful =
     let next = left_by_runs WINDOW scene_ends u rs in (
       answers_on_line es u (as_program x rs) field.0.possible (λ e h. inside e (has_more e (exchanges_of_runs u rs) (exchanges_of_all next rss) h)) faithful.0.own,
-      all_on_line es (killed_over scene_ends n u rs) next xs rss (λ e h. inside e (has_behind e (exchanges_of_runs u rs) (exchanges_of_all next rss) h)) field.1 faithful.1,
+      all_on_line es (killed_over WINDOW scene_ends n u rs) next xs rss (λ e h. inside e (has_behind e (exchanges_of_runs u rs) (exchanges_of_all next rss) h)) field.1 faithful.1,
     )
