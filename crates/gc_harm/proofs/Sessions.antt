@@ -18,7 +18,6 @@ use Rattle.gc_session.proofs.InTable.{AreInTable, IsInTable, calls_in_table}
 use Rattle.gc_session.proofs.Courses.{course_client}
 use Rattle.gc_session.specs.Courses.{client_after, client_stepped}
 use Rattle.gc_station.proofs.Booking.{course_settled, sent_by, settled_append, settled_by}
-use Rattle.gc_station.specs.HoldingBack as station
 use Rattle.gc_field.specs.World.{Ends}
 use Rattle.gc_field.specs.Begin.{IsWellFormed, SyncModel, UnderWay, begins}
 use Rattle.gc_field.specs.Instrument.{IsAnInstrument, TreatsRawsAlike}

@@ -8,4 +8,5 @@ pub mod InTable
 pub mod Lawful
 mod Nexts
 mod Places
+mod Repeats
 pub mod Stretches

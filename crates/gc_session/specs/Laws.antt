@@ -20,7 +20,7 @@ use Rattle.gc_session.specs.Courses.{client_stepped}
 use Rattle.gc_session.specs.Events.{ClientEvent, Stepped, AreInTurn, left_among, steps_among, steps_since}
 use Rattle.gc_session.specs.Exchange.{ended_last}
 use Rattle.gc_session.specs.Lines.{calls_for_renewal}
-use Rattle.gc_session.specs.Sessions.{Session, opening, takes, stepped, next_of, at_step, is_up}
+use Rattle.gc_session.specs.Sessions.{Session, came, opening, takes, stepped, next_of, at_step, is_up}
 
 -- these calls on a new session are events of its client, each in its turn, and bring it to where its rule brings it over these events
 pub record CallsAreEvents (settings : Settings) (calls : List Call) : Type 0 where
@@ -178,3 +178,9 @@ ConnectionsAreDrained =
     next_of want (at_step want start s) ≡ next.Clear → GoesForward start calls → moment_after start calls ≤ now
     → u.standing.phase ≡ phase.Draining → (stepped other now u).standing.phase ≡ phase.Ready
     → last_came (stepped want start s) start calls + u.settings.quiet ≤ now
+
+-- Moments.
+
+-- if bytes came once more by the same moment, nothing more has changed
+abbrev pub ComingTwiceIsComingOnce : Type 0
+ComingTwiceIsComingOnce = (now : ℕ) (s : Session) → came now (came now s) ≡ came now s

@@ -1,6 +1,6 @@
 //! What is proved of any calls on a session. Each function does nothing: its contract is the law.
 
-ghost use Rattle.gc_session.specs.Laws.{SessionsAreTheirClients, RequestsAreSentNearTheTable, RequestsAreHeldBack, NothingIsSentInDoubt, OwnRequestsAreNullProcedures, AccountsForAsks, StretchesAreUnbroken, ConnectionsAreDrained};
+ghost use Rattle.gc_session.specs.Laws.{SessionsAreTheirClients, RequestsAreSentNearTheTable, RequestsAreHeldBack, NothingIsSentInDoubt, OwnRequestsAreNullProcedures, AccountsForAsks, StretchesAreUnbroken, ConnectionsAreDrained, ComingTwiceIsComingOnce};
 ghost use Rattle.gc_session.specs.Witness.{ARunIsAnswered};
 
 /// Any calls on a session are one list of events of its client: the null procedures of a synchronization and the lines that arrive
@@ -55,4 +55,9 @@ pub fn a_run_is_answered()
 /// clock doesn't go back meanwhile.
 pub fn connections_are_drained()
     ensures { ConnectionsAreDrained }
+{}
+
+/// To report once more that bytes came, by the same moment, changes nothing.
+pub fn coming_twice_is_coming_once()
+    ensures { ComingTwiceIsComingOnce }
 {}

@@ -7,7 +7,7 @@ use Rattle.gc_lines.specs.Frames.{line_in}
 use Rattle.gc_lines.specs.declared.frame.Frame.{Frame}
 use Rattle.gc_lines.specs.declared.frame.Frame.TheVariants.{Line, Cleared, Overlong, More}
 use Rattle.gc_client.specs.Beginning.{the_word}
-use Rattle.geocom_c.specs.Beginning.{left_by_restart, unanswered_after, left_past}
+use Rattle.geocom_c.specs.Beginning.{unanswered_after, left_past}
 use Rattle.geocom_c.specs.Rest.{IsRest}
 use Rattle.geocom_c.specs.declared.rest.GeocomRest.{GeocomRest}
 use Rattle.geocom_c.proofs.Hearings.{HearsInTurn}
@@ -36,8 +36,3 @@ none_left_at_eight a le = drop_all a the_word le
 -- after fewer than eight answers some id is left
 pub some_left_below_eight : (a : ℕ) → a < 8 → drop a the_word ≡ [] → ⊥
 some_left_below_eight a lt e = let n = length-drop a the_word in let none : length (drop a the_word) ≡ 0 = ap length e in absurd (omega (arith, lt, n, none))
-
--- a client that hasn't synchronized goes on after a restart with the ids that aren't answered
-pub left_stays : (left : List ℕ) → (left ≡ [] → ⊥) → left ≡ left_by_restart left
-left_stays [] some = absurd (some refl)
-left_stays (asked ∷ later) some = refl

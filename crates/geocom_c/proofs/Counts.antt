@@ -15,10 +15,10 @@ use Rattle.gc_session.specs.declared.standing.Phase.TheVariants as phase
 use Rattle.gc_session.specs.declared.standing.Standing.{Standing}
 use Rattle.gc_session.specs.Exchange as exchange
 use Rattle.gc_session.specs.Lines.{ends_with_table}
-use Rattle.gc_session.specs.Sessions.{Session, anew, asked, asked_if, at_step, attended, begun_anew, came, closed, is_up, line_came, line_came_in, line_heard_if, met_in, opened, phase_cleared, quieted_in, sign_on_noted, stepped, takes, timed, with_standing}
+use Rattle.gc_session.specs.Sessions.{Session, asked, at_step, attended, came, is_up, line_came, line_heard, line_synchronized, met_in, next_of, phase_cleared, quieted_in, sign_on_noted, stepped, timed, with_standing}
 use Rattle.gc_texts.specs.SignOns.{is_sign_on}
 use Rattle.geocom_c.specs.SessionState.{AreCounts}
-use Rattle.geocom_c.proofs.NextSteps.{each_next}
+use Rattle.geocom_c.proofs.NextSteps.{each_line, each_next}
 
 -- the counts of a session are those of a window
 abbrev pub HasCounts : Session → Type 0
@@ -80,15 +80,9 @@ stepped_counts want now s c =
     (requested_counts moment x kept)
     (null_counts moment t.settings.timeout (exchange.renewed x.asked x) (renewed_counts x.asked x))
     kept
-    want
+    (next_of want t)
 
 -- What else happens.
-
-pub opened_counts : (now : ℕ) (s : Session) → HasCounts s → HasCounts (opened now s)
-opened_counts now s c = counts_stay s.standing.exchange (opened now s).standing.exchange refl refl c
-
-pub closed_counts : (now : ℕ) (s : Session) → HasCounts s → HasCounts (closed now s)
-closed_counts now s c = counts_stay s.standing.exchange (closed now s).standing.exchange refl refl c
 
 met_counts : (up : Bool) (now : ℕ) (t : Standing) → AreCounts t.exchange → AreCounts (met_in up now t).exchange
 met_counts true now t c = counts_stay t.exchange (met_in true now t).exchange refl refl c
@@ -96,20 +90,6 @@ met_counts false now t c = counts_stay t.exchange (met_in false now t).exchange 
 
 pub came_counts : (now : ℕ) (s : Session) → HasCounts s → HasCounts (came now s)
 came_counts now s c = met_counts (is_up s.standing.phase) now s.standing c
-
-asked_if_counts : (may : Bool) (target : ℕ) (call : Asked) (wait : ℕ) (s : Session) → HasCounts s → HasCounts (asked_if may target call wait s)
-asked_if_counts true target call wait s c = requested_counts s.standing.moment s.standing.exchange c
-asked_if_counts false target call wait s c = c
-
-pub asked_counts : (target : ℕ) (call : Asked) (wait : ℕ) (s : Session) → HasCounts s → HasCounts (asked target call wait s)
-asked_counts target call wait s c = asked_if_counts (takes target s) target call wait s c
-
-begun_anew_counts : (begun : Bool) (s : Session) → HasCounts s → HasCounts (begun_anew begun s)
-begun_anew_counts true s c = renewed_counts s.standing.exchange.asked s.standing.exchange
-begun_anew_counts false s c = counts_stay s.standing.exchange (begun_anew false s).standing.exchange refl refl c
-
-pub anew_counts : (s : Session) → HasCounts s → HasCounts (anew s)
-anew_counts s c = begun_anew_counts (exchange.has_begun s.standing.exchange) s c
 
 -- Lines.
 
@@ -129,9 +109,8 @@ pub heard_short : (c : ById Asked) (line : List ℕ) (id : Option ℕ)
 heard_short c line None = (omega arith, omega arith)
 heard_short c line (Some id) = settles_short c line (place_in c id) (fits c (Some id))
 
-line_heard_if_counts : (is_cut : Bool) (line : List ℕ) (s : Session) → length s.client.waiting ≤ WINDOW → HasCounts s → HasCounts (line_heard_if is_cut line s)
-line_heard_if_counts true line s few c = c
-line_heard_if_counts false line s few c =
+line_heard_counts : (line : List ℕ) (s : Session) → length s.client.waiting ≤ WINDOW → HasCounts s → HasCounts (line_heard line s)
+line_heard_counts line s few c =
     let short = heard_short s.client line (heard line) in
     let x = hears_line s.client line in
     record {
@@ -142,17 +121,9 @@ line_heard_if_counts false line s few c =
           (λ _. omega (arith, short.0, few)) (λ _. c.few);
     }
 
-line_came_in_counts : (p : Phase) (begun : Bool) (line : List ℕ) (s : Session) → length s.client.waiting ≤ WINDOW → HasCounts s
-    → HasCounts (line_came_in p begun line s)
-line_came_in_counts phase.Down begun line s few c = c
-line_came_in_counts phase.Pausing begun line s few c = c
-line_came_in_counts phase.Clearing begun line s few c = c
-line_came_in_counts phase.Draining begun line s few c = c
-line_came_in_counts phase.Ready true line s few c = line_heard_if_counts (is_sign_on line) line s few c
-line_came_in_counts phase.Ready false line s few c =
-    counts_stay s.standing.exchange (line_came_in phase.Ready false line s).standing.exchange refl refl c
-
 pub line_came_counts : (line : List ℕ) (s : Session) → length s.client.waiting ≤ WINDOW → HasCounts s → HasCounts (line_came line s)
 line_came_counts line s few c =
     let noted = with_standing (sign_on_noted (is_sign_on line)) s in
-    line_came_in_counts s.standing.phase (exchange.has_begun s.standing.exchange) line noted few (counts_stay s.standing.exchange noted.standing.exchange refl refl c)
+    let kept = counts_stay s.standing.exchange noted.standing.exchange refl refl c in
+    each_line (λ (t : Session) settled. HasCounts t) line noted kept (line_heard_counts line noted few kept)
+    (counts_stay noted.standing.exchange (line_synchronized line noted).standing.exchange refl refl kept) s.standing.phase (exchange.has_begun s.standing.exchange)

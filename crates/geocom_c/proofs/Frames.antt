@@ -1,14 +1,14 @@
--- Frames that are fed to a client: what a line feed makes of the bytes before it.
-use Rattle.std.proofs.Common.{◌≡◌, ℕ, ◌-◌, List, Bool, true, false, length, take, sym, ap, ◌∙◌, subst}
+-- Frames that are fed: what a line feed makes of the bytes before it, and what is told of a frame.
+use Rattle.std.proofs.Common.{◌≡◌, ℕ, ◌-◌, List, [], Bool, true, false, length, take, sym, ap, ◌∙◌, subst}
 use Rattle.std.specs.Prelude.{if◌then◌else◌, nat_lt}
 use Rattle.gc_lines.specs.declared.frame.Frame.{Frame}
 use Rattle.gc_lines.specs.declared.frame.Frame.TheVariants.{Line, Cleared, Overlong, More}
 use Rattle.gc_lines.specs.Frames.{frame_of, ends_in_return}
 use Rattle.gc_catalogue.specs.declared.asked.Asked.{Asked}
-use Rattle.gc_client.specs.Rule.{Windowed}
+use Rattle.gc_client.specs.Rule.{Settlement, Windowed}
 use Rattle.geocom_c.specs.Rest.{IsRest}
 use Rattle.geocom_c.specs.State.{StandsForClient}
-use Rattle.geocom_c.specs.Feeding.{IsFed, IsInFront, feed_effect, unended}
+use Rattle.geocom_c.specs.Feeding.{IsFedAs, IsInFront, feed_effect, unended}
 use Rattle.geocom_c.specs.declared.answers.GeocomHeard.{GeocomHeard}
 use Rattle.geocom_c.specs.declared.header.TheConstants.{MORE}
 use Rattle.geocom_c.specs.declared.rest.GeocomRest.{GeocomRest}
@@ -37,13 +37,14 @@ stands_with_rest s r c old new is rest =
       incomplete = rest;
     }
 
--- Here r is what is told of the frame f, which was fed (`IsFed`), and q is r with `used` bytes as those used.
-module _ (c : Windowed Asked) (f : Frame) (r q : GeocomHeard) (records : List GeocomSettlement) (text : List ℕ) (used : ℕ) (same : q ≡ record r { used = used })
-    (is : IsFed c f (feed_effect r records text)) where
-  -- `IsFed` holds of q, too, also with an equal frame g in place of f
-  pub fed_used : (g : Frame) → f ≡ g → IsFed c g (feed_effect q records text)
+-- Here r is what is told of the frame f, which was fed (`IsFedAs`), and q is r with `used` bytes as those used. `kind` and `settles` say of
+-- each frame its kind, and what it settles.
+module _ (kind : Frame → ℕ) (settles : Frame → List (Settlement Asked)) (f : Frame) (r q : GeocomHeard) (records : List GeocomSettlement) (text : List ℕ) (used : ℕ)
+    (same : q ≡ record r { used = used }) (is : IsFedAs (kind f) (settles f) f (feed_effect r records text)) where
+  -- `IsFedAs` holds of q, too, also with an equal frame g in place of f
+  pub fed_used : (g : Frame) → f ≡ g → IsFedAs (kind g) (settles g) g (feed_effect q records text)
   fed_used g e =
-      subst (λ (h : Frame). IsFed c h (feed_effect q records text)) e (record {
+      subst (λ (h : Frame). IsFedAs (kind h) (settles h) h (feed_effect q records text)) e (record {
         fault = ap (λ (x : GeocomHeard). x.fault) same ∙ is.fault;
         kind = ap (λ (x : GeocomHeard). x.kind) same ∙ is.kind;
         line_fault = ap (λ (x : GeocomHeard). x.line_fault) same ∙ is.line_fault;
@@ -52,13 +53,13 @@ module _ (c : Windowed Asked) (f : Frame) (r q : GeocomHeard) (records : List Ge
         front = subst (λ (n : ℕ). IsInFront f n text) (sym (ap (λ (x : GeocomHeard). x.count) same)) is.front;
       })
 
-  -- where f is `More`, q is what is told of bytes without a line feed
-  pub fed_unended : (n : ℕ) → f ≡ More → used ≡ n → q ≡ unended n
-  fed_unended n more e =
-      let fed : IsFed c More (feed_effect r records text) = subst (λ (g : Frame). IsFed c g (feed_effect r records text)) more is in
+  -- where f is `More`, which settles nothing, q is what is told of bytes without a line feed
+  pub fed_unended : (n : ℕ) → kind More ≡ MORE → settles More ≡ [] → f ≡ More → used ≡ n → q ≡ unended n
+  fed_unended n of_more none more e =
+      let fed = subst (λ (g : Frame). IsFedAs (kind g) (settles g) g (feed_effect r records text)) more is in
       same
       ∙ ap (λ k. let x : GeocomHeard = record r { used = k } in x) e
       ∙ ap (λ k. let x : GeocomHeard = record { used = n; fault = k; count = r.count; kind = r.kind; line_fault = r.line_fault } in x) fed.fault
-      ∙ ap (λ k. let x : GeocomHeard = record { used = n; fault = 0; count = k; kind = r.kind; line_fault = r.line_fault } in x) fed.count
-      ∙ ap (λ k. let x : GeocomHeard = record { used = n; fault = 0; count = 0; kind = k; line_fault = r.line_fault } in x) fed.kind
+      ∙ ap (λ k. let x : GeocomHeard = record { used = n; fault = 0; count = k; kind = r.kind; line_fault = r.line_fault } in x) (fed.count ∙ ap length none)
+      ∙ ap (λ k. let x : GeocomHeard = record { used = n; fault = 0; count = 0; kind = k; line_fault = r.line_fault } in x) (fed.kind ∙ of_more)
       ∙ ap (λ k. let x : GeocomHeard = record { used = n; fault = 0; count = 0; kind = MORE; line_fault = k } in x) fed.line_fault

@@ -15,10 +15,11 @@ use Rattle.gc_client.specs.Rule.{ById, Sending}
 use Rattle.gc_client.specs.OneForOne.{Course, course_after, sent_on}
 use Rattle.gc_client.specs.OneForOne as one
 use Rattle.geocom_c.specs.Feeding.{client_past}
-use Rattle.geocom_c.specs.Sending.{SendEffect, SendMeets}
+use Rattle.geocom_c.specs.Sending.{SendMeets}
 use Rattle.geocom_c.specs.Following.{hearing_lines, StandsForCourse}
 use Rattle.geocom_c.specs.Rest.{lines_completed, HeardBut}
 use Rattle.geocom_c.specs.declared.state.GeocomClient.{GeocomClient}
+use Rattle.geocom_c.specs.Rooms.{Effect}
 
 -- hearing no line changes nothing, and hearing the lines of the frames f and `fs` is hearing f, as `past` says, and then the lines
 -- of `fs`
@@ -105,7 +106,7 @@ courses_in_turn width = record { none = λ x. refl; first = first } where
 
 -- after a send, taken or refused by the rule, the state stands for the course after that send (`sent_on`), if before it the state
 -- stood for the course x
-pub sent_course : (width : ℕ) (x : Course Asked) (rest : List ℕ) (call : Asked) (target : ℕ) (o : Option (Sending (ById Asked))) (sent : SendEffect)
+pub sent_course : (width : ℕ) (x : Course Asked) (rest : List ℕ) (call : Asked) (target : ℕ) (o : Option (Sending (ById Asked))) (sent : Effect GeocomClient ℕ)
     → StandsForCourse width sent.old x rest → SendMeets (record { width = width; ids = x.client }) rest call o sent
     → StandsForCourse width sent.new (sent_on x target call o) rest
 sent_course width x rest call target None sent s is = subst (λ (t : GeocomClient). StandsForCourse width t x rest) (sym is.1) s

@@ -22,3 +22,5 @@ mod SessionTelling
 mod SessionSettings
 mod SessionSteps
 mod SessionFrames
+mod SessionCalls
+mod SessionRecords

@@ -1,6 +1,6 @@
 -- Records of settlements, as the library writes them for C: numbers, and places in a text.
-use Rattle.std.proofs.Common.{◌≡◌, ℕ, zero, suc, ◌≤◌, Bool, true, false, List, [], ◌∷◌, ◌++◌, length, Some, None, Ok, Err, Option, Result, refl, sym, subst, ap, ◌∙◌, arith, if◌then◌else◌}
-use Rattle.std.proofs.lemmas.List.{length-map, length-take, take-append-le}
+use Rattle.std.proofs.Common.{◌≡◌, ℕ, zero, suc, ◌≤◌, Bool, true, false, List, [], ◌∷◌, ◌++◌, length, take, drop, Some, None, Ok, Err, Option, Result, refl, sym, subst, ap, ◌∙◌, arith, if◌then◌else◌}
+use Rattle.std.proofs.lemmas.List.{length-map, length-take, take-append-drop, take-append-le}
 use Rattle.gc_values.specs.Item.{kind_of}
 use Rattle.gc_values.specs.Params.{IsParams}
 use Rattle.gc_values.proofs.ListLaws.{same_count}
@@ -17,6 +17,7 @@ use Rattle.gc_catalogue.proofs.Table.{few_answer_values}
 use Rattle.gc_client.specs.declared.pending.Pending.{Pending}
 use Rattle.gc_client.specs.Rule.{ById, Settlement, settle, place_in, settles_at, hears, id_in, fits}
 use Rattle.gc_client.specs.Rule
+use Rattle.geocom_c.specs.FirstAre.{FirstAre}
 use Rattle.geocom_c.specs.Feeding.{line_kind, fault_number_in}
 use Rattle.geocom_c.specs.Settled.{StandsAt, AreListed, AreReadAs, IsKind, HasReading, ListsItems, HasOutcome, IsRecord, AnswerHasLine, AnswersHaveLine}
 use Rattle.geocom_c.specs.declared.listed.GeocomItem.{GeocomItem}
@@ -95,6 +96,17 @@ more_outcome text more r asked Rule.Lost is = is
 -- a record is still that of its settlement once more is appended to the text
 pub more_record : (text more : List ℕ) (r : GeocomSettlement) (s : Settlement Asked) → IsRecord text r s → IsRecord (text ++ more) r s
 more_record text more r s is = record { target = is.target; procedure = is.procedure; outcome = more_outcome text more r s.call s.outcome is.outcome }
+
+-- where a text that begins with a line was written to the front of another (`new`), the line is at its front, and records with the text are
+-- records with that one
+pub written_in_front : (line text new : List ℕ) (n : ℕ) (records : List GeocomSettlement) (ss : List (Settlement Asked)) → take n new ≡ text → take (length line) text ≡ line
+    → FirstAre (IsRecord text) records ss → (take (length line) new ≡ line) × FirstAre (IsRecord new) records ss
+written_in_front line text new n records ss front begins are =
+    let whole : new ≡ text ++ drop n new = sym (take-append-drop n new) ∙ ap (λ (x : List ℕ). x ++ drop n new) front in (
+      ap (take (length line)) whole ∙ take-append-le (length line) text (drop n new) (omega (arith, ap length begins, length-take (length line) text)) ∙ begins,
+      subst (λ (x : List ℕ). FirstAre (IsRecord x) records ss) (sym whole)
+          (first_are_weaker (IsRecord text) (IsRecord (text ++ drop n new)) (more_record text (drop n new)) records ss are),
+    )
 
 -- a request that a line settles, late (b) or answered, has this line if it is answered
 met_has_line : (p : Pending Asked) (line : List ℕ) (b : Bool) → AnswerHasLine line (if b then Rule.Late else Rule.Answered line)

@@ -8,10 +8,11 @@ use Rattle.gc_catalogue.specs.declared.fault.CallFault.TheVariants.{Unknown, Par
 use Rattle.gc_catalogue.specs.declared.asked.Asked.{Asked}
 use Rattle.gc_catalogue.specs.declared.raw.RawFault.{RawFault}
 use Rattle.gc_catalogue.specs.declared.raw.RawFault.TheVariants as raw
-use Rattle.geocom_c.specs.Sending.{IsOfRequest, AsksOrRefuses, IsSend, RequestRule, SendEffect, WasAsked, raw_number, read_rule}
+use Rattle.geocom_c.specs.Sending.{IsOfReading, AsksOrRefuses, IsSend, RequestRule, WasAsked, raw_number, read_rule}
 use Rattle.geocom_c.specs.declared.header.TheConstants.{WINDOW_FULL}
 use Rattle.geocom_c.specs.declared.state.GeocomClient.{GeocomClient}
 use Rattle.geocom_c.proofs.Clients.{never_ok}
+use Rattle.geocom_c.specs.Rooms.{Effect}
 
 -- Results.
 
@@ -29,18 +30,16 @@ never_both r x y e f = never_ok y x (sym f ∙ e)
 
 -- Numbers of faults.
 
--- a number from 1 to 22 is none of a send's own
-low_of_request : (n : ℕ) → 0 < n → n ≤ 22 → IsOfRequest n
+-- a number from 1 to 22 is none of a send's own, nor of an ask's
+low_of_request : (n : ℕ) → 0 < n → n ≤ 22 → IsOfReading n
 low_of_request n some few = (
-  λ e. absurd (omega (arith, e, some)),
-  λ e. absurd (omega (arith, e, few)),
-  λ e. absurd (omega (arith, e, few)),
+  (λ e. absurd (omega (arith, e, some)), λ e. absurd (omega (arith, e, few)), λ e. absurd (omega (arith, e, few)), λ e. absurd (omega (arith, e, few)), λ e. absurd (omega (arith, e, few))),
   λ e. absurd (omega (arith, e, few)),
   λ e. absurd (omega (arith, e, few)),
 )
 
--- the number of a refusal of a call is none of a send's own
-pub call_of_request : (e : CallFault) → IsOfRequest (refusal_number e)
+-- the number of a refusal of a call is none of a send's own, nor of an ask's
+pub call_of_request : (e : CallFault) → IsOfReading (refusal_number e)
 call_of_request Unknown = low_of_request _ (omega arith) (omega arith)
 call_of_request (Parameters Spelling) = low_of_request _ (omega arith) (omega arith)
 call_of_request (Parameters Range) = low_of_request _ (omega arith) (omega arith)
@@ -48,12 +47,10 @@ call_of_request (Parameters OpenQuote) = low_of_request _ (omega arith) (omega a
 call_of_request (Parameters TooMany) = low_of_request _ (omega arith) (omega arith)
 call_of_request (Parameters Count) = low_of_request _ (omega arith) (omega arith)
 
--- the number of a refusal of a raw request is none of a send's own
-pub raw_of_request : (e : RawFault) → IsOfRequest (raw_number e)
+-- the number of a refusal of a raw request is none of a send's own, nor of an ask's
+pub raw_of_request : (e : RawFault) → IsOfReading (raw_number e)
 raw_of_request raw.InTable = (
-  λ e. absurd (omega (arith, e)),
-  λ e. absurd (omega (arith, e)),
-  λ e. absurd (omega (arith, e)),
+  (λ e. absurd (omega (arith, e)), λ e. absurd (omega (arith, e)), λ e. absurd (omega (arith, e)), λ e. absurd (omega (arith, e)), λ e. absurd (omega (arith, e))),
   λ e. absurd (omega (arith, e)),
   λ e. absurd (omega (arith, e)),
 )
@@ -82,13 +79,13 @@ module _ {X E : Type 0} (rule : RequestRule X E) where
     }
 
     -- the fault that was found (e) is why it is refused, with its number n
-    pub reads_fault : (e : E) (n : ℕ) → found ≡ Err e → rule.is_not e → n ≡ rule.number e → IsOfRequest (rule.number e) → AsksOrRefuses rule (Err n)
+    pub reads_fault : (e : E) (n : ℕ) → found ≡ Err e → rule.is_not e → n ≡ rule.number e → IsOfReading (rule.number e) → AsksOrRefuses rule (Err n)
     reads_fault e n is holds named of_request = record {
       asks = λ asked same. absurd (never_both _ asked n same refl);
       only = λ y it. absurd (never_both found y e (only y it) is);
       refuses = λ fault same. (e, holds, one_error_of _ fault n same refl ∙ named);
       refused = λ f not. ap (λ (k : ℕ). let r : Result Asked ℕ = Err k in r) (named ∙ ap rule.number (one_error_of found e f is (exactly f not)));
-      number_of_request = λ fault same. subst (λ (k : ℕ). IsOfRequest k) (sym (one_error_of _ fault n same refl ∙ named)) of_request;
+      number_of_request = λ fault same. subst (λ (k : ℕ). IsOfReading k) (sym (one_error_of _ fault n same refl ∙ named)) of_request;
     }
 
   -- Here `read` is what was read.
@@ -100,7 +97,7 @@ module _ {X E : Type 0} (rule : RequestRule X E) where
         record { client = was.client; rest = was.rest; asked = found.0; stands = was.stands; begun = was.begun; is = found.1; fills = was.fills }
 
     -- a send of what was read is a send of what is asked for
-    pub sends_as : (target deadline : ℕ) (s : SendEffect) → IsSend (read_rule read) target deadline s → IsSend rule target deadline s
+    pub sends_as : (target deadline : ℕ) (s : Effect GeocomClient ℕ) → IsSend (read_rule read) target deadline s → IsSend rule target deadline s
     sends_as target deadline s did = record {
       sent = λ room c rest x stands begun is. did.sent room c rest (rule.to x) stands begun (r.only x is);
       refuses = λ room c rest e stands begun is. did.refuses room c rest (rule.number e) stands begun (r.refused e is);

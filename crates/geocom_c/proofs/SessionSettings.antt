@@ -6,13 +6,11 @@ use Rattle.gc_client.specs.Settlements.{settlement_seen}
 use Rattle.gc_client.specs.declared.settlement.Settlement.{Settlement}
 use Rattle.gc_session.specs.declared.settings.Settings.{Settings}
 use Rattle.gc_session.specs.declared.settings.Want.{Want}
-use Rattle.gc_session.specs.declared.standing.Phase.{Phase}
-use Rattle.gc_session.specs.declared.standing.Phase.TheVariants as phase
 use Rattle.gc_session.specs.Exchange as exchange
-use Rattle.gc_session.specs.Sessions.{Session, anew, anew_settles, asked, asked_if, at_step, begun_anew, line_came, line_came_in, line_heard_if, next_of, settled_by, sign_on_noted, stepped, takes, with_standing}
+use Rattle.gc_session.specs.Sessions.{Session, anew, anew_settles, asked, asked_if, at_step, begun_anew, line_came, next_of, settled_by, sign_on_noted, stepped, takes, with_standing}
 use Rattle.gc_texts.specs.SignOns.{is_sign_on}
 use Rattle.geocom_c.specs.Settled.{AreLost}
-use Rattle.geocom_c.proofs.NextSteps.{each_next}
+use Rattle.geocom_c.proofs.NextSteps.{each_line, each_next}
 
 -- a width is allowed in settings that are the same
 pub still_allowed : (x y : Settings) → y ≡ x → IsWidth x.width → IsWidth y.width
@@ -20,7 +18,7 @@ still_allowed x y same allowed = subst (λ (z : Settings). IsWidth z.width) (sym
 
 pub stepped_settings : (want : Want) (now : ℕ) (s : Session) → (stepped want now s).settings ≡ s.settings
 stepped_settings want now s =
-    each_next (λ (t : Session) lost. t.settings ≡ s.settings) (at_step want now s) refl refl refl refl refl refl want
+    each_next (λ (t : Session) lost. t.settings ≡ s.settings) (at_step want now s) refl refl refl refl refl refl (next_of want (at_step want now s))
 
 asked_if_settings : (may : Bool) (target : ℕ) (call : Asked) (wait : ℕ) (s : Session) → (asked_if may target call wait s).settings ≡ s.settings
 asked_if_settings true target call wait s = refl
@@ -36,21 +34,10 @@ begun_anew_settings false s = refl
 pub anew_settings : (s : Session) → (anew s).settings ≡ s.settings
 anew_settings s = begun_anew_settings (exchange.has_begun s.standing.exchange) s
 
-line_heard_if_settings : (is_cut : Bool) (line : List ℕ) (s : Session) → (line_heard_if is_cut line s).settings ≡ s.settings
-line_heard_if_settings true line s = refl
-line_heard_if_settings false line s = refl
-
-line_came_in_settings : (p : Phase) (begun : Bool) (line : List ℕ) (s : Session) → (line_came_in p begun line s).settings ≡ s.settings
-line_came_in_settings phase.Down begun line s = refl
-line_came_in_settings phase.Pausing begun line s = refl
-line_came_in_settings phase.Clearing begun line s = refl
-line_came_in_settings phase.Draining begun line s = refl
-line_came_in_settings phase.Ready true line s = line_heard_if_settings (is_sign_on line) line s
-line_came_in_settings phase.Ready false line s = refl
-
 pub line_came_settings : (line : List ℕ) (s : Session) → (line_came line s).settings ≡ s.settings
 line_came_settings line s =
-    line_came_in_settings s.standing.phase (exchange.has_begun s.standing.exchange) line (with_standing (sign_on_noted (is_sign_on line)) s)
+    each_line (λ (t : Session) settled. t.settings ≡ s.settings) line (with_standing (sign_on_noted (is_sign_on line)) s) refl refl refl s.standing.phase
+    (exchange.has_begun s.standing.exchange)
 
 -- What is lost.
 
@@ -61,4 +48,4 @@ anew_lost false s settled e = ([], e)
 pub step_lost : (want : Want) (s : Session) (settled : List (Settlement Asked)) → map settlement_seen settled ≡ settled_by (next_of want s) s → AreLost settled
 step_lost want s settled =
     each_next (λ (t : Session) lost. map settlement_seen settled ≡ lost → AreLost settled) s
-    (λ e. ([], e)) (λ e. ([], e)) (λ e. ([], e)) (λ e. ([], e)) (λ e. (s.client.waiting, e)) (λ e. ([], e)) want
+    (λ e. ([], e)) (λ e. ([], e)) (λ e. ([], e)) (λ e. ([], e)) (λ e. (s.client.waiting, e)) (λ e. ([], e)) (next_of want s)

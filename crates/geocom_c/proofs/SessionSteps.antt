@@ -8,20 +8,15 @@ use Rattle.gc_session.specs.declared.session.TheConstants.{OWN}
 use Rattle.gc_session.specs.declared.settings.Want.{Want}
 use Rattle.gc_session.specs.declared.settings.Want.TheVariants.{Send}
 use Rattle.gc_session.specs.Sessions.{Session, asked, asked_if, may_send, next_of, takes}
-use Rattle.gc_catalogue.specs.CallFault.{refusal_number}
-use Rattle.gc_catalogue.specs.declared.fault.CallFault.{CallFault}
-use Rattle.gc_catalogue.specs.declared.fault.CallFault.TheVariants.{Unknown, Parameters}
-use Rattle.gc_catalogue.specs.declared.raw.RawFault.{RawFault}
-use Rattle.gc_catalogue.specs.declared.raw.RawFault.TheVariants as raw
-use Rattle.gc_values.specs.declared.fault.ValueFault.TheVariants.{Spelling, Range, OpenQuote, TooMany, Count}
-use Rattle.geocom_c.specs.Asking.{AskEffect, IsAsk, IsOfAsked, WasSessionAsked}
-use Rattle.geocom_c.specs.Sending.{AsksOrRefuses, RequestRule, raw_number, read_rule}
+use Rattle.geocom_c.specs.Asking.{IsAsk, WasSessionAsked}
+use Rattle.geocom_c.specs.Sending.{AsksOrRefuses, RequestRule, read_rule}
 use Rattle.geocom_c.specs.SessionState.{IsOfNoSession, IsOfSession, StandsForSession}
-use Rattle.geocom_c.specs.Stepping.{HasRoomToStep, IsStep, IsWant, step_effect, unmoved_with, want_number}
+use Rattle.geocom_c.specs.Stepping.{HasRoomToStep, IsStep, IsWant, unmoved_with, want_number}
 use Rattle.geocom_c.specs.declared.answers.GeocomStep.{GeocomStep}
 use Rattle.geocom_c.specs.declared.header.TheConstants.{LINE_ROOM, NO_CLIENT, NO_ROOM, NO_WANT, NOT_NOW, OWN_TARGET}
 use Rattle.geocom_c.specs.declared.session_state.GeocomSession.{GeocomSession}
 use Rattle.geocom_c.specs.declared.settled.GeocomSettlement.{GeocomSettlement}
+use Rattle.geocom_c.specs.Rooms.{Effect, settling_effect}
 
 -- a step that was refused with this fault, for which its reason holds
 pub never_stepped : (number now fault : ℕ) (old : GeocomSession) (before : List GeocomSettlement) (blank : List ℕ) (told : GeocomStep) → told ≡ unmoved_with fault → fault ≢ 0
@@ -29,7 +24,7 @@ pub never_stepped : (number now fault : ℕ) (old : GeocomSession) (before : Lis
     → ((fault ≡ NO_ROOM) ↔ (HasRoomToStep before blank → ⊥))
     → ((fault ≡ NO_CLIENT) ↔ (HasRoomToStep before blank × IsOfNoSession old))
     → ((fault ≡ NO_WANT) ↔ (HasRoomToStep before blank × IsOfSession old × (IsWant number → ⊥)))
-    → IsStep number now (step_effect old old before before blank blank told)
+    → IsStep number now (settling_effect old old before before blank blank told)
 never_stepped number now fault old before blank told same some none room astray wants =
     let e : told.fault ≡ fault = ap (λ (x : GeocomStep). x.fault) same in
     record {
@@ -105,48 +100,9 @@ roomy_by room fault iff none (inr wide) = wide
 pub roomy : (room fault : ℕ) → ((fault ≡ NO_ROOM) ↔ (room < LINE_ROOM)) → fault ≡ 0 → LINE_ROOM ≤ room
 roomy room fault iff none = roomy_by room fault iff none (cases_lt room LINE_ROOM)
 
--- Numbers of faults.
-
--- a number from 1 to 22 is none of an ask's own
-low_of_asked : (n : ℕ) → 0 < n → n ≤ 22 → IsOfAsked n
-low_of_asked n some few = (
-  λ e. absurd (omega (arith, e, some)),
-  λ e. absurd (omega (arith, e, few)),
-  λ e. absurd (omega (arith, e, few)),
-  λ e. absurd (omega (arith, e, few)),
-  λ e. absurd (omega (arith, e, few)),
-)
-
--- the number of a refusal of a call is none of an ask's own
-pub call_of_asked : (e : CallFault) → IsOfAsked (refusal_number e)
-call_of_asked Unknown = low_of_asked _ (omega arith) (omega arith)
-call_of_asked (Parameters Spelling) = low_of_asked _ (omega arith) (omega arith)
-call_of_asked (Parameters Range) = low_of_asked _ (omega arith) (omega arith)
-call_of_asked (Parameters OpenQuote) = low_of_asked _ (omega arith) (omega arith)
-call_of_asked (Parameters TooMany) = low_of_asked _ (omega arith) (omega arith)
-call_of_asked (Parameters Count) = low_of_asked _ (omega arith) (omega arith)
-
--- the number of a refusal of a raw request is none of an ask's own
-pub raw_of_asked : (e : RawFault) → IsOfAsked (raw_number e)
-raw_of_asked raw.InTable = (
-  λ e. absurd (omega (arith, e)),
-  λ e. absurd (omega (arith, e)),
-  λ e. absurd (omega (arith, e)),
-  λ e. absurd (omega (arith, e)),
-  λ e. absurd (omega (arith, e)),
-)
-raw_of_asked raw.NotPlain = low_of_asked _ (omega arith) (omega arith)
-raw_of_asked raw.TooLong = low_of_asked _ (omega arith) (omega arith)
-raw_of_asked raw.OpenQuote = low_of_asked _ (omega arith) (omega arith)
-raw_of_asked raw.TooMany = low_of_asked _ (omega arith) (omega arith)
-
 -- What was read.
 
 module _ {X E : Type 0} (rule : RequestRule X E) (read : Result Asked ℕ) (r : AsksOrRefuses rule read) where
-  -- the number with which it is refused is none of an ask's own, if no reason's is
-  pub refused_of_asked : ((e : E) → IsOfAsked (rule.number e)) → (fault : ℕ) → read ≡ Err fault → IsOfAsked fault
-  refused_of_asked numbers fault is = let found = r.refuses fault is in subst (λ (n : ℕ). IsOfAsked n) (sym found.2) (numbers found.0)
-
   -- a session that was asked for what was read was asked for something that `rule` asks for
   session_asked_as : (Meets : Session → Type 0) (state : GeocomSession) → WasSessionAsked (λ (request : Asked). read ≡ Ok request) Meets state → WasSessionAsked rule.is Meets state
   session_asked_as Meets state was =
@@ -154,7 +110,7 @@ module _ {X E : Type 0} (rule : RequestRule X E) (read : Result Asked ℕ) (r : 
       record { session = was.session; rest = was.rest; asked = found.0; stands = was.stands; is = found.1; meets = was.meets }
 
   -- asking for what was read is asking for what is asked for
-  pub asks_as : (target wait : ℕ) (x : AskEffect) → IsAsk (read_rule read) target wait x → IsAsk rule target wait x
+  pub asks_as : (target wait : ℕ) (x : Effect GeocomSession ℕ) → IsAsk (read_rule read) target wait x → IsAsk rule target wait x
   asks_as target wait x did = record {
     asked = λ room s rest request held is. did.asked room s rest (rule.to request) held (r.only request is);
     refuses = λ room s rest e held is. did.refuses room s rest (rule.number e) held (r.refused e is);

@@ -4,7 +4,7 @@ use Rattle.std.specs.List.{filter}
 use Rattle.std.proofs.lemmas.Bool.{cond_both}
 use Rattle.std.proofs.lemmas.List.{length-map}
 use Rattle.gc_catalogue.specs.declared.asked.Asked.{Asked}
-use Rattle.gc_client.specs.Rule.{deadlines}
+use Rattle.gc_client.specs.Rule.{IsWidth, deadlines}
 use Rattle.gc_client.specs.declared.pending.Pending.{Pending}
 use Rattle.gc_session.specs.declared.standing.Standing.{Standing}
 use Rattle.std.proofs.lemmas.Option.{same_Some}
@@ -14,6 +14,11 @@ use Rattle.geocom_c.specs.Sessions.{IsTold, status_of}
 use Rattle.geocom_c.specs.declared.answers.GeocomStatus.{GeocomStatus}
 use Rattle.geocom_c.specs.declared.header.TheConstants.{NO_CLIENT}
 use Rattle.geocom_c.specs.declared.session_state.GeocomSession.{GeocomSession}
+use Rattle.geocom_c.proofs.SessionSettings.{still_allowed}
+
+-- a session that is stored is stored as what it is equal to
+pub stored_as : (new : GeocomSession) (t u : Session) → t ≡ u → (IsWidth t.settings.width → StandsForSession new t []) → IsWidth u.settings.width → StandsForSession new u []
+stored_as new t u same stored = subst (λ (x : Session). IsWidth x.settings.width → StandsForSession new x []) same stored
 
 module _ (old : GeocomSession) (loaded : Option Session) (only : (s : Session) (rest : List ℕ) → StandsForSession old s rest → loaded ≡ Some s) where
   -- what holds of the session that was loaded holds of each that the state stands for
@@ -21,10 +26,14 @@ module _ (old : GeocomSession) (loaded : Option Session) (only : (s : Session) (
   of_each P x is holds s rest stands = subst P (same_Some x s (sym is ∙ only s rest stands)) holds
 
   -- a state that was told something, and stands for what that makes of its session
-  pub was_told : (told : Session → Session) (new : GeocomSession) (x : Session) (rest : List ℕ) → loaded ≡ Some x → StandsForSession old x rest
-      → StandsForSession new (told x) [] → IsTold told old new 0
-  was_told told new x rest is stands after = record {
-    stands = λ s r held. (refl, of_each (λ (t : Session). StandsForSession new (told t) []) x is after s r held);
+  pub was_told : (told : Session → Session) (new : GeocomSession) (x t : Session) (rest : List ℕ) → loaded ≡ Some x → StandsForSession old x rest → t ≡ told x
+      → (IsWidth t.settings.width → StandsForSession new t []) → (told x).settings ≡ x.settings → IsTold told old new 0
+  was_told told new x t rest is stands made stored same = record {
+    stands = λ s r held. (
+      refl,
+      of_each (λ (u : Session). StandsForSession new (told u) []) x is
+          (stored_as new t (told x) made stored (still_allowed x.settings (told x).settings same stands.settings.allowed)) s r held,
+    );
     astray = (λ e. absurd (omega (arith, e)), λ none. absurd (none x rest stands));
     done = λ _. (x, rest, stands);
     refused = λ fault. absurd (fault refl);

@@ -6,25 +6,12 @@ use Rattle.gc_session.specs.declared.session.TheConstants.{OWN}
 use Rattle.gc_session.specs.declared.settings.Want.TheVariants.{Send}
 use Rattle.gc_session.specs.Sessions.{Session, asked, may_send, next_of, takes}
 use Rattle.geocom_c.specs.Beginning.{IsGiven}
-use Rattle.geocom_c.specs.Rooms.{ReportsNoRoom, WritesWithin}
+use Rattle.geocom_c.specs.Rooms.{Effect, FaultLeavesAll, ReportsNoRoom, WritesWithin}
 use Rattle.geocom_c.specs.Sending.{RequestRule}
 use Rattle.geocom_c.specs.SessionState.{StandsForSession}
-use Rattle.geocom_c.specs.Sessions.{FaultLeavesSession, ReportsNoSession}
-use Rattle.geocom_c.specs.declared.answers.GeocomCount.{GeocomCount}
+use Rattle.geocom_c.specs.Sessions.{ReportsNoSession}
 use Rattle.geocom_c.specs.declared.header.TheConstants.{LINE_ROOM, NO_CLIENT, NO_ROOM, NOT_NOW, OWN_TARGET}
 use Rattle.geocom_c.specs.declared.session_state.GeocomSession.{GeocomSession}
-
--- the state and the room for the line before and after a request was asked, and what the call returned
-pub record AskEffect : Type 0 where
-  pub old : GeocomSession
-  pub new : GeocomSession
-  pub before : List ℕ
-  pub after : List ℕ
-  pub told : GeocomCount
-
--- the call that found the state `old` and the room `before`, left `new` and `after`, and returned `told`
-abbrev pub ask_effect : (old new : GeocomSession) → (before after : List ℕ) → (told : GeocomCount) → AskEffect
-ask_effect old new before after told = record { old = old; new = new; before = before; after = after; told = told }
 
 -- the fault of a well-formed request for this target, of the session s: that the target is that of the session's own requests, or that it
 -- isn't a request's turn; 0 if the request is taken
@@ -33,7 +20,7 @@ ask_fault target s = if nat_eq target OWN then OWN_TARGET else if may_send (next
 
 -- the session s was asked `call`, for this target and with so long a wait: the fault is that of `ask_fault`; the state is that of the
 -- session after it, which is the same one if the request isn't taken; and if it is, its line was written with CR LF, with the next id
-pub record HasAsked (s : Session) (rest : List ℕ) (call : Asked) (target wait : ℕ) (x : AskEffect) : Type 0 where
+pub record HasAsked (s : Session) (rest : List ℕ) (call : Asked) (target wait : ℕ) (x : Effect GeocomSession ℕ) : Type 0 where
   pub fault : x.told.fault ≡ ask_fault target s
   pub stands : StandsForSession x.new (asked target call wait s) rest
   pub given : x.told.fault ≡ 0 → IsGiven (Some (asked_line (Some s.client.next) call)) x.told.count x.after
@@ -53,7 +40,7 @@ IsOfAsked fault = (fault ≢ 0) × (fault ≢ NO_ROOM) × (fault ≢ NO_CLIENT) 
 
 -- what asking did and returned: a session takes what `rule` asks for if it is its turn (`HasAsked`), and refuses for the reasons that `rule`
 -- has; each fault comes only for its reason, and after one nothing has changed
-pub record IsAsk {X E : Type 0} (rule : RequestRule X E) (target wait : ℕ) (x : AskEffect) : Type 0 where
+pub record IsAsk {X E : Type 0} (rule : RequestRule X E) (target wait : ℕ) (x : Effect GeocomSession ℕ) : Type 0 where
   -- if there is room for a line
   pub asked : LINE_ROOM ≤ length x.before → (s : Session) (rest : List ℕ) (request : X) → StandsForSession x.old s rest → rule.is request
       → HasAsked s rest (rule.to request) target wait x
@@ -67,5 +54,5 @@ pub record IsAsk {X E : Type 0} (rule : RequestRule X E) (target wait : ℕ) (x 
   pub done : x.told.fault ≡ 0 → WasSessionAsked rule.is (λ s. takes target s ≡ true) x.old
   pub refusal : IsOfAsked x.told.fault → (e : E) × rule.is_not e × (x.told.fault ≡ rule.number e)
   -- what stays
-  pub refused : FaultLeavesSession x.told x.old x.new x.before x.after
+  pub refused : FaultLeavesAll x.told x.old x.new x.before x.after
   pub written : WritesWithin x.told.count x.before x.after

@@ -74,15 +74,19 @@ pub record FeedEffect : Type 0 where
 abbrev pub feed_effect : (told : GeocomHeard) → (records : List GeocomSettlement) → (text : List ℕ) → FeedEffect
 feed_effect told records text = record { told = told; records = records; text = text }
 
--- a frame was fed to the client `c`: the call has no fault; what it returned has the frame's kind, its line fault and the number of
--- its settlements; a record says of each settlement how the request ended; and a line that settled is at the front of the text
-pub record IsFed (c : Windowed Asked) (frame : Frame) (x : FeedEffect) : Type 0 where
+-- a frame of this kind, which settles this, was fed: the call has no fault; what it returned has the frame's kind, its line fault and the
+-- number of its settlements; a record says of each settlement how the request ended; and a line that settled is at the front of the text
+pub record IsFedAs (number : ℕ) (settled : List (Settlement Asked)) (frame : Frame) (x : FeedEffect) : Type 0 where
   pub fault : x.told.fault ≡ 0
-  pub kind : x.told.kind ≡ frame_kind c frame
+  pub kind : x.told.kind ≡ number
   pub line_fault : x.told.line_fault ≡ frame_fault frame
-  pub count : x.told.count ≡ length (settled_by c frame)
-  pub recorded : FirstAre (IsRecord x.text) x.records (settled_by c frame)
+  pub count : x.told.count ≡ length settled
+  pub recorded : FirstAre (IsRecord x.text) x.records settled
   pub front : IsInFront frame x.told.count x.text
+
+-- a frame was fed to the client `c`
+abbrev pub IsFed : Windowed Asked → Frame → FeedEffect → Type 0
+IsFed c frame x = IsFedAs (frame_kind c frame) (settled_by c frame) frame x
 
 -- what a feed returns for bytes without a line feed, all of which it used
 abbrev pub unended : (used : ℕ) → GeocomHeard
@@ -123,7 +127,7 @@ unheard_with fault = record { used = 0; fault = fault; count = 0; kind = MORE; l
 
 -- a feed that returned `told`: after a fault all other numbers are 0, and the state (`old` before the feed, `new` after it) has
 -- not changed
-abbrev pub FeedFaultLeavesState : (told : GeocomHeard) → (old new : GeocomClient) → Type 0
+abbrev pub FeedFaultLeavesState : {State : Type 0} → (told : GeocomHeard) → (old new : State) → Type 0
 FeedFaultLeavesState told old new = told.fault ≢ 0 → (told ≡ unheard_with told.fault) × (new ≡ old)
 
 -- a feed that settled `count` requests wrote that many records, at most seven, and nothing after them. The records and the text

@@ -1,5 +1,5 @@
 -- What bytes that are fed to a session come to: what the frame that they end settles, and what the call returns. This project's own.
-use Rattle.std.specs.Prelude.{◌≡◌, ◌≢◌, ◌+◌, ◌++◌, ℕ, List, [], ◌∷◌, length, take, nat_lt, Some, None}
+use Rattle.std.specs.Prelude.{◌≡◌, ◌↔◌, ◌<◌, ◌≤◌, ◌+◌, ◌++◌, ℕ, List, [], ◌∷◌, length, take, nat_lt, Some, None}
 use Rattle.std.specs.List.{position}
 use Rattle.gc_lines.specs.Frames.{is_line_feed, frame_of}
 use Rattle.gc_lines.specs.Readers.{reply_at}
@@ -8,13 +8,12 @@ use Rattle.gc_lines.specs.declared.frame.Frame.TheVariants.{Line, Cleared, Overl
 use Rattle.gc_catalogue.specs.declared.asked.Asked.{Asked}
 use Rattle.gc_client.specs.Rule.{Settlement}
 use Rattle.gc_session.specs.Sessions.{Session, came, line_came, line_settles}
-use Rattle.geocom_c.specs.Feeding.{FeedEffect, IsInFront, frame_fault, line_kind, unended, unheard_with}
-use Rattle.geocom_c.specs.FirstAre.{FirstAre}
-use Rattle.geocom_c.specs.SessionState.{StandsForSession}
-use Rattle.geocom_c.specs.Settled.{IsRecord}
+use Rattle.geocom_c.specs.Feeding.{FeedEffect, FeedFaultLeavesState, HasRoomToSettle, IsFedAs, WritesSettled, feed_effect, line_kind, unended}
+use Rattle.geocom_c.specs.SessionState.{IsOfNoSession, IsOfSession, StandsForSession}
 use Rattle.geocom_c.specs.declared.answers.GeocomHeard.{GeocomHeard}
-use Rattle.geocom_c.specs.declared.header.TheConstants.{MORE, CLEARED, OVERLONG}
+use Rattle.geocom_c.specs.declared.header.TheConstants.{MORE, CLEARED, OVERLONG, NO_CLIENT, NO_ROOM}
 use Rattle.geocom_c.specs.declared.session_state.GeocomSession.{GeocomSession}
+use Rattle.geocom_c.specs.Rooms.{SettlingEffect}
 
 -- the session s at the moment `now` by which these bytes came; without bytes nothing happens
 abbrev pub at_feed : (now : ℕ) → (bytes : List ℕ) → Session → Session
@@ -38,15 +37,9 @@ frame_kind_in s Cleared = CLEARED
 frame_kind_in s Overlong = OVERLONG
 frame_kind_in s More = MORE
 
--- a frame was fed to the session s: the call has no fault; what it returned has the frame's kind, its line fault and the number of its
--- settlements; a record says of each settlement how the request ended; and a line that settled is at the front of the text
-pub record IsFedTo (s : Session) (frame : Frame) (x : FeedEffect) : Type 0 where
-  pub fault : x.told.fault ≡ 0
-  pub kind : x.told.kind ≡ frame_kind_in s frame
-  pub line_fault : x.told.line_fault ≡ frame_fault frame
-  pub count : x.told.count ≡ length (frame_settles s frame)
-  pub recorded : FirstAre (IsRecord x.text) x.records (frame_settles s frame)
-  pub front : IsInFront frame x.told.count x.text
+-- a frame was fed to the session s
+abbrev pub IsFedTo : Session → Frame → FeedEffect → Type 0
+IsFedTo s frame x = IsFedAs (frame_kind_in s frame) (frame_settles s frame) frame x
 
 -- a frame was fed to the session s (`IsFedTo`), by `used` bytes, and the state is that of the session after the frame, with no byte of
 -- a line
@@ -69,6 +62,14 @@ FeedsSessionLine s now bytes old new x =
     (rest : List ℕ) (at : ℕ) → StandsForSession old s rest → position is_line_feed bytes ≡ Some at
     → FeedsSessionFrame (at_feed now bytes s) (frame_of (rest ++ take at bytes)) (at + 1) new x
 
--- a feed that returned `told`: after a fault all other numbers are 0, and the state (`old` before the feed, `new` after it) has not changed
-abbrev pub FeedFaultLeavesSession : (told : GeocomHeard) → (old new : GeocomSession) → Type 0
-FeedFaultLeavesSession told old new = told.fault ≢ 0 → (told ≡ unheard_with told.fault) × (new ≡ old)
+-- what a feed did and returned: with enough room the session is fed what the bytes come to by their first line feed; each fault comes
+-- exactly for its reason, too little room before a state that is no session's; and after a fault nothing has changed
+pub record IsFeed (now : ℕ) (bytes : List ℕ) (x : SettlingEffect GeocomHeard) : Type 0 where
+  pub more : HasRoomToSettle x.before x.blank → (s : Session) → FeedsSessionUnended s now bytes x.old x.new x.told
+  pub frame : HasRoomToSettle x.before x.blank → (s : Session) → FeedsSessionLine s now bytes x.old x.new (feed_effect x.told x.records x.text)
+  pub used : (x.told.used ≤ length bytes) × (x.told.fault ≡ 0 → 0 < length bytes → 0 < x.told.used)
+  pub room : (x.told.fault ≡ NO_ROOM) ↔ (HasRoomToSettle x.before x.blank → ⊥)
+  pub astray : (x.told.fault ≡ NO_CLIENT) ↔ (HasRoomToSettle x.before x.blank × IsOfNoSession x.old)
+  pub done : x.told.fault ≡ 0 → IsOfSession x.old
+  pub refused : FeedFaultLeavesState x.told x.old x.new
+  pub written : WritesSettled x.told.count x.before x.records x.blank x.text

@@ -20,3 +20,5 @@ pub mod Sessions
 pub mod Stepping
 pub mod Asking
 pub mod Hearing
+pub mod SessionCalls
+pub mod SessionLaws

@@ -18,10 +18,9 @@ use Rattle.gc_catalogue.specs.declared.raw.RawFault.TheVariants.{InTable, NotPla
 use Rattle.gc_client.specs.Rule.{ById, Windowed, Sending, sends}
 use Rattle.geocom_c.specs.Beginning.{IsGiven}
 use Rattle.geocom_c.specs.Rest.{IsRest}
-use Rattle.geocom_c.specs.Rooms.{FaultLeavesAll, ReportsNoClient, ReportsNoRoom, WritesWithin}
+use Rattle.geocom_c.specs.Rooms.{Effect, FaultLeavesAll, ReportsNoClient, ReportsNoRoom, WritesWithin}
 use Rattle.geocom_c.specs.State.{IfOfClient, KeepsAnswered, StandsForClient, left_of}
-use Rattle.geocom_c.specs.declared.answers.GeocomCount.{GeocomCount}
-use Rattle.geocom_c.specs.declared.header.TheConstants.{LINE_ROOM, WINDOW_FULL, NO_ROOM, NO_CLIENT, NOT_BEGUN, IN_TABLE}
+use Rattle.geocom_c.specs.declared.header.TheConstants.{LINE_ROOM, WINDOW_FULL, NO_ROOM, NO_CLIENT, NOT_BEGUN, IN_TABLE, NOT_NOW, OWN_TARGET}
 use Rattle.geocom_c.specs.declared.state.GeocomClient.{GeocomClient}
 
 -- what a number and parameters ask for, and why they are refused: `to x` is asked for, for each x of which `is` holds; and each e of
@@ -53,18 +52,10 @@ raw_rule procedure params = record { to = Raw; is = λ raw. IsAsked procedure pa
 abbrev pub read_rule : (read : Result Asked ℕ) → RequestRule Asked ℕ
 read_rule read = record { to = λ asked. asked; is = λ asked. read ≡ Ok asked; is_not = λ fault. read ≡ Err fault; number = λ fault. fault }
 
--- the state and the room for the line before and after a send, and what the send returned
-pub record SendEffect : Type 0 where
-  pub old : GeocomClient
-  pub new : GeocomClient
-  pub before : List ℕ
-  pub after : List ℕ
-  pub told : GeocomCount
-
 -- what a send of `asked` did and returned is what the client's rule says of it (None: the rule refuses it), where `c` is the
 -- client before the send and `rest` are the bytes since the last line feed. A send that is refused returns that the window is
 -- full, and changes nothing; otherwise the line was written with its CR LF, and the state is the rule's
-abbrev pub SendMeets : (c : Windowed Asked) (rest : List ℕ) (asked : Asked) → Option (Sending (ById Asked)) → SendEffect → Type 0
+abbrev pub SendMeets : (c : Windowed Asked) (rest : List ℕ) (asked : Asked) → Option (Sending (ById Asked)) → Effect GeocomClient ℕ → Type 0
 SendMeets c rest asked None sent = (sent.told.fault ≡ WINDOW_FULL) × (sent.new ≡ sent.old) × (sent.after ≡ sent.before)
 SendMeets c rest asked (Some s) sent =
     (sent.told.fault ≡ 0) × StandsForClient sent.new (record c { ids = s.client }) rest
@@ -72,7 +63,7 @@ SendMeets c rest asked (Some s) sent =
 
 -- a client that has synchronized sends what `rule` asks for, to this target and with this deadline, or refuses it where the window is
 -- full (`SendMeets`)
-abbrev pub SendsEach : {X E : Type 0} → RequestRule X E → (target deadline : ℕ) → SendEffect → Type 0
+abbrev pub SendsEach : {X E : Type 0} → RequestRule X E → (target deadline : ℕ) → Effect GeocomClient ℕ → Type 0
 SendsEach {X = X} rule target deadline sent =
     (c : Windowed Asked) (rest : List ℕ) (x : X) → StandsForClient sent.old c rest → left_of sent.old ≡ [] → rule.is x
     → SendMeets c rest (rule.to x) (sends c.width c.ids target (rule.to x) deadline) sent
@@ -106,13 +97,9 @@ pub record WasAsked {X : Type 0} (Is : X → Type 0) (Fills : (count width : ℕ
   pub is : Is asked
   pub fills : Fills (length client.ids.waiting) client.width
 
--- the send that found the state `old` and the room `before`, left `new` and `after`, and returned `told`
-abbrev pub send_effect : (old new : GeocomClient) → (before after : List ℕ) → (told : GeocomCount) → SendEffect
-send_effect old new before after told = record { old = old; new = new; before = before; after = after; told = told }
-
 -- no part of a promise: the client `c` sends `asked` to this target and with this deadline, or refuses it where the window is
 -- full (`SendMeets`), if the state before has a valid rest of a line and a valid count of answered null procedures
-abbrev pub SendsAsked : (c : Windowed Asked) → (asked : Asked) → (target deadline : ℕ) → SendEffect → Type 0
+abbrev pub SendsAsked : (c : Windowed Asked) → (asked : Asked) → (target deadline : ℕ) → Effect GeocomClient ℕ → Type 0
 SendsAsked c asked target deadline sent =
     (rest : List ℕ) → IsRest sent.old.rest rest → sent.old.answered ≤ 8 → SendMeets c rest asked (sends c.width c.ids target asked deadline) sent
 
@@ -132,7 +119,7 @@ ReportsDone Is state fault = fault ≡ 0 → WasAsked Is (λ count width. count 
 
 -- what a send did and returned: a client that has synchronized sends what `rule` asks for, and refuses for the reasons that `rule`
 -- has; each fault comes only for its reason, and after one nothing has changed
-pub record IsSend {X E : Type 0} (rule : RequestRule X E) (target deadline : ℕ) (s : SendEffect) : Type 0 where
+pub record IsSend {X E : Type 0} (rule : RequestRule X E) (target deadline : ℕ) (s : Effect GeocomClient ℕ) : Type 0 where
   -- if there is room for a line
   pub sent : LINE_ROOM ≤ length s.before → SendsEach rule target deadline s
   pub refuses : LINE_ROOM ≤ length s.before → RefusesEach rule s.old s.told.fault
@@ -149,6 +136,10 @@ pub record IsSend {X E : Type 0} (rule : RequestRule X E) (target deadline : ℕ
   pub answered : KeepsAnswered s.old s.new
   pub written : WritesWithin s.told.count s.before s.after
 
+-- no part of a promise: the fault is none of a send's own, nor that of a request that a session doesn't take
+abbrev pub IsOfReading : (fault : ℕ) → Type 0
+IsOfReading fault = IsOfRequest fault × (fault ≢ NOT_NOW) × (fault ≢ OWN_TARGET)
+
 -- no part of a promise: a number and parameters were read as `rule` says: they ask for exactly what it asks for, and are refused for
 -- exactly the reasons that it has, with numbers that are none of a send's own faults
 pub record AsksOrRefuses {X E : Type 0} (rule : RequestRule X E) (read : Result Asked ℕ) : Type 0 where
@@ -156,4 +147,4 @@ pub record AsksOrRefuses {X E : Type 0} (rule : RequestRule X E) (read : Result 
   pub only : (x : X) → rule.is x → read ≡ Ok (rule.to x)
   pub refuses : (fault : ℕ) → read ≡ Err fault → (e : E) × rule.is_not e × (fault ≡ rule.number e)
   pub refused : (e : E) → rule.is_not e → read ≡ Err (rule.number e)
-  pub number_of_request : (fault : ℕ) → read ≡ Err fault → IsOfRequest fault
+  pub number_of_request : (fault : ℕ) → read ≡ Err fault → IsOfReading fault

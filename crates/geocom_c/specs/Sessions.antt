@@ -4,7 +4,9 @@ use Rattle.gc_catalogue.specs.declared.asked.Asked.{Asked}
 use Rattle.gc_client.specs.Rule.{Settlement}
 use Rattle.gc_session.specs.Exchange.{has_begun}
 use Rattle.gc_session.specs.Sessions.{Session, all_of, anew, anew_settles, current_of, is_ready, is_up}
+use Rattle.gc_client.specs.declared.window.TheConstants.{WINDOW}
 use Rattle.geocom_c.specs.FirstAre.{FirstAre}
+use Rattle.geocom_c.specs.Rooms.{Effect, FaultLeavesAll, ReportsNoRoom, WritesFirst}
 use Rattle.geocom_c.specs.SessionState.{IfOfSession, IsOfNoSession, IsOfSession, StandsForSession, flag_byte}
 use Rattle.geocom_c.specs.Settled.{IsRecord}
 use Rattle.geocom_c.specs.declared.answers.GeocomCount.{GeocomCount}
@@ -33,14 +35,19 @@ pub record HasBegunAnew (s : Session) (state : GeocomSession) (told : GeocomCoun
   pub count : told.count ≡ length (lost_anew s)
   pub recorded : FirstAre (IsRecord []) records (lost_anew s)
 
--- after a fault of the call that returned `told`, the count is 0, and neither the state (`old` before it, `new` after) nor the room
--- (`before` and `after`) has changed
-abbrev pub FaultLeavesSession : {A : Type 0} → GeocomCount → (old new : GeocomSession) → (before after : List A) → Type 0
-FaultLeavesSession told old new before after = told.fault ≢ 0 → (told.count ≡ 0) × (new ≡ old) × (after ≡ before)
-
 -- the fault is `NO_CLIENT` if and only if the list `room` has at least `least` items and the bytes of the state are no session's
 abbrev pub ReportsNoSession : {A : Type 0} → (room : List A) → (least : ℕ) → GeocomSession → (fault : ℕ) → Type 0
 ReportsNoSession room least state fault = (fault ≡ NO_CLIENT) ↔ ((least ≤ length room) × IsOfNoSession state)
+
+-- what a restart did and returned: with enough room the session begins anew; each fault comes exactly for its reason, too little room
+-- before a state that is no session's; and after a fault nothing has changed
+pub record IsRestart (x : Effect GeocomSession GeocomSettlement) : Type 0 where
+  pub restarted : WINDOW ≤ length x.before → IfOfSession x.old (λ s rest. HasBegunAnew s x.new x.told x.after)
+  pub room : ReportsNoRoom x.before WINDOW x.told.fault
+  pub astray : ReportsNoSession x.before WINDOW x.old x.told.fault
+  pub done : x.told.fault ≡ 0 → IsOfSession x.old
+  pub refused : FaultLeavesAll x.told x.old x.new x.before x.after
+  pub written : WritesFirst x.told.count x.before x.after
 
 -- what is said of the session s
 abbrev pub status_of : Session → GeocomStatus
@@ -57,3 +64,9 @@ status_of s = record {
 -- what is said of a state that is no session's
 abbrev pub no_status : GeocomStatus
 no_status = record { stretch = 0; sign_ons = 0; fault = NO_CLIENT; is_up = 0; is_ready = 0; waiting = 0; current = 0 }
+
+-- what is returned of a state: what is said of its session, or that it is no session's
+pub record IsStatus (state : GeocomSession) (status : GeocomStatus) : Type 0 where
+  pub told : IfOfSession state (λ s rest. status ≡ status_of s)
+  pub astray : IsOfNoSession state → status ≡ no_status
+  pub done : status.fault ≡ 0 → IsOfSession state

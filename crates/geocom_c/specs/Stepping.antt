@@ -8,7 +8,7 @@ use Rattle.gc_session.specs.declared.settings.Want.{Want}
 use Rattle.gc_session.specs.declared.settings.Want.TheVariants.{Nothing, Answers, Send}
 use Rattle.gc_session.specs.Sessions.{Session, IsActFor, at_step, line_of, next_of, settled_by, stepped}
 use Rattle.geocom_c.specs.FirstAre.{FirstAre}
-use Rattle.geocom_c.specs.Rooms.{WritesFirst, WritesWithin}
+use Rattle.geocom_c.specs.Rooms.{SettlingEffect, WritesFirst, WritesWithin}
 use Rattle.geocom_c.specs.SessionState.{IfOfSession, IsOfNoSession, IsOfSession, StandsForSession, phase_byte}
 use Rattle.geocom_c.specs.Settled.{IsRecord}
 use Rattle.geocom_c.specs.declared.answers.GeocomStep.{GeocomStep}
@@ -86,30 +86,15 @@ pub record HasStepped (want : Want) (now : ℕ) (s : Session) (rest : List ℕ) 
 abbrev pub unmoved_with : (fault : ℕ) → GeocomStep
 unmoved_with fault = record { until = 0; fault = fault; act = 0; bytes = 0; count = 0 }
 
--- the state, the records and the line before and after a step, and what it returned
-pub record StepEffect : Type 0 where
-  pub old : GeocomSession
-  pub new : GeocomSession
-  pub before : List GeocomSettlement
-  pub records : List GeocomSettlement
-  pub blank : List ℕ
-  pub line : List ℕ
-  pub told : GeocomStep
-
 -- a call for a step, with this number of a want: a session's state makes the step; each fault comes exactly for its reason, too little
 -- room before all else, and then a state that is no session's; and after a fault nothing has changed
-pub record IsStep (number now : ℕ) (x : StepEffect) : Type 0 where
+pub record IsStep (number now : ℕ) (x : SettlingEffect GeocomStep) : Type 0 where
   pub stepped : HasRoomToStep x.before x.blank → (want : Want) → number ≡ want_number want
-      → IfOfSession x.old (λ s rest. HasStepped want now s rest x.new x.told x.records x.line)
+      → IfOfSession x.old (λ s rest. HasStepped want now s rest x.new x.told x.records x.text)
   pub room : (x.told.fault ≡ NO_ROOM) ↔ (HasRoomToStep x.before x.blank → ⊥)
   pub astray : (x.told.fault ≡ NO_CLIENT) ↔ (HasRoomToStep x.before x.blank × IsOfNoSession x.old)
   pub wants : (x.told.fault ≡ NO_WANT) ↔ (HasRoomToStep x.before x.blank × IsOfSession x.old × (IsWant number → ⊥))
   pub done : x.told.fault ≡ 0 → IsOfSession x.old × IsWant number
-  pub refused : x.told.fault ≢ 0 → (x.told ≡ unmoved_with x.told.fault) × (x.new ≡ x.old) × (x.records ≡ x.before) × (x.line ≡ x.blank)
+  pub refused : x.told.fault ≢ 0 → (x.told ≡ unmoved_with x.told.fault) × (x.new ≡ x.old) × (x.records ≡ x.before) × (x.text ≡ x.blank)
   pub written : WritesFirst x.told.count x.before x.records
-  pub lined : WritesWithin x.told.bytes x.blank x.line
-
--- the step that found the state `old` and the rooms `before` and `blank`, left `new`, `records` and `line`, and returned `told`
-abbrev pub step_effect : (old new : GeocomSession) → (before records : List GeocomSettlement) → (blank line : List ℕ) → (told : GeocomStep) → StepEffect
-step_effect old new before records blank line told =
-    record { old = old; new = new; before = before; records = records; blank = blank; line = line; told = told }
+  pub lined : WritesWithin x.told.bytes x.blank x.text

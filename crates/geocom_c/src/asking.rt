@@ -5,11 +5,10 @@ ghost use Rattle.gc_lines.specs.Lines.{with_end};
 ghost use Rattle.gc_lines.specs.Requests.{request_text};
 ghost use Rattle.gc_session.specs.declared.session.NotTaken.TheVariants.{NotNow, OwnTarget};
 ghost use Rattle.gc_session.specs.declared.session.NotTaken.{NotTaken};
-ghost use Rattle.geocom_c.specs.Asking.{HasAsked, IsAsk, IsOfAsked, ask_effect};
-ghost use Rattle.geocom_c.specs.Rooms.{WritesText, WritesWithin};
+ghost use Rattle.geocom_c.specs.Asking.{HasAsked, IsAsk, IsOfAsked};
+ghost use Rattle.geocom_c.specs.Rooms.{FaultLeavesAll, WritesText, WritesWithin, effect};
 ghost use Rattle.geocom_c.specs.Sending.{raw_rule, read_rule, table_rule};
 ghost use Rattle.geocom_c.specs.SessionState.{StandsForSession};
-ghost use Rattle.geocom_c.specs.Sessions.{FaultLeavesSession};
 ghost use Rattle.geocom_c.specs.declared.header.TheConstants.{LINE_ROOM, NOT_NOW, OWN_TARGET};
 
 use crate::answers::{GeocomCount, counted, refused};
@@ -46,8 +45,8 @@ fn ask_asked(
     requires room { LINE_ROOM ≤ length line.old }
     requires session { (rest : List ℕ) × StandsForSession state.old session rest }
     ensures asked { (rest : List ℕ) → StandsForSession state.old session rest
-        → HasAsked session rest asked.now target timeout (ask_effect state.old state.new line.old line.new result) }
-    ensures refused { FaultLeavesSession result state.old state.new line.old line.new }
+        → HasAsked session rest asked.now target timeout (effect state.old state.new line.old line.new result) }
+    ensures refused { FaultLeavesAll result state.old state.new line.old line.new }
     ensures written { WritesWithin result.count line.old line.new }
 {
     let mut text = Line::new();
@@ -70,7 +69,7 @@ fn ask_read(
     line: &mut [u8],
 ) -> GeocomCount
     requires { (fault : ℕ) → read ≡ Err fault → IsOfAsked fault }
-    ensures { IsAsk (read_rule read) target timeout (ask_effect state.old state.new line.old line.new result) }
+    ensures { IsAsk (read_rule read) target timeout (effect state.old state.new line.old line.new result) }
 {
     if line.len() < LINE_ROOM {
         return refused(NO_ROOM);
@@ -102,7 +101,7 @@ pub extern "C" fn geocom_session_ask(
     params: &[u8],
     line: &mut [u8],
 ) -> GeocomCount
-    ensures { IsAsk (table_rule procedure params.now) target timeout (ask_effect state.old state.new line.old line.new result) }
+    ensures { IsAsk (table_rule procedure params.now) target timeout (effect state.old state.new line.old line.new result) }
 {
     ask_read(state, target, timeout, read_call(procedure, params), line)
 }
@@ -122,7 +121,7 @@ pub extern "C" fn geocom_session_ask_raw(
     params: &[u8],
     line: &mut [u8],
 ) -> GeocomCount
-    ensures asks { IsAsk (raw_rule procedure params.now) target timeout (ask_effect state.old state.new line.old line.new result) }
+    ensures asks { IsAsk (raw_rule procedure params.now) target timeout (effect state.old state.new line.old line.new result) }
     ensures given { WritesText result line.new
         (with_end (request_text (record { rpc = procedure; id = Some state.old.client.next; params = params.now }))) }
 {

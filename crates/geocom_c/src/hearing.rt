@@ -1,14 +1,14 @@
 //! What comes to a session: bytes in any pieces, and the line that a line feed ends settles requests.
 
-ghost use Rattle.std.specs.Prelude.{◌≡◌, ◌↔◌, ◌<◌, ◌≤◌, ℕ, List, false, length};
+ghost use Rattle.std.specs.Prelude.{◌≡◌, ℕ, List, false};
 ghost use Rattle.gc_lines.specs.Readers.{reply_at};
 ghost use Rattle.gc_lines.specs.Taking.{IsUsedOf};
 ghost use Rattle.gc_lines.specs.declared.frame.Frame.{Frame};
 ghost use Rattle.gc_session.specs.Sessions.{Session};
 ghost use Rattle.geocom_c.specs.Feeding.{HasRoomToSettle, WritesSettled, fault_number_in, feed_effect, line_kind};
-ghost use Rattle.geocom_c.specs.Hearing.{FeedFaultLeavesSession, FeedsSessionLine, FeedsSessionUnended, IsFedTo, at_feed, session_past};
-ghost use Rattle.geocom_c.specs.SessionState.{IsOfNoSession, IsOfSession, StandsForSession};
-ghost use Rattle.geocom_c.specs.declared.header.TheConstants.{NO_CLIENT, NO_ROOM};
+ghost use Rattle.geocom_c.specs.Hearing.{FeedsSessionLine, FeedsSessionUnended, IsFedTo, IsFeed, at_feed, session_past};
+ghost use Rattle.geocom_c.specs.SessionState.{StandsForSession};
+ghost use Rattle.geocom_c.specs.Rooms.{settling_effect};
 
 use crate::answers::{GeocomHeard, heard, unheard, using};
 use crate::feeding::has_room_to_settle;
@@ -132,15 +132,7 @@ pub extern "C" fn geocom_session_feed(
     settlements: &mut [GeocomSettlement],
     text: &mut [u8],
 ) -> GeocomHeard
-    ensures more { HasRoomToSettle settlements.old text.old → (s : Session) → FeedsSessionUnended s now bytes.now state.old state.new result }
-    ensures frame { HasRoomToSettle settlements.old text.old → (s : Session)
-        → FeedsSessionLine s now bytes.now state.old state.new (feed_effect result settlements.new text.new) }
-    ensures used { (result.used ≤ length bytes.now) × (result.fault ≡ 0 → 0 < length bytes.now → 0 < result.used) }
-    ensures room { (result.fault ≡ NO_ROOM) ↔ (HasRoomToSettle settlements.old text.old → ⊥) }
-    ensures astray { (result.fault ≡ NO_CLIENT) ↔ (HasRoomToSettle settlements.old text.old × IsOfNoSession state.old) }
-    ensures done { result.fault ≡ 0 → IsOfSession state.old }
-    ensures refused { FeedFaultLeavesSession result state.old state.new }
-    ensures written { WritesSettled result.count settlements.old settlements.new text.old text.new }
+    ensures { IsFeed now bytes.now (settling_effect state.old state.new settlements.old settlements.new text.old text.new result) }
 {
     if !has_room_to_settle(settlements, text) {
         return unheard(NO_ROOM);

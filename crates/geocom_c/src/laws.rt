@@ -4,6 +4,8 @@ ghost use Rattle.geocom_c.specs.Damage.{HeldBackAnswersAreOwnOrDamaged};
 ghost use Rattle.geocom_c.specs.FieldWitness.{SomeCallsAreInField};
 ghost use Rattle.gc_field.specs.Owned.{FewKilledMayBegin};
 ghost use Rattle.geocom_c.specs.Laws.{AnswersAreTheirOwn, CallsAreEvents, CallsAreSafe, SimulatorsAnswersAreTheirOwn, SimulatorsCallsAreSafe};
+ghost use Rattle.geocom_c.specs.SessionCalls.{SessionCallsAreCalls};
+ghost use Rattle.geocom_c.specs.SessionLaws.{RecordsAreTheirOwn};
 
 /// Any calls on a state are one list of events: the null procedures of a synchronization and the lines that arrive during it,
 /// and then the client's steps: a send whose number and parameters are a call's or a raw call's, each line that bytes end, a
@@ -38,6 +40,26 @@ pub fn calls_are_safe<State>()
 pub fn simulators_calls_are_safe()
     ensures { SimulatorsCallsAreSafe }
 {}
+
+/// Any calls of the functions `geocom_session_` on a state that stands for a session of gc_session, as that of `geocom_session_init` does,
+/// are calls on that session, those that their arguments ask for: a call is refused only for want of room, for another want or for a request
+/// that doesn't read, and is nothing to the session then. The state stands for the session after those calls; the records that the functions
+/// hand out are those of what the session settles, in order, and no others; what they have their caller write is what the session has
+/// written; and the requests for which they return 0 are those that the session takes. So what is proved of any calls on a session is
+/// proved of any calls of C, and each call tells what its contract says of the session at that point.
+pub fn session_calls_are_calls()
+    ensures { SessionCallsAreCalls }
+{}
+
+/// The records of answers that the functions `geocom_session_` hand out on the state of a new session: for any instrument, the line of each was
+/// made by the instrument on executing that very request, unless that is a null procedure of the session's own; and the instrument executed
+/// each request that is late. The records are those of the session's settlements, in order. The premises are those of gc_field's
+/// `sessions_answers_are_their_own`, on the calls that `session_calls_are_calls` is about.
+pub fn session_records_are_their_own<State>()
+    ensures { RecordsAreTheirOwn State }
+{
+    gc_field::laws::sessions_answers_are_their_own::<State>();
+}
 
 /// Over a line that damages, each answer is its own request's, or its line is damaged, if the caller holds back. This is of any
 /// instrument, whatever is in flight when the client is made, until the client's restart; and no more requests are settled by lines that

@@ -3,8 +3,8 @@
 ghost use Rattle.std.specs.Prelude.{◌≡◌, Some};
 ghost use Rattle.gc_lines.specs.Lines.{with_end};
 ghost use Rattle.gc_lines.specs.Requests.{request_text};
-ghost use Rattle.geocom_c.specs.Rooms.{WritesText};
-ghost use Rattle.geocom_c.specs.Sending.{AsksOrRefuses, IsSend, raw_number, raw_rule, send_effect};
+ghost use Rattle.geocom_c.specs.Rooms.{WritesText, effect};
+ghost use Rattle.geocom_c.specs.Sending.{AsksOrRefuses, IsSend, raw_number, raw_rule};
 
 use crate::answers::GeocomCount;
 use crate::header::IN_TABLE;
@@ -59,7 +59,7 @@ pub extern "C" fn geocom_client_send_raw(
     line: &mut [u8],
 ) -> GeocomCount
     ensures sends { IsSend (raw_rule procedure params.now) target deadline
-        (send_effect state.old state.new line.old line.new result) }
+        (effect state.old state.new line.old line.new result) }
     ensures given { WritesText result line.new
         (with_end (request_text (record { rpc = procedure; id = Some state.old.next; params = params.now }))) }
 {

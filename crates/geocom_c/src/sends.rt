@@ -5,8 +5,8 @@ ghost use Rattle.gc_lines.specs.Lines.{with_end};
 ghost use Rattle.gc_catalogue.specs.declared.asked.Asked.{Asked};
 ghost use Rattle.gc_catalogue.specs.Asked.{asked_line};
 ghost use Rattle.geocom_c.specs.State.{KeepsAnswered};
-ghost use Rattle.geocom_c.specs.Rooms.{FaultLeavesAll, WritesText, WritesWithin};
-ghost use Rattle.geocom_c.specs.Sending.{IsOfRequest, AsksOrRefuses, IsSend, SendsAsked, read_rule, send_effect, table_rule};
+ghost use Rattle.geocom_c.specs.Rooms.{FaultLeavesAll, WritesText, WritesWithin, effect};
+ghost use Rattle.geocom_c.specs.Sending.{IsOfRequest, AsksOrRefuses, IsSend, SendsAsked, read_rule, table_rule};
 ghost use Rattle.geocom_c.specs.declared.header.TheConstants.{LINE_ROOM, WINDOW_FULL};
 
 use crate::answers::{GeocomCount, counted, refused};
@@ -29,7 +29,7 @@ fn send_asked(
     line: &mut [u8],
 ) -> GeocomCount
     requires { LINE_ROOM ≤ length line.old }
-    ensures sent { SendsAsked client asked target deadline (send_effect state.old state.new line.old line.new result) }
+    ensures sent { SendsAsked client asked target deadline (effect state.old state.new line.old line.new result) }
     ensures given { WritesText result line.new (with_end (asked_line (Some client.ids.next) asked)) }
     ensures written { WritesWithin result.count line.old line.new }
     ensures answered { KeepsAnswered state.old state.new }
@@ -57,7 +57,7 @@ pub(crate) fn send_read(
     line: &mut [u8],
 ) -> GeocomCount
     requires { (fault : ℕ) → read ≡ Err fault → IsOfRequest fault }
-    ensures sends { IsSend (read_rule read) target deadline (send_effect state.old state.new line.old line.new result) }
+    ensures sends { IsSend (read_rule read) target deadline (effect state.old state.new line.old line.new result) }
     ensures given { (asked : Asked) → read ≡ Ok asked
         → WritesText result line.new (with_end (asked_line (Some state.old.next) asked)) }
 {
@@ -112,7 +112,7 @@ pub extern "C" fn geocom_client_send(
     line: &mut [u8],
 ) -> GeocomCount
     ensures sends { IsSend (table_rule procedure params.now) target deadline
-        (send_effect state.old state.new line.old line.new result) }
+        (effect state.old state.new line.old line.new result) }
 {
     send_read(state, target, deadline, read_call(procedure, params), line)
 }

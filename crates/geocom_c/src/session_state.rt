@@ -10,6 +10,7 @@ ghost use Rattle.gc_session.specs.Sessions.{Session, opening};
 ghost use Rattle.geocom_c.specs.Rest.{kept_bytes};
 ghost use Rattle.geocom_c.specs.SessionState.{AreCounts, HoldsExchange, HoldsStanding, IsOfNoSession, KeepsClient, RestsSince, StandsForSession, StoresSession, flag_byte, phase_byte};
 
+use crate::rest::GeocomRest;
 use crate::state::{GeocomClient, flag_of, fresh, load, store};
 use gc_client::{Beginning, WINDOW};
 use gc_session::{Exchange, Phase, Session, Settings, Standing};
@@ -271,4 +272,13 @@ pub(crate) fn store_session(state: &mut GeocomSession, session: Session)
     state.timeout = settings.timeout;
     state.quiet = settings.quiet;
     store(&mut state.client, client);
+}
+
+// Stores a session in a state, and discards the bytes of an incomplete line.
+pub(crate) fn store_cut(state: &mut GeocomSession, session: Session)
+    requires { AreCounts session.standing.exchange }
+    ensures { IsWidth session.settings.width → StandsForSession state.new session [] }
+{
+    state.client.rest = GeocomRest::new();
+    store_session(state, session);
 }

@@ -1,18 +1,16 @@
 //! Sessions: a new one, its connections, what is outstanding of it, and how far it is.
 
-ghost use Rattle.std.specs.Prelude.{◌≡◌, ◌≢◌, ◌↔◌, ◌≤◌, [], length};
+ghost use Rattle.std.specs.Prelude.{◌≡◌, []};
 ghost use Rattle.gc_client.specs.Rule.{IsWidth};
-ghost use Rattle.gc_client.specs.declared.window.TheConstants.{WINDOW};
 ghost use Rattle.gc_session.specs.Sessions.{opening, opened, closed};
-ghost use Rattle.geocom_c.specs.Rooms.{ReportsNoRoom, WritesFirst};
-ghost use Rattle.geocom_c.specs.SessionState.{IfOfSession, IsOfNoSession, IsOfSession, StandsForSession};
-ghost use Rattle.geocom_c.specs.Sessions.{FaultLeavesSession, HasBegunAnew, IsTold, ReportsNoSession, no_status, status_of};
-ghost use Rattle.geocom_c.specs.declared.header.TheConstants.{NO_CLIENT, NO_WIDTH};
+ghost use Rattle.geocom_c.specs.SessionState.{StandsForSession};
+ghost use Rattle.geocom_c.specs.Sessions.{IsRestart, IsStatus, IsTold};
+ghost use Rattle.geocom_c.specs.declared.header.TheConstants.{NO_WIDTH};
+ghost use Rattle.geocom_c.specs.Rooms.{effect};
 
 use crate::answers::{GeocomCount, GeocomStatus, as_number, counted, refused};
 use crate::header::{NO_CLIENT, NO_ROOM, NO_WIDTH};
-use crate::rest::GeocomRest;
-use crate::session_state::{GeocomSession, load_session, new_session, store_session};
+use crate::session_state::{GeocomSession, load_session, new_session, store_cut};
 use crate::settled::{GeocomSettlement, put_lost};
 use gc_client::WINDOW;
 
@@ -49,8 +47,7 @@ pub extern "C" fn geocom_session_opened(state: &mut GeocomSession, now: u64) -> 
         return NO_CLIENT;
     };
     session.opened(now);
-    state.client.rest = GeocomRest::new();
-    store_session(state, session);
+    store_cut(state, session);
     0
 }
 
@@ -66,8 +63,7 @@ pub extern "C" fn geocom_session_closed(state: &mut GeocomSession, now: u64) -> 
         return NO_CLIENT;
     };
     session.closed(now);
-    state.client.rest = GeocomRest::new();
-    store_session(state, session);
+    store_cut(state, session);
     0
 }
 
@@ -81,12 +77,7 @@ pub extern "C" fn geocom_session_restart(
     state: &mut GeocomSession,
     settlements: &mut [GeocomSettlement],
 ) -> GeocomCount
-    ensures restarted { WINDOW ≤ length settlements.old → IfOfSession state.old (λ s rest. HasBegunAnew s state.new result settlements.new) }
-    ensures room { ReportsNoRoom settlements.old WINDOW result.fault }
-    ensures astray { ReportsNoSession settlements.old WINDOW state.old result.fault }
-    ensures done { result.fault ≡ 0 → IsOfSession state.old }
-    ensures refused { FaultLeavesSession result state.old state.new settlements.old settlements.new }
-    ensures written { WritesFirst result.count settlements.old settlements.new }
+    ensures { IsRestart (effect state.old state.new settlements.old settlements.new result) }
 {
     if settlements.len() < WINDOW {
         return refused(NO_ROOM);
@@ -95,8 +86,7 @@ pub extern "C" fn geocom_session_restart(
         return refused(NO_CLIENT);
     };
     let settled = session.restart();
-    state.client.rest = GeocomRest::new();
-    store_session(state, session);
+    store_cut(state, session);
     put_lost(settlements, settled.as_slice());
     counted(settled.len() as u32)
 }
@@ -117,9 +107,7 @@ const NO_STATUS: GeocomStatus = GeocomStatus {
 /// Fault 63: the state is no session's. All else is 0 then.
 #[unsafe(no_mangle)]
 pub extern "C" fn geocom_session_status(state: &GeocomSession) -> GeocomStatus
-    ensures told { IfOfSession state.now (λ s rest. result ≡ status_of s) }
-    ensures astray { IsOfNoSession state.now → result ≡ no_status }
-    ensures done { result.fault ≡ 0 → IsOfSession state.now }
+    ensures { IsStatus state.now result }
 {
     let Some(session) = load_session(state) else {
         return NO_STATUS;

@@ -3,9 +3,9 @@
 ghost use Rattle.std.specs.Prelude.{◌≡◌, ◌≢◌, ◌≤◌, ℕ, List, [], nat_eq, if◌then◌else◌, IfSome, Some, length, IsTrue, ◌↔◌};
 ghost use Rattle.gc_session.specs.declared.settings.Want.{Want};
 ghost use Rattle.geocom_c.specs.Rest.{IsRest};
-ghost use Rattle.geocom_c.specs.Rooms.{WritesFirst, WritesWithin};
+ghost use Rattle.geocom_c.specs.Rooms.{WritesFirst, WritesWithin, settling_effect};
 ghost use Rattle.geocom_c.specs.SessionState.{StandsForSession};
-ghost use Rattle.geocom_c.specs.Stepping.{HasRoomToStep, HasStepped, IsStep, StandInFront, act_number, bytes_of, step_effect, until_of, want_number};
+ghost use Rattle.geocom_c.specs.Stepping.{HasRoomToStep, HasStepped, IsStep, StandInFront, act_number, bytes_of, until_of, want_number};
 ghost use Rattle.geocom_c.specs.declared.header.TheConstants.{LINE_ROOM};
 
 use crate::answers::{GeocomStep, unmoved};
@@ -141,7 +141,7 @@ pub extern "C" fn geocom_session_next(
     settlements: &mut [GeocomSettlement],
     line: &mut [u8],
 ) -> GeocomStep
-    ensures { IsStep want now (step_effect state.old state.new settlements.old settlements.new line.old line.new result) }
+    ensures { IsStep want now (settling_effect state.old state.new settlements.old settlements.new line.old line.new result) }
 {
     if !has_room_to_step(settlements, line) {
         return unmoved(NO_ROOM);

@@ -6,14 +6,9 @@ use Rattle.gc_session.specs.Sessions.{Session, asked, may_send, next_of, takes}
 use Rattle.std.specs.Prelude.{nat_eq}
 use Rattle.geocom_c.specs.SessionState.{StoresSession}
 use Rattle.geocom_c.proofs.Clients.{given_if_equal}
-use Rattle.geocom_c.proofs.Counts.{HasCounts, asked_counts}
 use Rattle.geocom_c.proofs.SessionSettings.{asked_settings, still_allowed}
 use Rattle.geocom_c.proofs.SessionSteps.{fault_refused, fault_taken, never_asked, same_error}
 use Rattle.geocom_c.proofs.asking.ask_asked.Goals as goal
-
-pub store_session-requires : goal.store_session-requires
-store_session-requires c =
-    subst HasCounts (sym c.ask.ensures.session) (asked_counts c.args.target c.args.asked.now c.args.timeout c.args.session c.requires.session.1.standing.exchange.counts)
 
 pub returns-in-Ok-clause-asked : goal.returns-in-Ok-clause-asked
 returns-in-Ok-clause-asked c = λ rest held.

@@ -6,12 +6,13 @@ use Rattle.gc_catalogue.specs.declared.asked.Asked.{Asked}
 use Rattle.gc_session.specs.declared.session.TheConstants.{OWN}
 use Rattle.gc_session.specs.declared.settings.Want.TheVariants.{Send}
 use Rattle.gc_session.specs.Sessions.{Session, may_send, next_of}
-use Rattle.geocom_c.specs.Asking.{HasAsked, ask_effect}
+use Rattle.geocom_c.specs.Asking.{HasAsked}
 use Rattle.geocom_c.specs.SessionState.{StandsForSession}
 use Rattle.geocom_c.specs.declared.header.TheConstants.{NO_CLIENT, NO_ROOM}
 use Rattle.geocom_c.proofs.Sendings.{never_both, one_error_of, one_value_of}
 use Rattle.geocom_c.proofs.SessionSteps.{fault_none, fault_not_now, fault_of_own, no_other_fault}
 use Rattle.geocom_c.proofs.asking.ask_read.Goals as goal
+use Rattle.geocom_c.specs.Rooms.{effect}
 
 pub returns-in_default : goal.returns-in_default
 returns-in_default c =
@@ -40,7 +41,7 @@ returns-in-Ok c =
     let target = c.args.target in
     let own = nat_eq target OWN in
     let may = may_send (next_of Send x) in
-    let eff = ask_effect c.args.state.now c.ask_asked.new.state c.args.line.now c.ask_asked.new.line c.ask_asked.result in
+    let eff = effect c.args.state.now c.ask_asked.new.state c.args.line.now c.ask_asked.new.line c.ask_asked.result in
     let fault = (c.ask_asked.ensures.asked _ found).fault in
     record {
       asked = λ _ s rest request held is.

@@ -2,24 +2,21 @@ use Rattle.std.proofs.Common.{◌≡◌, Some, length, take, sym, subst}
 use Rattle.gc_lines.specs.Lines.{with_end}
 use Rattle.gc_catalogue.specs.Asked.{asked_line}
 use Rattle.gc_catalogue.specs.declared.asked.Asked.TheVariants.{Raw}
-use Rattle.geocom_c.specs.Asking.{ask_effect}
 use Rattle.geocom_c.specs.Sending.{raw_rule}
 use Rattle.geocom_c.proofs.Clients.{raw_line_has_params}
-use Rattle.geocom_c.proofs.SessionSteps.{asks_as, raw_of_asked, refused_of_asked, roomy}
+use Rattle.geocom_c.proofs.SessionSteps.{asks_as, roomy}
 use Rattle.geocom_c.proofs.asking.geocom_session_ask_raw.Goals as goal
-
-pub ask_read-requires : goal.ask_read-requires
-ask_read-requires c = refused_of_asked (raw_rule c.args.procedure c.args.params.now) c.read_raw.result c.read_raw.ensures raw_of_asked
+use Rattle.geocom_c.specs.Rooms.{effect}
 
 pub returns-clause-asks : goal.returns-clause-asks
 returns-clause-asks c =
     asks_as (raw_rule c.args.procedure c.args.params.now) c.read_raw.result c.read_raw.ensures c.args.target c.args.timeout
-    (ask_effect c.args.state.now c.ask_read.new.state c.args.line.now c.ask_read.new.line c.ask_read.result) c.ask_read.ensures
+    (effect c.args.state.now c.ask_read.new.state c.args.line.now c.ask_read.new.line c.ask_read.result) c.ask_read.ensures
 
 pub returns-clause-given : goal.returns-clause-given
 returns-clause-given c = λ none.
     let asks = asks_as (raw_rule c.args.procedure c.args.params.now) c.read_raw.result c.read_raw.ensures c.args.target c.args.timeout
-    (ask_effect c.args.state.now c.ask_read.new.state c.args.line.now c.ask_read.new.line c.ask_read.result) c.ask_read.ensures in
+    (effect c.args.state.now c.ask_read.new.state c.args.line.now c.ask_read.new.line c.ask_read.result) c.ask_read.ensures in
     let done = asks.done none in
     let room = roomy (length c.args.line.now) c.ask_read.result.fault asks.room none in
     let given = ((asks.asked room done.session done.rest done.asked done.stands done.is).given none).1 in

@@ -9,9 +9,6 @@ use Rattle.geocom_c.proofs.Answering.{synchronizes_in_turn, HasLeft}
 use Rattle.geocom_c.proofs.Hearings.{by_place, heard_all, heard_none, heard_on, heard_some, nothing_left}
 use Rattle.geocom_c.proofs.beginning.hear_all.Goals as goal
 
-pub loop-left-init : goal.loop-left-init
-loop-left-init c = λ r is. record { reached = c.args.beginning.now; now = r; stands = (is, refl); same = refl; behind = refl }
-
 pub hear_line-used-requires : goal.hear_line-used-requires
 hear_line-used-requires c = (c.loop-left.invariant (kept_bytes c.args.rest.now) (record { valid = c.requires; same = λ more. refl })).stands.0.valid
 

@@ -1,8 +1,8 @@
-use Rattle.std.proofs.Common.{◌∙◌, ◌++◌, ℕ, [], take, arith, sym, ap, subst}
+use Rattle.std.proofs.Common.{◌∙◌, ◌++◌, ℕ, [], take, arith, refl, sym, ap, subst}
 use Rattle.gc_lines.specs.Frames.{frame_of}
 use Rattle.gc_lines.specs.declared.frame.Frame.{Frame}
 use Rattle.geocom_c.specs.State.{StandsForClient}
-use Rattle.geocom_c.specs.Feeding.{WritesSettled, client_past}
+use Rattle.geocom_c.specs.Feeding.{WritesSettled, client_past, frame_kind, settled_by}
 use Rattle.geocom_c.specs.declared.answers.GeocomHeard.{GeocomHeard}
 use Rattle.geocom_c.proofs.Frames.{stands_with_rest, fed_unended, fed_used}
 use Rattle.geocom_c.proofs.feeding.feed.Goals as goal
@@ -19,7 +19,7 @@ returns c =
     record {
       more = λ rest s none.
           let t = took.more rest s.incomplete none in (
-            fed_unended client frame c.feed_frame.result c.using.result _ _ used same fed _ t.1.0 t.0,
+            fed_unended (frame_kind client) (settled_by client) frame c.feed_frame.result c.using.result _ _ used same fed _ refl refl t.1.0 t.0,
             subst (λ (g : Frame). StandsForClient c.feed_frame.new.state (client_past client g) (rest ++ c.args.bytes.now)) t.1.0
                 (c.feed_frame.ensures.state (rest ++ c.args.bytes.now) (stands_with_rest c.args.state.now rest_now client rest (rest ++ c.args.bytes.now) s t.1.1)),
           );
@@ -27,7 +27,7 @@ returns c =
           let t = took.frame rest at s.incomplete some in
           record {
             used_is = ap (λ (x : GeocomHeard). x.used) same ∙ t.0;
-            fed = fed_used client frame c.feed_frame.result c.using.result _ _ used same fed (frame_of (rest ++ take at c.args.bytes.now)) t.1.0;
+            fed = fed_used (frame_kind client) (settled_by client) frame c.feed_frame.result c.using.result _ _ used same fed (frame_of (rest ++ take at c.args.bytes.now)) t.1.0;
             stands = subst (λ (g : Frame). StandsForClient c.feed_frame.new.state (client_past client g) []) t.1.0
                 (c.feed_frame.ensures.state [] (stands_with_rest c.args.state.now rest_now client rest [] s t.1.1));
           };

@@ -1,35 +1,30 @@
-use Rattle.std.proofs.Common.{rules, ◌≡◌, ◌∙◌, ◌++◌, ◌+◌, None, Some, take, sym, ap, subst}
-use Rattle.gc_lines.specs.Frames.{frame_of}
+use Rattle.std.proofs.Common.{rules, ◌≡◌, ◌∙◌, sym, ap, subst}
 use Rattle.gc_catalogue.specs.declared.asked.Asked.{Asked}
 use Rattle.gc_client.specs.Rule.{Windowed}
-use Rattle.geocom_c.specs.State.{StandsForClient}
-use Rattle.geocom_c.specs.Feeding.{FeedsFrame, HasRoomToSettle, feed_effect}
+use Rattle.geocom_c.specs.Feeding.{FeedsFirstLine, FeedsUnended, HasRoomToSettle, feed_effect}
 use Rattle.geocom_c.specs.declared.answers.GeocomHeard.{GeocomHeard}
 use Rattle.geocom_c.specs.declared.header.TheConstants.{NO_CLIENT}
 use Rattle.std.proofs.lemmas.Option.{same_Some}
 use Rattle.geocom_c.proofs.feeding.geocom_client_feed.Goals as goal
 
 pub returns-in-Some-clause-more : goal.returns-in-Some-clause-more
-returns-in-Some-clause-more c = λ room c' rest s none.
-    let same = same_Some c.in-Some.client c' (sym c.in-Some.is ∙ c.load.ensures.only c' rest s) in
-    let told = c.feed.ensures.more rest (subst (λ (d : Windowed Asked). StandsForClient c.args.state.now d rest) (sym same) s) none in
-    (told.0, subst (λ (d : Windowed Asked). StandsForClient c.feed.new.state d (rest ++ c.args.bytes.now)) same told.1)
+returns-in-Some-clause-more c = λ room c' rest s.
+    subst (λ (d : Windowed Asked). FeedsUnended d c.args.bytes.now c.args.state.now c.feed.new.state c.feed.result)
+    (same_Some c.in-Some.client c' (sym c.in-Some.is ∙ c.load.ensures.only c' rest s)) c.feed.ensures.more rest s
 
 pub returns-in-Some-clause-frame : goal.returns-in-Some-clause-frame
-returns-in-Some-clause-frame c = λ room c' rest at s some.
-    let same = same_Some c.in-Some.client c' (sym c.in-Some.is ∙ c.load.ensures.only c' rest s) in
-    let frame = frame_of (rest ++ take at c.args.bytes.now) in
-    let told = c.feed.ensures.frame rest at (subst (λ (d : Windowed Asked). StandsForClient c.args.state.now d rest) (sym same) s) some in
-    subst (λ (d : Windowed Asked). FeedsFrame d frame (at + 1) c.feed.new.state (feed_effect c.feed.result c.feed.new.settlements c.feed.new.text)) same told
+returns-in-Some-clause-frame c = λ room c' rest at s.
+    subst (λ (d : Windowed Asked). FeedsFirstLine d c.args.bytes.now c.args.state.now c.feed.new.state (feed_effect c.feed.result c.feed.new.settlements c.feed.new.text))
+    (same_Some c.in-Some.client c' (sym c.in-Some.is ∙ c.load.ensures.only c' rest s)) c.feed.ensures.frame rest at s
 
 pub returns-in-Some-clause-astray : goal.returns-in-Some-clause-astray
 returns-in-Some-clause-astray c = (λ e. let zero : 0 ≡ NO_CLIENT = sym c.feed.ensures.fault ∙ e in cc, λ both. absurd (both.1 _ _ c.in-Some.ensures.found))
 
 pub returns-in-None-clause-more : goal.returns-in-None-clause-more
-returns-in-None-clause-more c = λ room c' rest s none. let bad : None ≡ Some c' = sym c.in-None.is ∙ c.load.ensures.only c' rest s in cc
+returns-in-None-clause-more c = λ room c' rest s. absurd (c.load.ensures.none c.in-None.is c' rest s)
 
 pub returns-in-None-clause-frame : goal.returns-in-None-clause-frame
-returns-in-None-clause-frame c = λ room c' rest at s some. let bad : None ≡ Some c' = sym c.in-None.is ∙ c.load.ensures.only c' rest s in cc
+returns-in-None-clause-frame c = λ room c' rest at s. absurd (c.load.ensures.none c.in-None.is c' rest s)
 
 pub returns-in-None-clause-astray : goal.returns-in-None-clause-astray
 returns-in-None-clause-astray c =

@@ -1,5 +1,5 @@
-use Rattle.std.proofs.Common.{◌≡◌, ◌+◌, ◌++◌, ◌∙◌, ℕ, List, length, map, take, drop, sym, ap, subst, arith}
-use Rattle.std.proofs.lemmas.List.{length-map, length-take, take-append-le, take-append-drop}
+use Rattle.std.proofs.Common.{◌≡◌, ◌∙◌, List, length, map, sym, ap, subst, arith}
+use Rattle.std.proofs.lemmas.List.{length-map}
 use Rattle.gc_lines.specs.Readers.{reply_at}
 use Rattle.gc_catalogue.specs.declared.asked.Asked.{Asked}
 use Rattle.gc_client.specs.Rule.{Settlement, hears, heard}
@@ -7,8 +7,7 @@ use Rattle.gc_client.specs.Settlements.{settlement_seen}
 use Rattle.geocom_c.specs.FirstAre.{FirstAre}
 use Rattle.geocom_c.specs.Settled.{IsRecord, AnswersHaveLine}
 use Rattle.geocom_c.specs.declared.answers.GeocomHeard.{GeocomHeard}
-use Rattle.geocom_c.proofs.Places.{first_are_weaker}
-use Rattle.geocom_c.proofs.Records.{heard_have_line, more_record, settles_kind}
+use Rattle.geocom_c.proofs.Records.{heard_have_line, settles_kind, written_in_front}
 use Rattle.geocom_c.proofs.feeding.hear.Goals as goal
 
 pub put_records-requires-clause-told : goal.put_records-requires-clause-told
@@ -28,19 +27,13 @@ returns-in-Settled-clause-fed c =
     let kinds = settles_kind ids (reply_at line) c.in-Settled.ensures.heard in
     let are = c.in-Settled.ensures.settled.seen in
     let seen : map settlement_seen c.as_slice-in-Settled.result.now ≡ ruled = ap (map settlement_seen) c.as_slice-in-Settled.ensures.value ∙ are in
-    let t = c.list_line-answer.result.text.items in
-    let new = c.put_text.new.bytes in
-    let n = 0 + length c.as_slice.result.now in
-    let front : take n new ≡ t = c.put_text.ensures.text ∙ c.as_slice.ensures.value in
-    let whole : new ≡ t ++ drop n new = sym (take-append-drop n new) ∙ ap (λ (x : List ℕ). x ++ drop n new) front in
-    let behind = first_are_weaker (IsRecord t) (IsRecord (t ++ drop n new)) (more_record t (drop n new)) c.put_records.new.records _ c.put_records.ensures.records in
+    let written = written_in_front line c.list_line-answer.result.text.items c.put_text.new.bytes _ c.put_records.new.records _ (c.put_text.ensures.text ∙ c.as_slice.ensures.value)
+    c.list_line-answer.ensures.front c.put_records.ensures.records in
     record {
       fault = ap (λ (x : GeocomHeard). x.fault) h;
       kind = ap (λ (x : GeocomHeard). x.kind) h ∙ kinds.0;
       line_fault = ap (λ (x : GeocomHeard). x.line_fault) h ∙ kinds.1;
       count = omega (arith, c.len.ensures.value, ap length are, length-map c.in-Settled.settled.items settlement_seen);
-      front = λ some. ap (take (length line)) whole ∙ take-append-le (length line) t (drop n new)
-          (omega (arith, ap length c.list_line-answer.ensures.front, length-take (length line) t)) ∙ c.list_line-answer.ensures.front;
-      recorded = subst (λ (ss : List (Settlement Asked)). FirstAre (IsRecord new) c.put_records.new.records ss) seen
-          (subst (λ (x : List ℕ). FirstAre (IsRecord x) c.put_records.new.records (map settlement_seen c.as_slice-in-Settled.result.now)) (sym whole) behind);
+      front = λ some. written.0;
+      recorded = subst (λ (ss : List (Settlement Asked)). FirstAre (IsRecord c.put_text.new.bytes) c.put_records.new.records ss) seen written.1;
     }

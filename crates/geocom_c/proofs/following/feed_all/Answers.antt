@@ -1,4 +1,4 @@
-use Rattle.std.proofs.Common.{rules, ◌≡◌, ◌∙◌, List, ℕ, [], length, refl, sym, subst}
+use Rattle.std.proofs.Common.{rules, ◌≡◌, ◌∙◌, List, ℕ, [], length, sym, subst}
 use Rattle.std.proofs.lemmas.List.{nil_from_length}
 use Rattle.gc_catalogue.specs.declared.asked.Asked.{Asked}
 use Rattle.gc_client.specs.OneForOne.{Course}
@@ -6,9 +6,6 @@ use Rattle.geocom_c.specs.Following.{hearing_lines, StandsForCourse}
 use Rattle.geocom_c.specs.Rest.{HeardBut}
 use Rattle.geocom_c.proofs.Hearings.{course_past, courses_in_turn, heard_all, heard_on}
 use Rattle.geocom_c.proofs.following.feed_all.Goals as goal
-
-pub loop-left-init : goal.loop-left-init
-loop-left-init c = record { fed = λ width x rest s. record { reached = x; now = rest; stands = s; same = refl; behind = refl }; answered = refl }
 
 pub loop-left-preserved : goal.loop-left-preserved
 loop-left-preserved c =

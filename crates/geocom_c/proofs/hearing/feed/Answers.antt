@@ -1,13 +1,14 @@
-use Rattle.std.proofs.Common.{◌∙◌, ◌++◌, [], take, sym, ap, subst}
+use Rattle.std.proofs.Common.{◌∙◌, ◌++◌, [], take, refl, sym, ap, subst}
 use Rattle.gc_lines.specs.Frames.{frame_of}
 use Rattle.gc_lines.specs.declared.frame.Frame.{Frame}
 use Rattle.gc_session.specs.Sessions.{Session}
 use Rattle.geocom_c.specs.Feeding.{feed_effect}
-use Rattle.geocom_c.specs.Hearing.{IsFedTo, at_feed, session_past}
+use Rattle.geocom_c.specs.Hearing.{IsFedTo, at_feed, frame_kind_in, frame_settles, session_past}
 use Rattle.geocom_c.specs.SessionState.{StandsForSession, StoresSession}
 use Rattle.geocom_c.specs.declared.answers.GeocomHeard.{GeocomHeard}
 use Rattle.geocom_c.proofs.Counts.{HasCounts}
-use Rattle.geocom_c.proofs.SessionFrames.{at_feed_counts, at_feed_settings, few_at_feed, held_few, past_counts, past_settings, session_fed_unended, session_fed_used}
+use Rattle.geocom_c.proofs.SessionFrames.{at_feed_counts, at_feed_settings, few_at_feed, held_few, past_counts, past_settings}
+use Rattle.geocom_c.proofs.Frames.{fed_unended, fed_used}
 use Rattle.geocom_c.proofs.SessionSettings.{still_allowed}
 use Rattle.geocom_c.proofs.hearing.feed.Goals as goal
 
@@ -30,7 +31,7 @@ returns-clause-more c = λ rest held none.
     let stored = subst (λ (u : Session). StoresSession (record c.args.state.now { client = record c.args.state.now.client { rest = c.take-used.new.self } }) c.store_session.new.state u)
     (c.hear_frame-told.ensures.session ∙ ap (λ (u : Session). session_past u frame) c.come.ensures) c.store_session.ensures in
     let stands = stored (rest ++ c.args.bytes.now) t.1.1 (still_allowed s.settings (session_past at frame).settings (past_settings frame at ∙ at_feed_settings c.args.now c.args.bytes.now s) held.settings.allowed) in (
-      session_fed_unended at frame c.hear_frame-told.result c.using.result _ _ c.take-used.result.0 c.using.ensures fed _ t.1.0 t.0,
+      fed_unended (frame_kind_in at) (frame_settles at) frame c.hear_frame-told.result c.using.result _ _ c.take-used.result.0 c.using.ensures fed _ refl refl t.1.0 t.0,
       subst (λ (g : Frame). StandsForSession c.store_session.new.state (session_past at g) (rest ++ c.args.bytes.now)) t.1.0 stands,
     )
 
@@ -46,6 +47,6 @@ returns-clause-frame c = λ rest k held some.
     let stands = stored [] t.1.1 (still_allowed s.settings (session_past at frame).settings (past_settings frame at ∙ at_feed_settings c.args.now c.args.bytes.now s) held.settings.allowed) in
     record {
       used_is = ap (λ (x : GeocomHeard). x.used) c.using.ensures ∙ t.0;
-      fed = session_fed_used at frame c.hear_frame-told.result c.using.result _ _ c.take-used.result.0 c.using.ensures fed (frame_of (rest ++ take k c.args.bytes.now)) t.1.0;
+      fed = fed_used (frame_kind_in at) (frame_settles at) frame c.hear_frame-told.result c.using.result _ _ c.take-used.result.0 c.using.ensures fed (frame_of (rest ++ take k c.args.bytes.now)) t.1.0;
       stands = subst (λ (g : Frame). StandsForSession c.store_session.new.state (session_past at g) []) t.1.0 stands;
     }

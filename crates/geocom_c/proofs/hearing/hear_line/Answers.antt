@@ -1,5 +1,5 @@
-use Rattle.std.proofs.Common.{◌≡◌, ◌+◌, ◌++◌, ◌∙◌, ℕ, List, length, map, take, drop, sym, ap, subst, arith}
-use Rattle.std.proofs.lemmas.List.{length-map, length-take, take-append-le, take-append-drop}
+use Rattle.std.proofs.Common.{◌≡◌, ◌∙◌, ℕ, List, length, map, sym, ap, subst, arith}
+use Rattle.std.proofs.lemmas.List.{length-map}
 use Rattle.gc_lines.specs.Readers.{reply_at}
 use Rattle.gc_catalogue.specs.declared.asked.Asked.{Asked}
 use Rattle.gc_client.specs.Rule.{Settlement}
@@ -8,8 +8,7 @@ use Rattle.gc_session.specs.Sessions.{line_settles}
 use Rattle.geocom_c.specs.FirstAre.{FirstAre}
 use Rattle.geocom_c.specs.Settled.{IsRecord, AnswersHaveLine}
 use Rattle.geocom_c.specs.declared.answers.GeocomHeard.{GeocomHeard}
-use Rattle.geocom_c.proofs.Places.{first_are_weaker}
-use Rattle.geocom_c.proofs.Records.{more_record}
+use Rattle.geocom_c.proofs.Records.{written_in_front}
 use Rattle.geocom_c.proofs.SessionFrames.{kind_if_settled, session_have_line, unread_settles_none}
 use Rattle.geocom_c.proofs.hearing.hear_line.Goals as goal
 
@@ -31,19 +30,13 @@ returns-clause-fed c =
     let seen : map settlement_seen c.as_slice-2.result.now ≡ ruled = ap (map settlement_seen) c.as_slice-2.ensures.value ∙ are in
     let n : c.len-count.result ≡ length ruled = omega (arith, c.len-count.ensures.value, ap length are, length-map c.hear.new.settled.items settlement_seen) in
     let kinds = kind_if_settled (reply_at line) (length ruled) (unread_settles_none line s) (omega (arith, n, c.if-count-eq0.false)) in
-    let t = c.list_line-answer.result.text.items in
-    let new = c.put_text.new.bytes in
-    let m = 0 + length c.as_slice.result.now in
-    let front : take m new ≡ t = c.put_text.ensures.text ∙ c.as_slice.ensures.value in
-    let whole : new ≡ t ++ drop m new = sym (take-append-drop m new) ∙ ap (λ (x : List ℕ). x ++ drop m new) front in
-    let behind = first_are_weaker (IsRecord t) (IsRecord (t ++ drop m new)) (more_record t (drop m new)) c.put_records.new.records _ c.put_records.ensures.records in
+    let written = written_in_front line c.list_line-answer.result.text.items c.put_text.new.bytes _ c.put_records.new.records _ (c.put_text.ensures.text ∙ c.as_slice.ensures.value)
+    c.list_line-answer.ensures.front c.put_records.ensures.records in
     record {
       fault = ap (λ (x : GeocomHeard). x.fault) h;
       kind = ap (λ (x : GeocomHeard). x.kind) h ∙ sym kinds.0;
       line_fault = ap (λ (x : GeocomHeard). x.line_fault) h ∙ sym kinds.1;
       count = n;
-      front = λ some. ap (take (length line)) whole ∙ take-append-le (length line) t (drop m new)
-          (omega (arith, ap length c.list_line-answer.ensures.front, length-take (length line) t)) ∙ c.list_line-answer.ensures.front;
-      recorded = subst (λ (ss : List (Settlement Asked)). FirstAre (IsRecord new) c.put_records.new.records ss) seen
-          (subst (λ (x : List ℕ). FirstAre (IsRecord x) c.put_records.new.records (map settlement_seen c.as_slice-2.result.now)) (sym whole) behind);
+      front = λ some. written.0;
+      recorded = subst (λ (ss : List (Settlement Asked)). FirstAre (IsRecord c.put_text.new.bytes) c.put_records.new.records ss) seen written.1;
     }

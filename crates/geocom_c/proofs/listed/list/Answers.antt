@@ -1,5 +1,4 @@
 use Rattle.std.proofs.Common.{◌≡◌, ◌∙◌, List, ℕ, Ok, sym, subst, arith}
-use Rattle.geocom_c.proofs.Clients.{never_ok}
 use Rattle.geocom_c.specs.Settled.{AreStanding}
 use Rattle.gc_values.proofs.ItemBytes.{items_within_params}
 use Rattle.geocom_c.proofs.listed.list.Goals as goal
@@ -13,6 +12,3 @@ returns-in-Ok-clause-listed c = λ items is few.
     let same : c.in-Ok.items ≡ items = cc in
     subst (λ (xs : List (List ℕ)). AreStanding c.len.result c.put_items.new.places c.put_items.new.text.items xs) same
     (record { counted = c.len.ensures.value; stand = c.put_items.ensures.places })
-
-pub returns-in-Err-clause-listed : goal.returns-in-Err-clause-listed
-returns-in-Err-clause-listed c = λ items is few. absurd (never_ok _ _ (sym c.in-Err.is ∙ c.split.ensures.only items is few))

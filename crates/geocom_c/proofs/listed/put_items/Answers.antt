@@ -1,7 +1,7 @@
 use Rattle.std.proofs.Common.{◌≡◌, ◌+◌, ◌++◌, ◌<◌, suc, List, ℕ, [], Some, length, take, refl, ◌∙◌, sym, ap, subst, arith, append_assoc, length-append, length-set}
 use Rattle.std.specs.Prelude.{slice_get, slice_set}
 use Rattle.std.proofs.lemmas.Option.{slice_get-get_or}
-use Rattle.std.proofs.lemmas.List.{append-nil, take_all}
+use Rattle.std.proofs.lemmas.List.{append-nil}
 use Rattle.geocom_c.specs.FirstAre.{FirstAre}
 use Rattle.gc_values.specs.Params.{total_length}
 use Rattle.gc_values.proofs.ItemBytes.{total_length_next, total_length_front}
@@ -55,10 +55,3 @@ loop-k-preserved c =
       size = length-set c.loop-k.places k place ∙ before.size;
       room = omega (arith, ap length e, length-append t item, before.room, total_length_next items k lt, ap length c.get-item.ensures, ap (λ m. total_length (take m items)) next);
     }
-
-pub returns-clause-front : goal.returns-clause-front
-returns-clause-front c = c.loop-k.invariant.front
-
-pub returns-clause-places : goal.returns-clause-places
-returns-clause-places c = subst (λ (xs : List (List ℕ)). FirstAre (StandsAt c.loop-k.text.items) c.loop-k.places xs)
-    (take_all c.loop-k.k c.args.items.now (omega (arith, c.loop-k-test.false, c.len-k-end.ensures.value))) c.loop-k.invariant.places

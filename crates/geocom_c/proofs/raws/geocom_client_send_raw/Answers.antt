@@ -1,18 +1,16 @@
 use Rattle.gc_catalogue.specs.declared.asked.Asked.TheVariants.{Raw}
-use Rattle.geocom_c.specs.Sending.{raw_rule, send_effect}
+use Rattle.geocom_c.specs.Sending.{raw_rule}
 use Rattle.geocom_c.proofs.Clients.{raw_line_has_params}
 use Rattle.geocom_c.proofs.Sendings.{sends_as}
 use Rattle.geocom_c.proofs.raws.geocom_client_send_raw.Goals as goal
-
-pub send_read-requires : goal.send_read-requires
-send_read-requires c = c.read_raw.ensures.number_of_request
+use Rattle.geocom_c.specs.Rooms.{effect}
 
 pub returns : goal.returns
 returns c =
     let procedure = c.args.procedure in
     let params = c.args.params.now in
     let sends = sends_as (raw_rule procedure params) c.read_raw.result c.read_raw.ensures
-    c.args.target c.args.deadline (send_effect c.args.state.now c.send_read.new.state c.args.line.now c.send_read.new.line c.send_read.result)
+    c.args.target c.args.deadline (effect c.args.state.now c.send_read.new.state c.args.line.now c.send_read.new.line c.send_read.result)
     c.send_read.ensures.sends in
     record {
       sends = sends;

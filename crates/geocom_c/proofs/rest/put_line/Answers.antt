@@ -1,4 +1,4 @@
-use Rattle.std.proofs.Common.{◌≡◌, ◌+◌, ◌∙◌, ℕ, ap, subst, arith, length, take, drop}
+use Rattle.std.proofs.Common.{◌≡◌, ◌+◌, ◌∙◌, ap, arith, length, take}
 use Rattle.geocom_c.proofs.rest.put_line.Goals as goal
 
 -- the room begins with the line and its CR LF
@@ -8,8 +8,3 @@ returns-clause-given c =
       c.len.ensures.value ∙ ap length c.with_end-text.ensures,
       ap (λ n. take n c.put_text.new.bytes) all ∙ c.put_text.ensures.text ∙ c.as_slice.ensures.value ∙ c.with_end-text.ensures,
     )
-
-pub returns-clause-written : goal.returns-clause-written
-returns-clause-written c =
-    let all : 0 + length c.as_slice.result.now ≡ c.len.result = omega (arith, c.len.ensures.value, ap length c.as_slice.ensures.value) in
-    record { untouched = subst (λ (n : ℕ). drop n c.put_text.new.bytes ≡ drop n c.args.room.now) all c.put_text.ensures.written.untouched; length = c.put_text.ensures.written.length }

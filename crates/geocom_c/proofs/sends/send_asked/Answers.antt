@@ -3,10 +3,11 @@ use Rattle.gc_catalogue.specs.Asked.{asked_line}
 use Rattle.gc_client.specs.Rule.{Windowed}
 use Rattle.gc_catalogue.specs.declared.asked.Asked.{Asked}
 use Rattle.geocom_c.specs.State.{StandsForClient}
-use Rattle.geocom_c.specs.Rooms.{WritesWithin}
-use Rattle.geocom_c.specs.Sending.{SendEffect, SendMeets}
+use Rattle.geocom_c.specs.Rooms.{Effect}
+use Rattle.geocom_c.specs.Sending.{SendMeets}
 use Rattle.geocom_c.proofs.Clients.{given_if_equal, same_width}
 use Rattle.geocom_c.proofs.sends.send_asked.Goals as goal
+use Rattle.geocom_c.specs.declared.state.GeocomClient.{GeocomClient}
 
 pub returns-in-Ok-clause-sent : goal.returns-in-Ok-clause-sent
 returns-in-Ok-clause-sent c = λ rest is part.
@@ -16,13 +17,5 @@ returns-in-Ok-clause-sent c = λ rest is part.
     let after = c.put_line.new.room in
     let stands = subst (λ (d : Windowed Asked). StandsForClient c.store.new.state d rest) (same_width old new c.send.ensures.width) (c.store.ensures.client rest is part) in
     let given = given_if_equal _ (asked_line (Some old.ids.next) c.args.asked) _ c.counted.result.count after rule.1 c.counted.ensures.count c.put_line.ensures.given in
-    let sent : SendEffect = record { old = c.args.state.now; new = c.store.new.state; before = c.args.line.now; after = after; told = c.counted.result } in
+    let sent : Effect GeocomClient ℕ = record { old = c.args.state.now; new = c.store.new.state; before = c.args.line.now; after = after; told = c.counted.result } in
     subst (λ o. SendMeets old rest c.args.asked o sent) (sym rule.0) (c.counted.ensures.fault, stands, given)
-
-pub returns-in-Ok-clause-written : goal.returns-in-Ok-clause-written
-returns-in-Ok-clause-written c = subst (λ (n : ℕ). WritesWithin n c.args.line.now c.put_line.new.room) (sym c.counted.ensures.count) c.put_line.ensures.written
-
-pub returns-in-Ok-clause-given : goal.returns-in-Ok-clause-given
-returns-in-Ok-clause-given c = λ none.
-    let line = asked_line (Some c.args.client.ids.next) c.args.asked in
-    (given_if_equal _ line _ c.counted.result.count c.put_line.new.room c.in-Ok.ensures.rule.1 c.counted.ensures.count c.put_line.ensures.given).1

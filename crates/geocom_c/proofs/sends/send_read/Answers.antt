@@ -3,12 +3,13 @@ use Rattle.gc_lines.specs.Lines.{with_end}
 use Rattle.gc_catalogue.specs.Asked.{asked_line}
 use Rattle.gc_catalogue.specs.declared.asked.Asked.{Asked}
 use Rattle.gc_client.specs.Rule.{Windowed, sends}
-use Rattle.geocom_c.specs.Sending.{SendMeets, send_effect}
+use Rattle.geocom_c.specs.Sending.{SendMeets}
 use Rattle.geocom_c.specs.Rest.{kept_bytes}
 use Rattle.geocom_c.proofs.Answering.{none_left_at_eight, some_left_below_eight}
 use Rattle.geocom_c.proofs.Sendings.{never_above_full, never_both, one_error_of, one_value_of}
 use Rattle.std.proofs.lemmas.Option.{same_Some}
 use Rattle.geocom_c.proofs.sends.send_read.Goals as goal
+use Rattle.geocom_c.specs.Rooms.{effect}
 
 pub returns-then-line-lt-LINE_ROOM-clause-sends : goal.returns-then-line-lt-LINE_ROOM-clause-sends
 returns-then-line-lt-LINE_ROOM-clause-sends c =
@@ -75,7 +76,7 @@ returns-in-Ok-clause-sends c =
     let client = c.in-Some.client in
     let asked = c.in-Ok.asked in
     let begun = none_left_at_eight c.args.state.now.answered c.if-not-has_begun.false in
-    let s = send_effect c.args.state.now c.send_asked.new.state c.args.line.now c.send_asked.new.line c.send_asked.result in
+    let s = effect c.args.state.now c.send_asked.new.state c.args.line.now c.send_asked.new.line c.send_asked.result in
     let either = c.send_asked.ensures.either in
     record {
       sent = λ _ c' rest x stands _ is.
@@ -133,20 +134,8 @@ returns-in-Err-clause-sends c =
       written = record { untouched = refl; length = refl };
     }
 
-pub returns-then-line-lt-LINE_ROOM-clause-given : goal.returns-then-line-lt-LINE_ROOM-clause-given
-returns-then-line-lt-LINE_ROOM-clause-given c = λ asked is none. absurd (omega (arith, c.refused.ensures.fault, none))
-
-pub returns-in_default-clause-given : goal.returns-in_default-clause-given
-returns-in_default-clause-given c = λ asked is none. absurd (omega (arith, c.refused-in_default.ensures.fault, none))
-
-pub returns-then-not-has_begun-clause-given : goal.returns-then-not-has_begun-clause-given
-returns-then-not-has_begun-clause-given c = λ asked is none. absurd (omega (arith, c.refused-then-not-has_begun.ensures.fault, none))
-
 pub returns-in-Ok-clause-given : goal.returns-in-Ok-clause-given
 returns-in-Ok-clause-given c = λ asked is none.
     c.send_asked.ensures.given none
     ∙ ap (λ (a : Asked). with_end (asked_line (Some c.in-Some.client.ids.next) a)) (one_value_of c.args.read c.in-Ok.asked asked c.in-Ok.is is)
     ∙ ap (λ n. with_end (asked_line (Some n) asked)) (sym c.in-Some.ensures.found.next)
-
-pub returns-in-Err-clause-given : goal.returns-in-Err-clause-given
-returns-in-Err-clause-given c = λ asked is none. absurd (never_both c.args.read asked c.in-Err.fault is c.in-Err.is)

@@ -1,7 +1,6 @@
 use Rattle.std.proofs.Common.{◌≡◌, ◌<◌, ◌+◌, ◌++◌, ◌∷◌, [], List, suc, length, take, Some, ◌∙◌, sym, ap, subst, arith, length-append}
 use Rattle.std.specs.Prelude.{slice_get}
 use Rattle.std.proofs.lemmas.Option.{none-some, slice_get-get_or}
-use Rattle.std.proofs.lemmas.List.{take_all}
 use Rattle.gc_catalogue.specs.declared.asked.Asked.{Asked}
 use Rattle.gc_client.proofs.Lists.{take_next}
 use Rattle.gc_client.specs.declared.pending.Pending.{Pending}
@@ -49,6 +48,3 @@ returns-in_err-p-clause-only c = λ ps n are.
     let it = element_at ps k (omega (arith, n, c.loop-k-test.true)) in
     let here = slice_get-get_or places k _ within in
     absurd (none-some it.0 (sym c.in_err-p.was ∙ c.read_place.ensures.only it.0 (placed_together HoldsRequest places ps k _ it.0 are here it.1)))
-
-pub returns-clause-only : goal.returns-clause-only
-returns-clause-only c = λ ps n are. ap Some (c.loop-k.invariant.only ps n are ∙ take_all c.loop-k.k ps (omega (arith, n, c.loop-k-test.false)))
