@@ -47,7 +47,7 @@ int main(int count, char **words) {
             last = geocom_session_status(&session);
             if (c == 0) first = last;
             printf("%u,%u,%u,%u", s.target, s.procedure, s.outcome, s.code);
-            for (int i = 0; i < s.items; i++) printf(",%.*s", s.places[i].length, text + s.places[i].offset);
+            for (int i = 0; i < s.items; i++) printf(",%.*s", s.item_spans[i].length, text + s.item_spans[i].offset);
             puts("");
         }
     }

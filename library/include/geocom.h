@@ -36,7 +36,7 @@
  *
  * How a client is driven, without a session:
  *   1. geocom_client_init, once, with the width: how many requests may be outstanding at a time, 1 to 7.
- *   2. geocom_client_begin until the client has synchronized: write a line feed to the new connection, then the line of each null
+ *   2. geocom_client_synchronize until the client has synchronized: write a line feed to the new connection, then the line of each null
  *      procedure that the call returns, and pass it the bytes that you read. If nothing came by a deadline of yours, call it without
  *      bytes: it returns the same line again. So no old reply is taken for the answer to a request.
  *   3. geocom_client_send for a request, or geocom_client_send_raw for one of a procedure that isn't in the table; write the line
@@ -45,7 +45,7 @@
  *   5. geocom_client_expire with the moment after the read, then geocom_client_feed with the bytes until all are used.
  *   6. If the connection fails or is dead: close it, open a new one, send a line feed, discard what comes until nothing comes any
  *      more, and feed a line feed, which discards half a line. Before the client has synchronized, pass that line feed to
- *      geocom_client_begin instead, and discard nothing. Ids continue, and what is outstanding stays so.
+ *      geocom_client_synchronize instead, and discard nothing. Ids continue, and what is outstanding stays so.
  *   7. If as many requests are outstanding as the width allows, and all have timed out: geocom_client_restart, and 2 without the
  *      line feed. No pause is needed.
  *   8. If a line of what you read has a sign-on in it (geocom_is_sign_on), the instrument was switched on or off: send nothing more before
@@ -66,7 +66,7 @@
  * different states may run in different threads. No call has a condition on the bytes of a state: whatever they are,
  * it returns and stays within bounds.
  *
- * A call writes `count` places of the room that it is given, and leaves those after them as they are (except in the text of
+ * A call writes the first `count` elements of the room that it is given, and leaves those after them as they are (except in the text of
  * a feed).
  *
  * Faults (a call of a client or a session that returns one has changed nothing, and written nothing; all else that it returns is 0):
@@ -80,7 +80,7 @@
  *   62        less room than the call needs
  *   63        the state is no client's, or no session's: geocom_client_init or geocom_session_init never made it, or its bytes were
  *             overwritten
- *   67        the client hasn't synchronized: geocom_client_begin comes first, and again after each restart
+ *   67        the client hasn't synchronized: geocom_client_synchronize comes first, and again after each restart
  *   68        geocom_client_send_raw, geocom_session_ask_raw, and a description: the procedure is one of the table, which
  *             geocom_client_send and geocom_session_ask request
  *   71        the text is no description of a procedure
@@ -122,35 +122,35 @@ extern "C" {
 #define GEOCOM_OWN UINT32_MAX
 
 /* An outstanding request. Its line has no id and no CR LF; the first `length` bytes of it are used. */
-typedef struct geocom_waiting {
+typedef struct geocom_request {
     uint64_t deadline; /* the moment at which it times out */
     uint32_t target;
     uint16_t length;
-    uint8_t given_up;  /* 1 if it has timed out; else 0 */
+    uint8_t timed_out; /* 1 if it has timed out; else 0 */
     uint8_t line[512];
-} geocom_waiting;
+} geocom_request;
 
 /* The bytes since the last line feed: all of them, or of more than 514 the first 513 and the last. */
-typedef struct geocom_rest {
+typedef struct geocom_partial_line {
     uint16_t length;
     uint8_t bytes[514];
-} geocom_rest;
+} geocom_partial_line;
 
 /* A client. Its fields are the library's: read them for a log if you like, and write none. */
 typedef struct geocom_client {
-    geocom_waiting places[GEOCOM_WINDOW];
-    geocom_rest rest;
-    uint8_t width;    /* how many requests may be outstanding, 1 to 7 */
-    uint8_t next;     /* the id of the next request, 0 to 7 */
-    uint8_t waiting;  /* how many requests are outstanding */
-    uint8_t answered; /* how many null procedures of the synchronization are answered, of eight */
+    geocom_request requests[GEOCOM_WINDOW]; /* the first `outstanding` of these, the oldest first */
+    geocom_partial_line partial_line;
+    uint8_t width;       /* how many requests may be outstanding, 1 to 7 */
+    uint8_t next;        /* the id of the next request, 0 to 7 */
+    uint8_t outstanding; /* how many requests are outstanding */
+    uint8_t answered;    /* how many null procedures of the synchronization are answered, of eight */
 } geocom_client;
 
 /* Where an item is in the text of a feed, and its length, in bytes. */
-typedef struct geocom_item {
+typedef struct geocom_item_span {
     uint16_t offset;
     uint16_t length;
-} geocom_item;
+} geocom_item_span;
 
 /* How a request ended. */
 enum geocom_outcome { GEOCOM_ANSWERED = 1, GEOCOM_LATE = 2, GEOCOM_LOST = 3 };
@@ -172,7 +172,7 @@ typedef struct geocom_settlement {
     uint16_t code;        /* the return code, the communication code, or the fault 11 to 15; 0 for a value, and without an answer */
     uint16_t line_length; /* the answer's line: this many bytes at the front of the text; 0 without an answer */
     uint16_t items;       /* how many items a value has, or the parameters of a raw request's answer; 0 for every other reading */
-    geocom_item places[GEOCOM_MOST_ITEMS]; /* where these items are in the text, as they came, without spaces around them */
+    geocom_item_span item_spans[GEOCOM_MOST_ITEMS]; /* where these items are in the text, as they came, without spaces around them */
     uint8_t outcome;      /* enum geocom_outcome */
     uint8_t reading;      /* enum geocom_reading */
 } geocom_settlement;
@@ -190,13 +190,13 @@ typedef struct geocom_deadline {
     uint32_t is_set;
 } geocom_deadline;
 
-/* What geocom_client_begin returns; after a fault all else is 0. */
-typedef struct geocom_beginning {
-    uint32_t fault;     /* 0, 62 or 63 */
-    uint32_t count;     /* how many bytes of the line are to be sent, with its CR LF; 0: none, read on */
-    uint32_t answered;  /* how many null procedures are answered, of eight */
-    uint32_t has_begun; /* 1 once all are, and the client has synchronized; else 0 */
-} geocom_beginning;
+/* What geocom_client_synchronize returns; after a fault all else is 0. */
+typedef struct geocom_synchronization {
+    uint32_t fault;           /* 0, 62 or 63 */
+    uint32_t count;           /* how many bytes of the line are to be sent, with its CR LF; 0: none, read on */
+    uint32_t answered;        /* how many null procedures are answered, of eight */
+    uint32_t is_synchronized; /* 1 once all are, and the client has synchronized; else 0 */
+} geocom_synchronization;
 
 /* What the bytes of a feed ended: no line feed came yet; a line that settled requests; a reply that no request is outstanding for; a
  * line that is no reply; a line feed without a CR before it, and what was before it is discarded; a line of more than 512 bytes, which
@@ -211,13 +211,13 @@ enum geocom_kind {
 };
 
 /* What geocom_client_feed returns; after a fault all else is 0. */
-typedef struct geocom_heard {
+typedef struct geocom_feed_result {
     size_t used;         /* how many bytes were used: through the first line feed, or all */
     uint32_t fault;      /* 0, 62 or 63 */
     uint32_t count;      /* how many records were written */
     uint32_t kind;       /* enum geocom_kind */
     uint32_t line_fault; /* of a line that is no reply, its first faulty field, 1 to 5; else 0 */
-} geocom_heard;
+} geocom_feed_result;
 
 /* The library's version of these calls and structures. If it isn't GEOCOM_VERSION, the header belongs to another library. */
 uint32_t geocom_version(void);
@@ -229,10 +229,10 @@ uint32_t geocom_client_init(geocom_client *state, uint8_t width);
 /* Synchronizes: takes bytes that came, all of them, and writes the line of the null procedure that is to be sent next into `line`, with
  * CR LF, `count` bytes. Eight are asked, one after the other, with ids 6, 5, 4, 3, 2, 1, 0 and 7; a reply with the id of the one that is
  * asked answers it, whatever its codes and parameters, and all else is discarded. Call it with length 0 for the first line, and again if
- * nothing came in time: it writes the same line again. If bytes came that answered nothing, count is 0: read on. Once has_begun is 1,
+ * nothing came in time: it writes the same line again. If bytes came that answered nothing, count is 0: read on. Once is_synchronized is 1,
  * the call writes no line, and discards each line that ends: then bytes go to geocom_client_feed. Faults: 62 (line_room below
  * GEOCOM_LINE_ROOM), 63. */
-geocom_beginning geocom_client_begin(geocom_client *state, const uint8_t *bytes, size_t length, uint8_t *line, size_t line_room);
+geocom_synchronization geocom_client_synchronize(geocom_client *state, const uint8_t *bytes, size_t length, uint8_t *line, size_t line_room);
 
 /* Sends a request of a client that has synchronized: it is outstanding from now on, and its line is written into `line`, with CR LF,
  * `count` bytes, for the caller to write to the connection. The target is any number of the caller's, which the settlement has. The
@@ -259,8 +259,8 @@ geocom_count geocom_client_send_raw(geocom_client *state, uint32_t target, uint6
 /* Takes bytes as they come from a port, in any pieces, through the first line feed; call again with what is left until all
  * are used. A line settles at most GEOCOM_WINDOW requests: `count` records are written, the oldest request's first, and the
  * line and its items into `text`. If it settles none, neither is written. While the client synchronizes, pass bytes to
- * geocom_client_begin instead. Faults: 62 (settlements_room below GEOCOM_WINDOW, or text_room below GEOCOM_TEXT_ROOM), 63. */
-geocom_heard geocom_client_feed(geocom_client *state, const uint8_t *bytes, size_t length,
+ * geocom_client_synchronize instead. Faults: 62 (settlements_room below GEOCOM_WINDOW, or text_room below GEOCOM_TEXT_ROOM), 63. */
+geocom_feed_result geocom_client_feed(geocom_client *state, const uint8_t *bytes, size_t length,
                                 geocom_settlement *settlements, size_t settlements_room, uint8_t *text, size_t text_room);
 
 /* Times out each request whose deadline is at most `now`, and writes the targets of those that hadn't timed out before, `count` of
@@ -272,13 +272,13 @@ geocom_count geocom_client_expire(geocom_client *state, uint64_t now, uint32_t *
 geocom_deadline geocom_client_next_deadline(const geocom_client *state);
 
 /* Settles all outstanding requests as lost, and discards half a line; ids start at 0 again, and the width stays. A client that had
- * synchronized has to synchronize again: geocom_client_begin comes next. One that hadn't continues with the null procedure that it was
+ * synchronized has to synchronize again: geocom_client_synchronize comes next. One that hadn't continues with the null procedure that it was
  * at. Requests and replies may still be in flight: the caller vouches for nothing. For another instrument or line make a new client.
  * Writes `count` records, the oldest request's first. Faults: 62 (settlements_room below GEOCOM_WINDOW), 63. */
 geocom_count geocom_client_restart(geocom_client *state, geocom_settlement *settlements, size_t settlements_room);
 
 /* How many requests are outstanding, those that timed out included. Fault: 63. */
-geocom_count geocom_client_waiting(const geocom_client *state);
+geocom_count geocom_client_outstanding(const geocom_client *state);
 
 /* Whether a line has a sign-on in it, `%N1,` at its beginning or later, which an instrument sends when it is switched on or off: 1 or 0. The
  * line is the bytes between two line feeds, without the CR at their end; a reply that was cut off may stand before the sign-on. */
@@ -305,28 +305,30 @@ enum geocom_act {
 
 /* A session. Its fields are the library's: read them for a log if you like, and write none. */
 typedef struct geocom_session {
-    geocom_client client; /* of width 7: the outstanding requests, and how far the synchronization is */
-    uint64_t timeout;     /* as they were handed to geocom_session_init */
-    uint64_t quiet;
-    uint64_t moment;      /* the last moment that a call was given */
-    uint64_t patience;    /* the longest timeout since nothing was outstanding; after twice this time without a reply the line is dead */
-    uint64_t stretch;     /* as in geocom_status */
-    uint64_t sign_ons;
-    uint64_t rested;      /* since when nothing is wanted, if is_resting; else 0 */
-    uint64_t again;       /* when the null procedure of the synchronization is sent again; 0: now */
-    uint64_t hold;        /* until when nothing is sent; 0: nothing is held */
-    uint64_t since;       /* from when a pause or the quiet time counts */
-    uint64_t alive;       /* from when a dead line counts */
-    uint64_t pause;       /* how long the current pause is, or the last one was */
+    geocom_client client;   /* of width 7: the outstanding requests, and how far the synchronization is */
+    uint64_t timeout;       /* milliseconds: as it was handed to geocom_session_init, and at least 1 */
+    uint64_t settle;        /* milliseconds: as it was handed to geocom_session_init */
+    uint64_t moment;        /* the last moment that a call was given, in milliseconds of the caller's clock, as are all moments here */
+    uint64_t patience;      /* milliseconds: the longest timeout since nothing was outstanding; after twice this time without a reply the line
+                               is dead */
+    uint64_t stretch;       /* as in geocom_status */
+    uint64_t sign_ons;      /* as in geocom_status */
+    uint64_t idle_since;    /* the moment since which nothing is wanted, if is_idle; else 0 */
+    uint64_t null_deadline; /* the moment at which the null procedure of the synchronization times out, and is sent again; 0: one is sent at once */
+    uint64_t hold;          /* the moment until which nothing is sent; 0: nothing is held */
+    uint64_t since;         /* the moment from which a pause or the quiet time counts */
+    uint64_t alive;         /* the moment from which a dead line counts */
+    uint64_t pause;         /* milliseconds: how long the current pause is, or the last one was; 0: the next one is as long as `settle` */
     uint8_t width;        /* how many requests that haven't timed out may be in flight, 1 to 7 */
-    uint8_t phase;        /* 0 without a connection, 1 pausing, 2 a line feed is to be written, 3 draining, 4 ready */
-    uint8_t is_resting;   /* 1 if nothing is wanted; else 0 */
+    uint8_t phase;        /* 0 without a connection, 1 pausing, 2 a line feed is to be written, 3 discarding input until none comes for
+                             `settle`, 4 ready */
+    uint8_t is_idle;      /* 1 if nothing is wanted; else 0 */
     uint8_t has_asked;    /* 1 once a request was sent by geocom_session_ask or geocom_session_ask_raw; else 0 */
     uint8_t asked;        /* 1 if something was sent over this connection, and no reply came after it; else 0 */
     uint8_t doubtful;     /* 1 if nothing is sent before the next synchronization; else 0 */
-    uint8_t behind;       /* how many requests were sent after the last one of the table that a reply ended, 0 to 7 */
+    uint8_t requests_since_table_call; /* how many requests were sent after the last one of the table that a reply ended, 0 to 7 */
     uint8_t last_ended;   /* how many requests the last line settled that settled any, 1 to 7 */
-    uint8_t listened;     /* 1 if the caller was to read since what came last; else 0 */
+    uint8_t has_listened; /* 1 if the caller was to read since what came last over this connection; else 0 */
 } geocom_session;
 
 /* What geocom_session_next returns; after a fault all else is 0. */
@@ -340,23 +342,23 @@ typedef struct geocom_step {
 
 /* What geocom_session_status returns; after a fault all else is 0. */
 typedef struct geocom_status {
-    uint64_t stretch;  /* grows when a connection ends or can't be made, and when the session resynchronizes: what was sent at one number, and
-                          is sent at the same one, goes over one connection after one synchronization */
-    uint64_t sign_ons; /* how many sign-ons came since the first request was sent by geocom_session_ask or geocom_session_ask_raw */
-    uint32_t fault;    /* 0 or 63 */
-    uint32_t is_up;    /* 1 if there is a connection; else 0 */
-    uint32_t is_ready; /* 1 if it has synchronized, the connection is quiet, and nothing called for another synchronization; else 0 */
-    uint32_t waiting;  /* how many requests are outstanding, those that timed out included */
-    uint32_t current;  /* how many of these haven't timed out */
+    uint64_t stretch;     /* grows when a connection ends or can't be made, and when the session resynchronizes: what was sent at one number, and
+                             is sent at the same one, goes over one connection after one synchronization */
+    uint64_t sign_ons;    /* how many sign-ons came since the first request was sent by geocom_session_ask or geocom_session_ask_raw */
+    uint32_t fault;       /* 0 or 63 */
+    uint32_t is_up;       /* 1 if there is a connection; else 0 */
+    uint32_t is_ready;    /* 1 if it has synchronized, the connection is quiet, and nothing called for another synchronization; else 0 */
+    uint32_t outstanding; /* how many requests are outstanding, those that timed out included */
+    uint32_t current;     /* how many of these haven't timed out */
 } geocom_status;
 
 /* Makes a session without a connection, which has sent nothing. At most `width` requests that haven't timed out are in flight, 1 to 7; 1 is
  * right for an instrument that handles one at a time. A null procedure times out after `timeout`, at least 1; the line is dead once all that
  * is outstanding has timed out, and no reply came for twice this time, or twice the longest timeout of a request since nothing was
- * outstanding. After a connection the session pauses for `quiet` before the next one, twice as long at each further failure, up to a minute;
- * and on a new connection, once it has synchronized, it sends nothing until nothing came for `quiet`. Returns 0, or 61 for another width:
+ * outstanding. After a connection the session pauses for `settle` before the next one, twice as long at each further failure, up to a minute;
+ * and on a new connection, once it has synchronized, it sends nothing until nothing came for `settle`. Returns 0, or 61 for another width:
  * then the session is as it was. */
-uint32_t geocom_session_init(geocom_session *session, uint8_t width, uint64_t timeout, uint64_t quiet);
+uint32_t geocom_session_init(geocom_session *session, uint8_t width, uint64_t timeout, uint64_t settle);
 
 /* What the caller does next, if `want` (enum geocom_want) is wanted at the moment `now`. Each request whose deadline has come by then times
  * out; it stays outstanding, and a reply settles it as late. If there is something to write, it is in `line`, with CR LF where it is a
@@ -389,10 +391,10 @@ uint32_t geocom_session_closed(geocom_session *session, uint64_t now);
  * settles, and the line and its items in `text`. But a line settles nothing while the session synchronizes, before a new connection is quiet,
  * and if it has a sign-on in it: then a reply is GEOCOM_STRAY, another line GEOCOM_UNREAD. With length 0 nothing happens. Faults: 62
  * (settlements_room below GEOCOM_WINDOW, or text_room below GEOCOM_TEXT_ROOM), 63. */
-geocom_heard geocom_session_feed(geocom_session *session, uint64_t now, const uint8_t *bytes, size_t length,
+geocom_feed_result geocom_session_feed(geocom_session *session, uint64_t now, const uint8_t *bytes, size_t length,
                                  geocom_settlement *settlements, size_t settlements_room, uint8_t *text, size_t text_room);
 
-/* Settles all that is outstanding as lost, and begins anew: with a line feed first, if there is a connection; and if the session had
+/* Settles all that is outstanding as lost, and starts over: with a line feed first, if there is a connection; and if the session had
  * synchronized, it synchronizes again. For a caller that can't say any more what became of a line that it was to write, or of bytes that it
  * read. Writes `count` records, the oldest request's first. Faults: 62 (settlements_room below GEOCOM_WINDOW), 63. */
 geocom_count geocom_session_restart(geocom_session *session, geocom_settlement *settlements, size_t settlements_room);
@@ -434,7 +436,7 @@ typedef struct geocom_answer {
     uint16_t code;    /* the return code, the communication code, or the fault 11 to 15; 0 for a value */
     uint16_t items;   /* how many items a value has; 0 for every other reading */
     uint16_t columns; /* how many of these, the first ones, are the values of the description's columns; 0 for every other reading */
-    geocom_item places[GEOCOM_MOST_ITEMS]; /* where these items are in the text, as they came, without spaces around them */
+    geocom_item_span item_spans[GEOCOM_MOST_ITEMS]; /* where these items are in the text, as they came, without spaces around them */
     uint8_t reading;  /* enum geocom_reading, from GEOCOM_VALUE on */
 } geocom_answer;
 
@@ -455,8 +457,8 @@ geocom_answer geocom_description_reply(const uint8_t *description, size_t length
 
 /* How many outstanding requests haven't timed out; 0 if the state is no client's. */
 static inline uint32_t geocom_client_current(const geocom_client *state) {
-    uint32_t waiting = geocom_client_waiting(state).count, current = 0, k;
-    for (k = 0; k < waiting; k++) current += state->places[k].given_up == 0;
+    uint32_t outstanding = geocom_client_outstanding(state).count, current = 0, k;
+    for (k = 0; k < outstanding; k++) current += state->requests[k].timed_out == 0;
     return current;
 }
 
@@ -477,30 +479,30 @@ typedef struct geocom_instrument geocom_instrument;
 #define GEOCOM_REPLY_ROOM 514
 
 /* What geocom_instrument_init returns: a fault or 0, and, if the fault is 51, the number of the scene's faulty line, from 1 on; else 0. */
-typedef struct geocom_made {
+typedef struct geocom_scene_fault {
     uint32_t fault;
     uint32_t line;
-} geocom_made;
+} geocom_scene_fault;
 
 /* What geocom_instrument_feed returns; after a fault all else is 0. */
-typedef struct geocom_replied {
+typedef struct geocom_reply {
     size_t used;                      /* how many bytes were used: through the first line feed, or all */
     uint64_t due;                     /* the moment at which the reply goes out, in milliseconds of the caller's clock; 0 if none */
     uint32_t fault;                   /* 0 or 69 */
     uint32_t count;                   /* how many bytes the reply has, with CR LF; 0: there is none */
     uint8_t reply[GEOCOM_REPLY_ROOM]; /* the first `count` bytes are the reply, or a sign-on in its place */
-} geocom_replied;
+} geocom_reply;
 
 /* How many bytes an instrument takes. */
 size_t geocom_instrument_size(void);
 
 /* Sets up the instrument of a scene's text, in its opening state. Faults: 41, 51, 52, 53; after these no instrument is there. */
-geocom_made geocom_instrument_init(geocom_instrument *at, const uint8_t *scene, size_t length);
+geocom_scene_fault geocom_instrument_init(geocom_instrument *at, const uint8_t *scene, size_t length);
 
 /* Takes bytes as they come from a port, in any pieces, through the first line feed, and returns the reply to the line that it ends; call
  * again with what is left until all are used. `now` is the moment at which they came, in milliseconds of the caller's clock, which never
  * runs backwards. A reply with a delay in the scene is due later; the next ones aren't due before it. Fault: 69. */
-geocom_replied geocom_instrument_feed(geocom_instrument *at, const uint8_t *bytes, size_t length, uint64_t now);
+geocom_reply geocom_instrument_feed(geocom_instrument *at, const uint8_t *bytes, size_t length, uint64_t now);
 
 /* Restarts the instrument, as a new connection to `geocom serve` does: half a line is discarded. The scene goes on, with its counts, its
  * targets and its noise. Returns 0, or 69. */
@@ -549,7 +551,7 @@ static inline int geocom_hear(geocom_session *session, const geocom_port *port, 
     geocom_settlement records[GEOCOM_WINDOW];
     const int came = port->read(port->context, bytes, sizeof bytes, milliseconds);
     const uint64_t now = port->now(port->context);
-    geocom_heard heard = {0, 0, 0, 0, 0};
+    geocom_feed_result heard = {0, 0, 0, 0, 0};
     size_t used;
     if (came < 0) geocom_lose(session, port);
     for (used = 0; came > 0 && used < (size_t)came && heard.fault == 0; used += heard.used) {
@@ -602,7 +604,7 @@ static inline int geocom_ask_by(geocom_asking *asking, geocom_session *session, 
             geocom_put(session, port, line, sent.count);
         }
         /* It was sent last: so it is settled once none is outstanding. */
-        is_settled = want == GEOCOM_WANT_ANSWERS && geocom_session_status(session).waiting == 0;
+        is_settled = want == GEOCOM_WANT_ANSWERS && geocom_session_status(session).outstanding == 0;
     }
     geocom_turn(session, port, GEOCOM_WANT_NOTHING, now, 0, &last, text);
     if (want == GEOCOM_WANT_SEND) return GEOCOM_SILENT;

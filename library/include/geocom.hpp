@@ -66,7 +66,7 @@ inline settlement settlement_of(const geocom_settlement &r, const std::uint8_t *
     settlement s{r.target, r.procedure, outcome(r.outcome), reading(r.reading), r.code, {}, {}};
     if (r.line_length != 0) s.line.assign(text, text + r.line_length);
     for (std::uint16_t i = 0; i < r.items; ++i)
-        s.items.emplace_back(text + r.places[i].offset, text + r.places[i].offset + r.places[i].length);
+        s.items.emplace_back(text + r.item_spans[i].offset, text + r.item_spans[i].offset + r.item_spans[i].length);
     return s;
 }
 
@@ -114,7 +114,7 @@ public:
         s.items.clear();
         s.columns.clear();
         for (std::uint16_t k = 0; k < told.items; ++k)
-            s.items.emplace_back(text.data() + told.places[k].offset, text.data() + told.places[k].offset + told.places[k].length);
+            s.items.emplace_back(text.data() + told.item_spans[k].offset, text.data() + told.item_spans[k].offset + told.item_spans[k].length);
         for (std::uint16_t k = 0; k < told.columns; ++k) s.columns.push_back(columns_[k].name);
     }
 
@@ -134,16 +134,16 @@ public:
     explicit client(std::uint8_t width = GEOCOM_WINDOW) { check(geocom_client_init(&state_, width)); }
 
     // Synchronizes: takes bytes that came, and returns the line to write to the connection; an empty one if none is to be sent now.
-    // Without bytes it is the first line, or, if nothing came in time, the same again. Requests can be sent once `has_begun()`.
-    std::string begin(std::string_view bytes = "") {
+    // Without bytes it is the first line, or, if nothing came in time, the same again. Requests can be sent once `is_synchronized()`.
+    std::string synchronize(std::string_view bytes = "") {
         std::array<std::uint8_t, GEOCOM_LINE_ROOM> line;
-        const geocom_beginning begun = geocom_client_begin(&state_, bytes_of(bytes), bytes.size(), line.data(), line.size());
-        check(begun.fault);
-        has_begun_ = begun.has_begun != 0;
-        return std::string(line.begin(), line.begin() + begun.count);
+        const geocom_synchronization next = geocom_client_synchronize(&state_, bytes_of(bytes), bytes.size(), line.data(), line.size());
+        check(next.fault);
+        is_synchronized_ = next.is_synchronized != 0;
+        return std::string(line.begin(), line.begin() + next.count);
     }
 
-    bool has_begun() const { return has_begun_; }
+    bool is_synchronized() const { return is_synchronized_; }
 
     // Sends a request, and returns its line, with CR LF, to write to the connection. For a line that may damage replies geocom.h has two
     // rules: `last_ended` is for the second.
@@ -170,7 +170,7 @@ public:
         std::vector<settlement> all;
         while (!bytes.empty()) {
             std::array<std::uint8_t, GEOCOM_TEXT_ROOM> text;
-            const geocom_heard heard =
+            const geocom_feed_result heard =
                 geocom_client_feed(&state_, bytes_of(bytes), bytes.size(), records_.data(), records_.size(), text.data(), text.size());
             check(heard.fault);
             bytes.remove_prefix(heard.used);
@@ -196,11 +196,11 @@ public:
         return next.is_set ? std::optional<std::uint64_t>(next.deadline) : std::nullopt;
     }
 
-    // Settles all outstanding requests as lost, and returns their settlements. `begin` comes next.
+    // Settles all outstanding requests as lost, and returns their settlements. `synchronize` comes next.
     std::vector<settlement> restart() {
         const geocom_count lost = geocom_client_restart(&state_, records_.data(), records_.size());
         check(lost.fault);
-        has_begun_ = false;
+        is_synchronized_ = false;
         last_ended_ = 1;
         std::vector<settlement> all;
         for (std::uint32_t k = 0; k < lost.count; ++k) all.push_back(settlement_of(records_[k], nullptr));
@@ -208,10 +208,10 @@ public:
     }
 
     // How many requests are outstanding, those that timed out included.
-    std::uint32_t waiting() const {
-        const geocom_count waiting = geocom_client_waiting(&state_);
-        check(waiting.fault);
-        return waiting.count;
+    std::uint32_t outstanding() const {
+        const geocom_count outstanding = geocom_client_outstanding(&state_);
+        check(outstanding.fault);
+        return outstanding.count;
     }
 
     // How many outstanding requests haven't timed out.
@@ -229,7 +229,7 @@ private:
     }
 
     geocom_client state_;
-    bool has_begun_ = false;
+    bool is_synchronized_ = false;
     std::uint32_t last_ended_ = 1;
     std::array<geocom_settlement, GEOCOM_WINDOW> records_;
     std::array<std::uint64_t, GEOCOM_OVERLONG + 1> kinds_{};
@@ -254,7 +254,7 @@ class instrument {
 public:
     explicit instrument(std::string_view scene)
         : room_(new std::max_align_t[(geocom_instrument_size() + sizeof(std::max_align_t) - 1) / sizeof(std::max_align_t)]) {
-        const geocom_made made = geocom_instrument_init(at(), bytes_of(scene), scene.size());
+        const geocom_scene_fault made = geocom_instrument_init(at(), bytes_of(scene), scene.size());
         if (made.fault != 0) throw bad_scene(made.fault, made.line);
     }
 
@@ -262,7 +262,7 @@ public:
     std::vector<reply> hear(std::string_view bytes, std::uint64_t now) {
         std::vector<reply> replies;
         while (!bytes.empty()) {
-            const geocom_replied heard = geocom_instrument_feed(at(), bytes_of(bytes), bytes.size(), now);
+            const geocom_reply heard = geocom_instrument_feed(at(), bytes_of(bytes), bytes.size(), now);
             if (heard.fault != 0) throw fault(heard.fault);
             bytes.remove_prefix(heard.used);
             if (heard.count != 0) replies.push_back({heard.due, std::string(heard.reply, heard.reply + heard.count)});
@@ -325,25 +325,25 @@ public:
     using command = std::pair<std::uint16_t, std::string>;
 
     // A station over connections that it makes and closes itself. `timeout`, in milliseconds, is for each null procedure, and for each request
-    // whose call has no other; `quiet` is for how long a new connection has to be quiet, and how long a pause before it is at least.
-    station(reader read, writer write, opener open, closer close, std::uint64_t timeout = 10000, std::uint64_t quiet = 2000,
+    // whose call has no other; `settle` is the quiet time: for how long a new connection has to be quiet, and how long a pause before it is at least.
+    station(reader read, writer write, opener open, closer close, std::uint64_t timeout = 10000, std::uint64_t settle = 2000,
             clock now = steady, waiter wait = rest)
         : read_(std::move(read)), write_(std::move(write)), open_(std::move(open)), close_(std::move(close)), now_(std::move(now)),
           wait_(std::move(wait)) {
-        geocom_session_init(&session_, GEOCOM_WINDOW, timeout, quiet);
+        geocom_session_init(&session_, GEOCOM_WINDOW, timeout, settle);
     }
 
     // A station over the caller's connection. What a callable throws passes through, and `silent` is thrown if the line is dead: open a new
     // connection then, and call `reconnected`; or try again, if the connection stands.
-    station(reader read, writer write, std::uint64_t timeout = 10000, clock now = steady, std::uint64_t quiet = 2000)
-        : station(std::move(read), std::move(write), nullptr, nullptr, timeout, quiet, std::move(now)) {
+    station(reader read, writer write, std::uint64_t timeout = 10000, clock now = steady, std::uint64_t settle = 2000)
+        : station(std::move(read), std::move(write), nullptr, nullptr, timeout, settle, std::move(now)) {
         geocom_session_opened(&session_, now_());
     }
 
     // Synchronizes, unless it has. The first request does this by itself. Throws `silent` if that took longer than eight times the timeout
     // and the quiet time.
-    void begin() {
-        const std::uint64_t end = later(later(now_(), session_.timeout < most / 8 ? 8 * session_.timeout : most), session_.quiet);
+    void synchronize() {
+        const std::uint64_t end = later(later(now_(), session_.timeout < most / 8 ? 8 * session_.timeout : most), session_.settle);
         look(end);
         for (std::uint64_t now; status().is_ready == 0; turn(GEOCOM_WANT_SEND, now, end))
             if ((now = now_()) >= end) stop(silent());
@@ -461,7 +461,7 @@ private:
         const std::size_t end = s.line.find_first_not_of("0123456789", s.line.find(':') + 1);
         const std::string line = "%R1P,0,0:0" + (end == std::string::npos ? "" : s.line.substr(end));
         geocom::client other(1);
-        other.begin("%R1P,0,6:0\r\n%R1P,0,5:0\r\n%R1P,0,4:0\r\n%R1P,0,3:0\r\n%R1P,0,2:0\r\n%R1P,0,1:0\r\n%R1P,0,0:0\r\n%R1P,0,7:0\r\n");
+        other.synchronize("%R1P,0,6:0\r\n%R1P,0,5:0\r\n%R1P,0,4:0\r\n%R1P,0,3:0\r\n%R1P,0,2:0\r\n%R1P,0,1:0\r\n%R1P,0,0:0\r\n%R1P,0,7:0\r\n");
         if (is_raw(asked)) other.send_raw(0, 0, asked.first, asked.second);
         else other.send(0, 0, asked.first, asked.second);
         std::vector<settlement> done = other.feed(line + "\r\n");
@@ -505,7 +505,7 @@ private:
         if (!kept([&] { came = read_(milliseconds); })) return false;
         const std::uint64_t now = now_();
         for (std::string_view left = came; !left.empty();) {
-            const geocom_heard heard = geocom_session_feed(&session_, now, bytes_of(left), left.size(), records_.data(), records_.size(),
+            const geocom_feed_result heard = geocom_session_feed(&session_, now, bytes_of(left), left.size(), records_.data(), records_.size(),
                                                            text_.data(), text_.size());
             if (heard.fault != 0) throw fault(heard.fault);
             left.remove_prefix(heard.used);
@@ -567,8 +567,8 @@ private:
         sent_at_ = status().stretch;
         put(sent.count);
         // It was sent last: so it is settled once none is outstanding.
-        for (end = later(now, patience); status().waiting != 0 && (now = now_()) < end;) turn(GEOCOM_WANT_ANSWERS, now, end);
-        const bool is_settled = status().waiting == 0;
+        for (end = later(now, patience); status().outstanding != 0 && (now = now_()) < end;) turn(GEOCOM_WANT_ANSWERS, now, end);
+        const bool is_settled = status().outstanding == 0;
         turn(GEOCOM_WANT_NOTHING, now_(), 0);
         return is_settled ? settlement_of(last_, text_.data()) : settlement{target, procedure, outcome::lost, reading::none, 0, {}, {}};
     }

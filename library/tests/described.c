@@ -33,7 +33,7 @@ static int is_column(int k, const char *name, int kind) {
 }
 
 static int is_item(int k, const char *item) {
-    return answer.places[k].length == strlen(item) && memcmp(text + answer.places[k].offset, item, strlen(item)) == 0;
+    return answer.item_spans[k].length == strlen(item) && memcmp(text + answer.item_spans[k].offset, item, strlen(item)) == 0;
 }
 
 /* The reply's line says this, and has no items. */
@@ -90,9 +90,9 @@ int main(void) {
     geocom_client client;
     geocom_settlement settled[GEOCOM_WINDOW];
     uint8_t line[GEOCOM_LINE_ROOM], fed[GEOCOM_TEXT_ROOM];
-    static const uint8_t begun[] = "%R1P,0,6:0\r\n%R1P,0,5:0\r\n%R1P,0,4:0\r\n%R1P,0,3:0\r\n%R1P,0,2:0\r\n%R1P,0,1:0\r\n%R1P,0,0:0\r\n%R1P,0,7:0\r\n";
+    static const uint8_t answers[] = "%R1P,0,6:0\r\n%R1P,0,5:0\r\n%R1P,0,4:0\r\n%R1P,0,3:0\r\n%R1P,0,2:0\r\n%R1P,0,1:0\r\n%R1P,0,0:0\r\n%R1P,0,7:0\r\n";
     geocom_client_init(&client, GEOCOM_WINDOW);
-    SEE(geocom_client_begin(&client, begun, sizeof begun - 1, line, sizeof line).has_begun == 1)
+    SEE(geocom_client_synchronize(&client, answers, sizeof answers - 1, line, sizeof line).is_synchronized == 1)
     SEE(geocom_client_send_raw(&client, 7, 10, 2167, (const uint8_t *)"1", 1, line, sizeof line).fault == 0)
     SEE(geocom_client_feed(&client, (const uint8_t *)"%R1P,0,0:0,0.25,1.5\r\n", 21, settled, GEOCOM_WINDOW, fed, sizeof fed).count == 1)
     answer = geocom_description_reply((const uint8_t *)tilt, strlen(tilt), fed, settled[0].line_length, text, sizeof text);

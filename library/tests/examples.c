@@ -1,7 +1,7 @@
 /* The client's worked examples through the library, in pieces of a given size: examples PIECE < STEPS. A step is a line:
  * `send TARGET DEADLINE PROCEDURE [PARAMS]`, `raw` with the same, `feed TEXT` (with CR LF behind it), `hex BYTES`, `init`, `cleared TEXT` (with LF), `expire NOW`,
- * `restart`, `next`, `new` and `begin [TEXT]`. For each step what came of it is written as a line. At the start, and behind `init` and
- * `restart`, the client is begun; `new` makes one that isn't. */
+ * `restart`, `next`, `new` and `synchronize [TEXT]`. For each step what came of it is written as a line. At the start, and behind `init` and
+ * `restart`, the client has synchronized; `new` makes one that hasn't. */
 #include <stdio.h>
 #include <stdlib.h>
 #include <string.h>
@@ -13,7 +13,7 @@ static const char *const OUTCOMES[] = {"", "answered", "late", "lost"};
 static void tell(const geocom_settlement *s, uint32_t count, const uint8_t *text) {
     for (uint32_t k = 0; k < count; k++, s++) {
         printf(" [%u %u %s %u %u %.*s", s->target, s->procedure, OUTCOMES[s->outcome], s->reading, s->code, (int)s->line_length, (const char *)text);
-        for (uint16_t i = 0; i < s->items; i++) printf(" <%.*s>", s->places[i].length, (const char *)text + s->places[i].offset);
+        for (uint16_t i = 0; i < s->items; i++) printf(" <%.*s>", s->item_spans[i].length, (const char *)text + s->item_spans[i].offset);
         printf("]");
     }
 }
@@ -24,7 +24,7 @@ static void feed(geocom_client *client, const uint8_t *bytes, size_t length, siz
     for (size_t at = 0; at < length;) {
         size_t end = at + piece < length ? at + piece : length;
         while (at < end) {
-            geocom_heard heard = geocom_client_feed(client, bytes + at, end - at, settlements, GEOCOM_WINDOW, text, sizeof text);
+            geocom_feed_result heard = geocom_client_feed(client, bytes + at, end - at, settlements, GEOCOM_WINDOW, text, sizeof text);
             if (heard.fault != 0 || heard.used == 0) { printf(" fault %u", heard.fault); return; }
             at += heard.used;
             if (heard.kind != GEOCOM_MORE) printf(" kind %u", heard.kind);
@@ -35,17 +35,17 @@ static void feed(geocom_client *client, const uint8_t *bytes, size_t length, siz
 }
 
 /* The line that goes out, where one does. */
-static void begin(geocom_client *client, const uint8_t *bytes, size_t length) {
+static void synchronize(geocom_client *client, const uint8_t *bytes, size_t length) {
     uint8_t line[GEOCOM_LINE_ROOM];
-    geocom_beginning begun = geocom_client_begin(client, bytes, length, line, sizeof line);
-    if (begun.fault != 0) printf(" fault %u", begun.fault);
-    if (begun.count != 0) printf(" %.*s", (int)begun.count - 2, (const char *)line);
+    geocom_synchronization sync = geocom_client_synchronize(client, bytes, length, line, sizeof line);
+    if (sync.fault != 0) printf(" fault %u", sync.fault);
+    if (sync.count != 0) printf(" %.*s", (int)sync.count - 2, (const char *)line);
 }
 
 static int make(geocom_client *client, uint8_t width) {
     static const char answers[] = "%R1P,0,6:0\r\n%R1P,0,5:0\r\n%R1P,0,4:0\r\n%R1P,0,3:0\r\n%R1P,0,2:0\r\n%R1P,0,1:0\r\n%R1P,0,0:0\r\n%R1P,0,7:0\r\n";
     if (width != 0 && geocom_client_init(client, width) != 0) return 0;
-    begin(client, (const uint8_t *)answers, sizeof answers - 1);
+    synchronize(client, (const uint8_t *)answers, sizeof answers - 1);
     return 1;
 }
 
@@ -54,7 +54,7 @@ static void feed_quietly(geocom_client *client, const uint8_t *bytes, size_t len
     geocom_settlement settlements[GEOCOM_WINDOW];
     uint8_t text[GEOCOM_TEXT_ROOM];
     for (size_t at = 0; at < length;) {
-        geocom_heard heard = geocom_client_feed(client, bytes + at, length - at, settlements, GEOCOM_WINDOW, text, sizeof text);
+        geocom_feed_result heard = geocom_client_feed(client, bytes + at, length - at, settlements, GEOCOM_WINDOW, text, sizeof text);
         if (heard.fault != 0 || heard.used == 0) { printf(" fault %u", heard.fault); return; }
         at += heard.used;
         tell(settlements, heard.count, text);
@@ -103,12 +103,12 @@ int main(int count, char **words) {
             if (!make(&client, (uint8_t)atoi(step + 5))) return 1;
         } else if (strncmp(step, "new ", 4) == 0) {
             if (geocom_client_init(&client, (uint8_t)atoi(step + 4)) != 0) return 1;
-        } else if (strcmp(step, "begin") == 0) {
-            begin(&client, (const uint8_t *)step, 0);
-        } else if (strncmp(step, "begin ", 6) == 0) {
+        } else if (strcmp(step, "synchronize") == 0) {
+            synchronize(&client, (const uint8_t *)step, 0);
+        } else if (strncmp(step, "synchronize ", 12) == 0) {
             memcpy(step + length, "\r\n", 2);
-            for (size_t at = 0; at < length - 6 + 2; at += piece)
-                begin(&client, (const uint8_t *)step + 6 + at, at + piece < length - 6 + 2 ? piece : length - 6 + 2 - at);
+            for (size_t at = 0; at < length - 12 + 2; at += piece)
+                synchronize(&client, (const uint8_t *)step + 12 + at, at + piece < length - 12 + 2 ? piece : length - 12 + 2 - at);
         } else if (strncmp(step, "cleared ", 8) == 0) {
             step[length] = '\n';
             feed(&client, (const uint8_t *)step + 8, length - 8 + 1, piece);
@@ -120,7 +120,7 @@ int main(int count, char **words) {
             if (next.is_set) printf(" %llu", (unsigned long long)next.deadline);
             else printf(" none");
         } else return 2;
-        printf("; %u wait\n", geocom_client_waiting(&client).count);
+        printf("; %u wait\n", geocom_client_outstanding(&client).count);
     }
     return 0;
 }

@@ -16,7 +16,7 @@ int main() {
         SEE(f.number == 61)
     }
     geocom::client client(2);
-    SEE(!client.has_begun() && client.begin() == "%R1Q,0,6:\r\n" && client.begin("%R1P,0,0:0,654321\r\n").empty())
+    SEE(!client.is_synchronized() && client.synchronize() == "%R1Q,0,6:\r\n" && client.synchronize("%R1P,0,0:0,654321\r\n").empty())
     try {
         client.send(1, 10, 5003);
         return 1;
@@ -24,8 +24,8 @@ int main() {
         SEE(f.number == 67)
     }
     for (const int id : {6, 5, 4, 3, 2, 1, 0, 7})
-        SEE(client.begin("%R1P,0," + std::to_string(id) + ":0\r\n").empty() == (id == 7))
-    SEE(client.has_begun())
+        SEE(client.synchronize("%R1P,0," + std::to_string(id) + ":0\r\n").empty() == (id == 7))
+    SEE(client.is_synchronized())
     SEE(client.send(1, 10, 5003) == "%R1Q,5003,0:\r\n")
     SEE(client.next_deadline() == 10)
     SEE(client.expire(10).size() == 1 && !client.next_deadline())
@@ -36,7 +36,7 @@ int main() {
     } catch (const geocom::fault &f) {
         SEE(f.number == 31)
     }
-    SEE(client.waiting() == 2)
+    SEE(client.outstanding() == 2)
     const std::string came = "noise\n%R1P,0,0:0,123456\r\n%R1P,0,1:0,2.25,1.625,110.0625\r\n%R1P,0,9:0\r\n";
     std::vector<geocom::settlement> all;
     for (char byte : came)
@@ -60,7 +60,7 @@ int main() {
     client.send(4, 30, 5003);
     const auto lost = client.restart();
     SEE(lost.size() == 1 && lost[0].target == 4 && lost[0].outcome == geocom::outcome::lost)
-    SEE(!client.has_begun() && client.begin() == "%R1Q,0,6:\r\n")
+    SEE(!client.is_synchronized() && client.synchronize() == "%R1Q,0,6:\r\n")
     std::printf("C++: the examples hold\n");
     return 0;
 }

@@ -8,8 +8,8 @@ import geocom
 ANSWERS = b"".join(b"%%R1P,0,%d:0\r\n" % id for id in (6, 5, 4, 3, 2, 1, 0, 7))
 
 
-def begun(client):
-    client.begin(ANSWERS)
+def synchronized(client):
+    client.synchronize(ANSWERS)
     return client
 
 
@@ -41,7 +41,7 @@ def feed(client, data, piece):
 
 def main():
     piece, width = int(sys.argv[1]), int(sys.argv[2])
-    client = begun(geocom.Client(width))
+    client = synchronized(geocom.Client(width))
     for step in sys.stdin.read().splitlines():
         name, _, rest = step.partition(" ")
         if name == "send":
@@ -68,20 +68,20 @@ def main():
             text = "".join(f" {target}" for target in client.expire(int(rest)))
         elif name == "restart":
             text = told(client.restart())
-            begun(client)
+            synchronized(client)
         elif name == "new":
             client, text = geocom.Client(int(rest)), ""
         elif name == "init":
-            client, text = begun(geocom.Client(int(rest))), ""
-        elif step == "begin":
-            text = line_of(client.begin())
-        elif name == "begin":
+            client, text = synchronized(geocom.Client(int(rest))), ""
+        elif step == "synchronize":
+            text = line_of(client.synchronize())
+        elif name == "synchronize":
             data = rest.encode("latin-1") + b"\r\n"
-            text = "".join(line_of(client.begin(data[at : at + piece])) for at in range(0, len(data), piece))
+            text = "".join(line_of(client.synchronize(data[at : at + piece])) for at in range(0, len(data), piece))
         else:
             next_deadline = client.next_deadline()
             text = " none" if next_deadline is None else f" {next_deadline}"
-        print(f"{text}; {client.waiting} wait")
+        print(f"{text}; {client.outstanding} wait")
 
 
 main()

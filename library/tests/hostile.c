@@ -30,7 +30,7 @@ static void ask(geocom_session *session, const geocom_port *port, wire *w, unsig
         told->wrong++;
     } else {
         const char *at = (const char *)text;
-        const unsigned value = s.items == 2 ? wire_number(at + s.places[0].offset, s.places[0].length, at + s.places[1].offset, s.places[1].length) : 0;
+        const unsigned value = s.items == 2 ? wire_number(at + s.item_spans[0].offset, s.item_spans[0].length, at + s.item_spans[1].offset, s.item_spans[1].length) : 0;
         if (s.reading == GEOCOM_VALUE && value != 0) told->answered++;
         else told->others++;
         told->wrong += s.reading == GEOCOM_VALUE && value != 0 && value != number;

@@ -129,7 +129,7 @@ counts run(const link &l, std::uint64_t seed) {
         if (wire_draw(w.get(), 20) == 0) {
             const std::uint64_t begun = w->now;
             try {
-                station.begin();
+                station.synchronize();
             } catch (const geocom::silent &) {
             }
             if (w->now > begun + 8 * 2000 + 500) ++told.overdue;

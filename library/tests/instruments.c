@@ -19,7 +19,7 @@ typedef struct bench {
 static bench make(const char *scene, uint32_t fault, uint32_t line) {
     size_t size = geocom_instrument_size();
     bench b;
-    geocom_made made;
+    geocom_scene_fault made;
     b.room = malloc(size + 2 * GUARD);
     SEE(b.room)
     memset(b.room, 0xA5, size + 2 * GUARD);
@@ -43,7 +43,7 @@ static void replies(bench b, const char *bytes, size_t piece, const char *expect
     for (at = 0; at < length; at += piece) {
         size_t left = length - at < piece ? length - at : piece, from = at;
         while (left > 0) {
-            geocom_replied heard = geocom_instrument_feed(b.at, (const uint8_t *)bytes + from, left, 7);
+            geocom_reply heard = geocom_instrument_feed(b.at, (const uint8_t *)bytes + from, left, 7);
             SEE(heard.fault == 0)
             SEE(heard.used > 0 && heard.used <= left)
             SEE(heard.count <= GEOCOM_REPLY_ROOM && k + heard.count < sizeof came)
@@ -153,7 +153,7 @@ static void random_bytes(unsigned seed) {
         for (k = 0; k < length; k++) bytes[k] = rand() % 8 ? (uint8_t)alphabet[(size_t)rand() % (sizeof alphabet - 1)] : (uint8_t)rand();
         if (rand() % 3 == 0 && length > 30) memcpy(bytes, "%R1Q,17017,3:2\r\n", 16);
         while (left > 0) {
-            geocom_replied heard = geocom_instrument_feed(b.at, bytes + from, left, round);
+            geocom_reply heard = geocom_instrument_feed(b.at, bytes + from, left, round);
             SEE(heard.fault == 0 && heard.used > 0 && heard.used <= left && heard.count <= GEOCOM_REPLY_ROOM)
             SEE(heard.count == 0 || (heard.reply[heard.count - 2] == '\r' && heard.reply[heard.count - 1] == '\n'))
             from += heard.used;

@@ -29,7 +29,7 @@ int main() {
     geocom::station station(
         [&](std::uint64_t milliseconds) { if (waiting.empty()) now += milliseconds; return std::exchange(waiting, ""); },
         [&](std::string_view bytes) { waiting += east.feed(bytes, now); }, 1000, [&] { return now; });
-    station.begin();
+    station.synchronize();
     const geocom::settlement ended = station.ask(7, 5003);
     SEE(ended.outcome == geocom::outcome::answered && ended.items.size() == 1 && ended.items[0] == "71")
     std::puts("instruments: C++, with a station over one");

@@ -32,12 +32,12 @@ template <typename Line> geocom_port port_of(Line &line) {
 }
 
 // A station over it, which is given its connections, or makes them itself.
-template <typename Line> geocom::station station_of(Line &line, bool opens = false, std::uint64_t quiet = 2000) {
+template <typename Line> geocom::station station_of(Line &line, bool opens = false, std::uint64_t settle = 2000) {
     const auto read = [&line](std::uint64_t ms) { return line.read(ms); };
     const auto write = [&line](std::string_view bytes) { line.write(bytes); };
     const auto now = [&line] { return line.now; };
-    if (!opens) return geocom::station(read, write, 10000, now, quiet);
-    return geocom::station(read, write, [&line] { line.open(); }, [] {}, 10000, quiet, now, [&line](std::uint64_t ms) { line.now += ms; });
+    if (!opens) return geocom::station(read, write, 10000, now, settle);
+    return geocom::station(read, write, [&line] { line.open(); }, [] {}, 10000, settle, now, [&line](std::uint64_t ms) { line.now += ms; });
 }
 
 #endif

@@ -11,7 +11,7 @@ static const uint16_t procedures[COMMANDS] = {9027, 2107, 5003};
 
 static void hear(wire *w, const char *request, size_t length) {
     for (size_t used = 0; used < length;) {
-        const geocom_replied heard = geocom_instrument_feed((geocom_instrument *)w->instrument, (const uint8_t *)request + used, length - used, w->now);
+        const geocom_reply heard = geocom_instrument_feed((geocom_instrument *)w->instrument, (const uint8_t *)request + used, length - used, w->now);
         if (heard.count > 0) wire_reply(w, heard.due, (const char *)heard.reply, heard.count);
         used += heard.used;
     }
@@ -54,7 +54,7 @@ int main(int count, char **words) {
                 if (told < GEOCOM_SILENT || told > 1 || (told == 0 && (s.target != target || s.procedure != procedures[c]))) wrong++;
                 if (w.now > begun + 70000 || (told == 0 && w.now > w.sent + 35000)) wrong++;
                 if (c == 0) stretch = geocom_session_status(&session).stretch;
-                if (end == VALUE && c > 0) snprintf(item, sizeof item, "%.*s", s.places[0].length, (const char *)text + s.places[0].offset);
+                if (end == VALUE && c > 0) snprintf(item, sizeof item, "%.*s", s.item_spans[0].length, (const char *)text + s.item_spans[0].offset);
                 if (end == VALUE && c == 1 && strtod(item, NULL) != strtod(direction, NULL)) wrong++;
                 if (end == VALUE && c == 2 && strcmp(item, "71") != 0) wrong++;
                 rows[end]++;

@@ -25,7 +25,7 @@ static int session_round(int is_near) {
     memset(session, 0, sizeof *session);
     if (!is_near) for (size_t i = 0; i < sizeof *session; i++) ((uint8_t *)session)[i] = (uint8_t)draw();
     else geocom_session_init(session, (uint8_t)(1 + draw() % 7), draw() % 100, draw() % 100);
-    if (is_near && draw() % 2) session->client.answered = 8, session->phase = 4, session->behind = 0;
+    if (is_near && draw() % 2) session->client.answered = 8, session->phase = 4, session->requests_since_table_call = 0;
     for (int k = 0; k < 40; k++) {
         if (is_near && k == 30) for (uint32_t n = draw() % 4; n > 0; n--) ((uint8_t *)session)[draw() % sizeof *session] = (uint8_t)draw();
         const size_t length = draw() % 600;
@@ -42,11 +42,11 @@ static int session_round(int is_near) {
         is_bad |= sent.count > GEOCOM_LINE_ROOM || (sent.fault != 0 && memcmp(&before, session, sizeof before) != 0);
         if (draw() % 4 == 0) geocom_session_opened(session, now);
         if (draw() % 16 == 0) geocom_session_closed(session, now);
-        const geocom_heard heard = geocom_session_feed(session, now, bytes, length, settlements, GEOCOM_WINDOW, text, GEOCOM_TEXT_ROOM);
+        const geocom_feed_result heard = geocom_session_feed(session, now, bytes, length, settlements, GEOCOM_WINDOW, text, GEOCOM_TEXT_ROOM);
         is_bad |= heard.used > length || heard.count > GEOCOM_WINDOW || (heard.fault == 0 && length > 0 && heard.used == 0);
         if (draw() % 16 == 0) is_bad |= geocom_session_restart(session, settlements, GEOCOM_WINDOW).count > GEOCOM_WINDOW;
         const geocom_status is = geocom_session_status(session);
-        is_bad |= is.waiting > GEOCOM_WINDOW || is.current > is.waiting || is.is_up > 1 || is.is_ready > is.is_up;
+        is_bad |= is.outstanding > GEOCOM_WINDOW || is.current > is.outstanding || is.is_up > 1 || is.is_ready > is.is_up;
         refused = is.fault == 63;
         is_bad |= refused && is_near && k < 30;
     }
@@ -88,17 +88,17 @@ int main(int count, char **words) {
         if (sent.fault != 0 && memcmp(&before, client, sizeof before) != 0) return 1;
         if (sent.count > GEOCOM_LINE_ROOM) return 1;
         geocom_client copy = *client;
-        geocom_beginning begun = geocom_client_begin(&copy, bytes, length, line, GEOCOM_LINE_ROOM);
-        if (begun.count > GEOCOM_LINE_ROOM || begun.answered > 8 || (begun.fault != 0 && memcmp(&copy, client, sizeof copy) != 0)) return 1;
-        geocom_heard heard = geocom_client_feed(client, bytes, length, settlements, GEOCOM_WINDOW, text, GEOCOM_TEXT_ROOM);
+        geocom_synchronization sync = geocom_client_synchronize(&copy, bytes, length, line, GEOCOM_LINE_ROOM);
+        if (sync.count > GEOCOM_LINE_ROOM || sync.answered > 8 || (sync.fault != 0 && memcmp(&copy, client, sizeof copy) != 0)) return 1;
+        geocom_feed_result heard = geocom_client_feed(client, bytes, length, settlements, GEOCOM_WINDOW, text, GEOCOM_TEXT_ROOM);
         if (heard.used > length || heard.count > GEOCOM_WINDOW) return 1;
         if (heard.fault == 0 && length > 0 && heard.used == 0) return 1;
         if (geocom_client_expire(client, draw(), targets, GEOCOM_WINDOW).count > GEOCOM_WINDOW) return 1;
         (void)geocom_client_next_deadline(client);
         if (geocom_client_restart(client, settlements, GEOCOM_WINDOW).count > GEOCOM_WINDOW) return 1;
-        geocom_count waiting = geocom_client_waiting(client);
-        if (waiting.fault == 63) refused++;
-        else if (waiting.count != 0) return 1;
+        geocom_count outstanding = geocom_client_outstanding(client);
+        if (outstanding.fault == 63) refused++;
+        else if (outstanding.count != 0) return 1;
         else taken++;
         free(client), free(settlements), free(text), free(line), free(targets), free(bytes);
     }

@@ -24,7 +24,7 @@ RAWS = ["2167 2,1", "2028", "18005 1", '65535  "a,b" , ,', "1 x"]
 class Request:
     def __init__(self, id, target, procedure, params, is_raw, deadline):
         self.id, self.target, self.procedure, self.params, self.is_raw, self.deadline = id, target, procedure, params, is_raw, deadline
-        self.is_given_up = self.is_dropped = self.is_ended = False
+        self.is_timed_out = self.is_dropped = self.is_ended = False
 
     def line(self):
         return f"%R1Q,{self.procedure},{self.id}:{self.params}\r\n".encode("latin-1")
@@ -50,13 +50,13 @@ class Rule:
     """The client once more: ids from 0 on, and a reply settles the request that waits with its id, and those before it as lost."""
 
     def __init__(self):
-        self.waiting, self.next = [], 0
+        self.outstanding, self.next = [], 0
 
     def send(self, target, procedure, params, is_raw, deadline):
-        if len(self.waiting) == geocom.WINDOW:
+        if len(self.outstanding) == geocom.WINDOW:
             return None
         request = Request(self.next, target, procedure, params, is_raw, deadline)
-        self.waiting.append(request)
+        self.outstanding.append(request)
         self.next = (self.next + 1) % 8
         return request
 
@@ -65,15 +65,15 @@ class Rule:
         reply = REPLY.fullmatch(line)
         if not reply or reply[2] is None:
             return []
-        place = next((k for k, request in enumerate(self.waiting) if request.id == int(reply[2])), None)
+        place = next((k for k, request in enumerate(self.outstanding) if request.id == int(reply[2])), None)
         if place is None:
             return []
-        settled, self.waiting = self.waiting[: place + 1], self.waiting[place + 1 :]
+        settled, self.outstanding = self.outstanding[: place + 1], self.outstanding[place + 1 :]
         return [(request, self.told(request, "lost")) for request in settled[:-1]] + [(settled[-1], self.met(settled[-1], line, reply))]
 
     def met(self, request, line, reply):
         request.is_ended = True
-        if request.is_given_up:
+        if request.is_timed_out:
             return self.told(request, "late")
         items, com, code = [], int(reply[1]), int(reply[3])
         if com:
@@ -91,13 +91,13 @@ class Rule:
         return f" [{request.target} {request.procedure} {outcome} {reading}" + "".join(f" <{item}>" for item in items) + "]"
 
     def expire(self, now):
-        due = [request for request in self.waiting if request.deadline <= now and not request.is_given_up]
+        due = [request for request in self.outstanding if request.deadline <= now and not request.is_timed_out]
         for request in due:
-            request.is_given_up = True
+            request.is_timed_out = True
         return "".join(f" {request.target}" for request in due)
 
     def restart(self):
-        lost, self.waiting, self.next = self.waiting, [], 0
+        lost, self.outstanding, self.next = self.outstanding, [], 0
         return "".join(self.told(request, "lost") for request in lost)
 
 
@@ -107,7 +107,7 @@ class Keeping:
     def __init__(self, way):
         self.way, self.kept, self.executed = way, None, 0
 
-    def begin(self):
+    def synchronize(self):
         self.kept = (7, b"%R1P,0,7:0", None) if self.way != "none" else None
 
     def hand(self, request):
@@ -143,7 +143,7 @@ class Program:
         self.instrument.close()
         self.instrument = geocom.Program(self.program, timeout=5)
 
-    def begin(self):
+    def synchronize(self):
         for id in (6, 5, 4, 3, 2, 1, 0, 7):
             self.line(b"%%R1Q,0,%d:\r\n" % id)
 
@@ -167,13 +167,13 @@ class World:
         self.instrument, self.has_rule, self.chance, self.steps, self.expected = instrument, has_rule, chance, steps, expected
         self.client, self.rule = geocom.Client(), Rule()
         self.up, self.down, self.sent, self.counts = [], [], [], collections.Counter()
-        self.client.begin(ANSWERS)
-        instrument.begin()
+        self.client.synchronize(ANSWERS)
+        instrument.synchronize()
         self.step("init 7", "")
 
     def step(self, step, text):
         print(step, file=self.steps)
-        print(f"{text}; {self.client.waiting} wait", file=self.expected)
+        print(f"{text}; {self.client.outstanding} wait", file=self.expected)
 
     def same(self, want, have):
         if want != have:
@@ -187,7 +187,7 @@ class World:
         procedure, _, params = text.partition(" ")
         is_raw, is_dropped = text in RAWS, False
         if self.has_rule and not self.is_behind_the_table():
-            if any(not request.is_given_up for request in self.rule.waiting):
+            if any(not request.is_timed_out for request in self.rule.outstanding):
                 return
             procedure, params, is_raw, is_dropped = "0", "", False, True
         request = self.rule.send(target, int(procedure), params, is_raw, deadline)
@@ -211,7 +211,7 @@ class World:
         line, owner = self.down.pop(0)
         settled, data, had = self.rule.hear(line), line + b"\r\n", []
         for request, _ in settled[-1:]:
-            if request.is_given_up or request.is_dropped:
+            if request.is_timed_out or request.is_dropped:
                 continue
             self.counts["answers"] += 1
             self.counts["raw answers"] += request.is_raw
@@ -261,8 +261,8 @@ class World:
             case "restart" if not self.up and not self.down:
                 told = "".join(f" [{s.target} {s.procedure} {s.outcome} 0 0 ]" for s in self.client.restart())
                 self.same(self.rule.restart(), told)
-                self.client.begin(ANSWERS)
-                self.instrument.begin()
+                self.client.synchronize(ANSWERS)
+                self.instrument.synchronize()
                 self.sent = []
                 self.step("restart", told)
 

@@ -1,4 +1,4 @@
-/* What each call refuses: a width, too little room, a state that is no client's, and a client that hasn't begun. It changes nothing then. */
+/* What each call refuses: a width, too little room, a state that is no client's, and a client that hasn't synchronized. It changes nothing then. */
 #include <stdio.h>
 #include <string.h>
 
@@ -20,8 +20,8 @@ static int is_kept(void) { return memcmp(&client, &before, sizeof client) == 0; 
 /* Whether each call refuses the state with 63. */
 static int is_no_client(void) {
     memcpy(&before, &client, sizeof client);
-    SEE(geocom_client_begin(&client, x, 0, line, sizeof line).fault == 63)
-    SEE(geocom_client_waiting(&client).fault == 63)
+    SEE(geocom_client_synchronize(&client, x, 0, line, sizeof line).fault == 63)
+    SEE(geocom_client_outstanding(&client).fault == 63)
     SEE(geocom_client_next_deadline(&client).fault == 63)
     SEE(geocom_client_feed(&client, x, 1, settlements, GEOCOM_WINDOW, text, sizeof text).fault == 63)
     SEE(geocom_client_send(&client, 1, 1, 0, x, 0, line, sizeof line).fault == 63)
@@ -32,7 +32,7 @@ static int is_no_client(void) {
     return 0;
 }
 
-/* What a client that has begun doesn't send as it stands: a procedure of the table, a CR or LF, a line of 513 bytes, an open quote, 17
+/* What a client that has synchronized doesn't send: a procedure of the table, a CR or LF, a line of 513 bytes, an open quote, 17
  * parameters. The fault is the first of these. */
 static int refuses_raws(void) {
     /* The procedures of the table. */
@@ -63,7 +63,7 @@ static int refuses_raws(void) {
     SEE(memcmp(line, "%R1Q,2167,0:", 12) == 0 && memcmp(line + 12, longest, 500) == 0 && memcmp(line + 512, "\r\n", 2) == 0)
     SEE(geocom_client_send_raw(&client, 1, 1, 7, longest, 503, line, sizeof line).count == 514)
     SEE(geocom_client_send_raw(&client, 1, 1, 65535, commas, 15, line, sizeof line).count == 30)
-    SEE(geocom_client_waiting(&client).count == 3)
+    SEE(geocom_client_outstanding(&client).count == 3)
     return geocom_client_init(&client, 7) != 0;
 }
 
@@ -77,7 +77,7 @@ int main(void) {
     SEE(geocom_client_expire(&client, 0, targets, GEOCOM_WINDOW - 1).fault == 62)
     SEE(geocom_client_send(&client, 1, 1, 0, x, 0, line, GEOCOM_LINE_ROOM - 1).fault == 62)
     SEE(geocom_client_send_raw(&client, 1, 1, 2167, x, 0, line, GEOCOM_LINE_ROOM - 1).fault == 62)
-    SEE(geocom_client_begin(&client, x, 0, line, GEOCOM_LINE_ROOM - 1).fault == 62)
+    SEE(geocom_client_synchronize(&client, x, 0, line, GEOCOM_LINE_ROOM - 1).fault == 62)
     SEE(geocom_client_send(&client, 1, 1, 0, x, 0, line, sizeof line).fault == 67)
     SEE(geocom_client_send_raw(&client, 1, 1, 2167, x, 0, line, sizeof line).fault == 67)
     SEE(is_kept())
@@ -88,7 +88,7 @@ int main(void) {
     client.width = 0;
     if (is_no_client()) return 1;
     client.width = 7;
-    SEE(geocom_client_waiting(&client).fault == 0)
+    SEE(geocom_client_outstanding(&client).fault == 0)
     printf("refusals: 61, 62, 63 and 67, those of raw requests, and nothing is changed\n");
     return 0;
 }

@@ -163,7 +163,7 @@ int main(int, char **words) {
                     } else {
                         const bool is_answered = s.outcome == GEOCOM_ANSWERED, has_value = s.reading == GEOCOM_VALUE;
                         judge(number, s.target, is_answered, has_value,
-                              has_value ? std::string(text + s.places[0].offset, text + s.places[0].offset + s.places[0].length) : "");
+                              has_value ? std::string(text + s.item_spans[0].offset, text + s.item_spans[0].offset + s.item_spans[0].length) : "");
                     }
                 } else {
                     try {

@@ -53,13 +53,13 @@ class World:
     def __init__(self, program, steps, expected):
         self.program, self.steps, self.expected = program, steps, expected
         self.client, self.instrument = geocom.Client(), geocom.Program(program, timeout=5)
-        self.client.begin(ANSWERS)
+        self.client.synchronize(ANSWERS)
         self.up, self.down, self.cut, self.settled = Queue(), Queue(), b"", []
         self.step("init 7", None)
 
     def step(self, step, text):
         print(step, file=self.steps)
-        print(f"{text or ''}; {self.client.waiting} wait", file=self.expected)
+        print(f"{text or ''}; {self.client.outstanding} wait", file=self.expected)
 
     def tell(self, settlements):
         for s in settlements:
@@ -105,7 +105,7 @@ class World:
                 if not self.up.lines and not self.down.lines:
                     if words[1] == "client":
                         told = self.tell(self.client.restart())
-                        self.client.begin(ANSWERS)
+                        self.client.synchronize(ANSWERS)
                         self.step("restart", told)
                     self.instrument.close()
                     self.instrument = geocom.Program(self.program, timeout=5)

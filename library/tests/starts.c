@@ -20,9 +20,9 @@ static void hear(const char *bytes) {
     size_t left = strlen(bytes);
     count = 0;
     while (left > 0) {
-        size_t length = client.rest.length;
-        memcpy(line, client.rest.bytes, length);
-        geocom_heard heard = geocom_client_feed(&client, (const uint8_t *)bytes, left, settled + count, GEOCOM_WINDOW, text, sizeof text);
+        size_t length = client.partial_line.length;
+        memcpy(line, client.partial_line.bytes, length);
+        geocom_feed_result heard = geocom_client_feed(&client, (const uint8_t *)bytes, left, settled + count, GEOCOM_WINDOW, text, sizeof text);
         if (heard.kind == GEOCOM_SETTLED || heard.kind == GEOCOM_STRAY || heard.kind == GEOCOM_UNREAD) {
             memcpy(line + length, bytes, heard.used);
             if (geocom_is_sign_on(line, length + heard.used - 2)) is_started = 1;
@@ -48,9 +48,9 @@ static const char *send(uint64_t now) {
         count = geocom_client_restart(&client, settled, GEOCOM_WINDOW).count;
         is_started = 0;
     }
-    for (geocom_beginning begun = {0}; client.answered < 8;) {
-        begun = geocom_client_begin(&client, (const uint8_t *)answer, strlen(answer), line, sizeof line);
-        if (begun.count == 0) break;
+    for (geocom_synchronization sync = {0}; client.answered < 8;) {
+        sync = geocom_client_synchronize(&client, (const uint8_t *)answer, strlen(answer), line, sizeof line);
+        if (sync.count == 0) break;
         reply[7] = (char)line[7];
         sent[strlen(sent) + 1] = 0;
         sent[strlen(sent)] = (char)line[7]; /* its id */

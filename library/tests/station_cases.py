@@ -69,7 +69,7 @@ def what_is_refused():
 
 def what_is_late_or_lost():
     port, station = scripted({2107: [None]}, timeout=5)
-    station.begin()
+    station.synchronize()
     begun = port.clock.now
     lost = station.ask(2107, 1, timeout=3)
     assert lost.outcome is Outcome.LOST and port.clock.now == begun + 3 and lost.rc is None
@@ -81,7 +81,7 @@ def what_is_late_or_lost():
 
 def idle_time_counts_for_no_dead_line():
     port, station = scripted({2107: [None, b"0,1.5,0.5"]}, timeout=5)
-    station.begin()
+    station.synchronize()
     port.open = port.close = lambda: raised(AssertionError, lambda: 0)  # the connection stays
     assert station.ask(2107, 1).outcome is Outcome.LOST
     port.clock.now += 3600
@@ -89,9 +89,9 @@ def idle_time_counts_for_no_dead_line():
 
 
 def a_null_procedure_comes_first():
-    """Behind each beginning, with id 0; and again with the next id, until a reply has ended one."""
+    """After each synchronization, with id 0; and again with the next id, until a reply has ended one."""
     port, station = scripted({5003: b"0,1"}, timeout=5)
-    station.begin()
+    station.synchronize()
     assert port.written == [0] * 8
     assert station.csv.get_instrument_no().serial == station.csv.get_instrument_no().serial == 1
     assert (port.written[8:], port.ids[8:]) == ([0, 5003, 5003], [0, 1, 2])
@@ -110,9 +110,9 @@ def a_null_procedure_comes_first():
 
 
 def six_that_are_given_up():
-    """No seventh goes out: the station begins anew, with a null procedure behind it."""
+    """No seventh goes out: the station resynchronizes, with a null procedure after it."""
     port, station = scripted({2107: [None] * 6 + [b"0,1.5,0.5"]}, timeout=100)
-    station.begin()
+    station.synchronize()
     for _ in range(6):
         assert station.ask(2107, 1, timeout=1).outcome is Outcome.LOST
     assert port.written[8:] == [0] + [2107] * 6
@@ -122,7 +122,7 @@ def six_that_are_given_up():
 def what_a_line_ended():
     """Those that wait, and those that the last line ended, are together fewer than seven when a request goes out."""
     port, station = scripted({2107: [None] * 4 + [b"0,1.5,0.5"] + [None] * 2 + [b"0,2.5,0.5"]}, timeout=100)
-    station.begin()
+    station.synchronize()
     assert [station.ask(2107, 1, timeout=1).outcome for _ in range(4)] == [Outcome.LOST] * 4
     assert station.ask(2107, 1, timeout=1).items == ("1.5", "0.5")  # it ends five
     assert [station.ask(2107, 1, timeout=1).outcome for _ in range(2)] == [Outcome.LOST] * 2
@@ -154,7 +154,7 @@ def a_chain():
 def cycles_and_missed_ones():
     port, station = scripted({9027: [b"0", None, b"0", b"0", b"0"]})
     chain, seen = geocom.Chain.of(7, (9027, "1.5", "0.5", 0, 1, False), timeout=50), []
-    station.begin()
+    station.synchronize()
     begun = port.clock.now
     for cycle in station.cycles([chain], every=20, count=6):
         seen.append((cycle.number, cycle.is_missed, port.clock.now - begun))
@@ -162,29 +162,29 @@ def cycles_and_missed_ones():
 
 
 def a_connection_that_ended():
-    port, station = scripted({5003: b"0,1"}, quiet=2)
+    port, station = scripted({5003: b"0,1"}, settle=2)
     assert station.csv.get_instrument_no().serial == 1
     port.is_ended, before = True, port.clock.now
     assert station.csv.get_instrument_no().serial == 1 and port.clock.now - before >= 4
     assert port.written[8:] == [0, 5003, 5003]
     port.is_ended = True
     assert isinstance(raised(geocom.NotReady, station.ask, 5003, timeout=1).__cause__, OSError)
-    station.begin()
+    station.synchronize()
     assert port.written[8:] == [0, 5003, 5003]
 
 
 def nobody_answers():
     _, station = scripted({0: [None] * 100}, timeout=5)
-    raised(geocom.NotReady, station.begin)
+    raised(geocom.NotReady, station.synchronize)
     raised(geocom.NotReady, station.ask, 5003)
     with socket.create_server(("127.0.0.1", 0)) as probe:
         free = probe.getsockname()[1]
-    raised(ConnectionRefusedError, geocom.Station(str(free)).begin)
-    raised(geocom.NotReady, geocom.Station(str(free), quiet=0.05).ask, 5003, timeout=0.2)
-    raised(ConnectionRefusedError, asyncio.run, geocom.aio.Station(str(free)).begin())
+    raised(ConnectionRefusedError, geocom.Station(str(free)).synchronize)
+    raised(geocom.NotReady, geocom.Station(str(free), settle=0.05).ask, 5003, timeout=0.2)
+    raised(ConnectionRefusedError, asyncio.run, geocom.aio.Station(str(free)).synchronize())
     for wrong in ["word", "0", "host:0", "fd00::5", "tcp://host", ""]:
         with contextlib.suppress(ValueError, OSError, ImportError):
-            geocom.Station(wrong).begin()
+            geocom.Station(wrong).synchronize()
             raise AssertionError(wrong)
 
 
@@ -241,7 +241,7 @@ def a_station_that_is_closed_meanwhile():
 
         server = await asyncio.start_server(silent, "127.0.0.1", 0)
         station = geocom.aio.Station(str(server.sockets[0].getsockname()[1]), timeout=60)
-        await station.begin()
+        await station.synchronize()
         asked = [asyncio.create_task(station.ask(5003)) for _ in range(2)]
         await asyncio.sleep(0.1)
         await station.close()
@@ -254,10 +254,10 @@ def a_station_that_is_closed_meanwhile():
 
 def what_the_client_counts():
     client = geocom.Client()
-    client.begin(b"".join(b"%%R1P,0,%d:0\r\n" % id for id in (6, 5, 4, 3, 2, 1, 0, 7)))
+    client.synchronize(b"".join(b"%%R1P,0,%d:0\r\n" % id for id in (6, 5, 4, 3, 2, 1, 0, 7)))
     for target in range(3):
         client.send(target, 10 * target, 5003)
-    assert client.expire(10) == [0, 1] and (client.waiting, client.current) == (3, 1)
+    assert client.expire(10) == [0, 1] and (client.outstanding, client.current) == (3, 1)
     raised(ValueError, client.send, -1, 0, 5003)
 
 
@@ -296,7 +296,7 @@ def the_library_is_loaded_at_the_first_use():
 def what_is_public():
     for name in geocom.__all__:
         assert getattr(geocom, name) is not None
-    for name in ["BadWidth", "InTable", "LineTooLong", "NoClient", "NoDescription", "NoReply", "NoRoom", "NotBegun", "UnknownProcedure", "WindowFull"]:
+    for name in ["BadWidth", "InTable", "LineTooLong", "NoClient", "NoDescription", "NoReply", "NoRoom", "NotSynchronized", "UnknownProcedure", "WindowFull"]:
         assert issubclass(getattr(geocom, name), geocom.Fault)
     assert "bit_length" not in pydoc.plain(pydoc.render_doc(geocom))  # of int, which each IntEnum has
     for code in RC:

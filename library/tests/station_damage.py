@@ -3,7 +3,7 @@
 A session (`geocom.asked`) asks over a line in memory, with a clock of the trial's own. The line keeps order, delays, and damages
 one reply, which gets another id; the instrument answers each request once. Each request has a number of its own, which its answer has. The
 damaged reply makes one answer at most another request's, no more than six requests wait at a time, and the first one follows a null procedure
-of the client that has begun.
+of the client that has synchronized.
 """
 
 import collections
@@ -62,7 +62,7 @@ def play(chance, width, count):
         is_raw = chance.random() < raws
         requests.append(Request(RAW if is_raw else ASKED, str(number), number, chance.choice(patience), is_raw))
     wanted = collections.deque(requests)
-    while now < 10_000_000 and (wanted or any(each.deadline > now for each in asked.waiting.values())):
+    while now < 10_000_000 and (wanted or any(each.deadline > now for each in asked.outstanding.values())):
         step = asked.next(Want.SEND if wanted else Want.ANSWERS, now)
         if step.act is Act.OPEN:
             asked.opened(now)
@@ -72,7 +72,7 @@ def play(chance, width, count):
             now = step.until
         elif step.act in (Act.WRITE, Act.SEND):
             line.write(step.line if step.act is Act.WRITE else asked.send(wanted.popleft(), now), now)
-            most = max(most, asked._state.client.waiting)
+            most = max(most, asked._state.client.outstanding)
         else:
             data, now = line.read(now, max(now, step.until))
             if data:

@@ -162,20 +162,20 @@ def play_sync(chance, totals):
         line.strike()
         clock.sleep(seconds)
 
-    station = geocom.Station(connect, timeout=TIMEOUT, quiet=chance.choice([0.5, 2.0]), clock=clock, sleep=sleep)
+    station = geocom.Station(connect, timeout=TIMEOUT, settle=chance.choice([0.5, 2.0]), clock=clock, sleep=sleep)
     for line.mood in [*chance.choices(MOODS, k=6), "honest"]:
         for _ in range(chance.randrange(1, 6)):
             number, timeout, begun = next(judge.numbers), chance.choice([0.5, 5.0, 10.0, 30.0]), clock.now
             try:
                 if chance.random() < 0.1:
-                    chance.choice([station.close, station.begin])()
+                    chance.choice([station.close, station.synchronize])()
                 begun = clock.now
                 judge.ended(number, station.ask(ASKED, number, target=number, timeout=timeout), clock.now, begun + 2 * timeout)
             except geocom.NotReady:
                 judge.skipped(number)
             except (OSError, Odd, Interrupt):
                 totals["raised"] += 1
-            if clock.now > begun + 100:  # a beginning has thrice its own timeout, and a pause
+            if clock.now > begun + 100:  # a synchronization has thrice its own timeout, and a pause
                 judge.wrong(f"calls took {clock.now - begun} s, mood {line.mood}")
     for _ in range(3):
         with contextlib.suppress(geocom.NotReady):
@@ -183,8 +183,8 @@ def play_sync(chance, totals):
                 break
     else:
         judge.wrong("over an honest link nothing is answered any more")
-    if station._session.waiting:
-        judge.wrong(f"{station._session.waiting} wait behind an answer")
+    if station._session.outstanding:
+        judge.wrong(f"{station._session.outstanding} wait behind an answer")
     station.close()
     line.look_closed()
     for fault in line.faults:
@@ -212,11 +212,11 @@ async def play_aio(chance, totals):
         if loop.time() > begun + 2 * timeout + 0.002:
             judge.wrong(f"a call took {loop.time() - begun} s, mood {line.mood}")
 
-    station = geocom.aio.Station(connect, timeout=TIMEOUT, quiet=chance.choice([0.5, 2.0]), width=chance.choice([1, 3, 7]))
+    station = geocom.aio.Station(connect, timeout=TIMEOUT, settle=chance.choice([0.5, 2.0]), width=chance.choice([1, 3, 7]))
     for line.mood in [*chance.choices(MOODS, k=6), "honest"]:
         if chance.random() < 0.2:
             with contextlib.suppress(OSError, Odd):
-                await chance.choice([station.close, station.begin])()
+                await chance.choice([station.close, station.synchronize])()
         count = chance.choice([1, 4, 9])
         await asyncio.gather(*(ask(next(judge.numbers), chance.choice([0.5, 5.0, 10.0, 30.0])) for _ in range(count)))
     for _ in range(3):
@@ -225,8 +225,8 @@ async def play_aio(chance, totals):
                 break
     else:
         judge.wrong("over an honest link nothing is answered any more")
-    if station._session.waiting:
-        judge.wrong(f"{station._session.waiting} wait behind an answer")
+    if station._session.outstanding:
+        judge.wrong(f"{station._session.outstanding} wait behind an answer")
     await station.close()
     line.look_closed()
     for fault in line.faults:

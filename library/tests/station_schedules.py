@@ -37,12 +37,12 @@ def play_sync(chance, totals):
     line, clock = Line(chance), Clock()
     judge = Judge(line, totals)
     for _ in range(chance.choice([1, 2, 3])):
-        station = geocom.Station(lambda: Port(line, clock), timeout=TIMEOUT, quiet=chance.choice([0.5, 2.0]), clock=clock, sleep=clock.sleep)
+        station = geocom.Station(lambda: Port(line, clock), timeout=TIMEOUT, settle=chance.choice([0.5, 2.0]), clock=clock, sleep=clock.sleep)
         if chance.random() < 0.5:
             try:
-                station.begin()
+                station.synchronize()
             except OSError:
-                totals["not begun"] += 1
+                totals["not synchronized"] += 1
         raws, limits = chance.choice([0.1, 0.9]), timeouts(chance)
         for _ in range(chance.randrange(1, 40)):
             if chance.random() < 0.1:
@@ -100,12 +100,12 @@ async def play_aio(chance, totals):
             totals["cancelled"] += 1
 
     for _ in range(chance.choice([1, 2, 3])):
-        station = geocom.aio.Station(connect, timeout=TIMEOUT, quiet=chance.choice([0.5, 2.0]), width=chance.choice([1, 1, 3, 7]))
+        station = geocom.aio.Station(connect, timeout=TIMEOUT, settle=chance.choice([0.5, 2.0]), width=chance.choice([1, 1, 3, 7]))
         if chance.random() < 0.5:
             try:
-                await station.begin()
+                await station.synchronize()
             except OSError:
-                totals["not begun"] += 1
+                totals["not synchronized"] += 1
         raws, limits = chance.choice([0.1, 0.9]), timeouts(chance)
         count, together = chance.randrange(1, 40), chance.choice([1, 1, 4, 20])
         for at in range(0, count, together):
@@ -130,7 +130,7 @@ def main():
                 loop.close()
             if totals["wrong"] > before:
                 print(f"station schedules: number {place} of {way}", file=sys.stderr)
-        told = ", ".join(f"{totals[name]} {name}" for name in ["answered", "accepted", "late", "lost", "not sent", "cancelled", "chains", "not begun"])
+        told = ", ".join(f"{totals[name]} {name}" for name in ["answered", "accepted", "late", "lost", "not sent", "cancelled", "chains", "not synchronized"])
         print(f"station schedules, {way}: {count}: {told}; {totals['wrong']} wrong")
         failed |= bool(totals["wrong"]) or not totals["answered"]
     sys.exit(failed)

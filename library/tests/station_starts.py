@@ -1,4 +1,4 @@
-"""Cases of instruments that are switched on or off: behind a line with a sign-on the station begins anew before anything goes out, and the
+"""Cases of instruments that are switched on or off: behind a line with a sign-on the station resynchronizes before anything goes out, and the
 caller is told. `station_cases.py` runs them."""
 
 import asyncio
@@ -10,20 +10,20 @@ from geocom import Outcome
 from station_scripted import raised, scripted
 
 SIGN_ON = b"%N1,0,255,,0%T0,0,0,:\r\n"
-# What goes out behind one: a beginning, a null procedure, and the request.
+# What goes out after one: a synchronization, a null procedure, and the request.
 ANEW = ([0] * 9, [6, 5, 4, 3, 2, 1, 0, 7, 0])
 
 
-def begun(answers=None, **options):
-    """A station that has begun, and was answered once."""
+def synchronized(answers=None, **options):
+    """A station that has synchronized, and was answered once."""
     port, station = scripted({2107: b"0,1.5,0.5", **(answers or {})}, timeout=5, **options)
-    station.begin()
+    station.synchronize()
     assert station.ask(2107, 1).items == ("1.5", "0.5")
     return port, station
 
 
 def goes_on_anew(port, station):
-    """Whether the next request is answered, behind a new beginning."""
+    """Whether the next request is answered, after a new synchronization."""
     before = len(port.written)
     is_answered = station.ask(2107, 1).items == ("1.5", "0.5")
     return is_answered and (port.written[before:], port.ids[before:]) == (ANEW[0] + [2107], ANEW[1] + [1])
@@ -34,7 +34,7 @@ def which_lines_are_sign_ons():
         assert geocom.is_sign_on(line)
     for line in ["", "%N1", "%N2,0", b"%n1,0", "%R1P,0,2:0"]:
         assert not geocom.is_sign_on(line)
-    port, station = begun()
+    port, station = synchronized()
     port.came = b"%N2,0\r\n%N1,0\n%N1," + 509 * b" " + b"\r\n" + 600 * b" " + SIGN_ON  # none of these is a line that has one
     assert station.ask(2107, 1).items == ("1.5", "0.5") and station.sign_ons == 0 and port.ids[9:] == [1, 2]
     port.came = b"%N1," + 508 * b" " + b"\r\n"
@@ -43,7 +43,7 @@ def which_lines_are_sign_ons():
 
 def between_two_requests():
     """The first request behind it isn't sent: a setup may come before it."""
-    port, station = begun()
+    port, station = synchronized()
     port.came = SIGN_ON + SIGN_ON
     before = len(port.written)
     why = raised(geocom.Restarted, station.tmc.get_angle, 1)
@@ -53,7 +53,7 @@ def between_two_requests():
 
 def in_place_of_a_reply():
     """The request is lost, at its deadline, as a reply to it might still come; what comes later is nobody's."""
-    port, station = begun({2107: [b"0,1.5,0.5", None, b"0,1.5,0.5"]})
+    port, station = synchronized({2107: [b"0,1.5,0.5", None, b"0,1.5,0.5"]})
     write = port.write
     port.write = lambda data: (write(data), setattr(port, "came", port.came or SIGN_ON))
     end = port.clock.now + 3
@@ -65,7 +65,7 @@ def in_place_of_a_reply():
 
 def in_the_line_of_a_reply_that_was_cut():
     """And in pieces: such a line settles nothing, so the request is lost, at its deadline."""
-    port, station = begun({2107: [b"0,1.5,0.5", b"0,1.5" + SIGN_ON[:-2], b"0,1.5,0.5"]})
+    port, station = synchronized({2107: [b"0,1.5,0.5", b"0,1.5" + SIGN_ON[:-2], b"0,1.5,0.5"]})
     assert station.ask(2107, 1).outcome is Outcome.LOST and station.sign_ons == 1
     assert goes_on_anew(port, station)
     port.answers[2107] = [None, b"0,1.5,0.5"]
@@ -78,18 +78,18 @@ def in_the_line_of_a_reply_that_was_cut():
 
 
 def before_the_first_request():
-    """It isn't counted, as the caller's setup comes anyway; the station begins anew where it had begun."""
+    """It isn't counted, as the caller's setup comes anyway; the station resynchronizes where it had synchronized."""
     port, station = scripted({2107: b"0,1.5,0.5"}, timeout=5)
     port.came = SIGN_ON
-    station.begin()
+    station.synchronize()
     assert port.written == [0] * 8
     port.came = SIGN_ON
     assert goes_on_anew(port, station) and station.sign_ons == 0
 
 
-def while_it_begins():
-    """The beginning goes on, and the request isn't sent."""
-    port, station = begun()
+def while_it_synchronizes():
+    """The synchronization goes on, and the request isn't sent."""
+    port, station = synchronized()
     port.came = SIGN_ON
     raised(geocom.Restarted, station.ask, 2107, 1)
     before = len(port.written)
@@ -103,8 +103,8 @@ def while_it_begins():
 
 
 def with_the_eighth_answer():
-    """It may be behind it: so the station begins anew."""
-    port, station = begun()
+    """It may be behind it: so the station resynchronizes."""
+    port, station = synchronized()
     port.came = SIGN_ON
     raised(geocom.Restarted, station.ask, 2107, 1)
     write = port.write
@@ -116,7 +116,7 @@ def with_the_eighth_answer():
 
 def over_a_new_connection():
     """While what comes is discarded."""
-    port, station = begun()
+    port, station = synchronized()
     station.close()
     port.open()
     port.came = SIGN_ON
@@ -131,28 +131,28 @@ def over_a_new_connection():
 
 
 def an_exception_behind_it():
-    """The station begins anew, once."""
-    port, station = begun()
+    """The station resynchronizes, once."""
+    port, station = synchronized()
     port.came = SIGN_ON
     raised(geocom.Restarted, station.ask, 2107, 1)
     station._is_under_way = True
     assert goes_on_anew(port, station)
 
 
-def a_beginning_behind_it():
-    """`begin` begins anew, and a setup may follow."""
-    port, station = begun()
+def a_synchronization_after_it():
+    """`synchronize` resynchronizes, and a setup may follow."""
+    port, station = synchronized()
     port.came = SIGN_ON
     raised(geocom.Restarted, station.ask, 2107, 1)
     before = len(port.written)
-    station.begin()
+    station.synchronize()
     assert port.written[before:] == [0] * 8
     assert station.ask(2107, 1).items == ("1.5", "0.5") and port.written[before + 8 :] == [0, 2107]
 
 
 def a_chain_and_a_cycle():
     """Their other commands are skipped."""
-    port, station = begun({2008: [b"0\r\n" + SIGN_ON[:-2], b"0", b"0"], 5003: b"0,1"})
+    port, station = synchronized({2008: [b"0\r\n" + SIGN_ON[:-2], b"0", b"0"], 5003: b"0,1"})
     chains = [geocom.Chain.of(7, (5003,)), geocom.Chain.of(8, (2008, 1, 1), (2107, 1)), geocom.Chain.of(9, (5003,))]
     first, second = station.cycles(chains, count=2)
     assert [row.outcome for row in first.rows] == ["answered", "answered", "skipped", "skipped"] and first.rows[1].is_good
@@ -163,7 +163,7 @@ def a_chain_and_a_cycle():
 
 def a_setup_that_is_sent_again():
     """As docs/LIBRARY.md has it: nothing is measured without the setup."""
-    port, station = begun({2008: b"0"})
+    port, station = synchronized({2008: b"0"})
     done = None
     for number in range(6):
         if number in (2, 3, 5):
@@ -210,7 +210,7 @@ def by_asyncio():
             is_answered = (await station.ask(2107, 1)).items == ("1.5", "0.5")
             return is_answered and lines == list(zip(*ANEW)) + [(2107, 1)]
 
-        await station.begin()
+        await station.synchronize()
         await comes(SIGN_ON)
         assert await goes_on_anew() and station.sign_ons == 0
 
@@ -239,7 +239,7 @@ def by_asyncio():
         assert isinstance(why, geocom.Restarted) and await goes_on_anew()
         await comes(SIGN_ON)
         del lines[:]
-        await station.begin()
+        await station.synchronize()
         assert lines == list(zip(*ANEW))[:8] and (await station.ask(2107, 1)).items == ("1.5", "0.5")
         await station.close()
         await asyncio.sleep(0.1)  # the instrument's end is seen there
@@ -248,7 +248,7 @@ def by_asyncio():
     asyncio.run(trial())
 
 
-HELPERS = {"begun", "goes_on_anew", "raised", "scripted"}
+HELPERS = {"synchronized", "goes_on_anew", "raised", "scripted"}
 CASES = [it for name, it in list(globals().items()) if isinstance(it, types.FunctionType) and name not in HELPERS]
 if __name__ == "__main__":
     for case in CASES:

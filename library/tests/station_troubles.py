@@ -96,7 +96,7 @@ def refused_calls_return_at_once():
     port, station = scripted(timeout=6)
     _, unreachable = scripted(timeout=6)
     unreachable._open = lambda: raised(AssertionError, lambda: 0)  # it isn't asked for a connection
-    station.begin()
+    station.synchronize()
     for each in (station, unreachable):
         clock = each._clock
         for kind, call, words in [(geocom.BadParameters, each.ask, (2012, "x")), (geocom.UnknownProcedure, each.ask, (5002,)),
@@ -215,31 +215,31 @@ def asks_well(station, numbers):
         settlement = station.ask(2107, number, target=number, timeout=60)
         assert (settlement.target, settlement.items[:1]) == (number, (f"{number}.0",)), settlement
     rows = station.measure(geocom.Chain.of(9, (2107, 9), (2107, 10), timeout=60))
-    assert [row.value.hz_rad for row in rows] == [9, 10] and not station._session.waiting
+    assert [row.value.hz_rad for row in rows] == [9, 10] and not station._session.outstanding
 
 
 def exceptions_at_any_place(each="line", stride=7):
     """A signal's handler raises at each line of a call, and again at one of the next call: the station is whole."""
 
-    def made(has_begun):
+    def made(is_synchronized):
         clock = Clock()
         station = geocom.Station(Echo(clock), clock=clock, sleep=clock.sleep, timeout=5)
-        if has_begun:
-            station.begin()
+        if is_synchronized:
+            station.synchronize()
         return station
 
     def calls(station):
         yield lambda: station.ask(2107, 1, target=1)
         yield lambda: [station.raw(2167, 1) for _ in range(8)]
         yield lambda: station.measure(geocom.Chain.of(1, (2107, 1), (2107, 2)))
-        yield lambda: (station.close(), station.begin())
+        yield lambda: (station.close(), station.synchronize())
 
     count = 0
-    for has_begun, step in [(True, stride), (False, 13 * stride)]:
+    for is_synchronized, step in [(True, stride), (False, 13 * stride)]:
         for which in range(4):
             at, is_more = 1, True
             while is_more:
-                station = made(has_begun)
+                station = made(is_synchronized)
                 is_more = interrupted(list(calls(station))[which], at, each)
                 if at % 3 == 0:
                     interrupted(lambda: station.ask(2107, 5), 1 + at // 3 % 300, each)
@@ -326,7 +326,7 @@ def aio_calls_always_end():
             reader, writer = await instrument.connect()
             return reader, Broken(writer, writes)
 
-        station = geocom.aio.Station(connect, timeout=0.2, quiet=0.01, width=width)
+        station = geocom.aio.Station(connect, timeout=0.2, settle=0.01, width=width)
         logger, raising = logging.getLogger("geocom"), Raising(record)
         logger.addFilter(raising)
         try:
@@ -353,17 +353,17 @@ def aio_calls_end_with_what_breaks_off():
     """What is in flight is lost at once, and not only at its deadline."""
 
     async def trial():
-        async with geocom.aio.Station(geocom.Instrument("delay 5003 60000\n").connect, timeout=30, quiet=0.01) as station:
+        async with geocom.aio.Station(geocom.Instrument("delay 5003 60000\n").connect, timeout=30, settle=0.01) as station:
             asked = asyncio.create_task(station.ask(5003))
             await asyncio.sleep(0.1)
             station._turns._turn(functools.partial(raised, AssertionError, lambda: 0))
-            assert (await asyncio.wait_for(asked, 5)).outcome is Outcome.LOST and not station._session.waiting
+            assert (await asyncio.wait_for(asked, 5)).outcome is Outcome.LOST and not station._session.outstanding
 
     asyncio.run(trial())
 
 
 def aio_over_a_second_loop():
-    station = geocom.aio.Station(geocom.Instrument().connect, timeout=5, quiet=0.01)
+    station = geocom.aio.Station(geocom.Instrument().connect, timeout=5, settle=0.01)
 
     async def ask(closes):
         serial = (await station.csv.get_instrument_no()).serial
@@ -404,14 +404,14 @@ def lost_elsewhere():
 
 def timeouts_that_are_refused():
     port, station = scripted()
-    station.begin()
+    station.synchronize()
     written = len(port.written)
     for odd in [0, -1, float("nan"), float("inf"), 1 << 31, (1 << 31) / 1000]:
         raised(ValueError, station.ask, 5003, timeout=odd)
         raised(ValueError, station.measure, geocom.Chain.of(1, (5003,), timeout=odd))
         for kind in (geocom.Station, geocom.aio.Station):
             raised(ValueError, kind, "4001", timeout=odd)
-    raised(ValueError, geocom.Station, "4001", quiet=-1)
+    raised(ValueError, geocom.Station, "4001", settle=-1)
     raised(TypeError, station.ask, 5003, timeout="5")
     for odd in [float("nan"), float("inf"), -1]:
         raised(ValueError, next, station.cycles([geocom.Chain.of(1, (5003,))], every=odd))
@@ -449,13 +449,13 @@ def ports_that_are_none():
 def what_is_not_ready_says_why():
     with socket.create_server(("127.0.0.1", 0)) as probe:
         free = probe.getsockname()[1]
-    assert "refused" in str(raised(geocom.NotReady, geocom.Station(free, quiet=0.05).ask, 5003, timeout=0.2))
+    assert "refused" in str(raised(geocom.NotReady, geocom.Station(free, settle=0.05).ask, 5003, timeout=0.2))
 
 
 def two_lost_replies():
     """After two lost replies a connection is closed before the next command is sent, and the command goes out over the next one."""
     port, station = scripted({2107: [None, None, b"0,1.5,0.5"], 5003: b"0,1"}, timeout=5)
-    station.begin()
+    station.synchronize()
     closes, close = [], port.close
     port.close = lambda: (closes.append(len(port.written)), close())
     assert [station.ask(2107, 1).outcome for _ in range(2)] == [Outcome.LOST] * 2
@@ -465,7 +465,7 @@ def two_lost_replies():
     async def trial():
         """Nothing is closed while a request may be answered in time."""
         instrument = geocom.Instrument("delay 5003 700\n")
-        async with geocom.aio.Station(instrument.connect, timeout=0.3, quiet=0.01, width=7) as station:
+        async with geocom.aio.Station(instrument.connect, timeout=0.3, settle=0.01, width=7) as station:
             lost = [asyncio.create_task(station.ask(2107, 1, timeout=0.1)), asyncio.create_task(station.ask(5003, timeout=3))]
             assert (await lost[1]).items == ("123456",)
 
@@ -493,7 +493,7 @@ def the_first_example_goes_on():
 def a_fork():
     """A station isn't used in a forked process, also while a thread of the first one asks: it neither answers nor hangs."""
     slow = geocom.Station(geocom.Instrument("delay 5003 1000\n"), timeout=5)
-    slow.begin()
+    slow.synchronize()
     asking = threading.Thread(target=slow.csv.get_instrument_no)
     asking.start()
     time.sleep(0.2)
@@ -502,7 +502,7 @@ def a_fork():
         signal.alarm(5)
         status = 1
         try:
-            for call in (lambda: slow.ask(5003), slow.begin, lambda: slow.measure(geocom.Chain.of(1, (5003,)))):
+            for call in (lambda: slow.ask(5003), slow.synchronize, lambda: slow.measure(geocom.Chain.of(1, (5003,)))):
                 raised(RuntimeError, call)
             slow.close()
             status = 0

@@ -90,7 +90,7 @@ struct fixture {
     explicit fixture(std::uint8_t width = GEOCOM_WINDOW, bool opens = false) : station(station_of(line, opens)) {
         geocom_session_init(&session, width, 10000, 2000);
         SEE(ask_c(10000) == 0);
-        station.begin();
+        station.synchronize();
         line.executed.clear();
     }
     int ask_c(std::uint64_t timeout) { return geocom_ask(&session, &port, 7, 2107, "1", timeout, &settled, text); }
@@ -138,7 +138,7 @@ void deadlines() {
         SEE(f.ask(timeout) == GEOCOM_SILENT && f.line.now <= end);
     }
     const std::uint64_t begun = f.line.now;
-    SEE(thrown([&] { f.station.begin(); }) == GEOCOM_SILENT && f.line.now <= begun + 82000);
+    SEE(thrown([&] { f.station.synchronize(); }) == GEOCOM_SILENT && f.line.now <= begun + 82000);
     f.line.noise_every = 0;
     for (int k = 0; k < 4; ++k) SEE(f.ask(1000) == 0 || k < 3);
 
@@ -284,7 +284,7 @@ void starts() {
     f.line.came = sign_on;
     SEE(f.ask(1000) == RESTARTED);
     f.line.sent.clear();
-    f.station.begin(); // before the setup
+    f.station.synchronize(); // before the setup
     SEE(f.line.sent.size() == 8 && f.ask(1000) == 0 && f.line.sent == anew && f.station.sign_ons() == 8);
 
     f.line.came = sign_on;

@@ -95,7 +95,7 @@ def test_a_station(instrument):
 def test_a_new_connection(instrument):
     """A port that was closed is opened again, and the instrument goes on."""
     port = instrument("serial 71\n")
-    with geocom.Station(port, timeout=5, quiet=0.05) as station:
+    with geocom.Station(port, timeout=5, settle=0.05) as station:
         assert station.csv.get_instrument_no().serial == 71
         port.close()
         assert station.csv.get_instrument_no().serial == 71

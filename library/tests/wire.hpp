@@ -18,10 +18,10 @@ inline std::string read_of(wire &w, std::uint64_t milliseconds) {
 }
 
 // `look` is called before each read.
-inline geocom::station station_over(wire &w, std::uint64_t timeout, std::uint64_t quiet, std::function<void(std::uint64_t)> look = [](std::uint64_t) {}) {
+inline geocom::station station_over(wire &w, std::uint64_t timeout, std::uint64_t settle, std::function<void(std::uint64_t)> look = [](std::uint64_t) {}) {
     return geocom::station([&w, look](std::uint64_t milliseconds) { return look(milliseconds), read_of(w, milliseconds); },
                            [&w](std::string_view bytes) { made(wire_write(&w, geocom::bytes_of(bytes), bytes.size()) == 0); },
-                           [&w] { made(wire_open(&w) == 0); }, [&w] { wire_close(&w); }, timeout, quiet, [&w] { return w.now; },
+                           [&w] { made(wire_open(&w) == 0); }, [&w] { wire_close(&w); }, timeout, settle, [&w] { return w.now; },
                            [&w](std::uint64_t milliseconds) { wire_wait(&w, milliseconds); });
 }
 

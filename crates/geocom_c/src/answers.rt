@@ -27,7 +27,7 @@ pub struct GeocomDeadline {
     pub is_set: u32,
 }
 
-/// What `geocom_client_begin` returns: a fault or 0, how many bytes of a line are to be sent, and how far the synchronization is.
+/// What `geocom_client_synchronize` returns: a fault or 0, how many bytes of a line are to be sent, and how far the synchronization is.
 /// After a fault all other fields are 0.
 #[repr(C)]
 #[derive(Clone, Copy)]

@@ -106,7 +106,7 @@ fn came_in_vain(bytes: &[u8], before: u8, after: u8) -> bool
 ///
 /// Faults: 62, `line` has fewer than 514 bytes; 63, the state is no client's. After a fault nothing has changed.
 #[unsafe(no_mangle)]
-pub extern "C" fn geocom_client_begin(
+pub extern "C" fn geocom_client_synchronize(
     state: &mut GeocomClient,
     bytes: &[u8],
     line: &mut [u8],

@@ -118,7 +118,7 @@ pub extern "C" fn geocom_client_next_deadline(state: &GeocomClient) -> GeocomDea
 ///
 /// Fault 63: the state is no client's. The count is 0 then.
 #[unsafe(no_mangle)]
-pub extern "C" fn geocom_client_waiting(state: &GeocomClient) -> GeocomCount
+pub extern "C" fn geocom_client_outstanding(state: &GeocomClient) -> GeocomCount
     ensures waiting { ReportsWaiting state.now result }
     ensures astray { (result.fault ≡ NO_CLIENT) ↔ IsOfNoClient state.now }
     ensures done { result.fault ≡ 0 → IsOfClient state.now }

@@ -119,7 +119,7 @@ fn feed(
 /// the requests were sent. If it settles any, it is written to the front of `text`, with the items of its parameters after it;
 /// otherwise nothing is written. After the `count` records nothing is written.
 ///
-/// While the client synchronizes, no request is outstanding, and bytes belong to `geocom_client_begin`: here no reply settles
+/// While the client synchronizes, no request is outstanding, and bytes belong to `geocom_client_synchronize`: here no reply settles
 /// anything.
 ///
 /// Faults: 62, `settlements` has fewer than seven places or `text` fewer than 1024 bytes; 63, the state is no client's.
@@ -165,7 +165,7 @@ fn answered_after_restart(answered: u8) -> u8
 
 /// Settles all outstanding requests as lost, in the order of sending, and writes a record for each: `count` of them, and nothing
 /// after these. The next id is 0, the bytes of a line that hasn't ended are discarded, and the width stays. A client that had
-/// synchronized has to synchronize again (`geocom_client_begin`). One that hadn't continues with the null procedure that it was
+/// synchronized has to synchronize again (`geocom_client_synchronize`). One that hadn't continues with the null procedure that it was
 /// at, so it may be restarted any number of times. For another instrument or line make a new client.
 ///
 /// Faults: 62, `settlements` has fewer than seven places; 63, the state is no client's. After a fault nothing has changed.

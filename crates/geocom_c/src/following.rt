@@ -7,7 +7,7 @@ ghost use Rattle.gc_client.specs.OneForOne.{AccountsForSends};
 ghost use Rattle.geocom_c.specs.State.{KeepsAnswered};
 ghost use Rattle.geocom_c.specs.Following.{FeedsBut, FeedsBytes, CallsReach, IsAtStage, MadeBut, CallStage, first_stage};
 
-use crate::beginning::geocom_client_begin;
+use crate::beginning::geocom_client_synchronize;
 use crate::calls::{geocom_client_expire, geocom_client_init};
 use crate::feeding::{geocom_client_feed, geocom_client_restart};
 use crate::header::{LINE_ROOM, NONE, TEXT_ROOM};
@@ -36,7 +36,7 @@ pub enum StateCall<'a> {
         procedure: u16,
         params: &'a [u8],
     },
-    /// Bytes of a connection, or none, handed to the synchronization.
+    /// Bytes of a connection, or none, handed to `geocom_client_synchronize`.
     Begin(&'a [u8]),
     /// Bytes of a connection, fed until all are used.
     Feed(&'a [u8]),
@@ -112,7 +112,7 @@ fn make_call(state: &mut GeocomClient, call: &StateCall<'_>)
         }
         StateCall::Begin(bytes) => {
             let mut line = [0; LINE_ROOM];
-            let _ = geocom_client_begin(state, bytes, &mut line);
+            let _ = geocom_client_synchronize(state, bytes, &mut line);
         }
         StateCall::Feed(bytes) => feed_all(state, bytes),
         StateCall::Expire(now) => {

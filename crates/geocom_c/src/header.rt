@@ -40,7 +40,7 @@ pub const NO_ROOM: u32 = 62;
 /// The state is no client's, or no session's: `geocom_client_init` or `geocom_session_init` never made it, or its bytes were overwritten.
 pub const NO_CLIENT: u32 = 63;
 
-/// The client hasn't synchronized: `geocom_client_begin` hasn't heard the eighth answer, at first or after a restart.
+/// The client hasn't synchronized: `geocom_client_synchronize` hasn't heard the eighth answer, at first or after a restart.
 pub const NOT_BEGUN: u32 = 67;
 
 /// A raw request's number is that of a procedure of the table, and so is that of a description.

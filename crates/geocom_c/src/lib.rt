@@ -30,10 +30,10 @@ pub use answers::{
     GeocomBeginning, GeocomCount, GeocomDeadline, GeocomHeard, GeocomStatus, GeocomStep,
 };
 pub use asking::{geocom_session_ask, geocom_session_ask_raw};
-pub use beginning::geocom_client_begin;
+pub use beginning::geocom_client_synchronize;
 pub use calls::{
-    geocom_client_expire, geocom_client_init, geocom_client_next_deadline, geocom_client_waiting,
-    geocom_version,
+    geocom_client_expire, geocom_client_init, geocom_client_next_deadline,
+    geocom_client_outstanding, geocom_version,
 };
 pub use columns::GeocomColumn;
 pub use described::{GeocomAnswer, geocom_description_reply};

@@ -6,7 +6,7 @@ and the easy way to it.
 ...     print(station.csv.get_instrument_no().serial)
 123456
 
-`Station` connects, begins, asks, gives up, reconnects and begins anew by itself;
+`Station` connects, synchronizes, asks, times out, reconnects and resynchronizes by itself;
 `geocom.aio.Station` is the same for asyncio. The port of a real one is "/dev/ttyUSB0" or
 "10.0.0.5:4001". Two ways to ask:
 
@@ -62,7 +62,7 @@ from .errors import NoDescription as NoDescription
 from .errors import NoInstrument as NoInstrument
 from .errors import NoReply as NoReply
 from .errors import NoRoom as NoRoom
-from .errors import NotBegun as NotBegun
+from .errors import NotSynchronized as NotSynchronized
 from .errors import UnknownProcedure as UnknownProcedure
 from .errors import WindowFull as WindowFull
 from .instrument import SIMULATOR, Instrument, Reply

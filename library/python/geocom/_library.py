@@ -29,29 +29,29 @@ def _all(kind: Any, names: str) -> list[tuple[str, Any]]:
     return [(name, kind) for name in names.split()]
 
 
-class _Waiting(ctypes.Structure):
+class _Request(ctypes.Structure):
     _fields_ = [
         ("deadline", _U64),
         ("target", _U32),
         ("length", _U16),
-        ("given_up", _U8),
+        ("timed_out", _U8),
         ("line", _U8 * 512),
     ]
 
 
-class _Rest(ctypes.Structure):
+class _PartialLine(ctypes.Structure):
     _fields_ = [("length", _U16), ("bytes", _U8 * 514)]
 
 
 class _Client(ctypes.Structure):
     _fields_ = [
-        ("places", _Waiting * WINDOW),
-        ("rest", _Rest),
-        *_all(_U8, "width next waiting answered"),
+        ("requests", _Request * WINDOW),
+        ("partial_line", _PartialLine),
+        *_all(_U8, "width next outstanding answered"),
     ]
 
 
-class _Item(ctypes.Structure):
+class _ItemSpan(ctypes.Structure):
     _fields_ = _all(_U16, "offset length")
 
 
@@ -59,7 +59,7 @@ class _Settlement(ctypes.Structure):
     _fields_ = [
         ("target", _U32),
         *_all(_U16, "procedure code line_length items"),
-        ("places", _Item * MOST_ITEMS),
+        ("item_spans", _ItemSpan * MOST_ITEMS),
         *_all(_U8, "outcome reading"),
     ]
 
@@ -72,20 +72,21 @@ class _Deadline(ctypes.Structure):
     _fields_ = [("deadline", _U64), *_all(_U32, "fault is_set")]
 
 
-class _Beginning(ctypes.Structure):
-    _fields_ = _all(_U32, "fault count answered has_begun")
+class _Synchronization(ctypes.Structure):
+    _fields_ = _all(_U32, "fault count answered is_synchronized")
 
 
-class _Heard(ctypes.Structure):
+class _FeedResult(ctypes.Structure):
     _fields_ = [("used", _SIZE), *_all(_U32, "fault count kind line_fault")]
 
 
 class _Session(ctypes.Structure):
     _fields_ = [
         ("client", _Client),
-        *_all(_U64, "timeout quiet moment patience stretch sign_ons rested"),
-        *_all(_U64, "again hold since alive pause"),
-        *_all(_U8, "width phase is_resting has_asked asked doubtful behind last_ended listened"),
+        *_all(_U64, "timeout settle moment patience stretch sign_ons idle_since"),
+        *_all(_U64, "null_deadline hold since alive pause"),
+        *_all(_U8, "width phase is_idle has_asked asked doubtful requests_since_table_call"),
+        *_all(_U8, "last_ended has_listened"),
     ]
 
 
@@ -96,7 +97,7 @@ class _Step(ctypes.Structure):
 class _Status(ctypes.Structure):
     _fields_ = [
         *_all(_U64, "stretch sign_ons"),
-        *_all(_U32, "fault is_up is_ready waiting current"),
+        *_all(_U32, "fault is_up is_ready outstanding current"),
     ]
 
 
@@ -112,16 +113,16 @@ class _Answer(ctypes.Structure):
     _fields_ = [
         ("fault", _U32),
         *_all(_U16, "code items columns"),
-        ("places", _Item * MOST_ITEMS),
+        ("item_spans", _ItemSpan * MOST_ITEMS),
         ("reading", _U8),
     ]
 
 
-class _Made(ctypes.Structure):
+class _SceneFault(ctypes.Structure):
     _fields_ = _all(_U32, "fault line")
 
 
-class _Replied(ctypes.Structure):
+class _Reply(ctypes.Structure):
     _fields_ = [
         ("used", _SIZE),
         ("due", _U64),
@@ -132,23 +133,23 @@ class _Replied(ctypes.Structure):
 
 #: The structures of `geocom.h` by their names there.
 STRUCTURES: dict[str, type[ctypes.Structure]] = {
-    "geocom_waiting": _Waiting,
-    "geocom_rest": _Rest,
+    "geocom_request": _Request,
+    "geocom_partial_line": _PartialLine,
     "geocom_client": _Client,
-    "geocom_item": _Item,
+    "geocom_item_span": _ItemSpan,
     "geocom_settlement": _Settlement,
     "geocom_count": _Count,
     "geocom_deadline": _Deadline,
-    "geocom_beginning": _Beginning,
-    "geocom_heard": _Heard,
+    "geocom_synchronization": _Synchronization,
+    "geocom_feed_result": _FeedResult,
     "geocom_session": _Session,
     "geocom_step": _Step,
     "geocom_status": _Status,
     "geocom_column": _Column,
     "geocom_description": _Description,
     "geocom_answer": _Answer,
-    "geocom_made": _Made,
-    "geocom_replied": _Replied,
+    "geocom_scene_fault": _SceneFault,
+    "geocom_reply": _Reply,
 }
 
 _STATE = ctypes.POINTER(_Client)
@@ -161,29 +162,29 @@ _CALLS: dict[str, tuple[Any, list[Any]]] = {
     "geocom_version": (_U32, []),
     "geocom_is_sign_on": (_U32, _TEXT),
     "geocom_client_init": (_U32, [_STATE, _U8]),
-    "geocom_client_begin": (_Beginning, [_STATE, *_TEXT, *_TEXT]),
+    "geocom_client_synchronize": (_Synchronization, [_STATE, *_TEXT, *_TEXT]),
     "geocom_client_send": (_Count, _SEND),
     "geocom_client_send_raw": (_Count, _SEND),
-    "geocom_client_feed": (_Heard, [_STATE, *_TEXT, _RECORDS, _SIZE, *_TEXT]),
+    "geocom_client_feed": (_FeedResult, [_STATE, *_TEXT, _RECORDS, _SIZE, *_TEXT]),
     "geocom_client_expire": (_Count, [_STATE, _U64, ctypes.POINTER(_U32), _SIZE]),
     "geocom_client_next_deadline": (_Deadline, [_STATE]),
     "geocom_client_restart": (_Count, [_STATE, _RECORDS, _SIZE]),
-    "geocom_client_waiting": (_Count, [_STATE]),
+    "geocom_client_outstanding": (_Count, [_STATE]),
     "geocom_session_init": (_U32, [_SESSION, _U8, _U64, _U64]),
     "geocom_session_next": (_Step, [_SESSION, _U32, _U64, _RECORDS, _SIZE, *_TEXT]),
     "geocom_session_ask": (_Count, _ASK),
     "geocom_session_ask_raw": (_Count, _ASK),
     "geocom_session_opened": (_U32, [_SESSION, _U64]),
     "geocom_session_closed": (_U32, [_SESSION, _U64]),
-    "geocom_session_feed": (_Heard, [_SESSION, _U64, *_TEXT, _RECORDS, _SIZE, *_TEXT]),
+    "geocom_session_feed": (_FeedResult, [_SESSION, _U64, *_TEXT, _RECORDS, _SIZE, *_TEXT]),
     "geocom_session_restart": (_Count, [_SESSION, _RECORDS, _SIZE]),
     "geocom_session_status": (_Status, [_SESSION]),
     "geocom_description_read": (_Description, [*_TEXT, ctypes.POINTER(_Column), _SIZE]),
     "geocom_description_params": (_U32, [*_TEXT, *_TEXT]),
     "geocom_description_reply": (_Answer, [*_TEXT, *_TEXT, *_TEXT]),
     "geocom_instrument_size": (_SIZE, []),
-    "geocom_instrument_init": (_Made, [ctypes.c_void_p, *_TEXT]),
-    "geocom_instrument_feed": (_Replied, [ctypes.c_void_p, *_TEXT, _U64]),
+    "geocom_instrument_init": (_SceneFault, [ctypes.c_void_p, *_TEXT]),
+    "geocom_instrument_feed": (_Reply, [ctypes.c_void_p, *_TEXT, _U64]),
     "geocom_instrument_restart": (_U32, [ctypes.c_void_p]),
 }
 

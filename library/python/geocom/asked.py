@@ -18,10 +18,10 @@ log = logging.getLogger("geocom")
 class Asked(Session):
     """A session, with the requests of its callers that are outstanding."""
 
-    def __init__(self, width: int, timeout: int, quiet: int):
-        super().__init__(width, timeout, quiet)
+    def __init__(self, width: int, timeout: int, settle: int):
+        super().__init__(width, timeout, settle)
         #: Requests that were sent and aren't settled, by their numbers.
-        self.waiting: dict[int, Request] = {}
+        self.outstanding: dict[int, Request] = {}
         self._number = 0
 
     def next(self, want: Want, now: int) -> Step:
@@ -35,7 +35,7 @@ class Asked(Session):
     def send(self, request: Request, now: int) -> bytes:
         """The line of a request whose turn it is at this moment."""
         number = self._number = (self._number + 1) % OWN  # the session's own requests have that
-        self.waiting[number] = request  # first, so that an end of it is never another one's
+        self.outstanding[number] = request  # first, so that an end of it is never another one's
         line = self.ask(
             number, request.timeout, request.procedure, request.parameters, request.is_raw
         )
@@ -64,12 +64,12 @@ class Asked(Session):
 
     def broken_off(self, is_connected: bool, now: int) -> None:
         """An exception left something half done: all that is outstanding is lost, and the session
-        begins anew. Nothing is logged: that may be what raised.
+        starts over. Nothing is logged: that may be what raised.
         """
         self.restart()
-        for request in self.waiting.values():
-            request.give_up()
-        self.waiting.clear()
+        for request in self.outstanding.values():
+            request.lose()
+        self.outstanding.clear()
         if self.is_up != is_connected:
             (super().opened if is_connected else super().closed)(now)
 
@@ -81,12 +81,12 @@ class Asked(Session):
         return not request.is_sent and (is_broken or request.is_outdated(self.sign_ons))
 
     def why_not(self, request: Request | None, failure: Exception | None) -> NotReady:
-        """Why a request wasn't sent, or a beginning not made."""
+        """Why a request wasn't sent, or the synchronization not completed."""
         return not_ready(failure, request is not None and request.is_outdated(self.sign_ons))
 
     def _settle(self, ended: list[Settlement]) -> None:
         for settlement in ended:
-            if not (request := self.waiting.pop(settlement.target, None)):
+            if not (request := self.outstanding.pop(settlement.target, None)):
                 continue  # it is OWN
             vars(settlement)["target"] = request.target  # nobody else has it yet
             request.settle(settlement)

@@ -16,7 +16,7 @@ from .errors import check
 from .settlement import Outcome, Reading, Settlement
 from .values import Listed
 
-# The ids of the null procedures of a beginning, and the replies to them.
+# The ids of the null procedures of a synchronization, and the replies to them.
 _IDS = (6, 5, 4, 3, 2, 1, 0, 7)
 _ANSWERS = b"".join(b"%%R1P,0,%d:0\r\n" % id for id in _IDS)
 
@@ -38,11 +38,11 @@ _REPLIES = (Kind.SETTLED, Kind.STRAY)
 
 
 class Client:
-    r"""A client that lets `width` requests wait, 1 to 7. Threads may share one: a lock keeps its
-    calls apart.
+    r"""A client that lets `width` requests be outstanding, 1 to 7. Threads may share one: a lock
+    keeps its calls apart.
 
     >>> client = Client()
-    >>> client.begin()
+    >>> client.synchronize()
     b'%R1Q,0,6:\r\n'
     """
 
@@ -58,30 +58,30 @@ class Client:
         self.counts: collections.Counter[Kind] = collections.Counter()
         #: how many lines that are no replies had which first faulty field, 1 to 5
         self.line_faults: collections.Counter[int] = collections.Counter()
-        #: how many replies came, those that no request waited for among them
+        #: how many replies came, those that no request was outstanding for among them
         self.replies = 0
         #: how many requests the last line ended that ended any; 1 at first, and after each restart
         self.last_ended = 1
         check(self._calls.geocom_client_init(self._state, width if 0 <= width < 256 else 0))
 
-    def begin(self, data: bytes = b"") -> bytes:
+    def synchronize(self, data: bytes = b"") -> bytes:
         """Takes what came, and gives the line to write on the connection, with its CR LF; nothing
         where none goes out now.
 
         Eight null procedures are asked, one after the other, and all that came and answers none is
         discarded. Call it without data for the first line, and where nothing came in time: it gives
-        the same line again. Once `has_begun`, requests go out.
+        the same line again. Once `is_synchronized`, requests go out.
         """
         came = bytes(data)
         with self._lock:
-            begun = self._calls.geocom_client_begin(
+            told = self._calls.geocom_client_synchronize(
                 self._state, came, len(came), self._line, LINE_ROOM
             )
-            check(begun.fault)
-            return self._line.raw[: begun.count]
+            check(told.fault)
+            return self._line.raw[: told.count]
 
     @property
-    def has_begun(self) -> bool:
+    def is_synchronized(self) -> bool:
         """Whether all eight null procedures were answered, so that requests go out."""
         return bool(self._state.answered == len(_IDS))
 
@@ -89,15 +89,15 @@ class Client:
         """Sends a request, and gives the line to write on the connection, with its CR LF.
 
         The target is a number of your own below 2 ** 32, and comes back with the settlement.
-        Parameters have commas between them, as "5000,1". Raises NotBegun, UnknownProcedure,
+        Parameters have commas between them, as "5000,1". Raises NotSynchronized, UnknownProcedure,
         BadParameters or WindowFull, and then nothing has changed.
 
         A line may damage a reply, so that it has another id. Two rules keep the harm to the request
-        that it answers, unless two lines in a row that settle something are damaged. Behind each
-        beginning send a null procedure first (procedure 0), alone, again at its deadline, and no
-        other before a reply has settled one. And send only while `waiting` and `last_ended` are
-        together fewer than seven; where all that wait are given up and there is no room so, call
-        `restart`. A `geocom.Station` keeps both by itself.
+        that it answers, unless two lines in a row that settle something are damaged. After each
+        synchronization send a null procedure first (procedure 0), alone, again at its deadline, and
+        no other before a reply has settled one. And send only while `outstanding` and `last_ended`
+        are together fewer than seven; where all that is outstanding has timed out and there is no
+        room so, call `restart`. A `geocom.Station` keeps both by itself.
         """
         return self._sent(self._calls.geocom_client_send, target, deadline, procedure, params)
 
@@ -117,8 +117,8 @@ class Client:
         An instrument that knows each procedure which is asked needs none of it. A `geocom.Station`
         does so by itself.
 
-        Raises NotBegun, InTable, BadParameters, LineTooLong or WindowFull, and then nothing has
-        changed.
+        Raises NotSynchronized, InTable, BadParameters, LineTooLong or WindowFull, and then nothing
+        has changed.
         """
         return self._sent(self._calls.geocom_client_send_raw, target, deadline, procedure, params)
 
@@ -164,10 +164,10 @@ class Client:
         return settled
 
     def expire(self, now: int) -> list[int]:
-        """Gives up each request whose deadline is at most this moment, and gives the targets of
-        what wasn't before.
+        """Times out each request whose deadline is at most this moment, and gives the targets of
+        those that hadn't timed out before.
 
-        They go on waiting: a reply settles them as late.
+        They stay outstanding: a reply settles them as late.
         """
         within(now, 64)
         with self._lock:
@@ -176,14 +176,15 @@ class Client:
             return list(self._due[: due.count])
 
     def next_deadline(self) -> int | None:
-        """The earliest deadline of the requests that wait and aren't given up."""
+        """The earliest deadline of the outstanding requests that haven't timed out."""
         with self._lock:
             earliest = self._calls.geocom_client_next_deadline(self._state)
         check(earliest.fault)
         return int(earliest.deadline) if earliest.is_set else None
 
     def restart(self) -> list[Settlement]:
-        """Settles all that wait as lost. A client that had begun begins anew: `begin` comes next.
+        """Settles all that is outstanding as lost. A client that had synchronized has to do so
+        again: `synchronize` comes next.
 
         One that hadn't goes on with the null procedure that it was at. Nothing has to be vouched
         for: what is in flight may stay so. For another instrument or line make a new client.
@@ -195,19 +196,19 @@ class Client:
             return self._settled(lost.count)
 
     @property
-    def waiting(self) -> int:
-        """How many requests wait, those that were given up among them."""
+    def outstanding(self) -> int:
+        """How many requests are outstanding, those that timed out among them."""
         with self._lock:
-            waiting = self._calls.geocom_client_waiting(self._state)
-        check(waiting.fault)
-        return int(waiting.count)
+            outstanding = self._calls.geocom_client_outstanding(self._state)
+        check(outstanding.fault)
+        return int(outstanding.count)
 
     @property
     def current(self) -> int:
-        """How many requests wait that weren't given up."""
+        """How many outstanding requests haven't timed out."""
         with self._lock:
             state = self._state
-            return sum(not place.given_up for place in state.places[: state.waiting])
+            return sum(not each.timed_out for each in state.requests[: state.outstanding])
 
     def _settled(self, count: int) -> list[Settlement]:
         return settlements(self._records[:count], self._text.raw)
@@ -224,17 +225,18 @@ def settlements(records: Sequence[_Settlement], text: bytes) -> list[Settlement]
             code=r.code,
             line=text[: r.line_length].decode("latin-1") if r.line_length else None,
             items=tuple(
-                text[p.offset : p.offset + p.length].decode("latin-1") for p in r.places[: r.items]
+                text[it.offset : it.offset + it.length].decode("latin-1")
+                for it in r.item_spans[: r.items]
             ),
         )
         for r in records
     ]
 
 
-def begun() -> Client:
-    """A client with nothing on any line, which has begun."""
+def synchronized() -> Client:
+    """A client with nothing on any line, which has synchronized."""
     client = Client(1)
-    client.begin(_ANSWERS)
+    client.synchronize(_ANSWERS)
     return client
 
 

@@ -80,8 +80,8 @@ class Description:
         room = ctypes.create_string_buffer(TEXT_ROOM)
         told = load().geocom_description_reply(said, len(said), came, len(came), room, TEXT_ROOM)
         check(told.fault)
-        raw, places = room.raw, told.places[: told.items]
-        items = (raw[place.offset : place.offset + place.length] for place in places)
+        raw, spans = room.raw, told.item_spans[: told.items]
+        items = (raw[each.offset : each.offset + each.length] for each in spans)
         return told.reading, told.code, tuple(item.decode("latin-1") for item in items)
 
     def value(self, items: tuple[str, ...]) -> Any:

@@ -59,9 +59,9 @@ class UnknownProcedure(Fault):
 
 
 class WindowFull(Fault):
-    """31: as many requests wait as the width allows."""
+    """31: as many requests are outstanding as the width allows."""
 
-    text = "as many requests wait as the width allows"
+    text = "as many requests are outstanding as the width allows"
 
 
 class BadWidth(Fault):
@@ -82,10 +82,10 @@ class NoClient(Fault):
     text = "the state is no client's, or no session's"
 
 
-class NotBegun(Fault):
-    """67: the client hasn't begun."""
+class NotSynchronized(Fault):
+    """67: the client hasn't synchronized."""
 
-    text = "the client hasn't begun"
+    text = "the client hasn't synchronized"
 
 
 class InTable(Fault):
@@ -178,7 +178,7 @@ _FAULTS: dict[int, type[Fault]] = {
     61: BadWidth,
     62: NoRoom,
     63: NoClient,
-    67: NotBegun,
+    67: NotSynchronized,
     68: InTable,
     69: NoInstrument,
     71: NoDescription,

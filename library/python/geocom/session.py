@@ -65,18 +65,18 @@ class Step(NamedTuple):
 
 class Session:
     """A session, in which up to `width` requests are in flight at a time. One thread at a time may
-    call it. `timeout` is how long a null procedure may take, `quiet` how long a pause is at least,
+    call it. `timeout` is how long a null procedure may take, `settle` how long a pause is at least,
     and how long a new connection has to be silent.
     """
 
-    def __init__(self, width: int = 1, timeout: int = 10_000, quiet: int = 2_000):
+    def __init__(self, width: int = 1, timeout: int = 10_000, settle: int = 2_000):
         self._calls = load()
         self._state = _Session()
         self._records = (_Settlement * WINDOW)()
         self._line = ctypes.create_string_buffer(LINE_ROOM)
         self._text = ctypes.create_string_buffer(TEXT_ROOM)
         width = width if 0 <= width < 256 else 0
-        check(self._calls.geocom_session_init(self._state, width, timeout, quiet))
+        check(self._calls.geocom_session_init(self._state, width, timeout, settle))
 
     def next(self, want: Want, now: int) -> Step:
         """What is to be done now, if this is wanted."""
@@ -127,7 +127,7 @@ class Session:
         return settled
 
     def restart(self) -> None:
-        """Loses all that is outstanding, and begins anew, with a line feed first."""
+        """Loses all that is outstanding, and starts over, with a line feed first."""
         check(self._calls.geocom_session_restart(self._state, self._records, WINDOW).fault)
 
     @property
@@ -156,7 +156,7 @@ class Session:
         """What remains of a pause, and the quiet time after it, which a first connection hasn't."""
         state = self._state
         paused = state.since + state.pause - now if state.phase == _PAUSING else 0
-        return int(max(0, paused) + (state.quiet if state.stretch else 0))
+        return int(max(0, paused) + (state.settle if state.stretch else 0))
 
 
 @functools.lru_cache(maxsize=256)

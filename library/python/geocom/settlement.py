@@ -96,7 +96,7 @@ class Settlement:
         """The items of a refusal's line, read by the library as those of the same line with return
         code 0.
         """
-        from .client import begun
+        from .client import synchronized
 
         line = _CODES.sub("%R1P,0,0:0", self.line or "")
         if self.description:
@@ -104,7 +104,7 @@ class Settlement:
             if reading != Reading.VALUE:
                 raise Unreadable(self)
             return items
-        client = begun()
+        client = synchronized()
         if procedure := TABLE.get(self.procedure):
             zeros = ",".join("'00'" if kind == "Byte" else "0" for kind in procedure.kinds)
             client.send(0, 0, self.procedure, zeros)
@@ -131,7 +131,7 @@ class Request:
         self.procedure, self.parameters, self.target = procedure, parameters, target
         self.timeout, self.is_raw, self.description = timeout, is_raw, description
         #: The stretch that it has to go out in, where a chain asks for it: one ends with its
-        #: connection, and where the station begins anew.
+        #: connection, and where the station resynchronizes.
         self.within: int | None = None
         #: How many sign-ons the caller knew of; after a further one it goes out no more.
         self.known: int | None = None
@@ -161,14 +161,14 @@ class Request:
         return self.stretch is not None
 
     def is_over(self, now: int) -> bool:
-        """Whether it is settled, or given up by its deadline."""
+        """Whether it is settled, or its deadline has come."""
         return self.settlement is not None or (self.is_sent and self.deadline <= now)
 
     def end(self) -> Settlement:
-        """Its settlement; one that is given up is lost: no answer will be taken for it."""
-        return self.settlement or self.give_up()
+        """Its settlement; one that timed out is lost: no answer will be taken for it."""
+        return self.settlement or self.lose()
 
-    def give_up(self) -> Settlement:
+    def lose(self) -> Settlement:
         """It is lost: no answer will be taken for it."""
         self.settlement = Settlement(
             self.target, self.procedure, Outcome.LOST, Reading.NONE, 0, None, ()

@@ -26,14 +26,15 @@ class Station(Turns):
     socket or port as pyserial has it, or a call that opens one.
 
     `timeout` is how long an answer may take, in seconds, where a call says nothing else: longer
-    than the slowest answer when all is well. `quiet` is how long a new connection within a run has
+    than the slowest answer when all is well. `settle` is how long a new connection within a run has
     to be silent before a request goes out on it. `baud` is the speed of a device. `accept` has
     return codes that are taken as 0, as `RC.GRC_TMC_ACCURACY_GUARANTEE`. Threads may share a
     station: it asks one request at a time.
 
-    As a context manager it connects and begins at once: eight null procedures are answered, by
-    whose ids each reply to an earlier run is known and discarded. Without `with` it does so at the
-    first request, before which a ninth goes out. Each further connection is made as the rules say.
+    As a context manager it connects and synchronizes at once: eight null procedures are answered,
+    by whose ids each reply to an earlier run is known and discarded. Without `with` it does so at
+    the first request, before which a ninth goes out. Each further connection is made as the rules
+    say.
     """
 
     def __init__(
@@ -41,7 +42,7 @@ class Station(Turns):
         port: Where,
         *,
         timeout: float = 10.0,
-        quiet: float = 2.0,
+        settle: float = 2.0,
         baud: int = 19200,
         accept: Iterable[int] = (),
         clock: Callable[[], float] = time.monotonic,
@@ -49,7 +50,7 @@ class Station(Turns):
     ):
         self.timeout, self.accept = timeout, tuple(accept)
         self._described: dict[int, Description] = {}
-        session = Asked(1, milliseconds(timeout), milliseconds(quiet, 0))
+        session = Asked(1, milliseconds(timeout), milliseconds(settle, 0))
         super().__init__(opener(port, baud), session, clock, sleep)
         self._lock, self._process = threading.RLock(), os.getpid()
         #: The procedures by their names.
@@ -58,7 +59,7 @@ class Station(Turns):
 
     def __enter__(self) -> Station:
         try:
-            self.begin()
+            self.synchronize()
         except BaseException:
             self.close()
             raise
@@ -67,10 +68,10 @@ class Station(Turns):
     def __exit__(self, *_: object) -> None:
         self.close()
 
-    def begin(self, timeout: Optional[float] = None) -> None:
-        """Connects, and begins. Raises OSError where no connection is made, and NotReady where the
-        instrument doesn't answer in time: three times the station's timeout, where nothing else is
-        said, and the pause and the quiet time of a connection that isn't the first.
+    def synchronize(self, timeout: Optional[float] = None) -> None:
+        """Connects, and synchronizes. Raises OSError where no connection is made, and NotReady
+        where the instrument doesn't answer in time: three times the station's timeout, where
+        nothing else is said, and the pause and the quiet time of a connection that isn't the first.
         """
         patience = milliseconds(3 * self.timeout if timeout is None else timeout)
         self._refuse_fork()
@@ -172,8 +173,8 @@ class Station(Turns):
         """Runs a chain, and gives a row for each command.
 
         A command goes out once the one before it was answered with a value, with no new connection,
-        no new beginning and no sign-on in between; else the rest of the chain is skipped. What the
-        library refuses of any command is raised before one goes out.
+        no new synchronization and no sign-on in between; else the rest of the chain is skipped.
+        What the library refuses of any command is raised before one goes out.
         """
         return self._measure(chain, self.sign_ons)
 

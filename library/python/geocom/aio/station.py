@@ -24,7 +24,7 @@ class Station:
     Up to `width` requests are in flight at a time, 1 to 7, and no more than six, since the station
     holds back; further ones wait their turn, in order.
     A call that is cancelled leaves its request on the line: what becomes of it is dropped, and it
-    is given up at its deadline.
+    times out at its deadline.
     """
 
     def __init__(
@@ -32,14 +32,14 @@ class Station:
         port: Where,
         *,
         timeout: float = 10.0,
-        quiet: float = 2.0,
+        settle: float = 2.0,
         baud: int = 19200,
         accept: Iterable[int] = (),
         width: int = 1,
     ):
         self.timeout, self.accept = timeout, tuple(accept)
         self._described: dict[int, Description] = {}
-        self._session = Asked(width, milliseconds(timeout), milliseconds(quiet, 0))
+        self._session = Asked(width, milliseconds(timeout), milliseconds(settle, 0))
         self._turns = Turns(opener(port, baud), self._session)
         #: The procedures by their names.
         self.aut, self.bap, self.com = Aut(self), Bap(self), Com(self)
@@ -47,7 +47,7 @@ class Station:
 
     async def __aenter__(self) -> Station:
         try:
-            await self.begin()
+            await self.synchronize()
         except BaseException:
             await self.close()
             raise
@@ -56,8 +56,8 @@ class Station:
     async def __aexit__(self, *_: object) -> None:
         await self.close()
 
-    async def begin(self, timeout: Optional[float] = None) -> None:
-        """As `geocom.Station.begin`."""
+    async def synchronize(self, timeout: Optional[float] = None) -> None:
+        """As `geocom.Station.synchronize`."""
         patience = milliseconds(3 * self.timeout if timeout is None else timeout)
         self._turns.join()
         if not self._session.is_ready:

@@ -35,8 +35,8 @@ class Turns:
         self._writer: Optional[Writer] = None
         self._tasks: dict[str, asyncio.Task[None]] = {}
         self._timer: Optional[asyncio.TimerHandle] = None
-        # What somebody waits for, a request or a beginning, and by when it has to go out, or to be
-        # done.
+        # What somebody waits for, a request or a synchronization, and by when it has to go out, or
+        # to be done.
         self._calls: dict[object, tuple[asyncio.Future[None], int]] = {}
         self._loop: Optional[asyncio.AbstractEventLoop] = None
         # Who measures a chain has it. It is made where a loop runs, which Python 3.9 asks for.
@@ -81,7 +81,7 @@ class Turns:
         await asyncio.gather(*tasks, return_exceptions=True)
 
     async def wait(self, request: object, timeout: int) -> None:
-        """Until the request is over, or the station has begun."""
+        """Until the request is over, or the station has synchronized."""
         if os.getpid() != self._process:
             raise RuntimeError("a station belongs to the process that made it: make one in each")
         future = asyncio.get_running_loop().create_future()
@@ -140,7 +140,7 @@ class Turns:
         """What somebody waits for, or has waited for until it was cancelled."""
         if self.wanted or any(not isinstance(call, Request) for call in self._calls):
             return Want.SEND
-        is_awaited = any(request.deadline > now for request in self.session.waiting.values())
+        is_awaited = any(request.deadline > now for request in self.session.outstanding.values())
         return Want.ANSWERS if is_awaited else Want.NOTHING
 
     def _break_off(self, failure: BaseException) -> int:

@@ -23,7 +23,7 @@ use Rattle.geocom_c.proofs.following.make_call.Goals as goal
 
 pub returns-in-Begin : goal.returns-in-Begin
 returns-in-Begin c = λ width s calls at.
-    let b = c.geocom_client_begin.ensures.heard (search rules) (record { width = width; ids = s.reached.client }) s.rest at.stands in
+    let b = c.geocom_client_synchronize.ensures.heard (search rules) (record { width = width; ids = s.reached.client }) s.rest at.stands in
     record {
       stage = record s { rest = rest_behind s.rest c.in-Begin.bytes.now; left = left_by_bytes s.left s.rest c.in-Begin.bytes.now };
       at = record { stands = b.1; left = b.2 ∙ ap (λ l. left_by_bytes l s.rest c.in-Begin.bytes.now) at.left };

@@ -5,7 +5,7 @@ use Rattle.geocom_c.specs.Beginning.{left_by_bytes}
 use Rattle.geocom_c.specs.declared.answers.GeocomBeginning.{GeocomBeginning}
 use Rattle.geocom_c.specs.declared.header.TheConstants.{NO_CLIENT}
 use Rattle.geocom_c.proofs.Answering.{none_left_at_eight, some_left_below_eight}
-use Rattle.geocom_c.proofs.beginning.geocom_client_begin.Goals as goal
+use Rattle.geocom_c.proofs.beginning.geocom_client_synchronize.Goals as goal
 
 pub returns-in_default-clause-heard : goal.returns-in_default-clause-heard
 returns-in_default-clause-heard c = λ room c' rest s. absurd (c.in_default.not-Some c' (c.load.ensures.only c' rest s))

@@ -1,6 +1,6 @@
 use Rattle.std.proofs.Common.{◌≡◌, ◌∙◌, Some, None, sym}
 use Rattle.geocom_c.specs.declared.header.TheConstants.{NO_CLIENT}
-use Rattle.geocom_c.proofs.calls.geocom_client_waiting.Goals as goal
+use Rattle.geocom_c.proofs.calls.geocom_client_outstanding.Goals as goal
 
 pub returns-in-Some-clause-astray : goal.returns-in-Some-clause-astray
 returns-in-Some-clause-astray c = (λ e. let zero : 0 ≡ NO_CLIENT = sym c.counted.ensures.fault ∙ e in cc, λ astray. absurd (astray _ _ c.in-Some.ensures.found))
