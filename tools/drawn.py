@@ -16,7 +16,7 @@ import records
 from faulty import Faulty
 from followed import Refused
 
-NEEDED = ["time", "target", "name", "procedure", "outcome", "rc_com", "rc", "values"]
+NEEDED = ["time", "step", "target", "name", "procedure", "outcome", "rc_com", "rc", "values"]
 # The columns that are no values of a row's own answer: those of `tools/reduce`.
 PLACES = ["target_easting_m", "target_northing_m", "target_height_m"]
 # How far from zero a decimal of the protocol is at most.

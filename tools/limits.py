@@ -213,7 +213,7 @@ class Watch:
     row counts. It is surely good where that is so by the rows alone that aren't of quality `warning`: silences that ignore those ask for it.
     """
 
-    # Of each limit whether the last good rows of earlier cycles were outside, and those of the current cycle, each with its place.
+    # Of each limit whether the last good rows of earlier cycles were outside, and those of the current cycle, each with its step.
     windows: dict = field(default_factory=dict)
     now: dict = field(default_factory=dict)
     # Of each silence how many cycles it lasts; the current cycle, and the columns of targets that had a value in it, each with its place
@@ -239,13 +239,13 @@ class Watch:
             return []
         self.begun = self.begun or [fields["time"], at]
         lines = self.begin(limits, fields, repeats)
-        target, place = str(int(fields["target"])), int(fields["place"])
+        target, step = str(int(fields["target"])), int(fields["step"])
         if records.attempt_of(fields) > 1:
-            self.forget(place)
+            self.forget(step)
         self.names[target] = fields["name"]
         if quantities.measures(fields) and target not in self.measured:
             self.measured.append(target)
-        new = [[place, target, column, is_sure(fields)] for column in self.columns(limits, fields)]
+        new = [[step, target, column, is_sure(fields)] for column in self.columns(limits, fields)]
         self.seen += new
         for surely in (False, True) if new else ():
             if self.is_good(limits, target, surely):
@@ -253,13 +253,13 @@ class Watch:
         for limit in limits:
             if limit.target == target and not limit.is_silence() and limit.counts(fields):
                 lines += self.compare(limit, fields, repeats)
-        self.taken.append([place, records.attempt_of(fields)])
+        self.taken.append([step, records.attempt_of(fields)])
         return lines
 
-    def forget(self, place):
+    def forget(self, step):
         """Forgets what an earlier attempt of this command came to in the cycle: the last one counts."""
-        self.seen = [each for each in self.seen if each[0] != place]
-        self.now = {key: [each for each in rows if each[0] != place] for key, rows in self.now.items()}
+        self.seen = [each for each in self.seen if each[0] != step]
+        self.now = {key: [each for each in rows if each[0] != step] for key, rows in self.now.items()}
 
     @staticmethod
     def columns(limits, fields):
@@ -340,7 +340,7 @@ class Watch:
             return []
         is_angle = limit.column.endswith("_rad")
         apart = difference(value, limit.reference) if is_angle else value - limit.reference
-        self.now.setdefault(limit.key(), []).append([int(fields["place"]), int(abs(apart) > limit.tolerance)])
+        self.now.setdefault(limit.key(), []).append([int(fields["step"]), int(abs(apart) > limit.tolerance)])
         self.windows[limit.key()] = self.windows.get(limit.key(), [])[-limit.of:]
         window = (self.windows[limit.key()] + [is_outside for _, is_outside in self.now[limit.key()]])[-limit.of:]
         said = f"{fields['time']} {self.called(limit)}: {limit.column} is {shown(value)}, "
@@ -385,9 +385,9 @@ class Watch:
         return level + ("station" if limit.target == ALL else f"target {limit.target}" + (f" ({name})" if name else ""))
 
     def is_behind(self, fields):
-        """Whether a row comes after those that were taken, by its run, its cycle, its place and its attempt. The attempts of a chain come
-        one after the other, so within a cycle places may go back."""
+        """Whether a row comes after those that were taken, by its run, its cycle, its step and its attempt. The attempts of a chain come
+        one after the other, so within a cycle steps may go back."""
         at = [fields.get("run", ""), int(fields["cycle"])]
         if self.cycle is None or at != self.cycle:
             return self.cycle is None or at > self.cycle
-        return [int(fields["place"]), records.attempt_of(fields)] not in self.taken
+        return [int(fields["step"]), records.attempt_of(fields)] not in self.taken

@@ -7,7 +7,7 @@ procedure outside the table, if the station's text describes it, has them in the
 
 import re
 
-from records import COLUMNS, GOOD, RETURNED
+from records import COLUMNS, GOOD, NEEDED, RETURNED
 
 # How a number is spelt, for python and for PostgreSQL. What isn't spelt so is no quantity.
 NUMBER = r"^[-+]?(?:[0-9]+\.?[0-9]*|\.[0-9]+)(?:[eE][-+]?[0-9]{1,3})?$"
@@ -81,16 +81,22 @@ HAS_VALUES = f"""(quality IN ({', '.join(f"'{word}'" for word in GOOD)})
 # Whether a row `one` is of the last attempt of its command in a cycle, and not of the set-up.
 IS_LAST = """one.cycle > 0 AND NOT EXISTS (
     SELECT 1 FROM record AS other WHERE other.source = one.source AND other.run = one.run AND other.cycle = one.cycle
-        AND other.place = one.place AND other.attempt > one.attempt)"""
+        AND other.step = one.step AND other.attempt > one.attempt)"""
 # What is looked for: times, a target over time, and the attempts of a command.
 INDEXES = [
     "CREATE INDEX IF NOT EXISTS record_time ON record (time)", "CREATE INDEX IF NOT EXISTS record_target ON record (target, time)",
-    "CREATE INDEX IF NOT EXISTS record_command ON record (source, run, cycle, place, attempt)",
+    "CREATE INDEX IF NOT EXISTS record_command ON record (source, run, cycle, step, attempt)",
 ]
 
 
+def lacking(names):
+    """The column without which rows can't go into a table `record` that has these, if there is one and the table is a follower's: one of an
+    earlier build has the steps of its rows under another name."""
+    return next((column for column in NEEDED if {"source", "line"} <= names and column not in names), None)
+
+
 def view(item, cast, further):
-    """The columns of a view: what distinguishes a row from others, and between its place and its attempt a column a quantity. `item` gives the
+    """The columns of a view: what distinguishes a row from others, and between its step and its attempt a column a quantity. `item` gives the
     SQL of the value at a place, `cast` that of its number, and `further` that of the text in a further column, which a described answer has."""
     columns = [", ".join(["source", "line", *COLUMNS[: COLUMNS.index("outcome")]])]
     for name in NAMES:

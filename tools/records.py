@@ -12,7 +12,7 @@ import re
 # The columns of a station's rows, of which the last ones come last in every table. Further ones are handed on under their names.
 LAST = ["quality", "attempt", "request"]
 COLUMNS = [
-    "run", "sent", "time", "cycle", "place", "target", "name", "procedure", "outcome", "fault", "rc_com", "rc", "values", *LAST,
+    "run", "sent", "time", "cycle", "step", "target", "name", "procedure", "outcome", "fault", "rc_com", "rc", "values", *LAST,
 ]
 # What `--columns` and `--json` add: the quantities of an answer; and those that answers of each procedure have, in their order.
 ANSWER_COLUMNS = [
@@ -38,7 +38,7 @@ RETURNED = {
     17017: ["hz_rad", "v_rad", "distance_m", "mode"],
 }
 MOMENTS = ["run", "sent", "time"]
-NUMBERS = ["cycle", "place", "target", "procedure", "fault", "rc_com", "rc", "attempt"]
+NUMBERS = ["cycle", "step", "target", "procedure", "fault", "rc_com", "rc", "attempt"]
 # end
 HEAD = ",".join(COLUMNS).encode() + b"\n"
 
@@ -50,10 +50,10 @@ def with_columns(columns):
 
 COLUMNS_HEAD = ",".join(with_columns(ANSWER_COLUMNS)).encode() + b"\n"
 # In the order of the counts, and the one that counts as skipped; those of a reply that came in time, and those of a command that wasn't sent.
-COUNTED = ["answered", "late", "lost", "skipped", "unreadable", "missed", "elsewhere", "unexpected", "disagree"]
+COUNTED = ["answered", "late", "lost", "skipped", "unreadable", "missed", "off_target", "unexpected", "disagree"]
 NO_VALUE = "no_value"
 OUTCOMES = [*COUNTED, NO_VALUE]
-REPLIED = ["answered", "unreadable", "elsewhere", "unexpected", "disagree"]
+REPLIED = ["answered", "unreadable", "off_target", "unexpected", "disagree"]
 UNSENT = ["skipped", "missed", NO_VALUE]
 # The qualities of an answer whose values read and count; and that of one whose command is sent once more, which counts only then.
 GOOD = ["ok", "warning"]
@@ -64,7 +64,7 @@ NEEDED = [column for column in COLUMNS if column not in LATER]
 # The member that is a list: the items of an answer to a procedure that isn't in the table.
 ITEMS = "items"
 # What no row has empty.
-FILLED = ["run", "time", "cycle", "place", "target", "procedure", "outcome", "attempt"]
+FILLED = ["run", "time", "cycle", "step", "target", "procedure", "outcome", "attempt"]
 # What a row has that doesn't say it, as one of an earlier version: it is of the first attempt.
 UNSAID = {"attempt": "1"}
 MOMENT = re.compile(r"[0-9]{4}-[0-9]{2}-[0-9]{2}T[0-9]{2}:[0-9]{2}:[0-9]{2}\.[0-9]{3}Z")
@@ -77,9 +77,9 @@ class NoRow(Exception):
 
 def counts_line(**count):
     """The last line of a run with so many commands of each outcome, of which so many answers are `refused`, and chains that went out
-    `again`; none of what isn't named."""
+    again, which are `retried`; none of what isn't named."""
     count["skipped"] = count.get("skipped", 0) + count.get(NO_VALUE, 0)
-    counts = {word: f"{word} {count.get(word, 0)}" for word in (*COUNTED, "again")}
+    counts = {word: f"{word} {count.get(word, 0)}" for word in (*COUNTED, "retried")}
     counts["answered"] += f" (refused {count.get('refused', 0)})"
     return " ".join(counts.values())
 
@@ -216,7 +216,7 @@ def last_attempts(rows):
     for fields in rows:
         if is_of_setup(fields):
             continue
-        command = tuple(fields.get(column, "") for column in ("run", "cycle", "place"))
+        command = tuple(fields.get(column, "") for column in ("run", "cycle", "step"))
         if attempt_of(fields) > 1 and command in places:
             kept[places[command]] = None
         places[command] = len(kept)

@@ -180,7 +180,7 @@ def row_of(site, target, orientation, place):
     row.update(zip(RESIDUALS, map(written, orientation.residuals.get(target.number, [None] * 3), ("rad", "m", "m"))))
     doubts = target.doubts(site) + orientation.doubts
     return row | {
-        "time": target.rows[-1]["time"], "place": target.rows[-1]["place"], "sent": target.rows[0].get("sent", ""),
+        "time": target.rows[-1]["time"], "step": target.rows[-1]["step"], "sent": target.rows[0].get("sent", ""),
         "values": ",".join(filter(None, values)), "quality": "warning" if doubts else "ok", "rc": "0", "pairs": str(len(target.pairs)),
         "index_rad": mean_of_pairs(target, "index"), "collimation_rad": mean_of_pairs(target, "collimation"),
         "orientation_rad": written(orientation.angle, "rad"),
@@ -263,7 +263,7 @@ class Cycles:
     cycles of the run so far: it may have its turn in some cycles alone. Rows of the set-up are in none."""
 
     def __init__(self):
-        self.at, self.rows, self.last_place = None, [], None
+        self.at, self.rows, self.last_step = None, [], None
 
     def take(self, fields):
         """Takes a row; gives the cycles that are over with it, each as its rows."""
@@ -273,11 +273,11 @@ class Cycles:
         if at != self.at:
             over += [self.rows] if self.rows else []
             is_same_run = self.at is not None and self.at[0] == at[0]
-            self.last_place = max(self.last_row_place, self.last_place or 0) if is_same_run else None
+            self.last_step = max(self.last_row_step, self.last_step or 0) if is_same_run else None
             self.at, self.rows = at, []
         self.rows.append(fields)
-        self.last_row_place = int(fields["place"])
-        if self.last_row_place == self.last_place and self.is_settled():
+        self.last_row_step = int(fields["step"])
+        if self.last_row_step == self.last_step and self.is_settled():
             over.append(self.rows)
             self.rows = []
         return over

@@ -46,7 +46,7 @@ def main():
     # A run that was ended leaves a part of its last cycle.
     whole, apart = [], []
     for run in runs_of(rows):
-        places = [(int(row["cycle"]), int(row["place"])) for row in run]
+        places = [(int(row["cycle"]), int(row["step"])) for row in run]
         assert places == [(number // 9 + 1, number % 9) for number in range(len(run))], places
         begun = [run[first : first + 9] for first in range(0, len(run) - 8, 9)]
         whole += begun

@@ -29,7 +29,7 @@ MOST_BYTES = 1 << 27
 SORTS = {
     "ok": ["ok"], "warning": ["warning"], "unconfirmed": ["unconfirmed"], "disagree": ["disagree"],
     "unexpected": ["unexpected"], "refused": ["refused"],
-    "unanswered": ["late", "lost", "unreadable", "elsewhere"], "unsent": ["skipped", "missed", "no_value"],
+    "unanswered": ["late", "lost", "unreadable", "off_target"], "unsent": ["skipped", "missed", "no_value"],
 }
 SORT_OF = {outcome: sort for sort, outcomes in SORTS.items() for outcome in outcomes}
 # The columns of a table of reductions that are shown where no limit names one.
@@ -336,7 +336,7 @@ class Station:
         target.is_measured |= quantities.measures(fields)
         if is_good(fields, target.is_measured):
             target.good = moment
-        command = [fields.get(column, "") for column in ("run", "cycle", "place")]
+        command = [fields.get(column, "") for column in ("run", "cycle", "step")]
         entry = (moment, SORT_OF.get(drawn.outcome_of(fields) or "ok", "unanswered"))
         self.take_back(command, fields)
         insort(target.outcomes, entry)

@@ -113,7 +113,7 @@ def every_row_once(found):
     commands, too: the last cycle may have one row."""
     rows = [row for rows in found.values() for row in rows if not is_of_setup(row)]
     expect_each_once(rows[: len(rows) // 2 * 2], 2, len(rows) // 2)
-    assert len(rows) % 2 == 0 or (rows[-1]["cycle"], rows[-1]["place"]) == (str(len(rows) // 2 + 1), "0"), rows[-1]
+    assert len(rows) % 2 == 0 or (rows[-1]["cycle"], rows[-1]["step"]) == (str(len(rows) // 2 + 1), "0"), rows[-1]
 
 
 def change(station, changes, seconds):

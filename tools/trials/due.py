@@ -68,5 +68,5 @@ def missing(rows, commands, cycles):
     """Those of so many cycles that haven't a row of each command."""
     places = {}
     for row in rows:
-        places.setdefault(int(row["cycle"]), set()).add(int(row["place"]))
+        places.setdefault(int(row["cycle"]), set()).add(int(row["step"]))
     return [cycle for cycle in range(1, cycles + 1) if places.get(cycle) != set(range(commands))]

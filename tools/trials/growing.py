@@ -29,7 +29,7 @@ def row(chance, number):
     target, name, hz, v, distance = TARGETS[number // len(COMMANDS) % len(TARGETS)]
     place = number % (len(COMMANDS) * len(TARGETS))
     procedure = COMMANDS[number % len(COMMANDS)]
-    outcome = chance.choices([b"answered", b"late", b"lost", b"skipped", b"unreadable", b"missed", b"elsewhere", b"unexpected", b"disagree"],
+    outcome = chance.choices([b"answered", b"late", b"lost", b"skipped", b"unreadable", b"missed", b"off_target", b"unexpected", b"disagree"],
                              [80, 3, 3, 6, 1, 2, 1, 1, 1])[0]
     fault = rc_com = rc = values = quality = b""
     if outcome == b"answered":
@@ -49,11 +49,11 @@ def row(chance, number):
             quality = b"unconfirmed"
     elif outcome == b"unreadable":
         fault, rc_com, rc, values = b"11", b"0", b"0", rb'"x,\xff\x00%d"' % number
-    elif outcome in (b"elsewhere", b"unexpected", b"disagree"):
+    elif outcome in (b"off_target", b"unexpected", b"disagree"):
         rc_com, rc, values = b"0", b"0", b'"%.9f,%.9f"' % (hz + 0.5, v)
     sent = b"" if outcome.decode() in UNSENT else stamp(moment - datetime.timedelta(milliseconds=1_234))
     fields = {
-        "run": RUN, "sent": sent, "time": stamp(moment), "cycle": b"%d" % (number // (len(COMMANDS) * len(TARGETS)) + 1), "place": b"%d" % place,
+        "run": RUN, "sent": sent, "time": stamp(moment), "cycle": b"%d" % (number // (len(COMMANDS) * len(TARGETS)) + 1), "step": b"%d" % place,
         "target": b"%d" % target, "name": name, "procedure": procedure, "outcome": outcome, "fault": fault, "rc_com": rc_com, "rc": rc,
         "values": values, "quality": quality, "attempt": b"2" if number % 7 == 3 else b"1",
         "request": b'"%%R1Q,%b,%d:"' % (procedure, number % 8) if sent else b"",

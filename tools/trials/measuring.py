@@ -60,20 +60,20 @@ def rows_of(written):
 
 def counts_of(rows, sendings=1):
     """The last line of a run with these rows: how the commands of cycles ended, each in the last attempt of its chain, and how many times
-    a chain was sent again. The rows of an attempt directly follow those of the one before, and begin with the chain's first place. Under
+    a chain was sent again. The rows of an attempt directly follow those of the one before, and begin with the chain's first step. Under
     `agree` an attempt has two sendings, which the rows have as attempts."""
-    kept, again, last = [], 0, None
+    kept, retried, last = [], 0, None
     for row in rows:
         if row["cycle"] == "0":
             continue
         if last and int(row["attempt"]) == int(last["attempt"]) + 1 and int(row["attempt"]) % sendings == 1 % sendings:
-            again += 1
-            while kept and kept[-1]["cycle"] == row["cycle"] and int(kept[-1]["place"]) >= int(row["place"]):
+            retried += 1
+            while kept and kept[-1]["cycle"] == row["cycle"] and int(kept[-1]["step"]) >= int(row["step"]):
                 kept.pop()
         kept.append(row)
         last = row
     refused = sum(row["quality"] == "refused" for row in kept)
-    return counts_line(**collections.Counter(row["outcome"] for row in kept), refused=refused, again=again)
+    return counts_line(**collections.Counter(row["outcome"] for row in kept), refused=refused, retried=retried)
 
 
 def utc_of(row):
@@ -88,7 +88,7 @@ def outcomes_of(rows):
 
 def expect_each_once(rows, commands, cycles):
     """There is a row for each command of each cycle, in order, and none besides."""
-    places = [(int(row["cycle"]), int(row["place"]), int(row["attempt"])) for row in rows]
+    places = [(int(row["cycle"]), int(row["step"]), int(row["attempt"])) for row in rows]
     assert places == [(cycle, place, 1) for cycle in range(1, cycles + 1) for place in range(commands)], "cycles, places and attempts"
 
 

@@ -66,7 +66,7 @@ class Survey:
                 rc, values, quality = (8710, "", "refused") if number in hidden else (0, values, "ok")
                 time = self.moment(cycle) + datetime.timedelta(seconds=1 + 2 * place)
                 sent = stamp(time - datetime.timedelta(seconds=1)).decode()
-                row = {"run": RUN, "sent": sent, "time": stamp(time).decode(), "cycle": cycle, "place": place, "target": number, "name": f"P{number}",
+                row = {"run": RUN, "sent": sent, "time": stamp(time).decode(), "cycle": cycle, "step": place, "target": number, "name": f"P{number}",
                        "procedure": 2108, "outcome": "answered", "rc_com": 0, "rc": rc, "values": values, "quality": quality}
                 rows.append(line_of(row)[:-1] + f"{more}\n".encode())
                 place += 1

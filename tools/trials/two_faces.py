@@ -92,7 +92,7 @@ class Month:
         elif outcome == "refused":
             how = {"outcome": "answered", "rc_com": 0, "rc": 1285, "quality": "refused"}
         sent = stamp(moment - datetime.timedelta(seconds=1)).decode()
-        return line_of({"run": "2026-10-31T23:59:50.000Z", "sent": sent, "time": stamp(moment).decode(), "cycle": cycle, "place": place, "target": target,
+        return line_of({"run": "2026-10-31T23:59:50.000Z", "sent": sent, "time": stamp(moment).decode(), "cycle": cycle, "step": place, "target": target,
                         "name": name, "procedure": procedure, "attempt": attempt, **how})
 
     def table(self, seed=3):

@@ -6,7 +6,7 @@ use Rattle.gc_lines.specs.Readers.{header_at, reply_at}
 use Rattle.gc_catalogue.specs.declared.asked.Asked.TheVariants.{Table}
 use Rattle.gc_catalogue.specs.declared.call.Call.TheVariants.{InstrumentNo}
 use Rattle.gc_client.specs.declared.window.TheConstants.{WINDOW}
-use Rattle.gc_texts.specs.Nears.{is_elsewhere}
+use Rattle.gc_texts.specs.Nears.{is_off_target}
 use Rattle.gc_station.specs.Beginnings.{SynchronizesAnew}
 use Rattle.gc_station.specs.Parts as part
 use Rattle.gc_station.specs.Parts.{Part}
@@ -38,24 +38,24 @@ all_parts =
 
 -- the parts of the run are `all_parts`
 parts_are : parts plan commands scope acts ≡ all_parts
-unfolding is_elsewhere header_at reply_at digits
+unfolding is_off_target header_at reply_at digits
 parts_are = refl
 
 -- the turns of the second synchronization show the station the steps `all_sync_steps`
 shown_anew : shown counting turns (begins left_by_first) ≡ all_sync_steps
-unfolding is_elsewhere header_at reply_at digits
+unfolding is_off_target header_at reply_at digits
 shown_anew = refl
 
 -- the acts until the station resynchronizes are a run
 runs_until_anew : Runs plan commands (opening plan scope) acts_until_anew
-unfolding is_elsewhere header_at reply_at digits
+unfolding is_off_target header_at reply_at digits
 runs_until_anew =
     runs-append plan commands (opening plan scope) (begun_with null_replies []) six_unanswered (opens_counting 7 commands scope.reads)
     (tt, (refl, (tt, (tt, (refl, (tt, (refl, (tt, (refl, (tt, (refl, (tt, (refl, (tt, (refl, (tt, (tt, tt)))))))))))))))))
 
 -- the acts from there on, in which the station resynchronizes, are a run from the model that the acts before them leave
 runs_anew : Runs plan commands (state_after plan commands scope acts_until_anew) acts_anew
-unfolding is_elsewhere header_at reply_at digits
+unfolding is_off_target header_at reply_at digits
 runs_anew =
     runs-append plan commands (state_after plan commands scope acts_until_anew) (take 9 acts_anew) (drop 9 acts_anew)
     (tt, (refl, (tt, (tt, (tt, (refl, (tt, (tt, (tt, tt)))))))))
@@ -63,17 +63,17 @@ runs_anew =
 
 -- after the acts `acts_until_anew`, by the end of which six requests have timed out, the station resynchronizes at the next act
 resynchronizes_next : SynchronizesAnew plan commands scope acts_until_anew (Told (at 115))
-unfolding is_elsewhere header_at reply_at digits
+unfolding is_off_target header_at reply_at digits
 resynchronizes_next = record { resynchronizes = record { renews = refl; moment = at 115; told = refl; why = inl (inl (lit≤ tt)); given_up = refl }; word = refl; client = refl }
 
 -- the answer was made on executing the last command's request, the new client's first one after its null procedure
 was_made : WasMadeOn WINDOW counting from moves_anew 9 (Table InstrumentNo) answer
-unfolding is_elsewhere header_at reply_at digits
+unfolding is_off_target header_at reply_at digits
 was_made = record { front = take 7 moves_anew; later = drop 8 moves_anew; split = refl; id = 1; rest = []; reaches = refl; executed = refl; reply = refl }
 
 -- this run resynchronizes, and the last command has its own answer
 pub answered_anew : IsAnsweredAnew
-unfolding is_elsewhere header_at reply_at digits
+unfolding is_off_target header_at reply_at digits
 answered_anew =
     record {
       instrument = counted_in_field.instrument;

@@ -6,7 +6,7 @@ use Rattle.gc_lines.specs.Readers.{header_at, reply_at}
 use Rattle.gc_values.specs.Decimals.{rounded}
 use Rattle.gc_instrument.specs.Execution.{exec}
 use Rattle.gc_instrument.specs.Replying.{handed}
-use Rattle.gc_texts.specs.Nears.{is_elsewhere}
+use Rattle.gc_texts.specs.Nears.{is_off_target}
 use Rattle.gc_texts.specs.declared.tasks.Task.{Task}
 use Rattle.gc_station.specs.Links.{AreChained, parts}
 use Rattle.std.proofs.lemmas.Option.{same_Some}
@@ -40,17 +40,17 @@ none_turns (suc (suc p)) task above under e = absurd (omega (arith, under))
 -- the run's parts are these: one with these steps, and with the three commands by place and moment; and the empty one
 -- after the end
 parts_are : parts plan commands scope acts ≡ one_part (asked_each replies) (seen moves) ((0, 15, 1) ∷ (1, 20, 2) ∷ (2, 25, 3) ∷ [])
-unfolding is_elsewhere header_at reply_at digits rounded
+unfolding is_off_target header_at reply_at digits rounded
 parts_are = refl
 
 -- what happens while the station synchronizes shows the null procedures and these replies
 pub shown_are : shown simulator_ends eight_answered (begins at_start) ≡ asked_each replies
-unfolding is_elsewhere header_at reply_at handed exec digits rounded
+unfolding is_off_target header_at reply_at handed exec digits rounded
 shown_are = refl
 
 -- this run of a chain is in the field, and the telescope points where the first command pointed it
 pub pointed_in_field : IsPointedInField
-unfolding is_elsewhere header_at reply_at handed exec digits rounded
+unfolding is_off_target header_at reply_at handed exec digits rounded
 pointed_in_field =
     record {
       field =

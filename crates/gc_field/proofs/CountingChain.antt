@@ -7,7 +7,7 @@ use Rattle.gc_lines.specs.Readers.{header_at, reply_at}
 use Rattle.gc_catalogue.specs.declared.asked.Asked.{Asked}
 use Rattle.gc_client.specs.declared.window.TheConstants.{WINDOW}
 use Rattle.gc_instrument.specs.State.{KeptReply}
-use Rattle.gc_texts.specs.Nears.{is_elsewhere}
+use Rattle.gc_texts.specs.Nears.{is_off_target}
 use Rattle.std.proofs.lemmas.Option.{same_Some}
 use Rattle.gc_field.specs.ChainWitness.{commands, points, reads_all, scope}
 use Rattle.gc_field.specs.Chains.{HasEffect}
@@ -83,34 +83,34 @@ counting_has_effect =
 
 -- `OpensWith` holds of the counting instrument's replies to all eight null procedures
 pub opens_counting : OpensWith null_replies
-unfolding is_elsewhere header_at reply_at digits
+unfolding is_off_target header_at reply_at digits
 opens_counting width tasks reads =
     (tt, (refl, (tt, (refl, (tt, (tt, (refl, (tt, (tt, (refl, (tt, (tt, (refl, (tt, (tt, (refl, (tt, (tt, (refl, (tt, (tt, (refl, (tt, (tt, (refl, (tt, (tt, tt)))))))))))))))))))))))))))
 
 -- the first answer was made on executing the first command's request
 first_made : WasMadeOn WINDOW counting stretch.from moves 9 points first_reply
-unfolding is_elsewhere header_at reply_at digits
+unfolding is_off_target header_at reply_at digits
 first_made = record { front = take 8 moves; later = drop 9 moves; split = refl; id = 1; rest = []; reaches = refl; executed = refl; reply = refl }
 
 -- the third answer was made on executing the third command's request
 third_made : WasMadeOn WINDOW counting stretch.from moves 11 reads_all third_reply
-unfolding is_elsewhere header_at reply_at digits
+unfolding is_off_target header_at reply_at digits
 third_made = record { front = take 18 moves; later = drop 19 moves; split = refl; id = 3; rest = []; reaches = refl; executed = refl; reply = refl }
 
 -- the run's parts are these: one with these steps, and with the three commands by place and moment; and the empty one
 -- after the end
 parts_are : parts plan commands scope acts ≡ one_part (asked_each null_replies) (seen moves) ((0, 15, 1) ∷ (1, 20, 2) ∷ (2, 25, 3) ∷ [])
-unfolding is_elsewhere header_at reply_at digits
+unfolding is_off_target header_at reply_at digits
 parts_are = refl
 
 -- what happens while the station synchronizes shows eight null procedures and these replies to them
 pub shown_are : shown counting eight_answered (begins at_start) ≡ asked_each null_replies
-unfolding is_elsewhere header_at reply_at digits
+unfolding is_off_target header_at reply_at digits
 shown_are = refl
 
 -- the run of `IsCountedInField` meets the premises of the law of chains, and the counts are as that law says
 pub counted_in_field : IsCountedInField
-unfolding is_elsewhere header_at reply_at digits
+unfolding is_off_target header_at reply_at digits
 counted_in_field =
     record {
       instrument = counting_is;

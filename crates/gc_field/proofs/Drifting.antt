@@ -11,7 +11,7 @@ use Rattle.gc_field.specs.Instrument.{IsAnInstrument, AnyState, never_kept}
 use Rattle.gc_field.specs.Begin.{begins, left_by_turns, none_under_way}
 use Rattle.gc_field.specs.Begun.{WasMadeOn}
 use Rattle.gc_field.specs.Drifting.{IsAnsweredByDrifting, acts, answer, null_replies, commands, drifting, moves, plan, program, scope, turns}
-use Rattle.gc_texts.specs.Nears.{is_elsewhere}
+use Rattle.gc_texts.specs.Nears.{is_off_target}
 use Rattle.gc_station.proofs.Going.{runs-append}
 use Rattle.gc_station.specs.Model.{opening}
 use Rattle.gc_field.specs.Field.{seen}
@@ -29,23 +29,23 @@ drifting_is = keeps_none ℕ drifting (λ line. refl) (λ s id call good small. 
 module _ (raw : RawCall) where
   -- the answer was made on executing the second command's request
   was_made : WasMadeOn WINDOW drifting (left_by_turns drifting turns (none_under_way 5)) (moves raw) 10 (Raw raw) answer
-  unfolding is_elsewhere header_at reply_at digits
+  unfolding is_off_target header_at reply_at digits
   was_made = record { front = take 16 (moves raw); later = drop 17 (moves raw); split = refl; id = 2; rest = []; reaches = refl; executed = refl; reply = refl }
 
   -- the run's parts are these: one with these steps, and with the two commands by place and moment; and the empty one
   -- after the end
   parts_are : parts plan (commands raw) scope (acts raw) ≡ one_part (part.Asks ∷ part.Asks ∷ asked_each null_replies) (seen (moves raw)) ((0, 220, 1) ∷ (1, 320, 2) ∷ [])
-  unfolding is_elsewhere header_at reply_at digits
+  unfolding is_off_target header_at reply_at digits
   parts_are = refl
 
   -- what happens while the station synchronizes shows two null procedures without a reply, and then eight with these replies
   shown_are : shown drifting turns (begins (none_under_way 5)) ≡ part.Asks ∷ part.Asks ∷ asked_each null_replies
-  unfolding is_elsewhere header_at reply_at digits
+  unfolding is_off_target header_at reply_at digits
   shown_are = refl
 
   -- this run is in the field, and its second command is answered
   pub answered : IsAnsweredByDrifting raw
-  unfolding is_elsewhere header_at reply_at digits
+  unfolding is_off_target header_at reply_at digits
   answered =
       record {
         instrument = drifting_is;

@@ -14,7 +14,7 @@ use Rattle.gc_field.specs.LateAnswer.{IsLateInField, acts, answer, commands, fro
 use Rattle.gc_field.specs.Begun.{WasMadeOn}
 use Rattle.gc_field.proofs.ChainWitness.{shown_are}
 use Rattle.gc_field.proofs.Witness.{asked_each, opening_fits, one_part, opens_simulator, units}
-use Rattle.gc_texts.specs.Nears.{is_elsewhere}
+use Rattle.gc_texts.specs.Nears.{is_off_target}
 use Rattle.gc_station.proofs.Going.{runs-append}
 use Rattle.gc_station.specs.Model.{opening}
 use Rattle.gc_field.specs.Field.{seen}
@@ -24,23 +24,23 @@ use Rattle.gc_station.specs.Links.{parts}
 
 -- the late reply was made on executing the first command's request
 late_made : WasMadeOn WINDOW simulator_ends from moves 9 (Table InstrumentNo) late
-unfolding is_elsewhere header_at reply_at handed exec digits
+unfolding is_off_target header_at reply_at handed exec digits
 late_made = record { front = take 8 moves; later = drop 9 moves; split = refl; id = 1; rest = []; reaches = refl; executed = refl; reply = refl }
 
 -- the answer was made on executing the second command's request
 answer_made : WasMadeOn WINDOW simulator_ends from moves 10 (Table InstrumentNo) answer
-unfolding is_elsewhere header_at reply_at handed exec digits
+unfolding is_off_target header_at reply_at handed exec digits
 answer_made = record { front = take 14 moves; later = drop 15 moves; split = refl; id = 2; rest = []; reaches = refl; executed = refl; reply = refl }
 
 -- the run's parts are these: one with these steps, and with the two commands by place and moment; and the empty one
 -- after the end
 parts_are : parts plan commands scope acts ≡ one_part (asked_each replies) (seen moves) ((0, 15, 1) ∷ (1, 115, 2) ∷ [])
-unfolding is_elsewhere header_at reply_at digits
+unfolding is_off_target header_at reply_at digits
 parts_are = refl
 
 -- this run is in the field, and records a late record and an answer
 pub late_in_field : IsLateInField
-unfolding is_elsewhere header_at reply_at handed exec digits
+unfolding is_off_target header_at reply_at handed exec digits
 late_in_field =
     record {
       field =

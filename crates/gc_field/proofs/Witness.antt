@@ -14,7 +14,7 @@ use Rattle.gc_client.specs.OneForOne.{Step}
 use Rattle.gc_instrument.specs.Execution.{exec}
 use Rattle.gc_instrument.specs.Replying.{handed}
 use Rattle.gc_instrument.specs.State.{IsFittingState, simulator_opening}
-use Rattle.gc_texts.specs.Nears.{is_elsewhere}
+use Rattle.gc_texts.specs.Nears.{is_off_target}
 use Rattle.gc_texts.specs.declared.tasks.Task.{Task}
 use Rattle.gc_station.specs.Parts as part
 use Rattle.gc_station.specs.Parts.{Part, idle_part}
@@ -51,7 +51,7 @@ OpensWith answers =
 
 -- `OpensWith` holds of the simulator's replies to all eight null procedures
 pub opens_simulator : OpensWith replies
-unfolding is_elsewhere header_at reply_at digits
+unfolding is_off_target header_at reply_at digits
 opens_simulator width tasks reads =
     (tt, (refl, (tt, (refl, (tt, (tt, (refl, (tt, (tt, (refl, (tt, (tt, (refl, (tt, (tt, (refl, (tt, (tt, (refl, (tt, (tt, (refl, (tt, (tt, (refl, (tt, (tt, tt)))))))))))))))))))))))))))
 
@@ -115,7 +115,7 @@ ones_lack_the_word (inr (inr h)) = h
 
 -- the answer was made on executing the command's request, the client's first one after its null procedure
 was_made : WasMadeOn WINDOW simulator_ends (left_by_turns simulator_ends turns at_start) moves 9 (Table InstrumentNo) answer
-unfolding is_elsewhere header_at reply_at handed exec digits
+unfolding is_off_target header_at reply_at handed exec digits
 was_made = record { front = take 8 moves; later = drop 9 moves; split = refl; id = 1; rest = []; reaches = refl; executed = refl; reply = refl }
 
 -- the steps of a synchronization in which, for each of these lines in order, a null procedure is sent, and then the line is
@@ -131,17 +131,17 @@ all_sync_steps = part.Asks ∷ part.Hears (codes "%R1P,0,1:0,654321") ∷ part.H
 -- the run's parts are these: one with these steps, and with the command at place 0, which was sent
 -- after the moment 15 with the id 1; and the empty one after the end
 parts_are : parts plan commands scope acts ≡ one_part all_sync_steps (seen moves) ((0, 15, 1) ∷ [])
-unfolding is_elsewhere header_at reply_at digits
+unfolding is_off_target header_at reply_at digits
 parts_are = refl
 
 -- what happens while the station synchronizes shows the steps `all_sync_steps`
 shown_are : shown simulator_ends turns (begins at_start) ≡ all_sync_steps
-unfolding is_elsewhere header_at reply_at handed exec digits
+unfolding is_off_target header_at reply_at handed exec digits
 shown_are = refl
 
 -- this run is in the field, and its command is answered
 pub answered_in_field : SomeRunIsInField
-unfolding is_elsewhere header_at reply_at handed exec digits
+unfolding is_off_target header_at reply_at handed exec digits
 answered_in_field =
     record {
       field =

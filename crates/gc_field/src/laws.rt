@@ -97,7 +97,7 @@ pub fn few_killed_may_begin<State>()
 /// What holds of every run of a station, for any instrument, which may restart and change by itself at any time, over any number
 /// of connections, with whatever the line does, and whatever is in flight at the start, unless the ids in flight then have the
 /// word 6 5 4 3 2 1 0 7 as a subsequence. The run sends no command before it has synchronized, at first or again; and where it
-/// has, it has done so cleanly. Each answer that it records, from its first command on, also one that is unreadable or elsewhere,
+/// has, it has done so cleanly. Each answer that it records, from its first command on, also one that is unreadable or off target,
 /// was made on executing the very request of that cycle and place. The instrument executed each request that is late. Each of these
 /// requests reached it as the request line of the record's id and call. The records and the outstanding commands of cycles are the
 /// commands of cycles that had their turn, one for one, but for further attempts that were left out. The bytes that the station

@@ -9,7 +9,7 @@ use Rattle.gc_catalogue.specs.declared.call.Call.TheVariants.{InstrumentNo}
 use Rattle.gc_client.specs.declared.window.TheConstants.{WINDOW}
 use Rattle.gc_instrument.specs.Execution.{exec}
 use Rattle.gc_instrument.specs.Replying.{handed}
-use Rattle.gc_texts.specs.Nears.{is_elsewhere}
+use Rattle.gc_texts.specs.Nears.{is_off_target}
 use Rattle.gc_station.proofs.Going.{runs-append}
 use Rattle.gc_station.specs.Links.{parts}
 use Rattle.gc_station.specs.Model.{opening}
@@ -24,12 +24,12 @@ use Rattle.gc_harm.specs.Stretches.{IsSeenAs, once_synchronized, seen_harms, sho
 
 -- the run's parts are these: one with these steps, and with the two requests by place and moment; and the empty one after the end
 parts_are : parts plan commands scope acts ≡ one_part (asked_each replies) (seen_harms steps) ((0, 15, 1) ∷ (1, 20, 2) ∷ [])
-unfolding is_elsewhere header_at reply_at digits
+unfolding is_off_target header_at reply_at digits
 parts_are = refl
 
 -- what happens while the station synchronizes shows the null procedures and these replies
 shown_are : shown_harms simulator_ends turns (begins at_start) ≡ asked_each replies
-unfolding is_elsewhere header_at reply_at handed exec digits
+unfolding is_off_target header_at reply_at handed exec digits
 shown_are = refl
 
 -- the first answer is by a damaged line
@@ -44,7 +44,7 @@ second_own = record { front = until_damage ++ until_reached; later = drop 1 unti
 
 -- this run is over a line that damages, and records both answers
 pub damaged_station : IsDamagedStation
-unfolding is_elsewhere header_at reply_at handed exec digits
+unfolding is_off_target header_at reply_at handed exec digits
 damaged_station =
     record {
       field =

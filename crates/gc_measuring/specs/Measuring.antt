@@ -175,14 +175,14 @@ main_counts_text t = codes "answered " ++ decimal t.answered ++ codes " (refused
 abbrev pub other_counts_text : Tally → List ℕ
 other_counts_text t = codes "lost " ++ decimal t.lost ++ codes " skipped " ++ decimal t.skipped ++ codes " unreadable " ++ decimal t.unreadable ++ codes " "
 
--- what follows then: how many commands were missed, elsewhere, unexpected and in disagreement
+-- what follows then: how many commands were missed, off target, unexpected and in disagreement
 abbrev pub judged_counts_text : Tally → List ℕ
 judged_counts_text t =
-    codes "missed " ++ decimal t.missed ++ codes " elsewhere " ++ decimal t.elsewhere ++ codes " unexpected " ++ decimal t.unexpected ++ codes " disagree " ++ decimal t.disagree
+    codes "missed " ++ decimal t.missed ++ codes " off_target " ++ decimal t.off_target ++ codes " unexpected " ++ decimal t.unexpected ++ codes " disagree " ++ decimal t.disagree
 
 -- the end of the line of the counts: how many times a chain was sent again
 abbrev pub repeats_text : Tally → List ℕ
-repeats_text t = codes " again " ++ decimal t.again ++ codes "\n"
+repeats_text t = codes " retried " ++ decimal t.retried ++ codes "\n"
 
 -- the line of the counts of a run that is done, or whose end was asked for
 abbrev pub tally_line : Tally → List ℕ

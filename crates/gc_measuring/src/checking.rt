@@ -316,7 +316,7 @@ fn end_chain<W: Write>(
 }
 
 // Writes after which answers, by their return codes, and after which outcomes a chain is sent again, each after a space. An answer that
-// is `elsewhere` counts by that word alone, as does one that is `unexpected`, or `disagree`.
+// is `off_target` counts by that word alone, as does one that is `unexpected`, or `disagree`.
 fn outline_rule<W: Write>(rule: &Again, outline: &mut W) -> io::Result<()> {
     if rule.codes.codes[0] != 0 {
         write!(outline, " answered")?;
@@ -329,7 +329,7 @@ fn outline_rule<W: Write>(rule: &Again, outline: &mut W) -> io::Result<()> {
     }
     let outcomes = [
         ("unreadable", rule.unreadable),
-        ("elsewhere", rule.elsewhere),
+        ("off_target", rule.off_target),
         ("unexpected", rule.unexpected),
         ("disagree", rule.disagree),
         ("late", rule.late),

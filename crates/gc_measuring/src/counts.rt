@@ -77,21 +77,21 @@ pub fn write_other_counts<E: Write>(tally: Tally, messages: &mut E) -> io::Resul
     )
 }
 
-/// Writes what follows in the line of the counts after `write_other_counts`: how many commands were missed, elsewhere, unexpected and in
+/// Writes what follows in the line of the counts after `write_other_counts`: how many commands were missed, off target, unexpected and in
 /// disagreement.
 pub fn write_judged_counts<E: Write>(tally: Tally, messages: &mut E) -> io::Result<()>
     ensures { WritesIfOk E.contents messages.old messages.new result (judged_counts_text tally) }
 {
     let Tally {
         missed,
-        elsewhere,
+        off_target,
         unexpected,
         disagree,
         ..
     } = tally;
     write!(
         messages,
-        "missed {missed} elsewhere {elsewhere} unexpected {unexpected} disagree {disagree}"
+        "missed {missed} off_target {off_target} unexpected {unexpected} disagree {disagree}"
     )
 }
 
@@ -99,6 +99,6 @@ pub fn write_judged_counts<E: Write>(tally: Tally, messages: &mut E) -> io::Resu
 fn write_repeats<E: Write>(tally: Tally, messages: &mut E) -> io::Result<()>
     ensures { WritesIfOk E.contents messages.old messages.new result (repeats_text tally) }
 {
-    let again = tally.again;
-    writeln!(messages, " again {again}")
+    let retried = tally.retried;
+    writeln!(messages, " retried {retried}")
 }

@@ -14,8 +14,8 @@ const KEPT: usize = 7;
 struct RowAt {
     // The cycle, counted from 1; 0 for a row of the setup.
     cycle: u64,
-    // The place of its command in the text, as the row has it.
-    place: usize,
+    // Which command of the text it is of, as the row has it.
+    step: usize,
 }
 
 // The rows that are to be checked, from the first on to the last.
@@ -63,7 +63,7 @@ impl Doubts {
         }
         self.rows[KEPT - 1] = Some(RowAt {
             cycle: stamp.cycle,
-            place: stamp.turn.place,
+            step: stamp.turn.place,
         });
     }
 
@@ -159,12 +159,12 @@ impl DoubtNews {
 impl Range {
     // Writes the end of the line: the first of these rows, and the last, if it is another one.
     fn tell<E: Write>(self, messages: &mut E) -> io::Result<()> {
-        let RowAt { cycle, place } = self.first;
-        write!(messages, ", cycle {cycle}, place {place}")?;
+        let RowAt { cycle, step } = self.first;
+        write!(messages, ", cycle {cycle}, step {step}")?;
         let last = self.last;
-        if last.cycle != cycle || last.place != place {
-            let RowAt { cycle, place } = last;
-            write!(messages, " to cycle {cycle}, place {place}")?;
+        if last.cycle != cycle || last.step != step {
+            let RowAt { cycle, step } = last;
+            write!(messages, " to cycle {cycle}, step {step}")?;
         }
         writeln!(messages)
     }

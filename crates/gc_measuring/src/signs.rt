@@ -152,7 +152,7 @@ impl Signs {
     }
 
     // Notes that an answer came, also one with a return code other than 0, with values that can't be read, with a direction that is
-    // elsewhere, with values that weren't expected, or in disagreement with the one before.
+    // off target, with values that weren't expected, or in disagreement with the one before.
     fn note_answer(&mut self)
         ensures { self.new.counts ≡ self.old.counts }
     {
@@ -498,7 +498,7 @@ fn show_others<E: Write>(counts: Tally, row: &mut E) -> io::Result<()> {
         ("skipped", counts.skipped),
         ("unreadable", counts.unreadable),
         ("missed", counts.missed),
-        ("elsewhere", counts.elsewhere),
+        ("off_target", counts.off_target),
         ("unexpected", counts.unexpected),
         ("disagree", counts.disagree),
     ] {

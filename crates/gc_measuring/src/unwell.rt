@@ -21,8 +21,8 @@ enum Why {
     Code(u16),
     /// Its values don't read.
     Unreadable,
-    /// It was measured elsewhere.
-    Elsewhere,
+    /// It was measured off target.
+    OffTarget,
     /// Its values aren't those that its line `expect` says.
     Unexpected,
     /// Its values don't agree with those of the chain's first sending.
@@ -38,7 +38,7 @@ impl Why {
         match ending {
             Ending::Answered(Quality::Refused, _, line) => Some(Why::of_refusal(line)),
             Ending::Unreadable(..) => Some(Why::Unreadable),
-            Ending::Elsewhere(_) => Some(Why::Elsewhere),
+            Ending::OffTarget(_) => Some(Why::OffTarget),
             Ending::Unexpected(_) => Some(Why::Unexpected),
             Ending::Disagree(_) => Some(Why::Disagree),
             Ending::NoValue => Some(Why::NoValue),
@@ -63,7 +63,7 @@ impl Why {
             Why::Communication(code) => writeln!(messages, "refused, rc_com {code}"),
             Why::Code(code) => writeln!(messages, "refused {code}"),
             Why::Unreadable => writeln!(messages, "unreadable"),
-            Why::Elsewhere => writeln!(messages, "elsewhere"),
+            Why::OffTarget => writeln!(messages, "off_target"),
             Why::Unexpected => writeln!(messages, "unexpected"),
             Why::Disagree => writeln!(messages, "disagree"),
             Why::NoValue => {

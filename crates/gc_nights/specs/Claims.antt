@@ -9,7 +9,7 @@ use Rattle.gc_nights.specs.declared.halt.FalseRow.{FalseRow}
 use Rattle.gc_nights.specs.declared.halt.Halt.{Halt}
 use Rattle.gc_nights.specs.declared.halt.Halt.TheVariants.{Fault, Untrue}
 use Rattle.gc_rehearsal.specs.declared.truth.Truth.{Truth}
-use Rattle.gc_texts.specs.Endings.{End, Answered, Unreadable, Elsewhere, Disagree, Unexpected, Late}
+use Rattle.gc_texts.specs.Endings.{End, Answered, Unreadable, OffTarget, Disagree, Unexpected, Late}
 use Rattle.gc_texts.specs.declared.fault.RunFault.TheVariants.{Memory}
 use Rattle.gc_texts.specs.declared.quality.Quality.TheVariants.{Unconfirmed}
 use Rattle.gc_texts.specs.declared.wish.Wish.{Wish}
@@ -18,7 +18,7 @@ use Rattle.gc_texts.specs.declared.wish.Wish.{Wish}
 abbrev pub speaks_of_reply : End → Bool
 speaks_of_reply (Answered quality answer line) = true
 speaks_of_reply (Unreadable line fault) = true
-speaks_of_reply (Elsewhere line) = true
+speaks_of_reply (OffTarget line) = true
 speaks_of_reply (Disagree line) = true
 speaks_of_reply (Unexpected line) = true
 speaks_of_reply Late = true

@@ -96,7 +96,7 @@ fn speaks_of_reply(ending: Ending<'_>) -> bool
 {
     match ending {
         Ending::Answered(..) | Ending::Unreadable(..) => true,
-        Ending::Elsewhere(_) | Ending::Unexpected(_) | Ending::Disagree(_) => true,
+        Ending::OffTarget(_) | Ending::Unexpected(_) | Ending::Disagree(_) => true,
         Ending::Late => true,
         Ending::Lost | Ending::Skipped | Ending::NoValue | Ending::Missed => false,
     }

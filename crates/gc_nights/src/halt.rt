@@ -116,15 +116,15 @@ fn tell_untrue<E: Write>(seed: u64, row: FalseRow, messages: &mut E) -> io::Resu
     tell_row(row, messages)
 }
 
-// Writes which row is false, by its target, its cycle (0: the setup), the place of its command in a cycle or the setup, counted from 0, and
+// Writes which row is false, by its target, its cycle (0: the setup), the step of its command in a cycle or the setup, counted from 0, and
 // the time at which the command ended.
 fn tell_row<E: Write>(row: FalseRow, messages: &mut E) -> io::Result<()> {
     let target = row.target;
     let cycle = row.stamp.cycle;
-    let place = row.stamp.turn.place;
+    let step = row.stamp.turn.place;
     let time = stamp_text(row.stamp.utc);
     write!(messages, "geocom: the row of target {target}, ")?;
-    write!(messages, "cycle {cycle}, place {place}, ")?;
+    write!(messages, "cycle {cycle}, step {step}, ")?;
     writeln!(
         messages,
         "time {} is false",

@@ -3,7 +3,7 @@ use Rattle.std.proofs.Common.{◌≡◌, inl, inr, ℕ, List, [], get_or, Option
 use Rattle.std.specs.Prelude.{codes}
 use Rattle.gc_catalogue.specs.declared.answer.Answer.{Answer}
 use Rattle.gc_values.specs.declared.fault.ValueFault.{ValueFault}
-use Rattle.gc_texts.specs.Endings.{End, Answered, Unreadable, Elsewhere, Disagree, Unexpected, Late, Lost, Skipped, NoValue, Missed, word_of, fault_of, quality_of, quality_text, line_of}
+use Rattle.gc_texts.specs.Endings.{End, Answered, Unreadable, OffTarget, Disagree, Unexpected, Late, Lost, Skipped, NoValue, Missed, word_of, fault_of, quality_of, quality_text, line_of}
 use Rattle.gc_texts.specs.declared.quality.Quality.{Quality}
 use Rattle.gc_rows.specs.Rows.{fault_field}
 use Rattle.gc_promise.specs.Fields.{IsOutcomeOfReply}
@@ -14,7 +14,7 @@ first_letter word = get_or word 0 0
 
 -- a word with the first letter of none of a reply's five outcomes, of which two begin alike, is no outcome of a reply
 pub no_outcome_of_reply : (word : List ℕ) → (first_letter word ≡ first_letter (codes "answered") → ⊥) → (first_letter word ≡ first_letter (codes "unreadable") → ⊥)
-    → (first_letter word ≡ first_letter (codes "elsewhere") → ⊥) → (first_letter word ≡ first_letter (codes "disagree") → ⊥) → IsOutcomeOfReply word → ⊥
+    → (first_letter word ≡ first_letter (codes "off_target") → ⊥) → (first_letter word ≡ first_letter (codes "disagree") → ⊥) → IsOutcomeOfReply word → ⊥
 no_outcome_of_reply word a u e d (inl is) = a (ap first_letter is)
 no_outcome_of_reply word a u e d (inr (inl is)) = u (ap first_letter is)
 no_outcome_of_reply word a u e d (inr (inr (inl is))) = e (ap first_letter is)
@@ -25,7 +25,7 @@ no_outcome_of_reply word a u e d (inr (inr (inr (inr is)))) = u (ap first_letter
 pub reply_ended : (end : End) → IsOutcomeOfReply (word_of end) → (line : List ℕ) × (line_of end ≡ Some line)
 reply_ended (Answered quality answer line) is = (line, refl)
 reply_ended (Unreadable line fault) is = (line, refl)
-reply_ended (Elsewhere line) is = (line, refl)
+reply_ended (OffTarget line) is = (line, refl)
 reply_ended (Disagree line) is = (line, refl)
 reply_ended (Unexpected line) is = (line, refl)
 reply_ended Late is = absurd (no_outcome_of_reply (codes "late") (λ e. omega (arith, e)) (λ e. omega (arith, e)) (λ e. omega (arith, e)) (λ e. omega (arith, e)) is)
@@ -46,7 +46,7 @@ not_unreadable word other is = other (ap first_letter is)
 pub is_answered : (end : End) → word_of end ≡ codes "answered" → (quality : Quality) × (values : Option Answer) × (line : List ℕ) × (end ≡ Answered quality values line)
 is_answered (Answered quality values line) word = (quality, values, line, refl)
 is_answered (Unreadable l fault) word = absurd (not_answered (codes "unreadable") (λ e. omega (arith, e)) word)
-is_answered (Elsewhere l) word = absurd (not_answered (codes "elsewhere") (λ e. omega (arith, e)) word)
+is_answered (OffTarget l) word = absurd (not_answered (codes "off_target") (λ e. omega (arith, e)) word)
 is_answered (Disagree l) word = absurd (not_answered (codes "disagree") (λ e. omega (arith, e)) word)
 is_answered (Unexpected l) word = absurd (not_answered (codes "unexpected") (λ e. omega (arith, e)) word)
 is_answered Late word = absurd (not_answered (codes "late") (λ e. omega (arith, e)) word)
@@ -70,7 +70,7 @@ unexpected_reads is = differ (ap third_letter is) where
 pub without_quality : (end : End) → (word_of end ≡ codes "answered" → ⊥) → quality_text (quality_of end) ≡ []
 without_quality (Answered quality values line) other = absurd (other refl)
 without_quality (Unreadable l fault) other = refl
-without_quality (Elsewhere l) other = refl
+without_quality (OffTarget l) other = refl
 without_quality (Disagree l) other = refl
 without_quality (Unexpected l) other = refl
 without_quality Late other = refl
@@ -83,7 +83,7 @@ without_quality Missed other = refl
 pub is_unreadable : (end : End) → word_of end ≡ codes "unreadable" → (line : List ℕ) × (why : ValueFault) × (end ≡ Unreadable line why)
 is_unreadable (Answered quality values l) word = absurd (not_unreadable (codes "answered") (λ e. omega (arith, e)) word)
 is_unreadable (Unreadable line why) word = (line, why, refl)
-is_unreadable (Elsewhere l) word = absurd (not_unreadable (codes "elsewhere") (λ e. omega (arith, e)) word)
+is_unreadable (OffTarget l) word = absurd (not_unreadable (codes "off_target") (λ e. omega (arith, e)) word)
 is_unreadable (Disagree l) word = absurd (not_unreadable (codes "disagree") (λ e. omega (arith, e)) word)
 is_unreadable (Unexpected l) word = absurd (unexpected_reads word)
 is_unreadable Late word = absurd (not_unreadable (codes "late") (λ e. omega (arith, e)) word)
@@ -96,7 +96,7 @@ is_unreadable Missed word = absurd (not_unreadable (codes "missed") (λ e. omega
 pub without_fault : (end : End) → (word_of end ≡ codes "unreadable" → ⊥) → fault_field (fault_of end) ≡ []
 without_fault (Answered quality values line) other = refl
 without_fault (Unreadable l fault) other = absurd (other refl)
-without_fault (Elsewhere l) other = refl
+without_fault (OffTarget l) other = refl
 without_fault (Disagree l) other = refl
 without_fault (Unexpected l) other = refl
 without_fault Late other = refl

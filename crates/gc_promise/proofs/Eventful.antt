@@ -11,7 +11,7 @@ use Rattle.gc_catalogue.specs.declared.asked.Asked.{Asked}
 use Rattle.gc_client.specs.OneForOne.{Step}
 use Rattle.gc_client.specs.Rule.{ById}
 use Rattle.gc_client.specs.declared.window.TheConstants.{WINDOW}
-use Rattle.gc_texts.specs.Nears.{is_elsewhere}
+use Rattle.gc_texts.specs.Nears.{is_off_target}
 use Rattle.gc_links.specs.Acts.{Act, Told}
 use Rattle.gc_station.specs.Beginnings.{SynchronizesAnew}
 use Rattle.gc_station.specs.Links.{AreChained}
@@ -80,24 +80,24 @@ all_parts =
 
 -- what happens in the first synchronization (`sync_turns`) shows the station the turns `sync_shown`
 sync_turns_show : shown reporting sync_turns (begins at_start) ≡ sync_shown
-unfolding is_elsewhere is_near header_at reply_at digits rounded
+unfolding is_off_target is_near header_at reply_at digits rounded
 sync_turns_show = refl
 
 -- what happens in the second synchronization (`anew_turns`) shows the station the turns `anew_shown`
 anew_turns_show : shown reporting anew_turns (begins left_by_first) ≡ anew_shown
-unfolding is_elsewhere is_near header_at reply_at digits rounded
+unfolding is_off_target is_near header_at reply_at digits rounded
 anew_turns_show = refl
 
 -- What happens on the line is possible.
 
 -- the turns of the first synchronization are possible
 sync_possible : AreTurns reporting AnyState never_kept sync_turns (begins at_start)
-unfolding is_elsewhere is_near header_at reply_at digits rounded
+unfolding is_off_target is_near header_at reply_at digits rounded
 sync_possible = (tt, (refl, (tt, (tt, (tt, (tt, (tt, (tt, (tt, (tt, (tt, (tt, ((tt, refl), units 24)))))))))))))
 
 -- the turns of the second synchronization are possible
 anew_possible : AreTurns reporting AnyState never_kept anew_turns (begins left_by_first)
-unfolding is_elsewhere is_near header_at reply_at digits rounded
+unfolding is_off_target is_near header_at reply_at digits rounded
 anew_possible = (tt, (tt, (tt, (tt, (tt, ((tt, refl), units 26))))))
 
 -- these moves are possible in this world
@@ -112,13 +112,13 @@ possible_append w (m ∷ earlier) later h g = (h.0, possible_append (moves repor
 
 -- the moves of the first cycle are possible
 first_possible : PossibleFrom (ids_begun first_stretch.from) first_moves
-unfolding is_elsewhere is_near header_at reply_at digits rounded
+unfolding is_off_target is_near header_at reply_at digits rounded
 first_possible =
     (tt, (tt, (tt, (tt, (tt, ((8, _, refl), (tt, (tt, (tt, (tt, (tt, (tt, (tt, (tt, (tt, ((10, _, refl), (tt, ((tt, refl), (tt, (tt, (tt, (tt, (tt, (tt, (tt, (tt, (tt, (tt, (tt, (tt, (tt, (tt, (tt, ((11, _, refl), units 12))))))))))))))))))))))))))))))))))
 
 -- the moves of the third cycle are possible
 last_possible : PossibleFrom (ids_begun last_stretch.from) last_moves
-unfolding is_elsewhere is_near header_at reply_at digits rounded
+unfolding is_off_target is_near header_at reply_at digits rounded
 last_possible =
     possible_append (ids_begun last_stretch.from) sent_moves (executed_moves ++ heard_moves)
     (tt, (tt, (tt, (tt, (tt, (tt, (tt, (tt, (tt, (tt, (tt, (tt, (tt, ((8, _, refl), (tt, (tt, (tt, (tt, (tt, (tt, ((9, _, refl), units 11)))))))))))))))))))))
@@ -157,7 +157,7 @@ command_1_is_chained (suc (suc p)) above upto = absurd (omega (arith, upto))
 -- the reply to command 0 in the first cycle was made on executing the request of command 0, which is request 9, the client's
 -- second one, and reaches the instrument at the ninth move
 pointed_reply_was_made : WasMadeOn WINDOW reporting first_stretch.from first_moves 9 points pointed_reply
-unfolding is_elsewhere is_near header_at reply_at digits rounded
+unfolding is_off_target is_near header_at reply_at digits rounded
 pointed_reply_was_made = record { front = take 8 first_moves; later = drop 9 first_moves; split = refl; id = 1; rest = []; reaches = refl; executed = refl; reply = refl }
 
 -- The station's part.
@@ -173,55 +173,55 @@ module _ (reads : Reads) where
 
   -- the acts until the second connection is made are a run
   sync_runs : RunsAfter [] (take 16 sync_acts)
-  unfolding is_elsewhere is_near header_at reply_at digits rounded
+  unfolding is_off_target is_near header_at reply_at digits rounded
   sync_runs = (tt, (tt, (tt, (tt, (refl, (tt, (refl, (tt, (tt, (tt, (refl, (tt, (tt, (tt, (refl, (tt, tt))))))))))))))))
 
   -- after the acts until the second connection is made, those by which all eight null procedures are answered are a run
   answers_eight : RunsAfter (take 16 sync_acts) (drop 16 sync_acts)
-  unfolding is_elsewhere is_near header_at reply_at digits rounded
+  unfolding is_off_target is_near header_at reply_at digits rounded
   answers_eight =
       (refl, (tt, (tt, (refl, (tt, (tt, (refl, (tt, (tt, (refl, (tt, (tt, (refl, (tt, (tt, (refl, (tt, (tt, (refl, (tt, (tt, (refl, (tt, (tt, tt))))))))))))))))))))))))
 
   -- after the synchronization, the acts until command 1 is skipped are a run
   first_runs : RunsAfter sync_acts (take 11 first_acts)
-  unfolding is_elsewhere is_near header_at reply_at digits rounded
+  unfolding is_off_target is_near header_at reply_at digits rounded
   first_runs = (tt, (refl, (tt, (tt, (refl, (tt, (tt, (refl, (tt, (tt, (tt, tt)))))))))))
 
   -- after the acts until command 1 is skipped, those until six requests have timed out are a run
   gives_up_runs : RunsAfter (sync_acts ++ take 11 first_acts) (drop 11 first_acts)
-  unfolding is_elsewhere is_near header_at reply_at digits rounded
+  unfolding is_off_target is_near header_at reply_at digits rounded
   gives_up_runs =
       (refl, (tt, (refl, (tt, (refl, (tt, (refl, (tt, (refl, (tt, (tt, (refl, (tt, (tt, (refl, (tt, (tt, (refl, (tt, (tt, (tt, (refl, (tt, (tt, tt))))))))))))))))))))))))
 
   -- after the acts until six requests have timed out, those until the fourth connection is made are a run
   anew_runs : RunsAfter acts_until_anew (take 16 anew_acts)
-  unfolding is_elsewhere is_near header_at reply_at digits rounded
+  unfolding is_off_target is_near header_at reply_at digits rounded
   anew_runs = (tt, (refl, (tt, (tt, (refl, (tt, (tt, (refl, (tt, (tt, (refl, (tt, (tt, (tt, (refl, (tt, tt))))))))))))))))
 
   -- after the acts until the fourth connection is made, those by which the other six null procedures are answered are a run
   answers_six : RunsAfter (acts_until_anew ++ take 16 anew_acts) (drop 16 anew_acts)
-  unfolding is_elsewhere is_near header_at reply_at digits rounded
+  unfolding is_off_target is_near header_at reply_at digits rounded
   answers_six = (refl, (tt, (tt, (refl, (tt, (tt, (refl, (tt, (tt, (refl, (tt, (tt, (refl, (tt, (tt, (refl, (tt, (tt, tt))))))))))))))))))
 
   -- after the new synchronization, the acts by which the second cycle is missed and the third begins are a run
   misses_runs : RunsAfter (acts_until_anew ++ anew_acts) (take 9 sent_acts)
-  unfolding is_elsewhere is_near header_at reply_at digits rounded
+  unfolding is_off_target is_near header_at reply_at digits rounded
   misses_runs = (tt, (tt, (tt, (tt, (tt, (tt, (tt, (tt, (tt, tt)))))))))
 
   -- after the acts with which the third cycle begins, those until its last request is cut are a run
   answers_runs : RunsAfter (acts_until_anew ++ (anew_acts ++ take 9 sent_acts)) (drop 9 sent_acts)
-  unfolding is_elsewhere is_near header_at reply_at digits rounded
+  unfolding is_off_target is_near header_at reply_at digits rounded
   answers_runs =
       (refl, (tt, (tt, (refl, (tt, (tt, (refl, (tt, (refl, (tt, (refl, (tt, (refl, (tt, (refl, (tt, ((refl, lit< tt), tt)))))))))))))))))
 
   -- after the acts until the last request is cut, those until the end are a run
   late_runs : RunsAfter (acts_until_anew ++ (anew_acts ++ sent_acts)) heard_acts
-  unfolding is_elsewhere is_near header_at reply_at digits rounded
+  unfolding is_off_target is_near header_at reply_at digits rounded
   late_runs = (refl, (tt, (tt, (tt, (refl, (tt, (tt, (tt, (tt, (refl, (tt, (tt, (refl, tt)))))))))))))
 
   -- all acts of the run are a run
   pub all_run : RunsAfter [] acts
-  unfolding is_elsewhere is_near header_at reply_at digits rounded
+  unfolding is_off_target is_near header_at reply_at digits rounded
   all_run =
       runs-append plan commands (opening plan patched_scope) acts_until_anew (anew_acts ++ last_acts)
       (runs-append plan commands (opening plan patched_scope) sync_acts first_acts
@@ -235,23 +235,23 @@ module _ (reads : Reads) where
 
   -- the parts of the run are `all_parts`
   parts_are : parts_of plan commands (opening plan patched_scope) acts ≡ all_parts
-  unfolding is_elsewhere is_near header_at reply_at digits rounded
+  unfolding is_off_target is_near header_at reply_at digits rounded
   parts_are = refl
 
   -- the records of the run are `records`
   written : (state_after plan commands patched_scope acts).records ≡ records
-  unfolding is_elsewhere is_near header_at reply_at digits rounded
+  unfolding is_off_target is_near header_at reply_at digits rounded
   written = refl
 
   -- after the acts `acts_until_anew`, by which six requests have timed out, the next act, which reads the moment 365, makes the
   -- station resynchronize
   begins_anew : SynchronizesAnew plan commands patched_scope acts_until_anew (Told (at 365))
-  unfolding is_elsewhere is_near header_at reply_at digits rounded
+  unfolding is_off_target is_near header_at reply_at digits rounded
   begins_anew = record { resynchronizes = record { renews = refl; moment = at 365; told = refl; why = inl (inl (lit≤ tt)); given_up = refl }; word = refl; client = refl }
 
   -- with the patched readings the run is eventful
   patched_is_eventful : IsEventful (patched reads)
-  unfolding is_elsewhere is_near header_at reply_at digits rounded
+  unfolding is_off_target is_near header_at reply_at digits rounded
   patched_is_eventful =
       record {
         is_instrument = reporting_is_instrument;
@@ -278,7 +278,7 @@ module _ (reads : Reads) where
   -- with the patched readings the acts are a whole run, which ends as done with this tally, and of which the texts of these
   -- records were taken
   patched_run : (text : Record → List ℕ) → RanTo plan commands (scope (patched reads)) text (Some []) (Some acts) (Some []) (Some (texts_of text records)) Done tally
-  unfolding is_elsewhere is_near header_at reply_at digits rounded
+  unfolding is_off_target is_near header_at reply_at digits rounded
   patched_run text =
       record { acts = acts; tells = refl; runs = all_run; stops = refl; took = ap (texts_of text) (sym written); counts = ap tally_of (sym written) }
 

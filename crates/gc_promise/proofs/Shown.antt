@@ -12,7 +12,7 @@ use Rattle.gc_catalogue.specs.declared.answer.Reading.{Reading}
 use Rattle.gc_catalogue.specs.declared.answer.Reading.TheVariants as reading
 use Rattle.gc_catalogue.specs.declared.asked.Asked.{Asked}
 use Rattle.gc_catalogue.specs.declared.asked.Asked.TheVariants.{Table, Raw}
-use Rattle.gc_texts.specs.Endings.{End, Answered, Unreadable, Elsewhere, Disagree, Unexpected, Late, Lost, Skipped, NoValue, Missed, word_of, fault_of, line_of, quality_of, quality_text}
+use Rattle.gc_texts.specs.Endings.{End, Answered, Unreadable, OffTarget, Disagree, Unexpected, Late, Lost, Skipped, NoValue, Missed, word_of, fault_of, line_of, quality_of, quality_text}
 use Rattle.gc_texts.specs.ColumnNames.{is_named}
 use Rattle.gc_texts.specs.Descriptions.{DescriptionSeen}
 use Rattle.gc_texts.specs.Logs.{escaped}
@@ -63,7 +63,7 @@ fault_shown (Some fault) shown is = is
 word_plain : (end : End) → escaped (word_of end) ≡ word_of end
 word_plain (Answered quality answer line) = refl
 word_plain (Unreadable line fault) = refl
-word_plain (Elsewhere line) = refl
+word_plain (OffTarget line) = refl
 word_plain (Disagree line) = refl
 word_plain (Unexpected line) = refl
 word_plain Late = refl
@@ -136,7 +136,7 @@ module _ (asked : Asked) (described : Option DescriptionSeen) (form : Option For
 no_cells : (asked : Asked) (described : Option DescriptionSeen) (end : End) → (word_of end ≡ codes "answered" → ⊥) → end_cells asked described end ≡ []
 no_cells asked described (Answered q values line) other = absurd (other refl)
 no_cells asked described (Unreadable line fault) other = refl
-no_cells asked described (Elsewhere line) other = refl
+no_cells asked described (OffTarget line) other = refl
 no_cells asked described (Disagree line) other = refl
 no_cells asked described (Unexpected line) other = refl
 no_cells asked described Late other = refl
@@ -149,7 +149,7 @@ no_cells asked described Missed other = refl
 none_counts : (end : End) → (word_of end ≡ codes "answered" → ⊥) → counted_answer end ≡ None
 none_counts (Answered q values line) other = absurd (other refl)
 none_counts (Unreadable line fault) other = refl
-none_counts (Elsewhere line) other = refl
+none_counts (OffTarget line) other = refl
 none_counts (Disagree line) other = refl
 none_counts (Unexpected line) other = refl
 none_counts Late other = refl
@@ -278,7 +278,7 @@ module _ (survey : Survey) (r : Record) (has_quantities has_items : Bool) where
           sent = moment_shown r.sent (at (codes "sent")) (shows (codes "sent") (inl refl));
           time = shows (codes "time") (inl refl);
           cycle = shows (codes "cycle") (inl refl);
-          place = shows (codes "place") (inl refl);
+          step = shows (codes "step") (inl refl);
           target = shows (codes "target") (inl refl);
           procedure = shows (codes "procedure") (inl refl);
           outcome = shows (codes "outcome") (inl refl) ∙ word_plain r.end;

@@ -30,11 +30,11 @@ use Rattle.gc_client.specs.Settlements.{ReadsBy}
 use Rattle.gc_station.specs.Saying.{IsSaid}
 use Rattle.gc_station.specs.Scopes.{AreReadings, Reads}
 use Rattle.gc_texts.specs.declared.form.Form.{Form}
-use Rattle.gc_promise.specs.Eventful.{at_target, elsewhere_reply, empty_reply, measured_reply, numbered_reply, pointed_reply}
+use Rattle.gc_promise.specs.Eventful.{at_target, off_target_reply, empty_reply, measured_reply, numbered_reply, pointed_reply}
 
 -- what the reply to command 2 says
-abbrev elsewhere_answer : Answer
-elsewhere_answer = Measured (decimal (pos 5) 1 refl) (decimal (pos 15) 1 refl) (decimal (pos 8725) 2 refl)
+abbrev off_target_answer : Answer
+off_target_answer = Measured (decimal (pos 5) 1 refl) (decimal (pos 15) 1 refl) (decimal (pos 8725) 2 refl)
 
 -- What each reply says of a call with such answers, by the grammar of replies.
 
@@ -61,11 +61,11 @@ module _ (call : Call) where
   measured_says of_call =
       value_says measured_reply (codes "2.25,1.625,110.0625") 2 at_target refl of_call (written_reads (answer_fields at_target).values (tt, (tt, (tt, tt))))
 
-  -- of a call that asks for angles and a distance, the reply to command 2 says those of `elsewhere_answer`, where target 8
+  -- of a call that asks for angles and a distance, the reply to command 2 says those of `off_target_answer`, where target 8
   -- doesn't stand
-  elsewhere_says : (call_fields call).answer ≡ shape.Measured → ReadsBy (IsSaid None) (Table call) elsewhere_reply (Value elsewhere_answer)
+  off_target_says : (call_fields call).answer ≡ shape.Measured → ReadsBy (IsSaid None) (Table call) off_target_reply (Value off_target_answer)
   unfolding header_at reply_at digits rounded
-  elsewhere_says of_call = value_says elsewhere_reply (codes "0.5,1.5,87.25") 3 elsewhere_answer refl of_call (written_reads (answer_fields elsewhere_answer).values (tt, (tt, (tt, tt))))
+  off_target_says of_call = value_says off_target_reply (codes "0.5,1.5,87.25") 3 off_target_answer refl of_call (written_reads (answer_fields off_target_answer).values (tt, (tt, (tt, tt))))
 
   -- of a call that asks for a whole number, the reply to command 3 says the number 31
   numbered_says : (call_fields call).answer ≡ shape.Long → ReadsBy (IsSaid None) (Table call) numbered_reply (Value (Long (pos 31)))
@@ -92,7 +92,7 @@ abbrev pub patched : Reads → Reads
 patched reads (Some form) call = reads (Some form) call
 patched reads None (Table (Position hz v pos_mode atr_mode dummy)) = with_reading pointed_reply (Value Nothing) (reads None (Table (Position hz v pos_mode atr_mode dummy)))
 patched reads None (Table (SimpleMea wait mode)) =
-    with_reading measured_reply (Value at_target) (with_reading elsewhere_reply (Value elsewhere_answer) (reads None (Table (SimpleMea wait mode))))
+    with_reading measured_reply (Value at_target) (with_reading off_target_reply (Value off_target_answer) (reads None (Table (SimpleMea wait mode))))
 patched reads None (Table InstrumentNo) = with_reading numbered_reply (Value (Long (pos 31))) (with_reading empty_reply (Unreadable Count) (reads None (Table InstrumentNo)))
 patched reads None call = reads None call
 
@@ -114,7 +114,7 @@ module _ (reads : Reads) (are : AreReadings reads) where
   patched_of_call (Table (SimpleMea wait mode)) =
       let call = Table (SimpleMea wait mode) in
       ap (with_reading measured_reply (Value at_target))
-      (with_reading_same elsewhere_reply (Value elsewhere_answer) (reads None call) (are None call elsewhere_reply (Value elsewhere_answer) (elsewhere_says (SimpleMea wait mode) refl)))
+      (with_reading_same off_target_reply (Value off_target_answer) (reads None call) (are None call off_target_reply (Value off_target_answer) (off_target_says (SimpleMea wait mode) refl)))
       ∙ with_reading_same measured_reply (Value at_target) (reads None call) (are None call measured_reply (Value at_target) (measured_says (SimpleMea wait mode) refl))
   patched_of_call (Table InstrumentNo) =
       ap (with_reading numbered_reply (Value (Long (pos 31))))

@@ -5,7 +5,7 @@ use Rattle.gc_lines.specs.Readers.{header_at, reply_at}
 use Rattle.gc_values.specs.Decimals.{rounded}
 use Rattle.gc_values.specs.Directions.{is_near}
 use Rattle.gc_catalogue.specs.declared.answer.Reading.TheVariants.{ComFault}
-use Rattle.gc_texts.specs.Nears.{is_elsewhere}
+use Rattle.gc_texts.specs.Nears.{is_off_target}
 use Rattle.gc_links.specs.Acts.{Act}
 use Rattle.gc_station.specs.Keeping.{AreKept, KeepsUp, Snapshot}
 use Rattle.gc_station.specs.Model.{Model, after, opening}
@@ -50,7 +50,7 @@ module _ (text : Record → List ℕ) where
 
   -- what is seen at the acts is the same with each function that says what replies say
   same_turns : (reads : Reads) → turns_by reads ≡ turns
-  unfolding is_elsewhere is_near header_at reply_at digits rounded
+  unfolding is_off_target is_near header_at reply_at digits rounded
   same_turns reads = refl
 
   -- with the patched readings the run keeps up: at each act all that the acts before it settled is kept

@@ -12,7 +12,7 @@ use Rattle.gc_lines.specs.Readers.{header_at, reply_at}
 use Rattle.gc_rows.specs.Laws.{IsEndOfBytes, IsReplyOfBytes}
 use Rattle.gc_rows.specs.declared.record.Form.TheVariants.{Json}
 use Rattle.gc_station.specs.Records.{Record}
-use Rattle.gc_promise.specs.Eventful.{chained_record, elsewhere_reply, empty_reply, measured_reply, number_record, numbered_reply, pointed_reply, points_record, records}
+use Rattle.gc_promise.specs.Eventful.{chained_record, off_target_reply, empty_reply, measured_reply, number_record, numbered_reply, pointed_reply, points_record, records}
 use Rattle.gc_promise.specs.Objects.{AreTyped, IsTyped}
 use Rattle.gc_promise.specs.Witness.{survey}
 use Rattle.gc_promise.proofs.TrueReadings.{replied}
@@ -33,9 +33,9 @@ unfolding header_at reply_at digits
 measured_of_bytes = reply_of_bytes measured_reply (codes "2.25,1.625,110.0625") 2 refl refl
 
 -- the reply to command 2 is of bytes
-elsewhere_of_bytes : IsReplyOfBytes elsewhere_reply
+off_target_of_bytes : IsReplyOfBytes off_target_reply
 unfolding header_at reply_at digits
-elsewhere_of_bytes = reply_of_bytes elsewhere_reply (codes "0.5,1.5,87.25") 3 refl refl
+off_target_of_bytes = reply_of_bytes off_target_reply (codes "0.5,1.5,87.25") 3 refl refl
 
 -- the reply to command 3 is of bytes
 numbered_of_bytes : IsReplyOfBytes numbered_reply
@@ -61,7 +61,7 @@ number_end = (numbered_of_bytes, ((omega (arith, ints), omega (arith, ints)), tt
 
 -- the endings of all records of this run are of bytes
 all_of_bytes : AllByRecursion (λ (r : Record). IsEndOfBytes r.end) records
-all_of_bytes = let none : Unit {0} × Unit {0} = (tt, tt) in (none, (none, (none, (none, (none, (none, (none, (none, (none, (none, (none, (none, (none, (none, (points_end, (chained_end, ((elsewhere_of_bytes, tt), (number_end, ((empty_of_bytes, tt), (none, (none, tt)))))))))))))))))))))
+all_of_bytes = let none : Unit {0} × Unit {0} = (tt, tt) in (none, (none, (none, (none, (none, (none, (none, (none, (none, (none, (none, (none, (none, (none, (points_end, (chained_end, ((off_target_of_bytes, tt), (number_end, ((empty_of_bytes, tt), (none, (none, tt)))))))))))))))))))))
 
 -- whether a number is below 2^64
 abbrev is_small : ℕ → Bool

@@ -13,7 +13,7 @@ use Rattle.gc_station.specs.Scopes.{AreReadings, Reads}
 use Rattle.gc_station.proofs.Readings.{for_readings}
 use Rattle.gc_measuring.specs.Measuring.{RunsAfterFront, text_in}
 use Rattle.gc_field.specs.Instrument.{AnyState, never_kept}
-use Rattle.gc_promise.specs.Eventful.{acts, at_start, elsewhere_reply, empty_reply, measured_reply, numbered_reply, pointed_reply, program, tally, reporting}
+use Rattle.gc_promise.specs.Eventful.{acts, at_start, off_target_reply, empty_reply, measured_reply, numbered_reply, pointed_reply, program, tally, reporting}
 use Rattle.gc_promise.specs.Rows.{IsOwnIfAnswered}
 use Rattle.gc_promise.specs.Tables.{IsFieldRun, table_form}
 use Rattle.gc_promise.specs.Witness.{no_labels, HasOwnRows, SomeRowIsItsOwn, survey, table_layout, layout_in, ports_at, run_in, taken}
@@ -63,7 +63,7 @@ own_rows reads are =
       run = run;
       points = (refl, answers.0 pointed_reply refl);
       chained = (refl, answers.1.0 measured_reply refl);
-      elsewhere = (refl, answers.1.1.0 elsewhere_reply refl);
+      off_target = (refl, answers.1.1.0 off_target_reply refl);
       number = (refl, answers.1.1.1.0 numbered_reply refl);
       unreadable = (refl, answers.1.1.1.1.0 empty_reply refl);
       turns = turns_in;

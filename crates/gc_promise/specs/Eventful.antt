@@ -110,8 +110,8 @@ abbrev pub measured_reply : List ℕ
 measured_reply = codes "%R1P,0,2:0,2.25,1.625,110.0625"
 
 -- the reply to command 2 in the third cycle: angles and distance, where target 8 doesn't stand
-abbrev pub elsewhere_reply : List ℕ
-elsewhere_reply = codes "%R1P,0,3:0,0.5,1.5,87.25"
+abbrev pub off_target_reply : List ℕ
+off_target_reply = codes "%R1P,0,3:0,0.5,1.5,87.25"
 
 -- the reply to command 3 in the third cycle: a number
 abbrev pub numbered_reply : List ℕ
@@ -303,7 +303,7 @@ abbrev pub heard_acts : List Act
 heard_acts =
     connects_again 410 420
     ++ Silent (at 430)
-    ∷ gave 435 (codes "?" ∷ pointed_reply ∷ measured_reply ∷ elsewhere_reply ∷ numbered_reply ∷ numbered_reply ∷ empty_reply ∷ [])
+    ∷ gave 435 (codes "?" ∷ pointed_reply ∷ measured_reply ∷ off_target_reply ∷ numbered_reply ∷ numbered_reply ∷ empty_reply ∷ [])
     ∷ Silent (at 460)
     ∷ puts 460 (null_line 0 ∷ [])
     ++ gave 465 (codes "%R1P,0,6:0,31" ∷ codes "%R1P,0,0:0,31" ∷ [])
@@ -346,7 +346,7 @@ executed_moves =
 abbrev pub heard_moves : List (Move (List ℕ))
 heard_moves =
     Foreign (codes "?")
-    ∷ map Comes (pointed_reply ∷ measured_reply ∷ elsewhere_reply ∷ numbered_reply ∷ numbered_reply ∷ empty_reply ∷ [])
+    ∷ map Comes (pointed_reply ∷ measured_reply ∷ off_target_reply ∷ numbered_reply ∷ numbered_reply ∷ empty_reply ∷ [])
     ++ Tells 460
     ∷ Sends 0 (Table NullProc) 560
     ∷ Tells 460
@@ -427,9 +427,9 @@ points_record = ended_record (Some 405) 410 3 0 7 points (end.Answered Fine (Som
 abbrev pub chained_record : Record
 chained_record = ended_record (Some 410) 435 3 1 7 reads_all (end.Answered Fine (Some at_target) measured_reply)
 
--- the record of command 2 in the third cycle: elsewhere
-abbrev pub elsewhere_record : Record
-elsewhere_record = ended_record (Some 410) 435 3 2 8 reads_all (end.Elsewhere elsewhere_reply)
+-- the record of command 2 in the third cycle: off target
+abbrev pub off_target_record : Record
+off_target_record = ended_record (Some 410) 435 3 2 8 reads_all (end.OffTarget off_target_reply)
 
 -- the record of command 3 in the third cycle: answered, with a number
 abbrev pub number_record : Record
@@ -458,7 +458,7 @@ records =
     ∷ ended_record None 222 2 6 4 (Table InstrumentNo) end.Missed
     ∷ points_record
     ∷ chained_record
-    ∷ elsewhere_record
+    ∷ off_target_record
     ∷ number_record
     ∷ unreadable_record
     ∷ ended_record (Some 410) 465 3 5 3 (Table InstrumentNo) end.Late
@@ -467,7 +467,7 @@ records =
 
 -- how many commands ended in each of the seven ways; no chain is sent again
 abbrev pub tally : Tally
-tally = record { answered = 3; refused = 0; late = 2; lost = 6; skipped = 1; unreadable = 1; missed = 7; elsewhere = 1; unexpected = 0; disagree = 0; again = 0 }
+tally = record { answered = 3; refused = 0; late = 2; lost = 6; skipped = 1; unreadable = 1; missed = 7; off_target = 1; unexpected = 0; disagree = 0; retried = 0 }
 
 -- What the run shows.
 

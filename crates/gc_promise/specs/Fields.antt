@@ -52,7 +52,7 @@ pub record SaysCommand (at : List ℕ → List ℕ) (r : Record) : Type 0 where
   pub sent : at (codes "sent") ≡ moment_text r.sent
   pub time : at (codes "time") ≡ stamp_text r.utc
   pub cycle : at (codes "cycle") ≡ decimal r.cycle
-  pub place : at (codes "place") ≡ decimal r.turn.place
+  pub step : at (codes "step") ≡ decimal r.turn.place
   pub target : at (codes "target") ≡ decimal r.command.target
   pub procedure : at (codes "procedure") ≡ decimal (procedure_of r.command.call)
   pub outcome : at (codes "outcome") ≡ word_of r.end
@@ -86,7 +86,7 @@ pub record IsSetTo (at : List ℕ → List ℕ) (r : Record) : Type 0 where
 
 -- the outcome, as it is written in a row, is that of a command that a reply in time has ended
 abbrev pub IsOutcomeOfReply : List ℕ → Type 0
-IsOutcomeOfReply outcome = (outcome ≡ codes "answered") ⊎ (outcome ≡ codes "unreadable") ⊎ (outcome ≡ codes "elsewhere") ⊎ (outcome ≡ codes "disagree") ⊎ (outcome ≡ codes "unexpected")
+IsOutcomeOfReply outcome = (outcome ≡ codes "answered") ⊎ (outcome ≡ codes "unreadable") ⊎ (outcome ≡ codes "off_target") ⊎ (outcome ≡ codes "disagree") ⊎ (outcome ≡ codes "unexpected")
 
 -- the name is that of a quantity's column
 abbrev pub IsQuantity : List ℕ → Type 0

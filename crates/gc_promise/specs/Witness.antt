@@ -11,7 +11,7 @@ use Rattle.gc_measuring.specs.Labels.{LabelsSeen}
 use Rattle.gc_measuring.specs.Measuring.{Survey, PortsSeen, RunsAfterFront, text_in}
 use Rattle.gc_field.specs.Instrument.{AnyState, never_kept}
 use Rattle.gc_promise.specs.Eventful.{IsEventful, acts, at_start, commands, plan, program, records, reporting, runs, tally}
-use Rattle.gc_promise.specs.Eventful.{chained_record, elsewhere_record, elsewhere_reply, empty_reply, measured_reply, number_record, numbered_reply, pointed_reply, points_record, unreadable_record}
+use Rattle.gc_promise.specs.Eventful.{chained_record, off_target_record, off_target_reply, empty_reply, measured_reply, number_record, numbered_reply, pointed_reply, points_record, unreadable_record}
 use Rattle.gc_promise.specs.Rows.{IsRowOfLine}
 use Rattle.gc_promise.specs.Objects.{AreOwnObjects}
 use Rattle.gc_promise.specs.Tables.{FieldRun, IsOwnTable, table_form}
@@ -33,8 +33,8 @@ abbrev pub chained_row : List ℕ
 chained_row = codes "1970-01-01T00:00:00.000Z,1970-01-01T00:00:00.410Z,1970-01-01T00:00:00.435Z,3,1,7,,2108,answered,,0,0,\"2.25,1.625,110.0625\",ok,1,\"%R1Q,2108,2:3000,1\"\n"
 
 -- the row of command 2 in the third cycle, in `table_layout`
-abbrev pub elsewhere_row : List ℕ
-elsewhere_row = codes "1970-01-01T00:00:00.000Z,1970-01-01T00:00:00.410Z,1970-01-01T00:00:00.435Z,3,2,8,,2108,elsewhere,,0,0,\"0.5,1.5,87.25\",,1,\"%R1Q,2108,3:3000,1\"\n"
+abbrev pub off_target_row : List ℕ
+off_target_row = codes "1970-01-01T00:00:00.000Z,1970-01-01T00:00:00.410Z,1970-01-01T00:00:00.435Z,3,2,8,,2108,off_target,,0,0,\"0.5,1.5,87.25\",,1,\"%R1Q,2108,3:3000,1\"\n"
 
 -- the row of command 3 in the third cycle, in `table_layout`
 abbrev pub number_row : List ℕ
@@ -80,12 +80,12 @@ module _ (reads : Reads) where
       × IsRowOfLine reporting AnyState never_kept table_layout no_labels at_start (program reads) r line
 
   -- the run is eventful, and the row of each command that a reply in time settled is its own: of both commands of the chain, of
-  -- the one that was measured elsewhere, of a number, and of one whose values don't read
+  -- the one that was measured off target, of a number, and of one whose values don't read
   pub record HasOwnRows : Type 0 where
     pub run : IsEventful reads
     pub points : IsOwnText points_record points_row pointed_reply
     pub chained : IsOwnText chained_record chained_row measured_reply
-    pub elsewhere : IsOwnText elsewhere_record elsewhere_row elsewhere_reply
+    pub off_target : IsOwnText off_target_record off_target_row off_target_reply
     pub number : IsOwnText number_record number_row numbered_reply
     pub unreadable : IsOwnText unreadable_record unreadable_row empty_reply
     -- what was seen at each act, where the run was written in a form

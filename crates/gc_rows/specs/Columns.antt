@@ -180,7 +180,7 @@ first_columns =
     column (codes "sent") (λ r. moment_content r.when.stamp.sent)
     ∷ column (codes "time") (λ r. Moment r.when.stamp.utc)
     ∷ column (codes "cycle") (λ r. Whole r.when.stamp.cycle)
-    ∷ column (codes "place") (λ r. Whole r.when.stamp.turn.place)
+    ∷ column (codes "step") (λ r. Whole r.when.stamp.turn.place)
     ∷ column (codes "target") (λ r. Whole r.command.target)
     ∷ column (codes "name") (λ r. bytes_content r.name)
     ∷ column (codes "procedure") (λ r. Whole (procedure_of r.command.call))

@@ -51,7 +51,7 @@ macro_rules! columns {
                 "sent" Moment = moment_content($ended.when.stamp.sent),
                 "time" Moment = Content::Moment($ended.when.stamp.utc),
                 "cycle" Whole = Content::Whole($ended.when.stamp.cycle),
-                "place" Whole = Content::Whole($ended.when.stamp.turn.place as u64),
+                "step" Whole = Content::Whole($ended.when.stamp.turn.place as u64),
                 "target" Whole = Content::Whole($ended.command.target as u64),
                 "name" Text = bytes_content($ended.name),
                 "procedure" Whole = Content::Whole($ended.command.call.number() as u64),

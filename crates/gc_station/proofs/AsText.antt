@@ -1,5 +1,5 @@
 -- Each mark expects of its command's answer what the text says, and each record is as its text says: it has the turn of its
--- command; an answer that ends as answered was measured at the target, as far as it says where, and one that ends as elsewhere
+-- command; an answer that ends as answered was measured at the target, as far as it says where, and one that ends as off target
 -- wasn't; and its quality is as listed. Besides, `listed` of a model is what its records say. `KeepsToText` says all of this of a
 -- model. An act is one call on the link, with its result. A mark says which command an outstanding request is of, and what is
 -- expected of its answer.
@@ -12,12 +12,12 @@ use Rattle.gc_catalogue.specs.declared.asked.Asked.{Asked}
 use Rattle.gc_client.specs.Rule
 use Rattle.gc_client.specs.Rule.{heard, hears, restarts}
 use Rattle.gc_values.specs.declared.decimal.Decimal.{Decimal}
-use Rattle.gc_texts.specs.Endings.{End, Answered, Elsewhere, Disagree, Unreadable}
-use Rattle.gc_texts.specs.Nears.{is_elsewhere}
+use Rattle.gc_texts.specs.Endings.{End, Answered, OffTarget, Disagree, Unreadable}
+use Rattle.gc_texts.specs.Nears.{is_off_target}
 use Rattle.gc_texts.specs.declared.agree.Twice.TheVariants as twice
 use Rattle.gc_texts.specs.declared.near.Expected.{Expected}
 use Rattle.gc_texts.specs.declared.tasks.Task.{Task}
-use Rattle.gc_texts.proofs.Placing.{there_unless_elsewhere, elsewhere_has_place}
+use Rattle.gc_texts.proofs.Placing.{there_unless_off_target, off_target_has_place}
 use Rattle.gc_links.specs.Acts.{Act, Told, Gave, Cut}
 use Rattle.gc_links.specs.declared.link.Moment.{Moment}
 use Rattle.gc_station.specs.Agreeing.{HasFirst, AgreesWithFirst, IsComparedInFull, IsConfirmed, IsUnconfirmed, DisagreesInSecond}
@@ -25,7 +25,7 @@ use Rattle.gc_station.specs.Firsts.{answer_first, compares, firsts_after}
 use Rattle.gc_station.specs.Marks.{agrees_in, quality_in, record_of, records_of, end_of}
 use Rattle.gc_station.specs.Model.{Model, opening, action_at, asks_for, asks_next, with_progress, with_moment, line_came, is_heard, after_piece, end_unsent, first_unsent_record, losing, moved, after, asks_setup, waiting_of, listed_unsent, request_for, null_request, mark_sent, mark_setup_sent}
 use Rattle.gc_station.specs.NextCommand.{expected_first, mark_next, place_next, commands_left, cycles_begun}
-use Rattle.gc_station.specs.Nearness.{IsAtItsTarget, HasAnswer, ElsewhereIsJustified}
+use Rattle.gc_station.specs.Nearness.{IsAtItsTarget, HasAnswer, OffTargetIsJustified}
 use Rattle.gc_station.specs.Moments.{IsAsRead, IsUnreadableIfSo}
 use Rattle.gc_station.specs.Qualities.{IsOfQuality, IsAsListed, accepted_at, form_at, quality_as, twice_at}
 use Rattle.gc_station.specs.Progressing.{turned, moment_noted, loses_all}
@@ -96,11 +96,11 @@ module _ (plan : Plan) (commands : List Task) (scope : Scope) where
   comes_more rs more None h = tt
   comes_more rs more (Some mark) h = λ answer e. let so = h answer e in (has_first_more rs more mark.cycle mark.expected.turn answer so.0, so.1)
 
-  -- a record is as its text says: `HasItsTurn`, `IsAtItsTarget`, `ElsewhereIsJustified`, `IsAsListed`, `IsUnconfirmed`,
+  -- a record is as its text says: `HasItsTurn`, `IsAtItsTarget`, `OffTargetIsJustified`, `IsAsListed`, `IsUnconfirmed`,
   -- `DisagreesInSecond`, `IsAsRead` and `IsUnreadableIfSo` hold of it
   abbrev pub IsAsItsText : Record → Type 0
   IsAsItsText r =
-      HasItsTurn commands r × IsAtItsTarget commands r × ElsewhereIsJustified scope.reads commands r × IsAsListed scope.reads commands r
+      HasItsTurn commands r × IsAtItsTarget commands r × OffTargetIsJustified scope.reads commands r × IsAsListed scope.reads commands r
       × IsUnconfirmed commands r × DisagreesInSecond commands r
       × IsAsRead (scope.reads (form_at commands r.place)) r × IsUnreadableIfSo (scope.reads (form_at commands r.place)) r
 
@@ -131,10 +131,10 @@ module _ (plan : Plan) (commands : List Task) (scope : Scope) where
     ap (λ (k : Expected). k.turn) placed,
     (λ task near quality answer line at has e.
         let stands : mark.expected.near ≡ Some near = near_as_text mark placed ∙ ap (λ (k : Expected). k.near) (expected_there commands mark.place task at) ∙ has in
-        there_unless_elsewhere near answer (ap (λ o. is_elsewhere o answer) (sym stands) ∙ ended_near scope.reads mark.expected x.call line x.outcome quality answer e)),
+        there_unless_off_target near answer (ap (λ o. is_off_target o answer) (sym stands) ∙ ended_near scope.reads mark.expected x.call line x.outcome quality answer e)),
     (λ task line at e.
         let away = ended_away scope.reads mark.expected x.call line x.outcome e in
-        let is = elsewhere_has_place mark.expected.near away.0 away.2 in
+        let is = off_target_has_place mark.expected.near away.0 away.2 in
         let near_there = near_as_text mark placed ∙ ap (λ (k : Expected). k.near) (expected_there commands mark.place task at) in
         let there = codes_as_text mark placed ∙ ap (λ (k : Expected). k.accepted) (expected_there commands mark.place task at) in
         record {
@@ -353,7 +353,7 @@ module _ (plan : Plan) (commands : List Task) (scope : Scope) where
     (
       ap (λ (k : Expected). k.turn) placed,
       (λ t near quality answer line at has e. absurd (no_end_of_sent p (Answered quality (Some answer) line) refl e)),
-      (λ t line at e. absurd (no_end_of_sent p (Elsewhere line) refl e)),
+      (λ t line at e. absurd (no_end_of_sent p (OffTarget line) refl e)),
       (λ quality said line e. absurd (no_end_of_sent p (Answered quality said line) refl e)),
       (λ t quality answer line at first e good. absurd (no_end_of_sent p (Answered quality answer line) refl e)),
       (λ t line at e. absurd (no_end_of_sent p (Disagree line) refl e)),

@@ -16,7 +16,7 @@ use Rattle.gc_client.specs.Rule.{Answered}
 use Rattle.gc_texts.specs.Codes.{lists_code, no_codes}
 use Rattle.gc_texts.specs.Endings as ends
 use Rattle.gc_texts.specs.Expectations.{meets}
-use Rattle.gc_texts.specs.Nears.{is_elsewhere}
+use Rattle.gc_texts.specs.Nears.{is_off_target}
 use Rattle.gc_texts.specs.Qualities.{is_good}
 use Rattle.gc_texts.specs.Zeroed.{as_zero}
 use Rattle.gc_texts.specs.declared.codes.Codes.{Codes}
@@ -70,7 +70,7 @@ answered_well expected q good said line = by_test (meets expected.expects expect
   by_test true = agreed_well expected q good said line
   by_test false = refl
 
--- a command whose reply is an answer of a good quality is answered well exactly if it wasn't measured elsewhere, and is as expected, and agrees
+-- a command whose reply is an answer of a good quality is answered well exactly if it wasn't measured off target, and is as expected, and agrees
 value_well : (expected : Expected) (q : Quality) → is_good q ≡ true → (said : Answer) (line : List ℕ) (away : Bool)
     → is_well (value_as expected q away said line) ≡ (not away && meets expected.expects expected.before line && agrees_in expected.twice expected.first (Some said))
 value_well expected q good said line true = refl
@@ -147,10 +147,10 @@ module _ (reads : Reads) (expected : Expected) (call : Asked) (line : List ℕ) 
   unread_unwell (reading.ComFault code) e none unlisted = ap is_well (ended (reading.ComFault code) e)
   unread_unwell (reading.Unreadable fault) e none unlisted = ap is_well (ended (reading.Unreadable fault) e)
 
-  -- a reply with both codes 0 and an answer ends a command as answered with the quality `Fine`, or as elsewhere where its
+  -- a reply with both codes 0 and an answer ends a command as answered with the quality `Fine`, or as off target where its
   -- direction isn't near the target's place
   value_ends : (answer : Answer) → IsSaid expected.form call r (reading.Value answer)
-      → end_of reads expected call (Answered line) ≡ value_as expected quality.Fine (is_elsewhere expected.near answer) answer line
+      → end_of reads expected call (Answered line) ≡ value_as expected quality.Fine (is_off_target expected.near answer) answer line
   value_ends answer has = ended (reading.Value answer) (says (reading.Value answer) has)
 
   -- a reply with an accepted return code other than 0 ends a command as `warned_as` says, by what its line says with return
@@ -181,13 +181,13 @@ accepted_codes = record {
         (first, without_codes expected.accepted r.rc none (rc_zero reads expected call line r are is first well));
     unread = λ said reading none unlisted. unread_unwell reads expected call line r are is said (says reads expected call line r are is said reading) none unlisted;
     found = λ answer has.
-        ap is_well (value_ends reads expected call line r are is answer has) ∙ value_well expected quality.Fine refl answer line (is_elsewhere expected.near answer);
-    away = λ answer has elsewhere. value_ends reads expected call line r are is answer has ∙ ap (λ b. value_as expected quality.Fine b answer line) elsewhere;
+        ap is_well (value_ends reads expected call line r are is answer has) ∙ value_well expected quality.Fine refl answer line (is_off_target expected.near answer);
+    away = λ answer has off_target. value_ends reads expected call line r are is answer has ∙ ap (λ b. value_as expected quality.Fine b answer line) off_target;
     warned = λ answer none some accepted has.
         ap is_well (warned_ends reads expected call line r are is (reading.Value answer) none some accepted has)
-        ∙ value_well expected quality.Warning refl answer line (is_elsewhere expected.near answer);
-    warned_away = λ answer none some accepted has elsewhere.
-        warned_ends reads expected call line r are is (reading.Value answer) none some accepted has ∙ ap (λ b. value_as expected quality.Warning b answer line) elsewhere;
+        ∙ value_well expected quality.Warning refl answer line (is_off_target expected.near answer);
+    warned_away = λ answer none some accepted has off_target.
+        warned_ends reads expected call line r are is (reading.Value answer) none some accepted has ∙ ap (λ b. value_as expected quality.Warning b answer line) off_target;
     warned_without = λ fault none some accepted unreadable.
         warned_ends reads expected call line r are is (reading.Unreadable fault) none some accepted unreadable;
   };

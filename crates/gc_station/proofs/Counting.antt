@@ -1,9 +1,9 @@
 -- A tally counts the records of the last attempts. `count` is one of its counts, and `so` says which endings it counts; no count
 -- exceeds 2^64 - 1 (`capped`).
 use Rattle.std.proofs.Common.{◌||◌, ◌&&◌, not, nat_eq, nat_lt, ◌≡◌, ℕ, suc, ◌+◌, Bool, true, false, List, [], ◌∷◌, if◌then◌else◌, refl, sym, ap, ◌∙◌, arith}
-use Rattle.gc_texts.specs.Endings.{End, Answered, Unreadable, Elsewhere, Disagree, Unexpected, Late, Lost, Skipped, NoValue, Missed}
+use Rattle.gc_texts.specs.Endings.{End, Answered, Unreadable, OffTarget, Disagree, Unexpected, Late, Lost, Skipped, NoValue, Missed}
 use Rattle.gc_texts.specs.declared.quality.Quality.TheVariants.{Fine, Warning, Unconfirmed, Refused}
-use Rattle.gc_station.specs.Counting.{is_followed, last_attempts, further_attempts, how_many, ended_answered, ended_refused, ended_unreadable, ended_elsewhere, ended_disagree, ended_unexpected, ended_late, ended_lost, ended_skipped, ended_missed, TalliesCountRecords}
+use Rattle.gc_station.specs.Counting.{is_followed, last_attempts, further_attempts, how_many, ended_answered, ended_refused, ended_unreadable, ended_off_target, ended_disagree, ended_unexpected, ended_late, ended_lost, ended_skipped, ended_missed, TalliesCountRecords}
 use Rattle.gc_station.specs.Records.{Record}
 use Rattle.gc_station.specs.Tallies.{empty_tally, capped, one_more, counted, sum, empty_counts, tallied, total, tally_of}
 use Rattle.gc_station.specs.declared.tally.Counts.{Counts}
@@ -32,7 +32,7 @@ last_attempt_settled followed before attempt rest = adds_nothing followed (cappe
 -- the counts `c` once an attempt begins, as `started` gives them: it is a further one (`true`), or the first one of its chain
 abbrev attempt_begun : Counts → Bool → Counts
 attempt_begun c further =
-    if further then record { settled = record c.settled { again = one_more c.settled.again }; attempt = empty_tally }
+    if further then record { settled = record c.settled { retried = one_more c.settled.retried }; attempt = empty_tally }
     else record { settled = sum c.settled c.attempt; attempt = empty_tally }
 
 -- to count the records with an ending for which `so` is true, with r before `rs` unless its attempt is followed (q), is to count
@@ -52,10 +52,10 @@ with_counted end t = record {
   skipped = if ended_skipped end then one_more t.skipped else t.skipped;
   unreadable = if ended_unreadable end then one_more t.unreadable else t.unreadable;
   missed = if ended_missed end then one_more t.missed else t.missed;
-  elsewhere = if ended_elsewhere end then one_more t.elsewhere else t.elsewhere;
+  off_target = if ended_off_target end then one_more t.off_target else t.off_target;
   disagree = if ended_disagree end then one_more t.disagree else t.disagree;
   unexpected = if ended_unexpected end then one_more t.unexpected else t.unexpected;
-  again = t.again;
+  retried = t.retried;
 }
 
 -- a command is counted in the count of its ending, and in no other
@@ -65,7 +65,7 @@ counted_by_ending (Answered Warning answer line) t = refl
 counted_by_ending (Answered Unconfirmed answer line) t = refl
 counted_by_ending (Answered Refused answer line) t = refl
 counted_by_ending (Unreadable line fault) t = refl
-counted_by_ending (Elsewhere line) t = refl
+counted_by_ending (OffTarget line) t = refl
 counted_by_ending (Disagree line) t = refl
 counted_by_ending (Unexpected line) t = refl
 counted_by_ending Late t = refl
@@ -74,9 +74,9 @@ counted_by_ending Skipped t = refl
 counted_by_ending NoValue t = refl
 counted_by_ending Missed t = refl
 
--- a count that grows by one for each command with this ending (`so`), stays for any other, adds up, and doesn't depend on `again`
+-- a count that grows by one for each command with this ending (`so`), stays for any other, adds up, and doesn't depend on `retried`
 module _ (count : Tally → ℕ) (so : End → Bool) (step : (end : End) (t : Tally) → count (with_counted end t) ≡ (if so end then one_more (count t) else count t))
-    (adds : (a b : Tally) → count (sum a b) ≡ capped (count a + count b)) (none : count empty_tally ≡ 0) (stays : (t : Tally) (n : ℕ) → count (record t { again = n }) ≡ count t) where
+    (adds : (a b : Tally) → count (sum a b) ≡ capped (count a + count b)) (none : count empty_tally ≡ 0) (stays : (t : Tally) (n : ℕ) → count (record t { retried = n }) ≡ count t) where
   -- if x is the count with r, the next command of an attempt, counted with that attempt (t), x is also the count with r counted
   -- among the records in its place, in front of `rs`. If the attempt is followed (q), r isn't counted either way
   counts_next : (x s : ℕ) (t : Tally) (r : Record) (rs : List Record) (q : Bool) → x ≡ capped (s + ((if q then 0 else count (counted r.end t)) + how_many so rs))
@@ -99,10 +99,10 @@ module _ (count : Tally → ℕ) (so : End → Bool) (step : (end : End) (t : Ta
     by_tests ih true l f = ih c
     by_tests ih false false f = counts_next _ (count c.settled) c.attempt r (last_attempts rs) (is_followed rs) (ih (record c { attempt = counted r.end c.attempt }))
     by_tests ih false true true =
-        counts_next _ (count (record c.settled { again = one_more c.settled.again })) empty_tally r (last_attempts rs) (is_followed rs)
-        (ih (record { settled = record c.settled { again = one_more c.settled.again }; attempt = counted r.end empty_tally }))
+        counts_next _ (count (record c.settled { retried = one_more c.settled.retried })) empty_tally r (last_attempts rs) (is_followed rs)
+        (ih (record { settled = record c.settled { retried = one_more c.settled.retried }; attempt = counted r.end empty_tally }))
         ∙ ap (λ n. capped (n + ((if is_followed rs then 0 else count empty_tally) + how_many so (if is_followed rs then last_attempts rs else r ∷ last_attempts rs))))
-        (stays c.settled (one_more c.settled.again))
+        (stays c.settled (one_more c.settled.retried))
         ∙ ap (λ n. capped (count c.settled + ((if is_followed rs then 0 else n) + how_many so (if is_followed rs then last_attempts rs else r ∷ last_attempts rs)))) none
         ∙ adds_nothing (is_followed rs) (count c.settled) _
     by_tests ih false true false =
@@ -119,24 +119,24 @@ module _ (count : Tally → ℕ) (so : End → Bool) (step : (end : End) (t : Ta
 
 -- the number of further attempts of chains, after these records, is that before them plus those among them, at most 2^64 - 1, if
 -- none is counted in the attempt itself
-again_counts : (c : Counts) (rs : List Record) → c.attempt.again ≡ 0 → (total (tallied c rs)).again ≡ capped (c.settled.again + further_attempts rs)
-again_counts c [] none = omega (arith, none)
-again_counts c (r ∷ rs) none = by_tests (λ d n. again_counts d rs n) (nat_eq r.cycle 0) (nat_eq r.turn.link 0) (nat_lt 1 r.turn.attempt) where
+retried_counts : (c : Counts) (rs : List Record) → c.attempt.retried ≡ 0 → (total (tallied c rs)).retried ≡ capped (c.settled.retried + further_attempts rs)
+retried_counts c [] none = omega (arith, none)
+retried_counts c (r ∷ rs) none = by_tests (λ d n. retried_counts d rs n) (nat_eq r.cycle 0) (nat_eq r.turn.link 0) (nat_lt 1 r.turn.attempt) where
   -- the lemma above, whether the record is of the setup (z), whether an attempt begins with it (l), and whether that is a
   -- further one (f)
-  by_tests : ((d : Counts) → d.attempt.again ≡ 0 → (total (tallied d rs)).again ≡ capped (d.settled.again + further_attempts rs)) → (z l f : Bool)
-      → (total (tallied (if z then c else (let d = (if l then attempt_begun c f else c) in record d { attempt = counted r.end d.attempt })) rs)).again
-      ≡ capped (c.settled.again + (if not z && l && f then suc (further_attempts rs) else further_attempts rs))
+  by_tests : ((d : Counts) → d.attempt.retried ≡ 0 → (total (tallied d rs)).retried ≡ capped (d.settled.retried + further_attempts rs)) → (z l f : Bool)
+      → (total (tallied (if z then c else (let d = (if l then attempt_begun c f else c) in record d { attempt = counted r.end d.attempt })) rs)).retried
+      ≡ capped (c.settled.retried + (if not z && l && f then suc (further_attempts rs) else further_attempts rs))
   by_tests ih true l f = ih c none
-  by_tests ih false false f = ih (record c { attempt = counted r.end c.attempt }) (ap (λ (t : Tally). t.again) (counted_by_ending r.end c.attempt) ∙ none)
+  by_tests ih false false f = ih (record c { attempt = counted r.end c.attempt }) (ap (λ (t : Tally). t.retried) (counted_by_ending r.end c.attempt) ∙ none)
   by_tests ih false true true =
-      ih (record { settled = record c.settled { again = one_more c.settled.again }; attempt = counted r.end empty_tally })
-      (ap (λ (t : Tally). t.again) (counted_by_ending r.end empty_tally)) ∙ omega arith
+      ih (record { settled = record c.settled { retried = one_more c.settled.retried }; attempt = counted r.end empty_tally })
+      (ap (λ (t : Tally). t.retried) (counted_by_ending r.end empty_tally)) ∙ omega arith
   by_tests ih false true false =
-      ih (record { settled = sum c.settled c.attempt; attempt = counted r.end empty_tally }) (ap (λ (t : Tally). t.again) (counted_by_ending r.end empty_tally))
-      ∙ ap (λ n. capped (capped (c.settled.again + n) + further_attempts rs)) none ∙ omega arith
+      ih (record { settled = sum c.settled c.attempt; attempt = counted r.end empty_tally }) (ap (λ (t : Tally). t.retried) (counted_by_ending r.end empty_tally))
+      ∙ ap (λ n. capped (capped (c.settled.retried + n) + further_attempts rs)) none ∙ omega arith
 
--- each count of a tally is the number of the records of last attempts with its ending, and `again` is the number of further
+-- each count of a tally is the number of the records of last attempts with its ending, and `retried` is the number of further
 -- attempts; each at most 2^64 - 1
 pub count_records : TalliesCountRecords
 count_records = record {
@@ -147,8 +147,8 @@ count_records = record {
   lost = counts_all (λ (t : Tally). t.lost) ended_lost (λ end t. refl) (λ a b. refl) refl (λ t n. refl);
   skipped = counts_all (λ (t : Tally). t.skipped) ended_skipped (λ end t. refl) (λ a b. refl) refl (λ t n. refl);
   missed = counts_all (λ (t : Tally). t.missed) ended_missed (λ end t. refl) (λ a b. refl) refl (λ t n. refl);
-  elsewhere = counts_all (λ (t : Tally). t.elsewhere) ended_elsewhere (λ end t. refl) (λ a b. refl) refl (λ t n. refl);
+  off_target = counts_all (λ (t : Tally). t.off_target) ended_off_target (λ end t. refl) (λ a b. refl) refl (λ t n. refl);
   disagree = counts_all (λ (t : Tally). t.disagree) ended_disagree (λ end t. refl) (λ a b. refl) refl (λ t n. refl);
   unexpected = counts_all (λ (t : Tally). t.unexpected) ended_unexpected (λ end t. refl) (λ a b. refl) refl (λ t n. refl);
-  again = λ records. again_counts empty_counts records refl ∙ omega arith;
+  retried = λ records. retried_counts empty_counts records refl ∙ omega arith;
 }

@@ -2,17 +2,17 @@
 -- (`IsAsItsText`), and is confirmed by those before it.
 use Rattle.std.proofs.Common.{[]}
 use Rattle.gc_station.specs.Agreeing.{IsComparedInFull, IsUnconfirmed, DisagreesInSecond, AgreedRowsAgree}
-use Rattle.gc_station.specs.Nearness.{IsAtItsTarget, ElsewhereIsJustified, AnswersAreAtTheirTargets}
+use Rattle.gc_station.specs.Nearness.{IsAtItsTarget, OffTargetIsJustified, AnswersAreAtTheirTargets}
 use Rattle.gc_station.specs.Qualities.{IsAsListed, QualitiesAreAsListed}
 use Rattle.gc_station.specs.Runs.{state_after}
 use Rattle.gc_station.proofs.Lists.{all_on}
 use Rattle.gc_station.proofs.Agreeing.{after_split, each_after}
 use Rattle.gc_station.proofs.AsText.{IsAsItsText, IsFullyConfirmed, kept_all}
 
--- the law: after any acts, `IsAtItsTarget` and `ElsewhereIsJustified` hold of each record
+-- the law: after any acts, `IsAtItsTarget` and `OffTargetIsJustified` hold of each record
 pub at_their_targets : AnswersAreAtTheirTargets
 at_their_targets plan commands scope acts =
-    all_on (IsAsItsText plan commands scope) (λ r. IsAtItsTarget commands r × ElsewhereIsJustified scope.reads commands r) (state_after plan commands scope acts).records
+    all_on (IsAsItsText plan commands scope) (λ r. IsAtItsTarget commands r × OffTargetIsJustified scope.reads commands r) (state_after plan commands scope acts).records
     (λ r so. (so.1, so.2)) (kept_all plan commands scope acts).records
 
 -- the law: after any acts, the quality of each answered command is as listed: what its line says, by the codes that are

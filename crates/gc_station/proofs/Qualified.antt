@@ -1,7 +1,7 @@
 -- How a settled command ended is what its line says of its call: the quality of its answer, where its answer was measured, and
 -- the answer itself. `answer_as`, `value_as`, `warned_as` and `refused_as` are the endings of a command by a reply in time, an
 -- answer, a reply with an accepted code, and a refusal. A reading `z` is what the line says with return code 0. An answer is
--- elsewhere (`away`) where its direction isn't near the target's place, or its distance isn't the target's.
+-- off target (`away`) where its direction isn't near the target's place, or its distance isn't the target's.
 use Rattle.std.proofs.Common.{◌≡◌, inl, inr, ℕ, Bool, true, false, List, Option, Some, None, refl, sym, ap, ◌∙◌, subst, if◌then◌else◌}
 use Rattle.std.proofs.lemmas.Option.{same_Some}
 use Rattle.gc_catalogue.specs.declared.answer.Answer.{Answer}
@@ -10,9 +10,9 @@ use Rattle.gc_catalogue.specs.declared.answer.Reading.TheVariants as reading
 use Rattle.gc_catalogue.specs.declared.asked.Asked.{Asked}
 use Rattle.gc_client.specs.Rule
 use Rattle.gc_texts.specs.Codes.{lists_code}
-use Rattle.gc_texts.specs.Endings.{End, Answered, Elsewhere, Disagree, Unexpected, line_of}
+use Rattle.gc_texts.specs.Endings.{End, Answered, OffTarget, Disagree, Unexpected, line_of}
 use Rattle.gc_texts.specs.Expectations.{meets}
-use Rattle.gc_texts.specs.Nears.{is_elsewhere}
+use Rattle.gc_texts.specs.Nears.{is_off_target}
 use Rattle.gc_texts.specs.Zeroed.{as_zero}
 use Rattle.gc_texts.specs.Qualities.{is_good}
 use Rattle.gc_texts.specs.declared.agree.Agree.{Agree}
@@ -58,61 +58,61 @@ module _ (expected : Expected) (line : List ℕ) where
     by_test true is e = agreed_so q k given said is e
     by_test false is e = cc
 
-  -- `agreed_as` never ends a command as elsewhere
-  agreed_here : (q : Quality) (given : Option Answer) → agreed_as expected q given line ≡ Elsewhere line → ⊥
+  -- `agreed_as` never ends a command as off target
+  agreed_here : (q : Quality) (given : Option Answer) → agreed_as expected q given line ≡ OffTarget line → ⊥
   agreed_here q given e = by_test (agrees_in expected.twice expected.first given) e where
     -- the lemma above, by whether the values agree
-    by_test : (b : Bool) → (if b then Answered (quality_in expected.twice q) given line else Disagree line) ≡ Elsewhere line → ⊥
+    by_test : (b : Bool) → (if b then Answered (quality_in expected.twice q) given line else Disagree line) ≡ OffTarget line → ⊥
     by_test true e = cc
     by_test false e = cc
 
   -- nor does `answered_as`
-  answered_here : (q : Quality) (given : Option Answer) → answered_as expected q given line ≡ Elsewhere line → ⊥
+  answered_here : (q : Quality) (given : Option Answer) → answered_as expected q given line ≡ OffTarget line → ⊥
   answered_here q given e = by_test (meets expected.expects expected.before line) e where
     -- the lemma above, by whether the line is as expected
-    by_test : (b : Bool) → (if b then agreed_as expected q given line else Unexpected line) ≡ Elsewhere line → ⊥
+    by_test : (b : Bool) → (if b then agreed_as expected q given line else Unexpected line) ≡ OffTarget line → ⊥
     by_test true e = agreed_here q given e
     by_test false e = cc
 
-  -- if an answer `a` ends a command as answered, with the answer `answer`, that answer isn't elsewhere
-  value_near : (q k : Quality) (a answer : Answer) (away : Bool) → is_elsewhere expected.near a ≡ away → value_as expected q away a line ≡ Answered k (Some answer) line
-      → is_elsewhere expected.near answer ≡ false
+  -- if an answer `a` ends a command as answered, with the answer `answer`, that answer isn't off target
+  value_near : (q k : Quality) (a answer : Answer) (away : Bool) → is_off_target expected.near a ≡ away → value_as expected q away a line ≡ Answered k (Some answer) line
+      → is_off_target expected.near answer ≡ false
   value_near q k a answer true is e = cc
   value_near q k a answer false is e =
-      let so = (answered_so q k (Some a) (Some answer) e).same in let same : a ≡ answer = cc in ap (is_elsewhere expected.near) (sym same) ∙ is
+      let so = (answered_so q k (Some a) (Some answer) e).same in let same : a ≡ answer = cc in ap (is_off_target expected.near) (sym same) ∙ is
 
-  -- if a reply with an accepted code ends a command as answered, with an answer, that answer isn't elsewhere
-  warned_near : (z : Reading) (k : Quality) (answer : Answer) → warned_as expected z line ≡ Answered k (Some answer) line → is_elsewhere expected.near answer ≡ false
-  warned_near (reading.Value a) k answer e = value_near quality.Warning k a answer (is_elsewhere expected.near a) refl e
+  -- if a reply with an accepted code ends a command as answered, with an answer, that answer isn't off target
+  warned_near : (z : Reading) (k : Quality) (answer : Answer) → warned_as expected z line ≡ Answered k (Some answer) line → is_off_target expected.near answer ≡ false
+  warned_near (reading.Value a) k answer e = value_near quality.Warning k a answer (is_off_target expected.near a) refl e
   warned_near (reading.Refused code) k answer e = let so = (answered_so quality.Warning k None (Some answer) e).same in cc
   warned_near (reading.ComFault code) k answer e = let so = (answered_so quality.Warning k None (Some answer) e).same in cc
   warned_near (reading.Unreadable fault) k answer e = let so = (answered_so quality.Warning k None (Some answer) e).same in cc
 
-  -- if a refusal, accepted (b) or not, ends a command as answered, with an answer, that answer isn't elsewhere
-  refused_near : (b : Bool) (z : Reading) (k : Quality) (answer : Answer) → refused_as b expected z line ≡ Answered k (Some answer) line → is_elsewhere expected.near answer ≡ false
+  -- if a refusal, accepted (b) or not, ends a command as answered, with an answer, that answer isn't off target
+  refused_near : (b : Bool) (z : Reading) (k : Quality) (answer : Answer) → refused_as b expected z line ≡ Answered k (Some answer) line → is_off_target expected.near answer ≡ false
   refused_near true z k answer e = warned_near z k answer e
   refused_near false z k answer e = cc
 
-  -- what a line says is an answer that was measured elsewhere
+  -- what a line says is an answer that was measured off target
   record IsAway (z : Reading) : Type 0 where
     answer : Answer
     said : z ≡ reading.Value answer
-    away : is_elsewhere expected.near answer ≡ true
+    away : is_off_target expected.near answer ≡ true
 
-  -- if an answer `a` ends a command as elsewhere, it was measured elsewhere
-  value_away : (q : Quality) (a : Answer) (away : Bool) → is_elsewhere expected.near a ≡ away → value_as expected q away a line ≡ Elsewhere line → is_elsewhere expected.near a ≡ true
+  -- if an answer `a` ends a command as off target, it was measured off target
+  value_away : (q : Quality) (a : Answer) (away : Bool) → is_off_target expected.near a ≡ away → value_as expected q away a line ≡ OffTarget line → is_off_target expected.near a ≡ true
   value_away q a true is e = is
   value_away q a false is e = absurd (answered_here q (Some a) e)
 
-  -- if a reply with an accepted code ends a command as elsewhere, `z` is an answer that was measured elsewhere
-  warned_away : (z : Reading) → warned_as expected z line ≡ Elsewhere line → IsAway z
-  warned_away (reading.Value a) e = record { answer = a; said = refl; away = value_away quality.Warning a (is_elsewhere expected.near a) refl e }
+  -- if a reply with an accepted code ends a command as off target, `z` is an answer that was measured off target
+  warned_away : (z : Reading) → warned_as expected z line ≡ OffTarget line → IsAway z
+  warned_away (reading.Value a) e = record { answer = a; said = refl; away = value_away quality.Warning a (is_off_target expected.near a) refl e }
   warned_away (reading.Refused code) e = absurd (answered_here quality.Warning None e)
   warned_away (reading.ComFault code) e = absurd (answered_here quality.Warning None e)
   warned_away (reading.Unreadable fault) e = absurd (answered_here quality.Warning None e)
 
-  -- if a refusal ends a command as elsewhere, its code is accepted (b), and `z` is an answer that was measured elsewhere
-  refused_away : (b : Bool) (z : Reading) → refused_as b expected z line ≡ Elsewhere line → (b ≡ true) × IsAway z
+  -- if a refusal ends a command as off target, its code is accepted (b), and `z` is an answer that was measured off target
+  refused_away : (b : Bool) (z : Reading) → refused_as b expected z line ≡ OffTarget line → (b ≡ true) × IsAway z
   refused_away true z e = (refl, warned_away z e)
   refused_away false z e = cc
 
@@ -137,7 +137,7 @@ module _ (expected : Expected) (line : List ℕ) where
 
   -- and a reply with an accepted code
   warned_good : (z : Reading) (k : Quality) (said : Option Answer) → warned_as expected z line ≡ Answered k said line → IsGoodSo k said
-  warned_good (reading.Value a) k said e = value_good quality.Warning k a (is_elsewhere expected.near a) said e
+  warned_good (reading.Value a) k said e = value_good quality.Warning k a (is_off_target expected.near a) said e
   warned_good (reading.Refused code) k said e = answered_good quality.Warning k None said e
   warned_good (reading.ComFault code) k said e = answered_good quality.Warning k None said e
   warned_good (reading.Unreadable fault) k said e = answered_good quality.Warning k None said e
@@ -149,7 +149,7 @@ module _ (expected : Expected) (line : List ℕ) where
 
   -- and any reply in time
   answer_good : (x z : Reading) (k : Quality) (said : Option Answer) → answer_as expected x z line ≡ Answered k said line → is_good k ≡ true → IsGoodSo k said
-  answer_good (reading.Value a) z k said e good = value_good quality.Fine k a (is_elsewhere expected.near a) said e
+  answer_good (reading.Value a) z k said e good = value_good quality.Fine k a (is_off_target expected.near a) said e
   answer_good (reading.Refused code) z k said e good = refused_good (lists_code expected.accepted code) z k said e good
   answer_good (reading.ComFault code) z k said e good = let same : quality.Refused ≡ k = cc in let bad : false ≡ true = ap is_good same ∙ good in cc
   answer_good (reading.Unreadable fault) z k said e good = cc
@@ -188,7 +188,7 @@ module _ (expected : Expected) (line : List ℕ) where
 
   -- and a reply with an accepted code
   warned_second : (z : Reading) → warned_as expected z line ≡ Disagree line → IsSecond expected.twice
-  warned_second (reading.Value a) e = value_second quality.Warning a (is_elsewhere expected.near a) e
+  warned_second (reading.Value a) e = value_second quality.Warning a (is_off_target expected.near a) e
   warned_second (reading.Refused code) e = answered_second quality.Warning None e
   warned_second (reading.ComFault code) e = answered_second quality.Warning None e
   warned_second (reading.Unreadable fault) e = answered_second quality.Warning None e
@@ -200,7 +200,7 @@ module _ (expected : Expected) (line : List ℕ) where
 
   -- and any reply in time
   answer_second : (x z : Reading) → answer_as expected x z line ≡ Disagree line → IsSecond expected.twice
-  answer_second (reading.Value a) z e = value_second quality.Fine a (is_elsewhere expected.near a) e
+  answer_second (reading.Value a) z e = value_second quality.Fine a (is_off_target expected.near a) e
   answer_second (reading.Refused code) z e = refused_second (lists_code expected.accepted code) z e
   answer_second (reading.ComFault code) z e = cc
   answer_second (reading.Unreadable fault) z e = cc
@@ -226,7 +226,7 @@ module _ (expected : Expected) (line : List ℕ) where
 
   -- and a reply with an accepted code
   warned_unmet : (z : Reading) → warned_as expected z line ≡ Unexpected line → meets expected.expects expected.before line ≡ false
-  warned_unmet (reading.Value a) e = value_unmet quality.Warning a (is_elsewhere expected.near a) e
+  warned_unmet (reading.Value a) e = value_unmet quality.Warning a (is_off_target expected.near a) e
   warned_unmet (reading.Refused code) e = answered_unmet quality.Warning None e
   warned_unmet (reading.ComFault code) e = answered_unmet quality.Warning None e
   warned_unmet (reading.Unreadable fault) e = answered_unmet quality.Warning None e
@@ -238,7 +238,7 @@ module _ (expected : Expected) (line : List ℕ) where
 
   -- and any reply in time
   answer_unmet : (x z : Reading) → answer_as expected x z line ≡ Unexpected line → meets expected.expects expected.before line ≡ false
-  answer_unmet (reading.Value a) z e = value_unmet quality.Fine a (is_elsewhere expected.near a) e
+  answer_unmet (reading.Value a) z e = value_unmet quality.Fine a (is_off_target expected.near a) e
   answer_unmet (reading.Refused code) z e = refused_unmet (lists_code expected.accepted code) z e
   answer_unmet (reading.ComFault code) z e = cc
   answer_unmet (reading.Unreadable fault) z e = cc
@@ -271,37 +271,37 @@ module _ (reads : Reads) (expected : Expected) (call : Asked) (line : List ℕ) 
       let is : o ≡ Rule.Answered line = settled_answered reads expected call o line (ap line_of e) in
       answer_unmet expected line (reads expected.form call line) (reads expected.form call (as_zero line)) (subst (λ (x : Rule.Outcome). end_of reads expected call x ≡ Unexpected line) is e)
 
-  -- if a reply in time, which says x, ends a command as answered, with an answer, that answer isn't elsewhere
-  answer_near : (x z : Reading) (k : Quality) (answer : Answer) → answer_as expected x z line ≡ Answered k (Some answer) line → is_elsewhere expected.near answer ≡ false
-  answer_near (reading.Value a) z k answer e = value_near expected line quality.Fine k a answer (is_elsewhere expected.near a) refl e
+  -- if a reply in time, which says x, ends a command as answered, with an answer, that answer isn't off target
+  answer_near : (x z : Reading) (k : Quality) (answer : Answer) → answer_as expected x z line ≡ Answered k (Some answer) line → is_off_target expected.near answer ≡ false
+  answer_near (reading.Value a) z k answer e = value_near expected line quality.Fine k a answer (is_off_target expected.near a) refl e
   answer_near (reading.Refused code) z k answer e = refused_near expected line (lists_code expected.accepted code) z k answer e
   answer_near (reading.ComFault code) z k answer e = cc
   answer_near (reading.Unreadable fault) z k answer e = cc
 
-  -- if a command ends as answered, with an answer, that answer isn't elsewhere
-  pub ended_near : (o : Rule.Outcome) (k : Quality) (answer : Answer) → end_of reads expected call o ≡ Answered k (Some answer) line → is_elsewhere expected.near answer ≡ false
+  -- if a command ends as answered, with an answer, that answer isn't off target
+  pub ended_near : (o : Rule.Outcome) (k : Quality) (answer : Answer) → end_of reads expected call o ≡ Answered k (Some answer) line → is_off_target expected.near answer ≡ false
   ended_near o k answer e =
       let is : o ≡ Rule.Answered line = settled_answered reads expected call o line (ap line_of e) in
       answer_near (reads expected.form call line) (reads expected.form call (as_zero line)) k answer (subst (λ (x : Rule.Outcome). end_of reads expected call x ≡ Answered k (Some answer) line) is e)
 
-  -- the line has an answer that was measured elsewhere
+  -- the line has an answer that was measured off target
   abbrev HasAwayAnswer : Type 0
-  HasAwayAnswer = (answer : Answer) × HasAnswer (reads expected.form) expected.accepted call line answer × (is_elsewhere expected.near answer ≡ true)
+  HasAwayAnswer = (answer : Answer) × HasAnswer (reads expected.form) expected.accepted call line answer × (is_off_target expected.near answer ≡ true)
 
-  -- if a reply in time, which says x, ends a command as elsewhere, its line has an answer that was measured elsewhere
-  answer_away : (x z : Reading) → reads expected.form call line ≡ x → reads expected.form call (as_zero line) ≡ z → answer_as expected x z line ≡ Elsewhere line → HasAwayAnswer
-  answer_away (reading.Value a) z is zs e = (a, inl is, value_away expected line quality.Fine a (is_elsewhere expected.near a) refl e)
+  -- if a reply in time, which says x, ends a command as off target, its line has an answer that was measured off target
+  answer_away : (x z : Reading) → reads expected.form call line ≡ x → reads expected.form call (as_zero line) ≡ z → answer_as expected x z line ≡ OffTarget line → HasAwayAnswer
+  answer_away (reading.Value a) z is zs e = (a, inl is, value_away expected line quality.Fine a (is_off_target expected.near a) refl e)
   answer_away (reading.Refused code) z is zs e =
       let both = refused_away expected line (lists_code expected.accepted code) z e in
       (both.1.answer, inr (code, is, both.0, zs ∙ both.1.said), both.1.away)
   answer_away (reading.ComFault code) z is zs e = cc
   answer_away (reading.Unreadable fault) z is zs e = cc
 
-  -- if a command ends as elsewhere, its line has an answer that was measured elsewhere
-  pub ended_away : (o : Rule.Outcome) → end_of reads expected call o ≡ Elsewhere line → HasAwayAnswer
+  -- if a command ends as off target, its line has an answer that was measured off target
+  pub ended_away : (o : Rule.Outcome) → end_of reads expected call o ≡ OffTarget line → HasAwayAnswer
   ended_away o e =
       let is : o ≡ Rule.Answered line = settled_answered reads expected call o line (ap line_of e) in
-      answer_away (reads expected.form call line) (reads expected.form call (as_zero line)) refl refl (subst (λ (x : Rule.Outcome). end_of reads expected call x ≡ Elsewhere line) is e)
+      answer_away (reads expected.form call line) (reads expected.form call (as_zero line)) refl refl (subst (λ (x : Rule.Outcome). end_of reads expected call x ≡ OffTarget line) is e)
 
   -- The quality.
 
@@ -353,7 +353,7 @@ module _ (reads : Reads) (expected : Expected) (call : Asked) (line : List ℕ) 
       -- a line with an accepted code has the quality with which it ends a command as answered, whatever it says with return
       -- code 0
       warned_quality : (z : Reading) → lists_code expected.accepted code ≡ true → reads expected.form call (as_zero line) ≡ z → warned_as expected z line ≡ Answered k said line → LineIsOfQuality
-      warned_quality (reading.Value a) listed zs e = warned_value_quality a (is_elsewhere expected.near a) listed zs e
+      warned_quality (reading.Value a) listed zs e = warned_value_quality a (is_off_target expected.near a) listed zs e
       warned_quality (reading.Refused c) listed zs e = warning_quality (reading.Refused c) None listed zs refl e
       warned_quality (reading.ComFault c) listed zs e = warning_quality (reading.ComFault c) None listed zs refl e
       warned_quality (reading.Unreadable fault) listed zs e = warning_quality (reading.Unreadable fault) None listed zs refl e
@@ -371,7 +371,7 @@ module _ (reads : Reads) (expected : Expected) (call : Asked) (line : List ℕ) 
 
     -- a line that says x has the quality with which it ends a command as answered
     answer_quality : (x z : Reading) → reads expected.form call line ≡ x → reads expected.form call (as_zero line) ≡ z → answer_as expected x z line ≡ Answered k said line → LineIsOfQuality
-    answer_quality (reading.Value a) z is zs e = value_quality a (is_elsewhere expected.near a) is e
+    answer_quality (reading.Value a) z is zs e = value_quality a (is_off_target expected.near a) is e
     answer_quality (reading.Refused code) z is zs e = refused_quality code (lists_code expected.accepted code) z refl is zs e
     answer_quality (reading.ComFault code) z is zs e = let same : quality.Refused ≡ k = cc in let has : ◌≡◌ {A = Option Answer} None said = cc in refusal_quality (reading.ComFault code) is tt same has
     answer_quality (reading.Unreadable fault) z is zs e = cc

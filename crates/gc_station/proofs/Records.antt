@@ -19,9 +19,9 @@ use Rattle.gc_client.specs.Rule
 use Rattle.gc_client.specs.Settlements.{settlement_seen}
 use Rattle.gc_station.specs.declared.mark.Mark.{Mark}
 use Rattle.gc_texts.specs.Codes.{lists_code}
-use Rattle.gc_texts.specs.Endings.{End, Answered, Unreadable, Elsewhere, Disagree, Unexpected}
+use Rattle.gc_texts.specs.Endings.{End, Answered, Unreadable, OffTarget, Disagree, Unexpected}
 use Rattle.gc_texts.specs.Expectations.{meets}
-use Rattle.gc_texts.specs.Nears.{is_elsewhere}
+use Rattle.gc_texts.specs.Nears.{is_off_target}
 use Rattle.gc_texts.specs.declared.near.Expected.{Expected}
 use Rattle.gc_texts.specs.declared.quality.Quality.{Quality}
 use Rattle.gc_texts.specs.declared.quality.Quality.TheVariants.{Fine, Warning, Refused}
@@ -89,38 +89,38 @@ answered_along P expected q said line answered disagree unexpected = by_test (me
   by_test true = agreed_along P expected q said line answered disagree
   by_test false = unexpected
 
--- a fact of endings holds of the ending by an answer, whether that is elsewhere or not, if it holds of each answer by this line,
--- and of the endings as elsewhere, as disagreeing and as unexpected by it
+-- a fact of endings holds of the ending by an answer, whether that is off target or not, if it holds of each answer by this line,
+-- and of the endings as off target, as disagreeing and as unexpected by it
 value_along : (P : End → Type 0) (expected : Expected) (q : Quality) (away : Bool) (said : Answer) (line : List ℕ)
-    → ((quality : Quality) (answer : Option Answer) → P (Answered quality answer line)) → P (Elsewhere line) → P (Disagree line) → P (Unexpected line) → P (value_as expected q away said line)
-value_along P expected q true said line answered elsewhere disagree unexpected = elsewhere
-value_along P expected q false said line answered elsewhere disagree unexpected = answered_along P expected q (Some said) line answered disagree unexpected
+    → ((quality : Quality) (answer : Option Answer) → P (Answered quality answer line)) → P (OffTarget line) → P (Disagree line) → P (Unexpected line) → P (value_as expected q away said line)
+value_along P expected q true said line answered off_target disagree unexpected = off_target
+value_along P expected q false said line answered off_target disagree unexpected = answered_along P expected q (Some said) line answered disagree unexpected
 
 -- so it does of the ending by a reply with an accepted code, whatever the line says with return code 0 (`zeroed`)
 warned_along : (P : End → Type 0) (expected : Expected) (zeroed : Reading) (line : List ℕ)
-    → ((quality : Quality) (answer : Option Answer) → P (Answered quality answer line)) → P (Elsewhere line) → P (Disagree line) → P (Unexpected line) → P (warned_as expected zeroed line)
-warned_along P expected (reading.Value said) line answered elsewhere disagree unexpected =
-    value_along P expected Warning (is_elsewhere expected.near said) said line answered elsewhere disagree unexpected
-warned_along P expected (reading.Refused code) line answered elsewhere disagree unexpected = answered_along P expected Warning None line answered disagree unexpected
-warned_along P expected (reading.ComFault code) line answered elsewhere disagree unexpected = answered_along P expected Warning None line answered disagree unexpected
-warned_along P expected (reading.Unreadable fault) line answered elsewhere disagree unexpected = answered_along P expected Warning None line answered disagree unexpected
+    → ((quality : Quality) (answer : Option Answer) → P (Answered quality answer line)) → P (OffTarget line) → P (Disagree line) → P (Unexpected line) → P (warned_as expected zeroed line)
+warned_along P expected (reading.Value said) line answered off_target disagree unexpected =
+    value_along P expected Warning (is_off_target expected.near said) said line answered off_target disagree unexpected
+warned_along P expected (reading.Refused code) line answered off_target disagree unexpected = answered_along P expected Warning None line answered disagree unexpected
+warned_along P expected (reading.ComFault code) line answered off_target disagree unexpected = answered_along P expected Warning None line answered disagree unexpected
+warned_along P expected (reading.Unreadable fault) line answered off_target disagree unexpected = answered_along P expected Warning None line answered disagree unexpected
 
 -- so it does of the ending by a refused reply, whether its code is accepted or not
 refused_along : (P : End → Type 0) (accepted : Bool) (expected : Expected) (zeroed : Reading) (line : List ℕ)
-    → ((quality : Quality) (answer : Option Answer) → P (Answered quality answer line)) → P (Elsewhere line) → P (Disagree line) → P (Unexpected line) → P (refused_as accepted expected zeroed line)
-refused_along P true expected zeroed line answered elsewhere disagree unexpected = warned_along P expected zeroed line answered elsewhere disagree unexpected
-refused_along P false expected zeroed line answered elsewhere disagree unexpected = answered Refused None
+    → ((quality : Quality) (answer : Option Answer) → P (Answered quality answer line)) → P (OffTarget line) → P (Disagree line) → P (Unexpected line) → P (refused_as accepted expected zeroed line)
+refused_along P true expected zeroed line answered off_target disagree unexpected = warned_along P expected zeroed line answered off_target disagree unexpected
+refused_along P false expected zeroed line answered off_target disagree unexpected = answered Refused None
 
 -- so it does of the ending by any reply in time, if it holds of each ending as unreadable by this line, too
 pub answer_along : (P : End → Type 0) (expected : Expected) (said zeroed : Reading) (line : List ℕ)
-    → ((quality : Quality) (answer : Option Answer) → P (Answered quality answer line)) → P (Elsewhere line) → P (Disagree line) → P (Unexpected line) → ((fault : ValueFault) → P (Unreadable line fault))
+    → ((quality : Quality) (answer : Option Answer) → P (Answered quality answer line)) → P (OffTarget line) → P (Disagree line) → P (Unexpected line) → ((fault : ValueFault) → P (Unreadable line fault))
     → P (answer_as expected said zeroed line)
-answer_along P expected (reading.Value said) zeroed line answered elsewhere disagree unexpected unreadable =
-    value_along P expected Fine (is_elsewhere expected.near said) said line answered elsewhere disagree unexpected
-answer_along P expected (reading.Refused code) zeroed line answered elsewhere disagree unexpected unreadable =
-    refused_along P (lists_code expected.accepted code) expected zeroed line answered elsewhere disagree unexpected
-answer_along P expected (reading.ComFault code) zeroed line answered elsewhere disagree unexpected unreadable = answered Refused None
-answer_along P expected (reading.Unreadable fault) zeroed line answered elsewhere disagree unexpected unreadable = unreadable fault
+answer_along P expected (reading.Value said) zeroed line answered off_target disagree unexpected unreadable =
+    value_along P expected Fine (is_off_target expected.near said) said line answered off_target disagree unexpected
+answer_along P expected (reading.Refused code) zeroed line answered off_target disagree unexpected unreadable =
+    refused_along P (lists_code expected.accepted code) expected zeroed line answered off_target disagree unexpected
+answer_along P expected (reading.ComFault code) zeroed line answered off_target disagree unexpected unreadable = answered Refused None
+answer_along P expected (reading.Unreadable fault) zeroed line answered off_target disagree unexpected unreadable = unreadable fault
 
 -- Records.
 

@@ -8,7 +8,7 @@ use Rattle.gc_client.specs.Rule as client
 use Rattle.gc_texts.specs.Codes.{lists_code}
 use Rattle.gc_texts.specs.Endings.{End, Answered, Disagree, Unexpected, Unreadable, line_of}
 use Rattle.gc_texts.specs.Expectations.{meets}
-use Rattle.gc_texts.specs.Nears.{is_elsewhere}
+use Rattle.gc_texts.specs.Nears.{is_off_target}
 use Rattle.gc_texts.specs.Zeroed.{as_zero}
 use Rattle.gc_texts.specs.declared.near.Expected.{Expected}
 use Rattle.gc_texts.specs.declared.quality.Quality.{Quality}
@@ -45,7 +45,7 @@ module _ (expected : Expected) (l line : List ℕ) (why : ValueFault) where
 
   -- nor a reply with an accepted code
   warned_reads : (z : Reading) → warned_as expected z l ≡ Unreadable line why → ⊥
-  warned_reads (reading.Value a) e = value_reads quality.Warning (is_elsewhere expected.near a) a e
+  warned_reads (reading.Value a) e = value_reads quality.Warning (is_off_target expected.near a) a e
   warned_reads (reading.Refused code) e = answered_reads quality.Warning None e
   warned_reads (reading.ComFault code) e = answered_reads quality.Warning None e
   warned_reads (reading.Unreadable fault) e = answered_reads quality.Warning None e
@@ -57,7 +57,7 @@ module _ (expected : Expected) (l line : List ℕ) (why : ValueFault) where
 
   -- a reply ends its command as unreadable only if its values don't read, for the same fault
   ended_unreadable : (said z : Reading) → answer_as expected said z l ≡ Unreadable line why → (said ≡ reading.Unreadable why) × (l ≡ line)
-  ended_unreadable (reading.Value a) z e = absurd (value_reads quality.Fine (is_elsewhere expected.near a) a e)
+  ended_unreadable (reading.Value a) z e = absurd (value_reads quality.Fine (is_off_target expected.near a) a e)
   ended_unreadable (reading.Refused code) z e = absurd (refused_reads (lists_code expected.accepted code) z e)
   ended_unreadable (reading.ComFault code) z e = cc
   ended_unreadable (reading.Unreadable fault) z e = let same : fault ≡ why = cc in let own : l ≡ line = cc in (ap reading.Unreadable same, own)

@@ -81,7 +81,7 @@ pub record IsAnsweredIn (plan : Plan) (commands : List Task) (scope : Scope) (ac
   pub waits : AllByRecursion (ReadsBefore (deadline_after plan commands scope reply.its.before)) reply.its.between
   pub in_time : reply.moment.elapsed < deadline_after plan commands scope reply.its.before
 
--- if a reply in time ended the command of the record `r` (answered, unreadable or elsewhere), the line of the reply (`line_of`)
+-- if a reply in time ended the command of the record `r` (answered, unreadable or off target), the line of the reply (`line_of`)
 -- came as `IsAnsweredIn` says
 abbrev pub AnswerIsJustified : Plan → List Task → Scope → List Act → Record → Type 0
 AnswerIsJustified plan commands scope acts r = (line : List ℕ) → line_of r.end ≡ Some line → IsAnsweredIn plan commands scope acts r line

@@ -9,7 +9,7 @@ use Rattle.gc_client.specs.Rule.{Answered, Late, Lost}
 use Rattle.gc_texts.specs.Codes.{lists_code, no_codes}
 use Rattle.gc_texts.specs.Endings as end
 use Rattle.gc_texts.specs.Expectations.{meets}
-use Rattle.gc_texts.specs.Nears.{is_elsewhere}
+use Rattle.gc_texts.specs.Nears.{is_off_target}
 use Rattle.gc_texts.specs.declared.near.Expected.{Expected}
 use Rattle.gc_texts.specs.declared.quality.Quality.TheVariants as quality
 use Rattle.gc_values.specs.declared.fault.ValueFault.{ValueFault}
@@ -37,17 +37,17 @@ pub record EndsByItsCodes (expected : Expected) (call : Asked) (line : List ℕ)
   -- if both codes are 0, and the parameters are an answer to what was asked, it was answered well, unless the answer was measured
   -- elsewhere than the target is, or isn't as the text expects it, or, in a second sending, doesn't agree with that of the first
   pub found : (answer : Answer) → IsSaid expected.form call r (reading.Value answer)
-      → is_well ended ≡ (not (is_elsewhere expected.near answer) && meets expected.expects expected.before line && agrees_in expected.twice expected.first (Some answer))
-  -- and where the answer was measured elsewhere, it ended as elsewhere
-  pub away : (answer : Answer) → IsSaid expected.form call r (reading.Value answer) → is_elsewhere expected.near answer ≡ true
-      → ended ≡ end.Elsewhere line
+      → is_well ended ≡ (not (is_off_target expected.near answer) && meets expected.expects expected.before line && agrees_in expected.twice expected.first (Some answer))
+  -- and where the answer was measured off target, it ended as off target
+  pub away : (answer : Answer) → IsSaid expected.form call r (reading.Value answer) → is_off_target expected.near answer ≡ true
+      → ended ≡ end.OffTarget line
   -- as `found`, with an accepted return code other than 0
   pub warned : (answer : Answer)
       → IfAccepted expected call r (reading.Value answer)
-      (is_well ended ≡ (not (is_elsewhere expected.near answer) && meets expected.expects expected.before line && agrees_in expected.twice expected.first (Some answer)))
+      (is_well ended ≡ (not (is_off_target expected.near answer) && meets expected.expects expected.before line && agrees_in expected.twice expected.first (Some answer)))
   -- as `away`, with an accepted return code other than 0
   pub warned_away : (answer : Answer)
-      → IfAccepted expected call r (reading.Value answer) (is_elsewhere expected.near answer ≡ true → ended ≡ end.Elsewhere line)
+      → IfAccepted expected call r (reading.Value answer) (is_off_target expected.near answer ≡ true → ended ≡ end.OffTarget line)
   -- with an accepted return code other than 0, and parameters that don't read, it is answered with a warning, and without values, if the
   -- line is as the text expects it; in a chain that is sent twice as its sending has it (`answered_as`)
   pub warned_without : (fault : ValueFault)

@@ -1,7 +1,7 @@
 -- A tally counts the records of the last attempts: this project's own.
 use Rattle.std.specs.Prelude.{◌≡◌, ℕ, suc, Bool, true, false, List, [], ◌∷◌, if◌then◌else◌, ◌||◌, ◌&&◌, not, nat_eq, nat_lt}
 use Rattle.gc_texts.specs.Qualities.{is_good}
-use Rattle.gc_texts.specs.Endings.{End, Answered, Unreadable, Elsewhere, Disagree, Unexpected, Late, Lost, Skipped, NoValue, Missed}
+use Rattle.gc_texts.specs.Endings.{End, Answered, Unreadable, OffTarget, Disagree, Unexpected, Late, Lost, Skipped, NoValue, Missed}
 use Rattle.gc_station.specs.Records.{Record}
 use Rattle.gc_station.specs.Tallies.{capped, tally_of}
 use Rattle.gc_station.specs.declared.tally.Tally.{Tally}
@@ -26,10 +26,10 @@ abbrev pub ended_unreadable : End → Bool
 ended_unreadable (Unreadable line fault) = true
 ended_unreadable _ = false
 
--- whether an ending is `Elsewhere`
-abbrev pub ended_elsewhere : End → Bool
-ended_elsewhere (Elsewhere line) = true
-ended_elsewhere _ = false
+-- whether an ending is `OffTarget`
+abbrev pub ended_off_target : End → Bool
+ended_off_target (OffTarget line) = true
+ended_off_target _ = false
 
 -- whether an ending is `Disagree`
 abbrev pub ended_disagree : End → Bool
@@ -85,7 +85,7 @@ further_attempts (r ∷ others) =
 abbrev pub CountsEndings : (count : Tally → ℕ) (holds : End → Bool) → Type 0
 CountsEndings count holds = (records : List Record) → count (tally_of records) ≡ capped (how_many holds (last_attempts records))
 
--- each count of a tally counts the records of last attempts with its ending; `again` is how many times a chain was sent again
+-- each count of a tally counts the records of last attempts with its ending; `retried` is how many times a chain was sent again
 pub record TalliesCountRecords : Type 0 where
   pub answered : CountsEndings (λ t. t.answered) ended_answered
   pub refused : CountsEndings (λ t. t.refused) ended_refused
@@ -94,7 +94,7 @@ pub record TalliesCountRecords : Type 0 where
   pub lost : CountsEndings (λ t. t.lost) ended_lost
   pub skipped : CountsEndings (λ t. t.skipped) ended_skipped
   pub missed : CountsEndings (λ t. t.missed) ended_missed
-  pub elsewhere : CountsEndings (λ t. t.elsewhere) ended_elsewhere
+  pub off_target : CountsEndings (λ t. t.off_target) ended_off_target
   pub disagree : CountsEndings (λ t. t.disagree) ended_disagree
   pub unexpected : CountsEndings (λ t. t.unexpected) ended_unexpected
-  pub again : (records : List Record) → (tally_of records).again ≡ capped (further_attempts records)
+  pub retried : (records : List Record) → (tally_of records).retried ≡ capped (further_attempts records)

@@ -11,7 +11,7 @@ use Rattle.gc_texts.specs.Agrees.{agrees}
 use Rattle.gc_texts.specs.Codes.{lists_code}
 use Rattle.gc_texts.specs.Endings.{End}
 use Rattle.gc_texts.specs.Expectations.{meets}
-use Rattle.gc_texts.specs.Nears.{is_elsewhere}
+use Rattle.gc_texts.specs.Nears.{is_off_target}
 use Rattle.gc_texts.specs.Qualities.{is_good, is_confirmed}
 use Rattle.gc_texts.specs.Zeroed.{as_zero}
 use Rattle.gc_texts.specs.declared.near.Expected.{Expected}
@@ -80,16 +80,16 @@ answered_as expected quality answer line =
     if meets expected.expects expected.before line then agreed_as expected quality answer line else end.Unexpected line
 
 -- how a command ends whose reply, `line`, has this answer. If the answer was measured elsewhere than the command's target is
--- (`away`): as elsewhere. Otherwise as `answered_as` says, with this quality
+-- (`away`): as off target. Otherwise as `answered_as` says, with this quality
 abbrev pub value_as : Expected → Quality → (away : Bool) → Answer → (line : List ℕ) → End
-value_as expected quality true answer line = end.Elsewhere line
+value_as expected quality true answer line = end.OffTarget line
 value_as expected quality false answer line = answered_as expected quality (Some answer) line
 
 -- how a command ends whose reply, `line`, has a return code that is accepted. The reading is what the line would say with
--- return code 0. If that is an answer, the command ends with a warning and the answer, or as elsewhere if the answer
+-- return code 0. If that is an answer, the command ends with a warning and the answer, or as off target if the answer
 -- was measured away from its target; otherwise with a warning and no answer
 abbrev pub warned_as : Expected → Reading → List ℕ → End
-warned_as expected (reading.Value answer) line = value_as expected quality.Warning (is_elsewhere expected.near answer) answer line
+warned_as expected (reading.Value answer) line = value_as expected quality.Warning (is_off_target expected.near answer) answer line
 warned_as expected _ line = answered_as expected quality.Warning None line
 
 -- how a command ends whose reply, `line`, has a return code other than 0, which is accepted or not. The line would say `zeroed`
@@ -105,7 +105,7 @@ refused_as false expected zeroed line = end.Answered quality.Refused None line
 -- unreadable if its values don't read, and refused with a communication code
 abbrev pub answer_as : Expected → (said zeroed : Reading) → (line : List ℕ) → End
 answer_as expected (reading.Unreadable fault) zeroed line = end.Unreadable line fault
-answer_as expected (reading.Value answer) zeroed line = value_as expected quality.Fine (is_elsewhere expected.near answer) answer line
+answer_as expected (reading.Value answer) zeroed line = value_as expected quality.Fine (is_off_target expected.near answer) answer line
 answer_as expected (reading.Refused code) zeroed line = refused_as (lists_code expected.accepted code) expected zeroed line
 answer_as expected (reading.ComFault code) zeroed line = end.Answered quality.Refused None line
 

@@ -6,7 +6,7 @@ use Rattle.gc_catalogue.specs.declared.answer.Answer.{Answer}
 use Rattle.gc_catalogue.specs.declared.answer.Reading.TheVariants.{Value, Refused}
 use Rattle.gc_catalogue.specs.declared.asked.Asked.{Asked}
 use Rattle.gc_texts.specs.Codes.{lists_code}
-use Rattle.gc_texts.specs.Endings.{Answered, Elsewhere}
+use Rattle.gc_texts.specs.Endings.{Answered, OffTarget}
 use Rattle.gc_texts.specs.Nears.{IsThere, IsAway}
 use Rattle.gc_texts.specs.Zeroed.{as_zero}
 use Rattle.gc_texts.specs.declared.codes.Codes.{Codes}
@@ -35,19 +35,19 @@ HasAnswer says accepted call line answer =
 -- `line` says an answer of `call` (`HasAnswer`), by the form of `task` if it has one, the text says where the target of `task` is
 -- (`known`), and the answer was measured away from there: it has a direction that isn't near that place, or a distance that isn't within
 -- the tolerance of the target's (`away`)
-pub record WasMeasuredElsewhere (reads : Reads) (task : Task) (call : Asked) (line : List ℕ) : Type 0 where
+pub record WasMeasuredOffTarget (reads : Reads) (task : Task) (call : Asked) (line : List ℕ) : Type 0 where
   pub answer : Answer
   pub near : Near
   pub says : HasAnswer (reads task.form) task.accepted call line answer
   pub known : task.near ≡ Some near
   pub away : IsAway near answer
 
--- if the record `r` ended as elsewhere, its answer was measured elsewhere than the target of its command is
-abbrev pub ElsewhereIsJustified : Reads → List Task → Record → Type 0
-ElsewhereIsJustified reads commands r =
-    (task : Task) (line : List ℕ) → slice_get commands r.place ≡ Some task → r.end ≡ Elsewhere line
-    → WasMeasuredElsewhere reads task r.command.call line
+-- if the record `r` ended as off target, its answer was measured elsewhere than the target of its command is
+abbrev pub OffTargetIsJustified : Reads → List Task → Record → Type 0
+OffTargetIsJustified reads commands r =
+    (task : Task) (line : List ℕ) → slice_get commands r.place ≡ Some task → r.end ≡ OffTarget line
+    → WasMeasuredOffTarget reads task r.command.call line
 
--- after any acts, `IsAtItsTarget` and `ElsewhereIsJustified` hold of each record
+-- after any acts, `IsAtItsTarget` and `OffTargetIsJustified` hold of each record
 abbrev pub AnswersAreAtTheirTargets : Type 0
-AnswersAreAtTheirTargets = OfAnyRecord (λ commands scope r. IsAtItsTarget commands r × ElsewhereIsJustified scope.reads commands r)
+AnswersAreAtTheirTargets = OfAnyRecord (λ commands scope r. IsAtItsTarget commands r × OffTargetIsJustified scope.reads commands r)

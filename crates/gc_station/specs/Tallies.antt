@@ -1,7 +1,7 @@
 -- How many commands ended how, this project's own: the counts are those of the last attempt of each chain. Commands of the setup
 -- aren't counted.
 use Rattle.std.specs.Prelude.{ℕ, ◌+◌, min, List, [], ◌∷◌, if◌then◌else◌, nat_eq, nat_lt}
-use Rattle.gc_texts.specs.Endings.{End, Answered, Unreadable, Elsewhere, Disagree, Unexpected, Late, Lost, Skipped, NoValue, Missed}
+use Rattle.gc_texts.specs.Endings.{End, Answered, Unreadable, OffTarget, Disagree, Unexpected, Late, Lost, Skipped, NoValue, Missed}
 use Rattle.gc_texts.specs.Qualities.{is_good}
 use Rattle.gc_texts.specs.declared.quality.Quality.{Quality}
 use Rattle.gc_texts.specs.declared.turn.Turn.{Turn}
@@ -11,7 +11,7 @@ use Rattle.gc_station.specs.declared.tally.Tally.{Tally}
 
 -- the tally in which no command is counted
 abbrev pub empty_tally : Tally
-empty_tally = record { answered = 0; refused = 0; late = 0; lost = 0; skipped = 0; unreadable = 0; missed = 0; elsewhere = 0; disagree = 0; unexpected = 0; again = 0 }
+empty_tally = record { answered = 0; refused = 0; late = 0; lost = 0; skipped = 0; unreadable = 0; missed = 0; off_target = 0; disagree = 0; unexpected = 0; retried = 0 }
 
 -- `n`, or 2^64 - 1 if `n` is greater: a count of a tally holds no greater number
 abbrev pub capped : ℕ → ℕ
@@ -33,7 +33,7 @@ counted Lost t = record t { lost = one_more t.lost }
 counted Skipped t = record t { skipped = one_more t.skipped }
 counted NoValue t = record t { skipped = one_more t.skipped }
 counted (Unreadable line fault) t = record t { unreadable = one_more t.unreadable }
-counted (Elsewhere line) t = record t { elsewhere = one_more t.elsewhere }
+counted (OffTarget line) t = record t { off_target = one_more t.off_target }
 counted (Disagree line) t = record t { disagree = one_more t.disagree }
 counted (Unexpected line) t = record t { unexpected = one_more t.unexpected }
 counted Missed t = record t { missed = one_more t.missed }
@@ -48,10 +48,10 @@ sum a b = record {
   skipped = capped (a.skipped + b.skipped);
   unreadable = capped (a.unreadable + b.unreadable);
   missed = capped (a.missed + b.missed);
-  elsewhere = capped (a.elsewhere + b.elsewhere);
+  off_target = capped (a.off_target + b.off_target);
   disagree = capped (a.disagree + b.disagree);
   unexpected = capped (a.unexpected + b.unexpected);
-  again = capped (a.again + b.again);
+  retried = capped (a.retried + b.retried);
 }
 
 -- the counts in which no command is counted, of the chains that are over and of the current attempt
@@ -59,10 +59,10 @@ abbrev pub empty_counts : Counts
 empty_counts = record { settled = empty_tally; attempt = empty_tally }
 
 -- the counts `c` once an attempt begins, in this turn. If it is a further attempt, the counts of the attempt before are
--- discarded, and `again` counts one more; otherwise they are added to those of the chains that are over
+-- discarded, and `retried` counts one more; otherwise they are added to those of the chains that are over
 abbrev pub started : Turn → Counts → Counts
 started turn c =
-    if nat_lt 1 turn.attempt then record { settled = record c.settled { again = one_more c.settled.again }; attempt = empty_tally }
+    if nat_lt 1 turn.attempt then record { settled = record c.settled { retried = one_more c.settled.retried }; attempt = empty_tally }
     else record { settled = sum c.settled c.attempt; attempt = empty_tally }
 
 -- the counts `c` before a command with this turn is counted: an attempt begins (`started`) if the command is the first one of

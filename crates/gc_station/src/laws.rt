@@ -145,7 +145,7 @@ pub fn each_chain_is_kept()
     ensures { WhereNext Send (λ plan commands scope acts. IsChained plan commands (state_after plan commands scope acts).progress → IsLinked plan commands scope acts) }
 {}
 
-/// Each record of a reply in time (answered, unreadable or elsewhere) has a line that arrived with the id of the record's own
+/// Each record of a reply in time (answered, unreadable or off target) has a line that arrived with the id of the record's own
 /// request, the one of the same cycle and place. The line arrived after that request was sent, on its connection or a later one,
 /// and before a time at or past the request's deadline was read. The record was written at the act that brought the line. By
 /// `each_record_is_of_its_task` the record's target is that of its command.

@@ -63,8 +63,8 @@ pub fn unreadable_ones_do_not_read()
 
 /// A command was answered well only if the communication code of its reply is 0, and the return code is 0 or one that the text
 /// accepts. With both codes 0 it was answered well exactly if the parameters read as an answer of its call, or by its form, that wasn't
-/// measured elsewhere, the line's values are as the text expects them, and in a second sending the answer agrees with that of the first. With an
-/// accepted code it was, unless they read as an answer that was measured elsewhere, or the values aren't as the text expects them, or in a
+/// measured off target, the line's values are as the text expects them, and in a second sending the answer agrees with that of the first. With an
+/// accepted code it was, unless they read as an answer that was measured off target, or the values aren't as the text expects them, or in a
 /// second sending the answer, if there is one, doesn't agree with that of the first. A command that is late, lost, skipped or missed never
 /// was answered well.
 pub fn answered_well_is_an_accepted_code()
@@ -86,7 +86,7 @@ pub fn qualities_are_as_listed()
 
 /// Whatever the line, the instrument or its operator did: if a record is answered, and the text says where the command's target
 /// is, the answer was measured there. Its direction, if it has one, is near that place; and its distance, if it has one and the text says
-/// the target's, is within the tolerance of that. The reply of a record that is `elsewhere` has both codes 0 or an accepted return
+/// the target's, is within the tolerance of that. The reply of a record that is `off_target` has both codes 0 or an accepted return
 /// code, and a direction that isn't near the target, or a distance that isn't within the tolerance of the target's.
 pub fn answers_are_at_their_targets()
     ensures { AnswersAreAtTheirTargets }
@@ -113,7 +113,7 @@ pub fn agreed_rows_agree()
 ///   the distance that the answer has are those in the columns `hz_rad`, `v_rad` and `distance_m`. That holds with an accepted return code,
 ///   too.
 /// - `unreadable`, `faulty`: it is unreadable exactly if both codes are 0 and the values aren't of the described kinds, and for the very fault
-///   for which they aren't. If both codes are 0 and the values are of the kinds, it is answered, elsewhere, unexpected or disagreeing, as
+///   for which they aren't. If both codes are 0 and the values are of the kinds, it is answered, off target, unexpected or disagreeing, as
 ///   `answered_well_is_an_accepted_code` says.
 pub fn described_answers_are_read_by_their_kinds()
     ensures { DescribedAnswersAreReadByTheirKinds }

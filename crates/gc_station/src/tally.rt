@@ -9,7 +9,7 @@ use gc_texts::{Ending, Quality, Turn};
 /// How many commands ended how, of the last attempt of each chain. A count stops at 2^64 - 1.
 #[derive(Clone, Copy)]
 pub struct Tally {
-    /// A reply came in time, and it is none of `unreadable`, `elsewhere`, `disagree` and `unexpected`. In a chain that is sent twice the commands of
+    /// A reply came in time, and it is none of `unreadable`, `off_target`, `disagree` and `unexpected`. In a chain that is sent twice the commands of
     /// both sendings are counted.
     pub answered: u64,
     /// How many of `answered` were refused: the reply's communication code isn't 0, or its return code is neither 0 nor an accepted
@@ -27,14 +27,14 @@ pub struct Tally {
     /// The command wasn't sent: its cycle couldn't begin before the next was due.
     pub missed: u64,
     /// A reply came in time, with both codes 0 or an accepted return code, whose direction isn't near where its target is.
-    pub elsewhere: u64,
+    pub off_target: u64,
     /// A reply came in time, with both codes 0 or an accepted return code, in the second sending of its chain, and its values don't
     /// agree with those of the first.
     pub disagree: u64,
     /// A reply came in time, with both codes 0 or an accepted return code, whose values aren't as the text expects them.
     pub unexpected: u64,
     /// How many times a chain was sent again.
-    pub again: u64,
+    pub retried: u64,
 }
 
 impl Tally {
@@ -50,21 +50,21 @@ impl Tally {
             skipped: 0,
             unreadable: 0,
             missed: 0,
-            elsewhere: 0,
+            off_target: 0,
             disagree: 0,
             unexpected: 0,
-            again: 0,
+            retried: 0,
         }
     }
 
-    /// Counts a command by its ending: the count of this ending grows by one, unless it is the greatest `u64`. `again` stays.
+    /// Counts a command by its ending: the count of this ending grows by one, unless it is the greatest `u64`. `retried` stays.
     pub fn count(&mut self, ending: Ending<'_>)
         ensures { self.new ≡ counted (ending_seen ending.entry) self.old }
     {
         match ending {
             Ending::Answered(quality, ..) => self.count_answered(quality),
             Ending::Unreadable(_, _) => self.unreadable = self.unreadable.saturating_add(1),
-            Ending::Elsewhere(_) => self.elsewhere = self.elsewhere.saturating_add(1),
+            Ending::OffTarget(_) => self.off_target = self.off_target.saturating_add(1),
             Ending::Disagree(_) => self.disagree = self.disagree.saturating_add(1),
             Ending::Unexpected(_) => self.unexpected = self.unexpected.saturating_add(1),
             Ending::Late => self.late = self.late.saturating_add(1),
@@ -98,10 +98,10 @@ impl Tally {
             skipped: self.skipped.saturating_add(other.skipped),
             unreadable: self.unreadable.saturating_add(other.unreadable),
             missed: self.missed.saturating_add(other.missed),
-            elsewhere: self.elsewhere.saturating_add(other.elsewhere),
+            off_target: self.off_target.saturating_add(other.off_target),
             disagree: self.disagree.saturating_add(other.disagree),
             unexpected: self.unexpected.saturating_add(other.unexpected),
-            again: self.again.saturating_add(other.again),
+            retried: self.retried.saturating_add(other.retried),
         }
     }
 }
@@ -109,7 +109,7 @@ impl Tally {
 /// The tallies of a run: of the chains that are over, and of the current attempt, which a further one may replace.
 #[derive(Clone, Copy)]
 pub(crate) struct Counts {
-    /// Of the last attempts of the chains that are over; but `again` also has how many times the current chain was sent again.
+    /// Of the last attempts of the chains that are over; but `retried` also has how many times the current chain was sent again.
     pub settled: Tally,
     /// Of the current attempt.
     pub attempt: Tally,
@@ -132,7 +132,7 @@ impl Counts {
         ensures { self.new ≡ started turn self.old }
     {
         if turn.attempt > 1 {
-            self.settled.again = self.settled.again.saturating_add(1);
+            self.settled.retried = self.settled.retried.saturating_add(1);
         } else {
             self.settled = self.settled.sum(&self.attempt);
         }

@@ -12,7 +12,7 @@ ghost use Rattle.gc_station.specs.Saying.{IsSaid};
 ghost use Rattle.gc_station.specs.Scopes.{AreReadings, Reads};
 ghost use Rattle.gc_texts.specs.Codes.{lists_code};
 ghost use Rattle.gc_texts.specs.Endings.{ending_seen};
-ghost use Rattle.gc_texts.specs.Nears.{is_elsewhere};
+ghost use Rattle.gc_texts.specs.Nears.{is_off_target};
 ghost use Rattle.gc_texts.specs.Zeroed.{as_zero};
 ghost use Rattle.gc_station.specs.Records.{WritesNews};
 ghost use Rattle.gc_station.specs.Writing.{KeepsBook, news_of, NotesNews};
@@ -27,7 +27,7 @@ use gc_client::{Outcome, Settlement, WINDOW};
 use gc_lines::{Line, PortFailed};
 use gc_links::Moment;
 use gc_texts::{
-    Ending, Expected, Form, Quality, Stamp, Twice, Wish, agrees, is_elsewhere, meets,
+    Ending, Expected, Form, Quality, Stamp, Twice, Wish, agrees, is_off_target, meets,
     reading_as_zero,
 };
 
@@ -99,26 +99,26 @@ fn answered_ending<'a>(
     }
 }
 
-// The ending of a command whose reply, this line, has this answer: elsewhere if the answer was measured away from where the target
-// is (`is_elsewhere`), else as `answered_ending` says, with this quality. If the text doesn't say where the target is, no answer is
-// elsewhere.
+// The ending of a command whose reply, this line, has this answer: off target if the answer was measured away from where the target
+// is (`is_off_target`), else as `answered_ending` says, with this quality. If the text doesn't say where the target is, no answer is
+// off target.
 fn value_ending<'a>(
     expected: &Expected,
     quality: Quality,
     answer: &'a Answer,
     line: &'a Line,
 ) -> Ending<'a>
-    ensures { ending_seen result ≡ value_as expected.now quality (is_elsewhere expected.now.near answer.now) answer.now line.now.items }
+    ensures { ending_seen result ≡ value_as expected.now quality (is_off_target expected.now.near answer.now) answer.now line.now.items }
 {
-    if is_elsewhere(expected.near, answer) {
-        Ending::Elsewhere(line)
+    if is_off_target(expected.near, answer) {
+        Ending::OffTarget(line)
     } else {
         answered_ending(expected, quality, Some(answer), line)
     }
 }
 
 // The ending of a command whose reply, this line, has this return code, which isn't 0, and would say `zero` with return code 0.
-// With an accepted code: elsewhere if the values would read and were measured elsewhere, else with a warning as `answered_ending`
+// With an accepted code: off target if the values would read and were measured off target, else with a warning as `answered_ending`
 // says, and with the values if they would read. With another code: answered and refused, without values.
 fn refused_ending<'a>(
     expected: &Expected,
@@ -220,7 +220,7 @@ fn ending_of<'a>(
 }
 
 /// Whether a command with this ending was answered well: its reply has both codes 0 and values that read, or an accepted return
-/// code; and in either case it is neither elsewhere nor unexpected nor, in the second sending of its chain, apart from the first.
+/// code; and in either case it is neither off target nor unexpected nor, in the second sending of its chain, apart from the first.
 pub fn is_well(ending: Ending<'_>) -> bool
     ensures { result ≡ is_well (ending_seen ending.entry) }
 {

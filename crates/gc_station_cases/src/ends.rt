@@ -109,7 +109,7 @@ impl Book for WordBook {
             Ending::Answered(Quality::Unconfirmed, _, line) => self.note_reply(b"f", line),
             Ending::Answered(_, _, line) => self.note_reply(b"a", line),
             Ending::Unreadable(line, _) => self.note_reply(b"u", line),
-            Ending::Elsewhere(line) => self.note_reply(b"e", line),
+            Ending::OffTarget(line) => self.note_reply(b"e", line),
             Ending::Disagree(line) => self.note_reply(b"d", line),
             Ending::Unexpected(line) => self.note_reply(b"n", line),
             Ending::Late => note(&mut self.text, b"l"),

@@ -89,7 +89,7 @@ impl Outcome {
         self.counts.titled(" late ", &tally.late);
         self.counts.titled(" skipped ", &tally.skipped);
         self.counts.titled(" missed ", &tally.missed);
-        self.counts.titled(" again ", &tally.again);
+        self.counts.titled(" retried ", &tally.retried);
     }
 
     /// Takes the bytes of the log; `is_lost`: they aren't all of it, because a write of the log failed.

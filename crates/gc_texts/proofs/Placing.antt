@@ -12,7 +12,7 @@ use Rattle.gc_values.proofs.NearLemmas.{near_is_within}
 use Rattle.gc_values.proofs.WithinLemmas.{is_within_exactly}
 use Rattle.gc_lines.proofs.Lists.{cons_head, cons_tail}
 use Rattle.gc_texts.specs.Chained.{PlacesHoldForAll, UnwatchedHoldForAll}
-use Rattle.gc_texts.specs.Nears.{has_near, near_of, direction_of, distance_of, is_away, is_out_of_range, is_elsewhere, IsThere, IsInAnotherDirection, IsAtAnotherDistance, IsAway}
+use Rattle.gc_texts.specs.Nears.{has_near, near_of, direction_of, distance_of, is_away, is_out_of_range, is_off_target, IsThere, IsInAnotherDirection, IsAtAnotherDistance, IsAway}
 use Rattle.gc_texts.specs.Tasks.{described_at, no_standing, standing_by, first_mode, tasks_of, name_at, near_at, nears_of, unwatched_at, unwatched_of, placed, MayFollow}
 use Rattle.gc_texts.specs.Watching.{is_unwatched}
 use Rattle.gc_texts.specs.declared.description.Description.{Description}
@@ -113,16 +113,16 @@ unwatched_hold text deadline chained all is earlier others task among =
           (ap (is_unwatched task.command.target) (sym is.unwatched_are) ∙ not-false (is_unwatched task.command.target all.unwatched) apart))
       by_which (inr many) = inl (leb-false task.every 1 many)
 
--- an answer that isn't elsewhere is neither in another direction nor at another distance, as the tests of both say
-not_elsewhere : (near : Near) (answer : Answer) → is_elsewhere (Some near) answer ≡ false
+-- an answer that isn't off target is neither in another direction nor at another distance, as the tests of both say
+not_off_target : (near : Near) (answer : Answer) → is_off_target (Some near) answer ≡ false
     → (is_away near (direction_of answer) ≡ false) × (is_out_of_range near.range (distance_of answer) ≡ false)
-unfolding is_elsewhere
-not_elsewhere near answer isnt = or_parts (is_away near (direction_of answer)) (is_out_of_range near.range (distance_of answer)) isnt
+unfolding is_off_target
+not_off_target near answer isnt = or_parts (is_away near (direction_of answer)) (is_out_of_range near.range (distance_of answer)) isnt
 
--- an answer that isn't elsewhere was measured at its target, as far as it says where
-pub there_unless_elsewhere : (near : Near) (answer : Answer) → is_elsewhere (Some near) answer ≡ false → IsThere near answer
-there_unless_elsewhere near answer isnt =
-    let both = not_elsewhere near answer isnt in
+-- an answer that isn't off target was measured at its target, as far as it says where
+pub there_unless_off_target : (near : Near) (answer : Answer) → is_off_target (Some near) answer ≡ false → IsThere near answer
+there_unless_off_target near answer isnt =
+    let both = not_off_target near answer isnt in
     record {
       direction = λ d has.
           (near_is_within d near.place near.tolerance).0 (not-false (is_near d near.place near.tolerance) (ap (is_away near) (sym has) ∙ both.0));
@@ -175,12 +175,12 @@ away_by_distance near answer (Some range) (Some d) known has away =
       away = λ is. both_ways (is_within d range.distance range.tolerance) isnt ((is_within_exactly d range.distance range.tolerance).1 is);
     }
 
--- where an answer is elsewhere, a place is known of its target, and the answer was measured away from it
-pub elsewhere_has_place : (place : Option Near) (answer : Answer) → is_elsewhere place answer ≡ true
+-- where an answer is off target, a place is known of its target, and the answer was measured away from it
+pub off_target_has_place : (place : Option Near) (answer : Answer) → is_off_target place answer ≡ true
     → (near : Near) × (place ≡ Some near) × IsAway near answer
-unfolding is_elsewhere
-elsewhere_has_place None answer away = cc
-elsewhere_has_place (Some near) answer away = (near, refl, by_test (is_away near (direction_of answer)) refl) where
+unfolding is_off_target
+off_target_has_place None answer away = cc
+off_target_has_place (Some near) answer away = (near, refl, by_test (is_away near (direction_of answer)) refl) where
   -- the answer was measured away from the target, by its direction or by its distance
   by_test : (b : Bool) → is_away near (direction_of answer) ≡ b → IsAway near answer
   by_test true is = inl (away_by_direction near answer (direction_of answer) refl is)

@@ -29,28 +29,28 @@ second_digit_low (a ∷ b ∷ bs) are = are.1.0.1
 abbrev reason_kind : Reason → ℕ
 reason_kind (reason.Code code) = 0
 reason_kind reason.Unreadable = 1
-reason_kind reason.Elsewhere = 2
+reason_kind reason.OffTarget = 2
 reason_kind reason.Late = 3
 reason_kind reason.Lost = 4
 reason_kind reason.Skipped = 5
 reason_kind reason.Disagree = 6
 reason_kind reason.Unexpected = 1
 
--- the kind of a word with this second byte: 110 is n, 108 l, 97 a, 111 o, 107 k and 105 i; any other is a code's
+-- the kind of a word with this second byte: 110 is n, 102 f, 97 a, 111 o, 107 k and 105 i; any other is a code's
 abbrev kind_by_second_byte : ℕ → ℕ
-kind_by_second_byte b = if b == 110 then 1 else if b == 108 then 2 else if b == 97 then 3 else if b == 111 then 4 else if b == 107 then 5 else if b == 105 then 6 else 0
+kind_by_second_byte b = if b == 110 then 1 else if b == 102 then 2 else if b == 97 then 3 else if b == 111 then 4 else if b == 107 then 5 else if b == 105 then 6 else 0
 
 -- a byte up to that of 9 is of the kind of a code
 low_byte_is_of_code : (b : ℕ) → b ≤ 57 → kind_by_second_byte b ≡ 0
 low_byte_is_of_code b low =
     let other : (n : ℕ) → 57 < n → (b == n) ≡ false = λ n high. ne_eqb b n (λ e. omega (arith, e, low, high)) in
-    rw (other 110 (omega arith), other 108 (omega arith), other 97 (omega arith), other 111 (omega arith), other 107 (omega arith), other 105 (omega arith)) refl
+    rw (other 110 (omega arith), other 102 (omega arith), other 97 (omega arith), other 111 (omega arith), other 107 (omega arith), other 105 (omega arith)) refl
 
 -- the second byte of a word, or 0 where it has none, shows its kind
 second_byte_shows_kind : (word : List ℕ) (r : Reason) → IsReason word r → kind_by_second_byte (get_or word 1 0) ≡ reason_kind r
 second_byte_shows_kind word (reason.Code code) is = low_byte_is_of_code (get_or word 1 0) (second_digit_low word is.number.names.digits)
 second_byte_shows_kind word reason.Unreadable is = ap (λ bs. kind_by_second_byte (get_or bs 1 0)) is
-second_byte_shows_kind word reason.Elsewhere is = ap (λ bs. kind_by_second_byte (get_or bs 1 0)) is
+second_byte_shows_kind word reason.OffTarget is = ap (λ bs. kind_by_second_byte (get_or bs 1 0)) is
 second_byte_shows_kind word reason.Late is = ap (λ bs. kind_by_second_byte (get_or bs 1 0)) is
 second_byte_shows_kind word reason.Lost is = ap (λ bs. kind_by_second_byte (get_or bs 1 0)) is
 second_byte_shows_kind word reason.Skipped is = ap (λ bs. kind_by_second_byte (get_or bs 1 0)) is
@@ -65,7 +65,7 @@ unreadable_is_no_unexpected word e f = let third : ◌≡◌ {A = ℕ} 114 101 =
 same_reason : (word : List ℕ) (a b : Reason) → IsReason word a → IsReason word b → reason_kind a ≡ reason_kind b → a ≡ b
 same_reason word (reason.Code m) (reason.Code n) x y h = ap reason.Code (one_number word m n 65535 x.number y.number)
 same_reason word reason.Unreadable reason.Unreadable x y h = refl
-same_reason word reason.Elsewhere reason.Elsewhere x y h = refl
+same_reason word reason.OffTarget reason.OffTarget x y h = refl
 same_reason word reason.Late reason.Late x y h = refl
 same_reason word reason.Lost reason.Lost x y h = refl
 same_reason word reason.Skipped reason.Skipped x y h = refl
@@ -83,7 +83,7 @@ one_reason word a b x y = same_reason word a b x y (sym (second_byte_shows_kind 
 reason_lacks_space : (word : List ℕ) (r : Reason) → IsReason word r → Lacks 32 word
 reason_lacks_space word (reason.Code code) is = digits_lack_spaces word is.number.names.digits
 reason_lacks_space word reason.Unreadable is = subst (Lacks 32) (sym is) (lacks_by_test 32 (codes "unreadable") refl)
-reason_lacks_space word reason.Elsewhere is = subst (Lacks 32) (sym is) (lacks_by_test 32 (codes "elsewhere") refl)
+reason_lacks_space word reason.OffTarget is = subst (Lacks 32) (sym is) (lacks_by_test 32 (codes "off_target") refl)
 reason_lacks_space word reason.Late is = subst (Lacks 32) (sym is) (lacks_by_test 32 (codes "late") refl)
 reason_lacks_space word reason.Lost is = subst (Lacks 32) (sym is) (lacks_by_test 32 (codes "lost") refl)
 reason_lacks_space word reason.Skipped is = subst (Lacks 32) (sym is) (lacks_by_test 32 (codes "skipped") refl)
@@ -150,7 +150,7 @@ rule_of_one_more again count (x ∷ read) r = rule_of_one_more (again_with again
 count_grows_by_word : (count : ℕ) (r : Reason) → count ≤ count_with count r
 count_grows_by_word count (reason.Code code) = omega arith
 count_grows_by_word count reason.Unreadable = omega arith
-count_grows_by_word count reason.Elsewhere = omega arith
+count_grows_by_word count reason.OffTarget = omega arith
 count_grows_by_word count reason.Late = omega arith
 count_grows_by_word count reason.Lost = omega arith
 count_grows_by_word count reason.Skipped = omega arith
@@ -174,7 +174,7 @@ codes_of_all count (x ∷ read) later = codes_of_all (count_with count x) read l
 no_room_exceeds_16 : (count : ℕ) (r : Reason) → allows_word count r ≡ false → 16 < count_with count r
 no_room_exceeds_16 count (reason.Code code) e = let full : 16 ≤ count = ltb-false count 16 e in omega (arith, full)
 no_room_exceeds_16 count reason.Unreadable e = cc
-no_room_exceeds_16 count reason.Elsewhere e = cc
+no_room_exceeds_16 count reason.OffTarget e = cc
 no_room_exceeds_16 count reason.Late e = cc
 no_room_exceeds_16 count reason.Lost e = cc
 no_room_exceeds_16 count reason.Skipped e = cc
@@ -185,7 +185,7 @@ no_room_exceeds_16 count reason.Unexpected e = cc
 room_keeps_to_16 : (count : ℕ) (r : Reason) → count ≤ 16 → allows_word count r ≡ true → count_with count r ≤ 16
 room_keeps_to_16 count (reason.Code code) few e = let more : count < 16 = ltb-true count 16 e in omega (arith, more)
 room_keeps_to_16 count reason.Unreadable few e = few
-room_keeps_to_16 count reason.Elsewhere few e = few
+room_keeps_to_16 count reason.OffTarget few e = few
 room_keeps_to_16 count reason.Late few e = few
 room_keeps_to_16 count reason.Lost few e = few
 room_keeps_to_16 count reason.Skipped few e = few

@@ -13,7 +13,7 @@ is_among names name = list_any (λ n. bytes_eq n name) names
 -- the names of what each row has, whatever was answered
 abbrev pub names_of_row : List (List ℕ)
 names_of_row =
-    codes "run" ∷ codes "sent" ∷ codes "time" ∷ codes "cycle" ∷ codes "place" ∷ codes "target" ∷ codes "name" ∷ codes "procedure"
+    codes "run" ∷ codes "sent" ∷ codes "time" ∷ codes "cycle" ∷ codes "step" ∷ codes "target" ∷ codes "name" ∷ codes "procedure"
     ∷ codes "outcome" ∷ codes "fault" ∷ codes "rc_com" ∷ codes "rc" ∷ codes "values" ∷ codes "items" ∷ codes "quality" ∷ codes "attempt"
     ∷ codes "request" ∷ []
 

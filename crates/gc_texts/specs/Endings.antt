@@ -16,7 +16,7 @@ pub data End : Type 0 where
   Unreadable : (line : List ℕ) (fault : ValueFault) → End
   -- its reply came in time, with this line, whose values read, with return code 0 or with an accepted one taken for 0, and were
   -- measured away from where its target is
-  Elsewhere : (line : List ℕ) → End
+  OffTarget : (line : List ℕ) → End
   -- its reply came in time, with this line, in the second sending of its chain, and is an answer that isn't refused; but it doesn't agree with
   -- that of the same command in the first sending
   Disagree : (line : List ℕ) → End
@@ -38,7 +38,7 @@ pub data End : Type 0 where
 abbrev pub ending_seen : Ending → End
 ending_seen (ending.Answered quality answer line) = Answered quality (option_map (λ a. a.now) answer) line.now.items
 ending_seen (ending.Unreadable line fault) = Unreadable line.now.items fault
-ending_seen (ending.Elsewhere line) = Elsewhere line.now.items
+ending_seen (ending.OffTarget line) = OffTarget line.now.items
 ending_seen (ending.Disagree line) = Disagree line.now.items
 ending_seen (ending.Unexpected line) = Unexpected line.now.items
 ending_seen ending.Late = Late
@@ -51,7 +51,7 @@ ending_seen ending.Missed = Missed
 abbrev pub word_of : End → List ℕ
 word_of (Answered quality answer line) = codes "answered"
 word_of (Unreadable line fault) = codes "unreadable"
-word_of (Elsewhere line) = codes "elsewhere"
+word_of (OffTarget line) = codes "off_target"
 word_of (Disagree line) = codes "disagree"
 word_of (Unexpected line) = codes "unexpected"
 word_of Late = codes "late"
@@ -69,7 +69,7 @@ fault_of _ = None
 abbrev pub line_of : End → Option (List ℕ)
 line_of (Answered quality answer line) = Some line
 line_of (Unreadable line fault) = Some line
-line_of (Elsewhere line) = Some line
+line_of (OffTarget line) = Some line
 line_of (Disagree line) = Some line
 line_of (Unexpected line) = Some line
 line_of _ = None

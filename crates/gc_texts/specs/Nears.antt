@@ -116,9 +116,9 @@ is_out_of_range (Some range) (Some d) = not (is_within d range.distance range.to
 
 -- whether an answer was measured away from its target: its direction isn't near the target's place, or its distance isn't the target's;
 -- false where no place is known of the target, or the answer has no direction. A distance is compared only where the place has one
-unfoldable pub is_elsewhere : Option Near → Answer → Bool
-is_elsewhere None answer = false
-is_elsewhere (Some near) answer = is_away near (direction_of answer) || is_out_of_range near.range (distance_of answer)
+unfoldable pub is_off_target : Option Near → Answer → Bool
+is_off_target None answer = false
+is_off_target (Some near) answer = is_away near (direction_of answer) || is_out_of_range near.range (distance_of answer)
 
 -- the distance d is at most the range's tolerance from the range's distance
 abbrev pub IsInRange : Decimal → Range → Type 0

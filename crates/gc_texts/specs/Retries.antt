@@ -8,7 +8,7 @@ use Rattle.gc_texts.specs.Procedures.{IsNumber}
 use Rattle.gc_texts.specs.Words.{AreWords, first_word}
 use Rattle.gc_texts.specs.declared.again.Again.{Again}
 use Rattle.gc_texts.specs.declared.retry.Reason.{Reason}
-use Rattle.gc_texts.specs.declared.retry.Reason.TheVariants.{Code, Unreadable, Elsewhere, Disagree, Unexpected, Late, Lost, Skipped}
+use Rattle.gc_texts.specs.declared.retry.Reason.TheVariants.{Code, Unreadable, OffTarget, Disagree, Unexpected, Late, Lost, Skipped}
 use Rattle.gc_texts.specs.declared.retry.Retry.{Retry}
 
 -- the retry of a chain that isn't repeated
@@ -19,7 +19,7 @@ no_retry = record { times = 0; again = no_again }
 abbrev pub IsReason : List ℕ → Reason → Type 0
 IsReason word (Code code) = IsCode word code
 IsReason word Unreadable = word ≡ codes "unreadable"
-IsReason word Elsewhere = word ≡ codes "elsewhere"
+IsReason word OffTarget = word ≡ codes "off_target"
 IsReason word Disagree = word ≡ codes "disagree"
 IsReason word Unexpected = word ≡ codes "unexpected"
 IsReason word Late = word ≡ codes "late"
@@ -41,7 +41,7 @@ count_with count _ = count
 abbrev pub again_with : Again → (count : ℕ) → Reason → Again
 again_with again count (Code code) = record again { codes = record { codes = slice_set again.codes.codes count code } }
 again_with again count Unreadable = record again { unreadable = true }
-again_with again count Elsewhere = record again { elsewhere = true }
+again_with again count OffTarget = record again { off_target = true }
 again_with again count Disagree = record again { disagree = true }
 again_with again count Unexpected = record again { unexpected = true }
 again_with again count Late = record again { late = true }

@@ -15,7 +15,7 @@ pub struct Again {
     /// Whether the chain is repeated after a reply whose codes are 0, and whose values don't read.
     pub unreadable: bool,
     /// Whether the chain is repeated after a measurement that was made away from its target.
-    pub elsewhere: bool,
+    pub off_target: bool,
     /// Whether the chain is repeated after an answer that doesn't agree with that of the first sending.
     pub disagree: bool,
     /// Whether the chain is repeated after an answer whose values aren't those that are expected.
@@ -36,7 +36,7 @@ impl Again {
         Again {
             codes: Codes::none(),
             unreadable: false,
-            elsewhere: false,
+            off_target: false,
             disagree: false,
             unexpected: false,
             late: false,
@@ -65,7 +65,7 @@ impl Again {
         match ending {
             Ending::Answered(..) => self.has_code(code),
             Ending::Unreadable(..) => self.unreadable,
-            Ending::Elsewhere(_) => self.elsewhere,
+            Ending::OffTarget(_) => self.off_target,
             Ending::Disagree(_) => self.disagree,
             Ending::Unexpected(_) => self.unexpected,
             Ending::Late => self.late,

@@ -15,7 +15,7 @@ const NAMES_OF_ROW: [&[u8]; 17] = [
     b"sent",
     b"time",
     b"cycle",
-    b"place",
+    b"step",
     b"target",
     b"name",
     b"procedure",

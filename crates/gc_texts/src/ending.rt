@@ -19,7 +19,7 @@ pub enum Ending<'a> {
     Unreadable(&'a Line, ValueFault),
     /// Its reply came in time, with this line, whose codes are 0, or whose return code is an accepted one; its values read,
     /// and were measured away from where its target is.
-    Elsewhere(&'a Line),
+    OffTarget(&'a Line),
     /// Its reply came in time, with this line, in the second sending of its chain, and has no code or value at fault; but it doesn't agree
     /// with the answer of the same command in the first.
     Disagree(&'a Line),
@@ -48,7 +48,7 @@ impl<'a> Ending<'a> {
         match self {
             Ending::Answered(..) => b"answered",
             Ending::Unreadable(..) => b"unreadable",
-            Ending::Elsewhere(_) => b"elsewhere",
+            Ending::OffTarget(_) => b"off_target",
             Ending::Disagree(_) => b"disagree",
             Ending::Unexpected(_) => b"unexpected",
             Ending::Late => b"late",
@@ -96,8 +96,8 @@ impl<'a> Ending<'a> {
     {
         match self {
             Ending::Answered(_, _, line) | Ending::Unreadable(line, _) => Some(line),
-            // The codes and values of a reply that was measured elsewhere, that disagrees, or that is unexpected, are in the row, too.
-            Ending::Elsewhere(line) | Ending::Disagree(line) | Ending::Unexpected(line) => {
+            // The codes and values of a reply that was measured off target, that disagrees, or that is unexpected, are in the row, too.
+            Ending::OffTarget(line) | Ending::Disagree(line) | Ending::Unexpected(line) => {
                 Some(line)
             }
             Ending::Late | Ending::Lost | Ending::Skipped | Ending::NoValue | Ending::Missed =>

@@ -109,7 +109,7 @@ pub fn unwatched_targets_are_so_in_all_their_commands()
     ensures { UnwatchedHoldForAll }
 {}
 
-/// The answers that have a direction, which can be near or elsewhere, are those of procedures 2107, 2108, 2117 and 17017.
+/// The answers that have a direction, which can be near or off target, are those of procedures 2107, 2108, 2117 and 17017.
 pub fn directions_are_asked_for()
     ensures { DirectionsAreAskedFor }
 {}

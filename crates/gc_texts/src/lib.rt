@@ -71,7 +71,7 @@ pub use log_line::{ESCAPED_ROOM, LogBytes, LogMark, append_escaped, escaped, wri
 pub use log_reading::{LogLine, read_log_line};
 pub use measured::{measured_direction, measured_distance, value_under};
 pub use name::{Name, name_text};
-pub use near::{Expected, Near, Range, is_elsewhere, read_double};
+pub use near::{Expected, Near, Range, is_off_target, read_double};
 pub use new_columns::{FieldName, is_new_column};
 pub use occasion::Occasion;
 pub use procedure::{number_of, read_procedure, read_procedure_into, target_of, u16_of, u32_of};

@@ -4,7 +4,7 @@ ghost use Rattle.std.specs.Prelude.{◌≡◌};
 ghost use Rattle.std.specs.Option.{option_copied};
 ghost use Rattle.gc_texts.specs.LineForms.{IsReadAs};
 ghost use Rattle.gc_values.specs.Decimals.{SpellsDecimal};
-ghost use Rattle.gc_texts.specs.Nears.{is_length, AreRangeWords, IsRangeOf, AreNearWords, IsNearText, has_near, near_of, direction_of, distance_of, call_gives_direction, call_gives_distance, asked_gives_direction, asked_gives_distance, is_away, is_out_of_range, is_elsewhere};
+ghost use Rattle.gc_texts.specs.Nears.{is_length, AreRangeWords, IsRangeOf, AreNearWords, IsNearText, has_near, near_of, direction_of, distance_of, call_gives_direction, call_gives_distance, asked_gives_direction, asked_gives_distance, is_away, is_out_of_range, is_off_target};
 
 use crate::again::Again;
 use crate::agree::Twice;
@@ -276,9 +276,9 @@ fn is_out_of_range(range: Option<Range>, distance: Option<Decimal>) -> bool
 /// Whether an answer was measured away from its target: its direction isn't near the target's place, or its distance isn't the
 /// target's. `false` if no place is known (`near` is `None`), or the answer has no direction; a distance is looked at only if the place has
 /// one.
-#[tactic(auto, unfolding(crate::specs::Nears::is_elsewhere))]
-pub fn is_elsewhere(near: Option<Near>, answer: &Answer) -> bool
-    ensures { result ≡ is_elsewhere near answer.now }
+#[tactic(auto, unfolding(crate::specs::Nears::is_off_target))]
+pub fn is_off_target(near: Option<Near>, answer: &Answer) -> bool
+    ensures { result ≡ is_off_target near answer.now }
 {
     let Some(near) = near else { return false };
     is_away(&near, direction_of(answer)) || is_out_of_range(near.range, distance_of(answer))

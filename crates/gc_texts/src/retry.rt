@@ -38,7 +38,7 @@ impl Retry {
 enum Reason {
     Code(u16),
     Unreadable,
-    Elsewhere,
+    OffTarget,
     Disagree,
     Unexpected,
     Late,
@@ -53,8 +53,8 @@ fn reason_of(word: &[u8]) -> Option<Reason>
     if is_word(b"unreadable", word) {
         return Some(Reason::Unreadable);
     }
-    if is_word(b"elsewhere", word) {
-        return Some(Reason::Elsewhere);
+    if is_word(b"off_target", word) {
+        return Some(Reason::OffTarget);
     }
     if is_word(b"disagree", word) {
         return Some(Reason::Disagree);
@@ -112,8 +112,8 @@ fn again_with(again: Again, count: usize, reason: Reason) -> Again
             unreadable: true,
             ..again
         },
-        Reason::Elsewhere => Again {
-            elsewhere: true,
+        Reason::OffTarget => Again {
+            off_target: true,
             ..again
         },
         Reason::Disagree => Again {

@@ -151,20 +151,20 @@ sent, what a target is called, and where it is:
                 itself. Any other answer is reported as unexpected: nothing more is sent before the station has
                 resynchronized and the setup was sent anew. `T expect raw RPC [PARAMS] = ITEMS` likewise
   chained       consecutive commands for one target form a chain: each but the first is sent once the one before it was answered
-                well: with both codes 0 and values that parse, or with an accepted return code, and not elsewhere, unexpected or
+                well: with both codes 0 and values that parse, or with an accepted return code, and not off target, unexpected or
                 in disagreement. Otherwise, or where the connection was closed meanwhile, the rest of the chain is skipped
   unchained     each command is sent by itself
   name T TEXT   1 to 64 bytes, for all rows of target T; the first is none of = + - @
   near T HZ V TOLERANCE [DISTANCE TOLERANCE]
                 where target T is, in radians and metres, for all rows of T: a direction measured further away, in either
-                angle, or a distance, is reported as elsewhere
+                angle, or a distance, is reported as off_target
   unwatched T   target T's commands don't count for --stale
   accept C C .. up to 16 return codes from 1 to 65535: an answer with one of them is a warning, and its chain goes on;
                 accept alone: none
   busy C C ..   up to 16 return codes that say not yet: after an answer with one of them nothing is sent until its command's
                 deadline has passed since, and the station has resynchronized; busy alone: none
   retry N W W ..
-                where a command of a chain after it ends with one of these return codes or outcomes (unreadable, elsewhere,
+                where a command of a chain after it ends with one of these return codes or outcomes (unreadable, off_target,
                 unexpected, disagree, late, lost, skipped), the whole chain is sent again, at most N times in a cycle, 1 to 9;
                 retry 0: never
   agree HZ V D  each chain after it is sent twice in a cycle: the first sending's answers are unconfirmed, and one of the second
@@ -189,7 +189,7 @@ Each command is sent once in each cycle, or in each attempt of its chain, and ge
   skipped       it wasn't sent: the one before it in its chain wasn't answered well
   no_value      it wasn't sent: a file with a value that it takes is too old, or couldn't be read; counted as skipped
   missed        it wasn't sent: its cycle couldn't begin before the next was due
-  elsewhere     its reply came before its deadline, with both codes 0 or an accepted one, but its direction isn't near where
+  off_target    its reply came before its deadline, with both codes 0 or an accepted one, but its direction isn't near where
                 its target is, or its distance isn't the target's
   unexpected    the same, but its values aren't those that its line says (expect)
   disagree      the same, but its values don't agree with those of the chain's first sending (agree)
@@ -227,7 +227,7 @@ writes two lines like
   2026-11-22T23:08:27.123Z 0 7 answered %R1P,0,0:0,123456
   2026-11-22T23:08:27.124Z 1 8 answered %R1P,0,1:0,0
 and at the end, on standard error,
-  answered 2 (refused 0) late 0 lost 0 skipped 0 unreadable 0 missed 0 elsewhere 0 unexpected 0 disagree 0 again 0";
+  answered 2 (refused 0) late 0 lost 0 skipped 0 unreadable 0 missed 0 off_target 0 unexpected 0 disagree 0 retried 0";
 
 /// What the help of `rehearse` ends with.
 pub const REHEARSAL: &str =

@@ -39,11 +39,11 @@ def test_one_reply(program, folder, width, place, note):
             rows, _ = finished(station, patience=60)
     assert len(rows) == COMMANDS and len(others_then) == 1
     # Commands are asked, executed and answered in order.
-    own = dict(zip((row["place"] for row in rows), made))
-    false = [row for row in rows if row["outcome"] == "answered" and row["values"] != own.get(row["place"])]
+    own = dict(zip((row["step"] for row in rows), made))
+    false = [row for row in rows if row["outcome"] == "answered" and row["values"] != own.get(row["step"])]
     kinds = [row["outcome"] for row in rows]
     _, verdicts, _ = ended([program, "check", "--log"], log.read_bytes())
     impossible = verdicts.count(b" impossible\n")
     note(f"{others_then[0] + 1} in flight; {len(false)} false of {kinds.count('answered')} answered; {impossible} impossible replies")
     assert (impossible > 0) == (others_then[0] > 1)
-    assert len(false) <= 1, "\n".join(f"{row['place']}: {row['values']}" for row in false)
+    assert len(false) <= 1, "\n".join(f"{row['step']}: {row['values']}" for row in false)

@@ -26,7 +26,7 @@ def laid(folder, limits, rows=b""):
 
 def row(cycle, target, values, quality="ok", procedure=2108, rc=0, attempt=1, outcome="answered"):
     """A row of this cycle, answered so."""
-    return line_of({"run": "2026-11-24T00:00:00.000Z", "time": f"2026-11-24T{cycle // 60:02}:{cycle % 60:02}:00.000Z", "cycle": cycle, "place": target,
+    return line_of({"run": "2026-11-24T00:00:00.000Z", "time": f"2026-11-24T{cycle // 60:02}:{cycle % 60:02}:00.000Z", "cycle": cycle, "step": target,
                     "target": target, "procedure": procedure, "outcome": outcome, "rc_com": 0, "rc": rc, "values": values, "quality": quality,
                     "attempt": attempt})
 

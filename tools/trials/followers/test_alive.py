@@ -86,15 +86,15 @@ def test_the_status_of_the_command(folder):
 
 
 def test_what_is_no_measurement(folder):
-    """Elsewhere, a value that is missing, the face and the temperature; a row of the setup is none of a cycle."""
+    """Off target, a value that is missing, the face and the temperature; a row of the setup is none of a cycle."""
     def moment(cycle):
         return NOW - datetime.timedelta(seconds=200 - 10 * cycle)
 
-    for more in {"outcome": "elsewhere", "quality": ""}, {"values": "2,1.5"}, {"values": "x,1.5,50"}, {"procedure": 2026, "values": "0"}, {"procedure": 5011, "values": "21.0"}:
+    for more in {"outcome": "off_target", "quality": ""}, {"values": "2,1.5"}, {"values": "x,1.5,50"}, {"procedure": 2026, "values": "0"}, {"procedure": 5011, "values": "21.0"}:
         data = rows(10, 10, (7,), ago=110, end=NOW)
         for cycle in range(11, 20):
             other = {name: str(field) for name, field in more.items()}
-            data += [line_of(fields(cycle, 7, moment(cycle), REFUSED)), line_of({**fields(cycle, 7, moment(cycle)), "place": "9", **other})]
+            data += [line_of(fields(cycle, 7, moment(cycle), REFUSED)), line_of({**fields(cycle, 7, moment(cycle)), "step": "9", **other})]
         assert at_noon(laid(folder, data)).startswith("CRITICAL: 1 of 1 not measured"), more
     data = rows(10, 10, (7,), ago=110, end=NOW) + [line_of({**fields(0, 9, NOW), "attempt": str(attempt)}) for attempt in range(1, 9)]
     assert at_noon(laid(folder, data)).startswith("CRITICAL: no row for 110 s")

@@ -173,6 +173,32 @@ def test_goes_on_in_databases_of_an_earlier_version(servers, folder):
     expect_postgres(servers, path)
 
 
+def test_refuses_what_an_earlier_build_made(servers, folder):
+    """Rows of an earlier build have `place` where today's have `step`. A file of either form is refused in one line, and so is a database,
+    whose rows stay."""
+    rows, base = first_rows(30), folder / "build.db"
+    table, objects = folder / "build.csv", folder / "build.jsonl"
+    table.write_bytes(HEAD.replace(b",step,", b",place,") + b"".join(rows))
+    objects.write_bytes(b"".join(row_of_json(random.Random(5), number).replace(b'"step":', b'"place":') for number in range(30)))
+    for path, said in (table, " has no column step\n"), (objects, "is no row: it has nothing as step\n"):
+        for one in followers(servers, base):
+            assert messages_of(one.command(path, "--once"), 1).endswith(said), f"{one.name} {path.name}"
+    path = folder / "now.csv"
+    path.write_bytes(HEAD + b"".join(rows))
+    databases = followers(servers, base)[:2]
+    for one in databases:
+        messages_of(one.command(path, "--once"))
+    older = "ALTER TABLE record RENAME COLUMN step TO place"
+    with closing(sqlite3.connect(base)) as opened:
+        for statement in "DROP VIEW measured", "DROP VIEW latest", older:
+            opened.execute(statement)
+    servers.order(older)
+    for one in databases:
+        assert "its table record has no column step" in messages_of(one.command(path, "--once"), 1), one.name
+        assert one.taken(path) == len(rows), one.name
+    servers.order("ALTER TABLE record RENAME COLUMN place TO step")
+
+
 def test_rows_of_an_earlier_version_are_first_attempts(servers, folder):
     """A table without an attempt gets that column: what it has is of the first attempt, and so is a row that doesn't say it. The view has
     the attempt, too."""

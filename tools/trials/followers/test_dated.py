@@ -167,7 +167,7 @@ def test_no_silence_at_a_border(folder):
         time.sleep(0.3)
         (folder / f"north-{MONTHS[0]}.csv").unlink()
         until(lambda: "2026-11.csv was taken away" in run.messages(), "it is reported")
-        (folder / "north-2027-02.csv").write_bytes(HEAD + line_of(fields_of_row(rows[-1]) | {"cycle": "61", "place": "7", "target": "7"}))
+        (folder / "north-2027-02.csv").write_bytes(HEAD + line_of(fields_of_row(rows[-1]) | {"cycle": "61", "step": "7", "target": "7"}))
         until(lambda: json.loads((folder / "state").read_text())["watch"]["cycle"][1:] == [61], "it goes on")
         assert run.is_running() and run.output() == b"" and run.messages().count("\n") == 1
     old = rows_of_targets(60, 10, ago=200, end=datetime.datetime.now(datetime.timezone.utc))
@@ -426,7 +426,7 @@ def test_many_files(folder, note):
 
 def test_set_back_in_a_cycle():
     """A cycle whose rows begin in the later file and go on in the earlier one, as where the clock is set back in between; and forth again."""
-    row = lambda cycle, place, run="2026-11-24T00:00:00.000Z", attempt=1: {"run": run, "cycle": str(cycle), "place": str(place), "attempt": str(attempt)}
+    row = lambda cycle, place, run="2026-11-24T00:00:00.000Z", attempt=1: {"run": run, "cycle": str(cycle), "step": str(place), "attempt": str(attempt)}
     wanted = [row(cycle, place) for cycle in range(1, 20) for place in (0, 1)]
     for cuts in [(6, 15, 24), (7, 16, 25), (6, 15, 25), (7, 15, 24)]:
         one, two, three, four = (wanted[begin:end] for begin, end in zip((0, *cuts), (*cuts, None)))

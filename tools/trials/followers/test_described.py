@@ -210,7 +210,7 @@ def test_pages(folder, form):
         moment = NOW - datetime.timedelta(hours=81 - cycle)
         for place, (target, procedure) in enumerate([(7, "9027"), (7, "2108"), (8, "9027"), (8, "2108"), (9, "5003")]):
             answer = REFUSED if procedure == "2108" and (target == 8 or cycle > 32) else GOOD
-            row = fields(cycle, target, moment, answer) | {"place": str(place), "procedure": procedure}
+            row = fields(cycle, target, moment, answer) | {"step": str(place), "procedure": procedure}
             rows.append(row if procedure == "2108" else row | {"values": ""})
     (folder / "rows").write_bytes(head + b"".join(map(written, rows)))
     station = viewed.Station("north", folder / "rows", folder / "reduced", folder / "limits", folder / "site", 31)

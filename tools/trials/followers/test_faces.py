@@ -24,10 +24,10 @@ def table(folder, text, *cycles):
         for place, (hz, v, distance, *how) in enumerate(readings):
             moment = f"2026-11-01T{cycle:02}:00:{place:02}.000Z"
             row = {"run": "2026-11-01T00:00:00.000Z", "sent": moment, "time": moment, "cycle": cycle, "outcome": "answered", "rc_com": 0}
-            lines.append(line_of({**row, "place": place, "target": 7, "procedure": 2108, "rc": how[0] if how else 0, "values": f"{hz},{v},{distance}",
+            lines.append(line_of({**row, "step": place, "target": 7, "procedure": 2108, "rc": how[0] if how else 0, "values": f"{hz},{v},{distance}",
                                   "quality": "warning" if how else "ok"}))
         # (each cycle ends with the same command)
-        lines.append(line_of({**row, "place": 9, "target": 9, "procedure": 0, "rc": 0, "quality": "ok"}))
+        lines.append(line_of({**row, "step": 9, "target": 9, "procedure": 0, "rc": 0, "quality": "ok"}))
     (folder / "values.csv").write_bytes(b"".join(lines))
     (folder / "site").write_text(text, encoding="ascii")
     status, output, messages = ended(tool("reduce", folder / "values.csv", folder / "site"), patience=60)

@@ -7,7 +7,7 @@ from records import HEAD, last_attempts
 from sinks import earlier_line, followers, messages_of, rows_of, tool
 from two_faces import Month, other
 
-COLUMNS = "cycle, place, attempt, hz_rad, v_rad, distance_m"
+COLUMNS = "cycle, step, attempt, hz_rad, v_rad, distance_m"
 
 
 def asked(base, servers, query, source):
@@ -31,7 +31,7 @@ def test_the_last_attempts(servers, folder):
     for name in "both.csv", "last.csv", "refused.csv":
         for follower in followers(servers, base)[:2]:
             messages_of(follower.command(folder / name, "--once"))
-    latest, measured = (f"SELECT {COLUMNS} FROM {view} WHERE source = {{}} ORDER BY cycle, place, attempt" for view in ("latest", "measured"))
+    latest, measured = (f"SELECT {COLUMNS} FROM {view} WHERE source = {{}} ORDER BY cycle, step, attempt" for view in ("latest", "measured"))
     found = asked(base, servers, latest, folder / "both.csv")
     assert found == asked(base, servers, measured, folder / "last.csv") == asked(base, servers, latest, folder / "last.csv")
     assert len(found) == len(last_attempts([row.fields for row in rows_of(folder / "both.csv")])) == 4 * 3 * 6
@@ -48,7 +48,7 @@ def test_rows_without_attempts_are_all_last(servers, folder):
     path.write_bytes(b"".join(map(earlier_line, [HEAD, *rows])))
     for follower in followers(servers, base)[:2]:
         messages_of(follower.command(path, "--once"))
-    query = "SELECT cycle, place, hz_rad FROM {} WHERE source = {{}} ORDER BY cycle, place"
+    query = "SELECT cycle, step, hz_rad FROM {} WHERE source = {{}} ORDER BY cycle, step"
     found = asked(base, servers, query.format("latest"), path)
     assert len(found) == len(rows) and found == asked(base, servers, query.format("measured"), path)
 

@@ -148,7 +148,7 @@ def line(ago, target, how="answered,,0,0,\"2,1.5,50\",ok", cycle=None, place=0, 
     moment = stamp(datetime.datetime.now(datetime.timezone.utc) - datetime.timedelta(seconds=ago)).decode()
     cycle = 10_000_000 - ago if cycle is None else cycle
     name, *ended = next(csv.reader([f"{name},{how}"]))
-    return line_of({"run": "2026-10-31T23:59:50.000Z", "sent": moment, "time": moment, "cycle": cycle, "place": place, "target": target, "name": name,
+    return line_of({"run": "2026-10-31T23:59:50.000Z", "sent": moment, "time": moment, "cycle": cycle, "step": place, "target": target, "name": name,
                     "procedure": 2108, **dict(zip(COLUMNS[COLUMNS.index("outcome"):], ended)), "attempt": attempt})
 
 
@@ -242,7 +242,7 @@ def test_outcomes_of_a_day(folder):
     """Each outcome is in its sort; what is older than a day isn't there, and a target that wasn't good in it still has its age."""
     for each in "rows", "limits":
         (folder / each).mkdir()
-    bad = {"late": 3, "lost": 2, "unreadable": 1, "elsewhere": 1, "skipped": 4, "missed": 2}
+    bad = {"late": 3, "lost": 2, "unreadable": 1, "off_target": 1, "skipped": 4, "missed": 2}
     rows, cycle = [line(200_000, 7, cycle=1), line(190_000, 7, "lost,,,,,", cycle=2)], 3
     for outcome, many in bad.items():
         for _ in range(many):

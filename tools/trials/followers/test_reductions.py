@@ -94,7 +94,7 @@ def test_refractivity_of_the_reference(nanometres, printed, places):
 def reduced(site, hz, v, distance):
     """Where a target is that was read so in both faces."""
     two = (Decimal(hz) + angles.PI, angles.TURN - Decimal(v), distance)
-    rows = [{"target": "7", "run": "", "cycle": "1", "place": str(place), "procedure": "2108", "outcome": "answered", "quality": "ok",
+    rows = [{"target": "7", "run": "", "cycle": "1", "step": str(place), "procedure": "2108", "outcome": "answered", "quality": "ok",
              "values": ",".join(map(str, values))} for place, values in enumerate([(hz, v, distance), two])]
     target, site = reductions.Target(rows), sites.site_of(site)
     return reductions.place_of(site, target, orienting.orientation_of(site, [target]))
@@ -209,9 +209,9 @@ def test_a_cycle_has_all_its_rows():
     def taken(rows):
         cycles = reductions.Cycles()
         for run, cycle, place in rows:
-            fields = {"run": run, "cycle": str(cycle), "place": str(place), "target": str(place), "attempt": "1", "quality": "ok", "outcome": "answered",
+            fields = {"run": run, "cycle": str(cycle), "step": str(place), "target": str(place), "attempt": "1", "quality": "ok", "outcome": "answered",
                       "rc_com": "0", "rc": "0", "values": ""}
-            yield (run, cycle, place), [[(row["run"], int(row["cycle"]), int(row["place"])) for row in over] for over in cycles.take(fields)]
+            yield (run, cycle, place), [[(row["run"], int(row["cycle"]), int(row["step"])) for row in over] for over in cycles.take(fields)]
 
     rows = [("a", cycle, place) for cycle in range(1, 6) for place in (0, 1, 2) if place < 2 or cycle in (1, 4)] + [("b", 1, 0), ("b", 1, 1)]
     over = [(row, cycle) for row, cycles in taken(rows) for cycle in cycles]

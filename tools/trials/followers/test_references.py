@@ -25,7 +25,7 @@ QUARTER = angles.PI / 2
 
 def read(number, hz, v=QUARTER, distance="100", **fields):
     """A target that was read so, in face I alone."""
-    row = {"target": number, "run": "", "cycle": "1", "place": number, "procedure": "2108", "outcome": "answered", "quality": "ok",
+    row = {"target": number, "run": "", "cycle": "1", "step": number, "procedure": "2108", "outcome": "answered", "quality": "ok",
            "rc": "0", "values": f"{hz},{v},{distance}"}
     return reductions.Target([row | fields])
 
@@ -215,7 +215,7 @@ def test_earlier_texts_and_tables(folder):
     rows = reduced(folder, survey, cycles, "\n".join(f"reference {number} {PRISMS[number][0]} {PRISMS[number][1]}" for number in (1, 2)), "flat")
     names = reductions.EARLIER_NAMES
     head = ",".join(names) + "\n"
-    assert head.startswith("run,sent,time,cycle,place,target,name,procedure,outcome,fault,rc_com,rc,values,pairs,index_rad,") and head.endswith(
+    assert head.startswith("run,sent,time,cycle,step,target,name,procedure,outcome,fault,rc_com,rc,values,pairs,index_rad,") and head.endswith(
         ",freedom,quality,attempt\n")
     (folder / "table.csv").write_text(head, encoding="ascii")
     command = tool("reduce", folder / "values.csv", folder / "site", "--append", folder / "table.csv", "--once")

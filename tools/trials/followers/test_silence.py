@@ -21,7 +21,7 @@ BEGIN = datetime.datetime(2026, 11, 24, tzinfo=datetime.timezone.utc)
 def fields(cycle, target, moment, answer=GOOD, procedure=2108, name="", **more):
     """The fields of a row of this moment, answered so."""
     values, quality, rc = answer
-    found = {"run": moment_text(BEGIN), "time": moment_text(moment), "cycle": cycle, "place": target, "target": target, "name": name,
+    found = {"run": moment_text(BEGIN), "time": moment_text(moment), "cycle": cycle, "step": target, "target": target, "name": name,
              "procedure": procedure, "outcome": "answered", "rc_com": 0, "rc": rc, "values": values, "quality": quality, "attempt": 1, **more}
     return {column: str(found.get(column, "")) for column in COLUMNS}
 

@@ -38,7 +38,7 @@ def test_the_second_sending_counts(folder):
     found = []
     for name in "both", "last":
         with closing(sqlite3.connect(folder / f"{name}.db")) as table:
-            found.append([table.execute(f"SELECT cycle, place, attempt, hz_rad, v_rad, distance_m FROM {view} ORDER BY cycle, place, attempt").fetchall()
+            found.append([table.execute(f"SELECT cycle, step, attempt, hz_rad, v_rad, distance_m FROM {view} ORDER BY cycle, step, attempt").fetchall()
                           for view in ("measured", "latest")])
     assert found[0] == found[1] and found[0][0] == found[0][1]
     with closing(sqlite3.connect(folder / "both.db")) as table:

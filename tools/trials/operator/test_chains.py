@@ -205,14 +205,14 @@ def test_accepted(program, width):
 
 
 @pytest.mark.title("an accepted answer of another place")
-def test_accepted_elsewhere(program):
+def test_accepted_off_target(program):
     """`near` looks at an accepted answer, too."""
     text = b"near 7 0.5 1.5 0.01\naccept 1283\n7 2107 0\n7 2107 0\n"
     given = iter([b"1283,2.5,1.5", b"1283,0.5,1.5"])
     with standing(lambda request: request.reply(next(given) if request.rpc else b"0")) as far:
         with measuring(program, far.port, f"{SHORT} --unchained", text) as run:
             rows, _ = finished(run)
-            assert [(row["outcome"], row["quality"]) for row in rows] == [("elsewhere", ""), ("answered", "warning")], "the rows"
+            assert [(row["outcome"], row["quality"]) for row in rows] == [("off_target", ""), ("answered", "warning")], "the rows"
 
 
 # What 17017 answers in both sendings of a chain, and in further ones; and the outcome, quality and distance of the rows of these answers.
@@ -247,7 +247,7 @@ def test_sent_twice(program, what):
             assert run.status(PATIENCE) == 0, run.messages()
             rows = list(csv.DictReader(run.output().decode().splitlines()))
             disagree = sum(outcome == "disagree" for outcome, _, _ in wanted[-2:])
-            assert f" disagree {disagree} again {int(bool(again))}" in run.messages().splitlines()[-1]
+            assert f" disagree {disagree} retried {int(bool(again))}" in run.messages().splitlines()[-1]
     measured = [row for row in rows if row["procedure"] == "17017" and row["sent"]]
     assert [(row["outcome"], row["quality"], row["distance_m"]) for row in measured] == wanted, "the rows"
     assert [row["attempt"] for row in measured] == [str(attempt) for attempt in range(1, len(wanted) + 1)], "the attempts"

@@ -95,7 +95,7 @@ def test_cycles_by_the_clock(program, folder, note, seconds):
         found = station.rest_of(patience=30)
     rows = dated.merged([*found.values()])
     expect_each_once(rows, 2, 9)
-    begins = [moment(row["sent"]).timestamp() for row in rows if row["place"] == "0"]
+    begins = [moment(row["sent"]).timestamp() for row in rows if row["step"] == "0"]
     off = [min(begin % 2, 2 - begin % 2) if begin % 2 > 1.9 else begin % 2 for begin in begins]
     # The cycle that waited when the clock was set may begin by the clock before it.
     assert max(off[:3] + off[4:]) < 0.3, (off, begins)

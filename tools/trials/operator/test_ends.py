@@ -26,7 +26,7 @@ def slow(request):
 
 def expect_whole(far, rows):
     """Each command that went out has its row, in order, and the rows end where a chain does."""
-    places = [(int(row["cycle"]), int(row["place"])) for row in rows]
+    places = [(int(row["cycle"]), int(row["step"])) for row in rows]
     assert places == [(n // 5 + 1, n % 5) for n in range(len(rows))], "cycles and places"
     assert len(far.commands()) == len(rows), f"{len(far.commands())} commands went out, and {len(rows)} have rows"
     assert len(rows) % 5 in HEADS, f"a chain was cut behind {len(rows)} commands"
@@ -99,7 +99,7 @@ def test_stops_at_a_deadline(program, tmp_path):
             until(lambda: far.commands(), "no command went out")
             path.touch()
             rows, _ = finished(run)
-    places = [(int(row["cycle"]), int(row["place"])) for row in rows]
+    places = [(int(row["cycle"]), int(row["step"])) for row in rows]
     assert places == [(1, n) for n in range(len(rows))], "cycles and places"
     assert {row["outcome"] for row in rows} <= {"lost", "skipped"} and len(rows) in (1, 2), f"the rows are {rows}"
 

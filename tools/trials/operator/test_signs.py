@@ -187,7 +187,7 @@ def test_terminal(program, what, words, most):
         words = f"--every 1 --cycles 4 --quiet 100 --deadline 100 {words}"
         with at_a_terminal(program, far, words, TWO) as (run, terminal):
             assert run.status(10) == 0
-            while select.select([terminal], [], [], 0.1)[0] and not shown.endswith(b"again 0\n"):
+            while select.select([terminal], [], [], 0.1)[0] and not shown.endswith(b"retried 0\n"):
                 shown += terminal.read(4096)
     *lines, last = shown.decode().split("\r\x1b[K")
     assert last == counts_line(answered=8) + "\n", "the last line"

@@ -78,7 +78,7 @@ class Start:
         for n, row in enumerate(rows):
             cycle, place = divmod(n, len(VALUES))
             procedure = list(VALUES)[place]
-            found = row["cycle"], row["place"], row["procedure"], row["outcome"], row["values"]
+            found = row["cycle"], row["step"], row["procedure"], row["outcome"], row["values"]
             assert found == (str(cycle + 1), str(place), procedure, "answered", VALUES[procedure]), "a row"
         return len(rows)
 

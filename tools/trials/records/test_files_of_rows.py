@@ -7,7 +7,7 @@ from programs import until
 from records import COLUMNS, HEAD, counts_line, fields_of, line_of
 from stations import PATIENCE, ROTATION, appended, appending, instrument, numbers, rows_in, split, torn_line
 
-SENT = {"run": "2026-11-24T00:00:00.000Z", "sent": "2026-11-24T00:00:01.000Z", "time": "2026-11-24T00:00:02.000Z", "cycle": 1, "place": 0, "target": 7,
+SENT = {"run": "2026-11-24T00:00:00.000Z", "sent": "2026-11-24T00:00:01.000Z", "time": "2026-11-24T00:00:02.000Z", "cycle": 1, "step": 0, "target": 7,
         "procedure": 5003, "request": "%R1Q,5003,1:"}
 LOST = line_of({**SENT, "outcome": "lost"})
 ANSWERED = line_of({**SENT, "outcome": "answered", "rc_com": 0, "rc": 0, "values": 1, "quality": "ok"})
@@ -73,10 +73,10 @@ def test_refuses(program, folder):
     os.mkfifo(pipe)
     cases = [(folder, None, 64), (folder / "none" / "rows.csv", None, 64), (pipe, None, 64)]
     # A file of an earlier version has no request, one before that no attempt, one before that no quality, and one before that neither the run
-    # nor the moment of sending.
+    # nor the moment of sending; and it has its steps as places.
     fields = dict(zip(COLUMNS, fields_of(ANSWERED[:-1])))
     earlier = [line_of(dict(zip(names, names)), names) + line_of(fields, names) for names in (COLUMNS[:-1], COLUMNS[:-2], COLUMNS[:-3], COLUMNS[2:-3])]
-    others = [b"x", b"run\n", *earlier, HEAD[:-1] + b";more\n" + ANSWERED, b"\n" + HEAD + ANSWERED, b"\xef\xbb\xbf" + HEAD + ANSWERED]
+    others = [b"x", b"run\n", *earlier, HEAD.replace(b",step,", b",place,") + ANSWERED, HEAD[:-1] + b";more\n" + ANSWERED, b"\n" + HEAD + ANSWERED, b"\xef\xbb\xbf" + HEAD + ANSWERED]
     # One that was truncated while a station wrote it has rows alone.
     cases += [(folder / "foreign.csv", held, 66) for held in [*others, ANSWERED * 3]]
     for path, held, fault in cases:

@@ -85,7 +85,7 @@ class Device:
 def faults_of(rows, came, cycles):
     """What is wrong with these rows, where these procedures were asked for."""
     places = list(itertools.product(range(1, cycles + 1), range(len(PROCEDURES))))
-    if [(int(row["cycle"]), int(row["place"])) for row in rows] != places:
+    if [(int(row["cycle"]), int(row["step"])) for row in rows] != places:
         yield f"{len(rows)} rows, which aren't one for each place of {cycles} cycles in order"
         return
     at, last = -1, 0

@@ -101,7 +101,7 @@ def faults_of_rows(plan, rows, log):
     last = 0
     for n, row in enumerate(rows):
         cycle, place = n // len(plan.commands) + 1, n % len(plan.commands)
-        where = f"row {n + 1}, cycle {cycle}, place {place}"
+        where = f"row {n + 1}, cycle {cycle}, step {place}"
         number = log.numbers.get((cycle, place))
         left = is_left_by_abandoned(plan, rows, n)
         for fault in faults_of_row(plan, row, cycle, place, number, left):
@@ -127,7 +127,7 @@ def is_left_by_abandoned(plan, rows, n):
 def faults_of_row(plan, row, cycle, place, number, is_left):
     """What is wrong with a row by itself, which may be left by a cycle that is abandoned. The number is that of its request, if one was sent."""
     wanted = (1, cycle, place, *plan.commands[place])
-    if tuple(int(row[column]) for column in ("attempt", "cycle", "place", "target", "procedure")) != wanted or row["name"] != "":
+    if tuple(int(row[column]) for column in ("attempt", "cycle", "step", "target", "procedure")) != wanted or row["name"] != "":
         yield f"{row}"
     if row["outcome"] not in OUTCOMES or (row["outcome"] != "answered" and any(row[column] for column in OF_REPLY)):
         yield f"{row}"
@@ -228,7 +228,7 @@ def faults_of_messages(plan, rows, lines, late_cycles):
     if skipped > sum(row["outcome"] == "skipped" for row in rows):
         yield f"{skipped} told as skipped, and fewer were"
     unwell = sum(int(found[1]) for found in (re.search(r"not answered well since \S+: (\d+);", line) for line in signs) if found)
-    if unwell > sum(row["cycle"] != "0" and (row["quality"] == "refused" or row["outcome"] in ("unreadable", "elsewhere", "unexpected", "disagree")) for row in rows):
+    if unwell > sum(row["cycle"] != "0" and (row["quality"] == "refused" or row["outcome"] in ("unreadable", "off_target", "unexpected", "disagree")) for row in rows):
         yield f"{unwell} told as not answered well, and fewer were"
     written = sum(int(found[1]) for found in (re.search(r"missed.*: (\d+) rows? written", line) for line in signs) if found)
     if written > sum(row["outcome"] == "missed" for row in rows):

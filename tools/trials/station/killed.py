@@ -70,7 +70,7 @@ class Lane:
             made = line.made.get(int(float(row["values"].rpartition(",")[2] or 0)))
             if outcome == "answered" and made != of:
                 yield f"place {place} has a line that was made for the run and place {made}: {row}"
-            if int(row["place"]) != place or outcome not in ("answered", "late", "lost") or outcome == "late" and of not in line.executed:
+            if int(row["step"]) != place or outcome not in ("answered", "late", "lost") or outcome == "late" and of not in line.executed:
                 yield f"place {place}: {row}"
 
     def one(self):

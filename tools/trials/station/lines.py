@@ -107,7 +107,7 @@ def measure(case, program, cycles):
     if verdict.faults:
         raise AssertionError("\n".join([*verdict.faults[:10], verdict.counts]))
     if case.name == "good":
-        assert " late 0 lost 0 skipped 0 unreadable 0 missed 0 elsewhere 0 unexpected 0 disagree 0 again 0, " in verdict.counts and " 0 cycles not done in time, " in verdict.counts
+        assert " late 0 lost 0 skipped 0 unreadable 0 missed 0 off_target 0 unexpected 0 disagree 0 retried 0, " in verdict.counts and " 0 cycles not done in time, " in verdict.counts
     return f"station at {place}, {case.words}, {plan.cycles} cycles; {verdict.counts}; line: {seen}"
 
 

@@ -26,7 +26,7 @@ SETUP = [(9, 5004, ""), (9, 18005, "1"), (9, 5007, None)]
 # Where the prisms are, and what is done with each in a chain.
 PRISMS = {1: ("0.5", "1.5"), 2: ("2.25", "1.625"), 3: ("6.25", "1.5625")}
 TOLERANCE = 0.02
-RETRIES, AGAIN = 2, {"8710", "8711", "8716", "late", "lost", "elsewhere"}
+RETRIES, AGAIN = 2, {"8710", "8711", "8716", "late", "lost", "off_target"}
 CHAIN = [(9027, "{hz},{v},0,1,0"), (2008, "1,1"), (2108, "5000,1"), (2167, "5000,1")]
 # A command that stands by itself: the atmospheric corrections.
 LONE = (5, 2028, "")

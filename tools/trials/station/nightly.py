@@ -29,7 +29,7 @@ def clock_set(sent):
 def params_of(row):
     """What the request of a row asked with."""
     commands = SETUP if row["cycle"] == "0" else COMMANDS
-    params = commands[int(row["place"])][2]
+    params = commands[int(row["step"])][2]
     return clock_set(row["sent"]) if params is None else params
 
 
@@ -64,7 +64,7 @@ def numbers_of(rows, asked):
 
 
 def faults_of_answers(rows, night):
-    """Rows whose answers are of another request, or were measured elsewhere and don't say so."""
+    """Rows whose answers are of another request, or were measured off target and don't say so."""
     numbers, made = numbers_of(rows, night.line.asked), night.requests()
     executed = set(made)
     for n, row in enumerate(rows):
@@ -77,7 +77,7 @@ def faults_of_answers(rows, night):
                 yield f"{row}: its line was made for request {made[int(execution) - 1]}, and it is {number}"
         # The values of a raw answer stay text: `near` doesn't look at them.
         if row["procedure"] == "2108" and is_well(row) and not is_near(row):
-            yield f"{row}: it was measured elsewhere"
+            yield f"{row}: it was measured off target"
 
 
 def is_near(row):
@@ -106,7 +106,7 @@ def faults_of_cycle(cycle, rows, may_be_abandoned):
     for chain in range(len(PRISMS)):
         for attempt in itertools.count(1):
             one, left = left[: len(CHAIN)], left[len(CHAIN) :]
-            places = [(int(row["place"]), int(row["attempt"])) for row in one]
+            places = [(int(row["step"]), int(row["attempt"])) for row in one]
             if places != [(chain * len(CHAIN) + n, attempt) for n in range(len(CHAIN))]:
                 yield f"cycle {cycle}, chain {chain}, attempt {attempt} has {places}"
                 return
@@ -132,9 +132,9 @@ def faults_of_setup(rows, night):
     for n, row in enumerate(rows):
         over = night.line.asked[numbers[n]].connection if n in numbers else None
         if row["cycle"] == "0":
-            attempts.append((int(row["attempt"]), int(row["place"])))
+            attempts.append((int(row["attempt"]), int(row["step"])))
             if is_well(row):
-                done[over].append(int(row["place"]))
+                done[over].append(int(row["step"]))
         elif over is not None and done[over][-len(SETUP) :] != list(range(len(SETUP))):
             yield f"{row}: it went out over connection {over}, whose set-up is {done[over]}"
     starts = [n for n, one in enumerate(attempts) if one[1] == 0]
@@ -155,7 +155,7 @@ def faults_of_run(rows, night):
 def counted(rows):
     """What the rows are, in words."""
     setups = [row for row in rows if row["cycle"] == "0"]
-    good = sum(is_well(row) and int(row["place"]) == len(SETUP) - 1 for row in setups)
+    good = sum(is_well(row) and int(row["step"]) == len(SETUP) - 1 for row in setups)
     qualities = collections.Counter(row["quality"] for row in rows if row["quality"])
     again = collections.Counter(row["attempt"] for row in rows if row["cycle"] != "0")
     return (f"{len(rows)} rows; {counts_of(rows)}; qualities {dict(qualities)}; rows of attempts {dict(again)}; "

@@ -69,7 +69,7 @@ class Telescope:
 
 
 def point(program, standing, moves, is_near, cycles):
-    """Measures so many cycles. How many answers of a target were measured elsewhere and reported as answered, and what there was of each."""
+    """Measures so many cycles. How many answers of a target were measured off target and reported as answered, and what there was of each."""
     telescope = Telescope(f"{moves} {is_near}", moves, 60)
     with standing(telescope.answer) as far:
         with measuring(program, far.port, f"--deadline 5000 --cycles {cycles}", text(is_near)) as run:
@@ -77,10 +77,10 @@ def point(program, standing, moves, is_near, cycles):
     measured = [row for row in rows if row["procedure"] in DIRECTIONS and row["rc"] == "0"]
     away = [row for row in measured if apart(tuple(map(float, row["values"].split(",")[:2])), PRISMS[int(row["target"])]) > TOLERANCE]
     wrong = [row for row in away if row["outcome"] == "answered"]
-    # What is elsewhere is reported of nothing else, and ends its chain.
-    told = [row for row in rows if row["outcome"] == "elsewhere"]
+    # What is off target is reported of nothing else, and ends its chain.
+    told = [row for row in rows if row["outcome"] == "off_target"]
     assert len(rows) == cycles * 12 and len(told) + len(wrong) == len(away), (len(rows), len(told), len(wrong), len(away))
     for row, behind in zip(rows, rows[1:]):
-        if row["outcome"] == "elsewhere" and behind["target"] == row["target"] and behind["cycle"] == row["cycle"]:
+        if row["outcome"] == "off_target" and behind["target"] == row["target"] and behind["cycle"] == row["cycle"]:
             assert behind["outcome"] == "skipped", (row, behind)
     return telescope.moved, len(measured), len(wrong), len(told)

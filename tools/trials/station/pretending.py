@@ -84,7 +84,7 @@ class Station:
 
     def measure(self, commands):
         """Asks each, and writes its row. Seven that have timed out in a row are followed by a beginning."""
-        print("place,outcome,values", flush=True)
+        print("step,outcome,values", flush=True)
         given_up, one = 0, 0
         for place, (_, procedure, values) in enumerate(commands):
             line = f"%R1Q,{procedure},{one}:{values}\r\n".encode()

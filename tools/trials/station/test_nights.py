@@ -66,7 +66,7 @@ def whole_chains(rows):
     *before, last = [list(some) for _, some in itertools.groupby((row for row in rows if row["cycle"] != "0"), key=lambda row: row["cycle"])] or [[]]
     # What follows the last of them isn't known to be missed, so that one may be abandoned.
     yield from faults_of_cycles(before)
-    if last and is_well(last[-1]) and int(last[-1]["place"]) not in ENDS:
+    if last and is_well(last[-1]) and int(last[-1]["step"]) not in ENDS:
         yield f"a chain was cut behind {last[-1]}"
 
 

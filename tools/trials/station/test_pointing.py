@@ -16,6 +16,6 @@ def test_pointing(program, pytestconfig, moves, is_near, note):
     cycles = pytestconfig.option.cycles
     moved, measured, wrong, told = point(program, standing, moves, is_near, cycles)
     note(f"{cycles} cycles of an instrument that {HOW[moves]}, {moved} times, {'with' if is_near else 'without'} `near`: "
-         f"{measured} directions, {told} told as elsewhere, {wrong} of another place answered")
+         f"{measured} directions, {told} told as off target, {wrong} of another place answered")
     assert (wrong == 0) == is_near, "rows of another place that are answered"
-    assert (told > 0) == is_near, "rows that are elsewhere"
+    assert (told > 0) == is_near, "rows that are off target"

@@ -1,5 +1,5 @@
 //! Records of a run: a case has the form, the moments, the target's name, the procedure, and the reply or how else the command
-//! ended. They are of the second cycle, of place 3, of the first attempt and of the id 0, where the case doesn't say `cycle`, `place`,
+//! ended. They are of the second cycle, of step 3, of the first attempt and of the id 0, where the case doesn't say `cycle`, `step`,
 //! `attempt` or `id`.
 
 ghost use Rattle.std.specs.Prelude.{◌≤◌, length};
@@ -143,11 +143,11 @@ fn when_of(case: &Case<'_>) -> When {
     }
 }
 
-// Which command of a station's text a record is of, and in which attempt: place 3, counted from 0, and the first attempt, where
+// Which command of a station's text a record is of, and in which attempt: step 3, counted from 0, and the first attempt, where
 // the case doesn't say.
 fn turn_of(case: &Case<'_>) -> Turn {
     Turn {
-        place: case.number("place", 3),
+        place: case.number("step", 3),
         attempt: case.number("attempt", 1),
         // (no record shows the command's place in its chain)
         link: 0,
@@ -185,7 +185,7 @@ fn ending_of<'a>(
         "no_value" => Ending::NoValue,
         "missed" => Ending::Missed,
         "spelling" => Ending::Unreadable(line, ValueFault::Spelling),
-        "elsewhere" => Ending::Elsewhere(line),
+        "off_target" => Ending::OffTarget(line),
         "disagree" => Ending::Disagree(line),
         "unexpected" => Ending::Unexpected(line),
         "unconfirmed" => Ending::Answered(Quality::Unconfirmed, answer_in(reading), line),

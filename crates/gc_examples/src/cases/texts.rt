@@ -221,7 +221,7 @@ fn append_sending(task: &Task, came: &mut Told) {
 // Appends the outcomes, other than return codes, after which a task is asked again.
 fn append_outcomes(task: &Task, came: &mut Told) {
     came.text_if(task.again.unreadable, " unreadable");
-    came.text_if(task.again.elsewhere, " elsewhere");
+    came.text_if(task.again.off_target, " off_target");
     came.text_if(task.again.disagree, " disagree");
     came.text_if(task.again.unexpected, " unexpected");
     came.text_if(task.again.late, " late");
