@@ -1,14 +1,7 @@
--- Sends: what a number and parameters ask for, or why they are refused, and what a send of that does. The faults of a request
--- (`IsOfRequest`) are none of a send's own.
-use Rattle.std.proofs.Common.{◌≡◌, ◌≢◌, ◌<◌, ◌≤◌, ℕ, Result, Ok, Err, refl, sym, ap, subst, ◌∙◌, arith}
-use Rattle.gc_values.specs.declared.fault.ValueFault.TheVariants.{Spelling, Range, OpenQuote, TooMany, Count}
-use Rattle.gc_catalogue.specs.CallFault.{refusal_number}
-use Rattle.gc_catalogue.specs.declared.fault.CallFault.{CallFault}
-use Rattle.gc_catalogue.specs.declared.fault.CallFault.TheVariants.{Unknown, Parameters}
+-- Sends: what a number and parameters ask for, or why they are refused, and what a send of that does.
+use Rattle.std.proofs.Common.{◌≡◌, ◌≢◌, ◌<◌, ℕ, Result, Ok, Err, refl, sym, ap, ◌∙◌, arith}
 use Rattle.gc_catalogue.specs.declared.asked.Asked.{Asked}
-use Rattle.gc_catalogue.specs.declared.raw.RawFault.{RawFault}
-use Rattle.gc_catalogue.specs.declared.raw.RawFault.TheVariants as raw
-use Rattle.geocom_c.specs.Sending.{IsOfReading, AsksOrRefuses, IsSend, RequestRule, WasAsked, raw_number, read_rule}
+use Rattle.geocom_c.specs.Sending.{AsksOrRefuses, IsSend, RequestRule, WasAsked, read_rule}
 use Rattle.geocom_c.specs.declared.header.TheConstants.{WINDOW_FULL}
 use Rattle.geocom_c.specs.declared.state.GeocomClient.{GeocomClient}
 use Rattle.geocom_c.proofs.Clients.{never_ok}
@@ -28,37 +21,6 @@ one_error_of r x y e f = cc
 pub never_both : {A E : Type 0} (r : Result A E) (x : A) (y : E) → r ≡ Ok x → r ≡ Err y → ⊥
 never_both r x y e f = never_ok y x (sym f ∙ e)
 
--- Numbers of faults.
-
--- a number from 1 to 22 is none of a send's own, nor of an ask's
-low_of_request : (n : ℕ) → 0 < n → n ≤ 22 → IsOfReading n
-low_of_request n some few = (
-  (λ e. absurd (omega (arith, e, some)), λ e. absurd (omega (arith, e, few)), λ e. absurd (omega (arith, e, few)), λ e. absurd (omega (arith, e, few)), λ e. absurd (omega (arith, e, few))),
-  λ e. absurd (omega (arith, e, few)),
-  λ e. absurd (omega (arith, e, few)),
-)
-
--- the number of a refusal of a call is none of a send's own, nor of an ask's
-pub call_of_request : (e : CallFault) → IsOfReading (refusal_number e)
-call_of_request Unknown = low_of_request _ (omega arith) (omega arith)
-call_of_request (Parameters Spelling) = low_of_request _ (omega arith) (omega arith)
-call_of_request (Parameters Range) = low_of_request _ (omega arith) (omega arith)
-call_of_request (Parameters OpenQuote) = low_of_request _ (omega arith) (omega arith)
-call_of_request (Parameters TooMany) = low_of_request _ (omega arith) (omega arith)
-call_of_request (Parameters Count) = low_of_request _ (omega arith) (omega arith)
-
--- the number of a refusal of a raw request is none of a send's own, nor of an ask's
-pub raw_of_request : (e : RawFault) → IsOfReading (raw_number e)
-raw_of_request raw.InTable = (
-  (λ e. absurd (omega (arith, e)), λ e. absurd (omega (arith, e)), λ e. absurd (omega (arith, e)), λ e. absurd (omega (arith, e)), λ e. absurd (omega (arith, e))),
-  λ e. absurd (omega (arith, e)),
-  λ e. absurd (omega (arith, e)),
-)
-raw_of_request raw.NotPlain = low_of_request _ (omega arith) (omega arith)
-raw_of_request raw.TooLong = low_of_request _ (omega arith) (omega arith)
-raw_of_request raw.OpenQuote = low_of_request _ (omega arith) (omega arith)
-raw_of_request raw.TooMany = low_of_request _ (omega arith) (omega arith)
-
 -- a number n that is `WINDOW_FULL` unless it is 0 is no number k above that one
 pub never_above_full : (n k : ℕ) → (n ≢ 0 → n ≡ WINDOW_FULL) → WINDOW_FULL < k → n ≡ k → ⊥
 never_above_full n k either above e = let full : n ≡ WINDOW_FULL = either (λ z. absurd (omega (arith, e, z, above))) in absurd (omega (arith, e, full, above))
@@ -76,16 +38,6 @@ module _ {X E : Type 0} (rule : RequestRule X E) where
       refuses = λ fault same. absurd (never_both _ (rule.to x) fault refl same);
       refused = λ e not. absurd (never_both found x e is (exactly e not));
       number_of_request = λ fault same. absurd (never_both _ (rule.to x) fault refl same);
-    }
-
-    -- the fault that was found (e) is why it is refused, with its number n
-    pub reads_fault : (e : E) (n : ℕ) → found ≡ Err e → rule.is_not e → n ≡ rule.number e → IsOfReading (rule.number e) → AsksOrRefuses rule (Err n)
-    reads_fault e n is holds named of_request = record {
-      asks = λ asked same. absurd (never_both _ asked n same refl);
-      only = λ y it. absurd (never_both found y e (only y it) is);
-      refuses = λ fault same. (e, holds, one_error_of _ fault n same refl ∙ named);
-      refused = λ f not. ap (λ (k : ℕ). let r : Result Asked ℕ = Err k in r) (named ∙ ap rule.number (one_error_of found e f is (exactly f not)));
-      number_of_request = λ fault same. subst (λ (k : ℕ). IsOfReading k) (sym (one_error_of _ fault n same refl ∙ named)) of_request;
     }
 
   -- Here `read` is what was read.

@@ -1,22 +1,14 @@
-use Rattle.std.proofs.Common.{◌≡◌, ◌∙◌, List, length, map, sym, ap, subst, arith}
+use Rattle.std.proofs.Common.{◌≡◌, ◌∙◌, List, length, map, ap, subst, arith}
 use Rattle.std.proofs.lemmas.List.{length-map}
 use Rattle.gc_lines.specs.Readers.{reply_at}
 use Rattle.gc_catalogue.specs.declared.asked.Asked.{Asked}
 use Rattle.gc_client.specs.Rule.{Settlement, hears, heard}
 use Rattle.gc_client.specs.Settlements.{settlement_seen}
 use Rattle.geocom_c.specs.FirstAre.{FirstAre}
-use Rattle.geocom_c.specs.Settled.{IsRecord, AnswersHaveLine}
+use Rattle.geocom_c.specs.Settled.{IsRecord}
 use Rattle.geocom_c.specs.declared.answers.GeocomHeard.{GeocomHeard}
-use Rattle.geocom_c.proofs.Records.{heard_have_line, settles_kind, written_in_front}
+use Rattle.geocom_c.proofs.Records.{settles_kind, written_in_front}
 use Rattle.geocom_c.proofs.feeding.hear.Goals as goal
-
-pub put_records-requires-clause-told : goal.put_records-requires-clause-told
-put_records-requires-clause-told c =
-    let line = c.args.line.now.items in
-    let ids = c.args.client.now.ids in
-    let seen : map settlement_seen c.as_slice-in-Settled.result.now ≡ (hears ids line (heard line)).settlements =
-    ap (map settlement_seen) c.as_slice-in-Settled.ensures.value ∙ c.in-Settled.ensures.settled.seen in
-    (line, c.list_line-answer.ensures, subst (λ (ss : List (Settlement Asked)). AnswersHaveLine line ss) (sym seen) (heard_have_line ids line (heard line)))
 
 pub returns-in-Settled-clause-fed : goal.returns-in-Settled-clause-fed
 returns-in-Settled-clause-fed c =

@@ -1,7 +1,6 @@
 use Rattle.std.proofs.Common.{◌≡◌, ◌+◌, ◌++◌, ◌<◌, suc, List, ℕ, [], Some, length, take, refl, ◌∙◌, sym, ap, subst, arith, append_assoc, length-append, length-set}
 use Rattle.std.specs.Prelude.{slice_get, slice_set}
 use Rattle.std.proofs.lemmas.Option.{slice_get-get_or}
-use Rattle.std.proofs.lemmas.List.{append-nil}
 use Rattle.geocom_c.specs.FirstAre.{FirstAre}
 use Rattle.gc_values.specs.Params.{total_length}
 use Rattle.gc_values.proofs.ItemBytes.{total_length_next, total_length_front}
@@ -10,14 +9,6 @@ use Rattle.geocom_c.specs.declared.listed.GeocomItem.{GeocomItem}
 use Rattle.geocom_c.proofs.Places.{first_are_weaker, first_written}
 use Rattle.geocom_c.proofs.Items.{stands_here, stands_more}
 use Rattle.geocom_c.proofs.listed.put_items.Goals as goal
-
-pub loop-k-init : goal.loop-k-init
-loop-k-init c = record {
-  front = ([], sym (append-nil c.args.text.now.items));
-  places = tt;
-  size = refl;
-  room = omega arith;
-}
 
 pub overflow_cast-places-in-loop-k : goal.overflow_cast-places-in-loop-k
 overflow_cast-places-in-loop-k c =

@@ -1,5 +1,5 @@
 use Rattle.geocom_c.specs.Sending.{raw_rule}
-use Rattle.geocom_c.proofs.Sendings.{raw_of_request, reads_fault, reads_found}
+use Rattle.geocom_c.proofs.Sendings.{reads_found}
 use Rattle.geocom_c.proofs.raws.read_raw.Goals as goal
 
 pub returns-in-Ok : goal.returns-in-Ok
@@ -8,11 +8,3 @@ returns-in-Ok c =
     let params = c.args.params.now in
     reads_found (raw_rule procedure params)
     c.raw_call.result (λ raw is. c.raw_call.ensures.only raw is.0 is.1) c.raw_call.ensures.exactly c.in-Ok.raw c.in-Ok.is c.in-Ok.ensures.found
-
-pub returns-in-Err : goal.returns-in-Err
-returns-in-Err c =
-    let procedure = c.args.procedure in
-    let params = c.args.params.now in
-    reads_fault (raw_rule procedure params)
-    c.raw_call.result (λ raw is. c.raw_call.ensures.only raw is.0 is.1) c.raw_call.ensures.exactly
-    c.in-Err.fault c.raw_number.result c.in-Err.is c.in-Err.ensures.fault c.raw_number.ensures (raw_of_request c.in-Err.fault)

@@ -1,6 +1,4 @@
-use Rattle.std.proofs.Common.{◌∙◌, Some, refl, sym, ap, subst, arith}
-use Rattle.gc_lines.specs.Lines.{with_end}
-use Rattle.gc_catalogue.specs.Asked.{asked_line}
+use Rattle.std.proofs.Common.{◌∙◌, refl, sym, subst, arith}
 use Rattle.gc_catalogue.specs.declared.asked.Asked.{Asked}
 use Rattle.gc_client.specs.Rule.{Windowed, sends}
 use Rattle.geocom_c.specs.Sending.{SendMeets}
@@ -10,25 +8,6 @@ use Rattle.geocom_c.proofs.Sendings.{never_above_full, never_both, one_error_of,
 use Rattle.std.proofs.lemmas.Option.{same_Some}
 use Rattle.geocom_c.proofs.sends.send_read.Goals as goal
 use Rattle.geocom_c.specs.Rooms.{effect}
-
-pub returns-then-line-lt-LINE_ROOM-clause-sends : goal.returns-then-line-lt-LINE_ROOM-clause-sends
-returns-then-line-lt-LINE_ROOM-clause-sends c =
-    let short = c.if-line-lt-LINE_ROOM.true in
-    let fault = c.refused.ensures.fault in
-    record {
-      sent = λ room c' rest x stands begun is. absurd (omega (arith, room, short));
-      refuses = λ room c' rest e stands begun is. absurd (omega (arith, room, short));
-      begins = λ room c' rest stands unbegun. absurd (omega (arith, room, short));
-      begun = λ e. absurd (omega (arith, fault, e));
-      room = (λ _. short, λ _. fault);
-      astray = (λ e. absurd (omega (arith, fault, e)), λ both. absurd (omega (arith, both.0, short)));
-      full = λ e. absurd (omega (arith, fault, e));
-      done = λ e. absurd (omega (arith, fault, e));
-      refusal = λ of_request. absurd (of_request.2 fault);
-      refused = λ _. (c.refused.ensures.count, refl, refl);
-      answered = refl;
-      written = record { untouched = refl; length = refl };
-    }
 
 pub returns-in_default-clause-sends : goal.returns-in_default-clause-sends
 returns-in_default-clause-sends c =
@@ -133,9 +112,3 @@ returns-in-Err-clause-sends c =
       answered = refl;
       written = record { untouched = refl; length = refl };
     }
-
-pub returns-in-Ok-clause-given : goal.returns-in-Ok-clause-given
-returns-in-Ok-clause-given c = λ asked is none.
-    c.send_asked.ensures.given none
-    ∙ ap (λ (a : Asked). with_end (asked_line (Some c.in-Some.client.ids.next) a)) (one_value_of c.args.read c.in-Ok.asked asked c.in-Ok.is is)
-    ∙ ap (λ n. with_end (asked_line (Some n) asked)) (sym c.in-Some.ensures.found.next)

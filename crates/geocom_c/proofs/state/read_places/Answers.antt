@@ -10,15 +10,6 @@ use Rattle.geocom_c.specs.State.{HoldsRequest}
 use Rattle.geocom_c.proofs.Places.{first_more, placed_together}
 use Rattle.geocom_c.proofs.state.read_places.Goals as goal
 
-pub loop-k-init : goal.loop-k-init
-loop-k-init c =
-    let e = c.new-window.ensures in
-    record {
-      count = ap length e;
-      found = subst (λ (w : List (Pending Asked)). FirstAre HoldsRequest c.args.places.now w) (sym e) tt;
-      only = λ ps n are. e;
-    }
-
 pub loop-k-preserved : goal.loop-k-preserved
 loop-k-preserved c =
     let e = c.push.ensures in
