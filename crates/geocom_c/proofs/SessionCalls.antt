@@ -1,6 +1,6 @@
 -- Any calls of C on a session's state are calls on its session, and do what these do.
 use Rattle.std.proofs.Common.{◌≡◌, ◌≢◌, ◌∙◌, ◌⊎◌, inl, inr, ◌<◌, ◌≤◌, ◌&&◌, ℕ, Bool, true, false, not, if◌then◌else◌, List, [], ◌∷◌, ◌++◌, length, take, map, nat_eq, Option, Some, None, refl, sym, ap, subst, arith, append_assoc, append-nil}
-use Rattle.std.specs.List.{position}
+use Rattle.std.specs.List.{AllByRecursion, position}
 use Rattle.std.proofs.lemmas.Bool.{cases_eq, cases_lt, eq-eqb, ne_eqb}
 use Rattle.std.proofs.lemmas.List.{map-append}
 use Rattle.gc_lines.specs.Frames.{is_line_feed, frame_of}
@@ -9,7 +9,7 @@ use Rattle.gc_lines.specs.declared.frame.Frame.{Frame}
 use Rattle.gc_lines.specs.declared.frame.Frame.TheVariants.{Line, Cleared, Overlong, More}
 use Rattle.gc_catalogue.specs.Asked.{asked_line, procedure_of}
 use Rattle.gc_catalogue.specs.declared.asked.Asked.{Asked}
-use Rattle.gc_client.specs.Rule.{Settlement}
+use Rattle.gc_client.specs.Rule.{IsWidth, Settlement}
 use Rattle.gc_client.specs.declared.window.TheConstants.{WINDOW}
 use Rattle.gc_session.specs.declared.next.Next.{Next}
 use Rattle.gc_session.specs.declared.next.Next.TheVariants as next
@@ -18,15 +18,16 @@ use Rattle.gc_session.specs.declared.settings.Want.{Want}
 use Rattle.gc_session.specs.declared.settings.Want.TheVariants.{Nothing, Answers, Send}
 use Rattle.gc_session.specs.Calls.{Call, Asks, Closes, Opens, Restarts, Steps, after, after_all, settled_all, settles}
 use Rattle.gc_session.specs.Laws.{taken_all, taken_by, taken_if}
-use Rattle.gc_session.specs.Sessions.{Session, act_for, at_step, came, line_of, may_send, next_of}
+use Rattle.gc_session.specs.Sessions.{Session, act_for, at_step, came, line_of, may_send, next_of, opening}
 use Rattle.geocom_c.specs.Asking.{IsAsk}
 use Rattle.geocom_c.specs.Feeding.{HasRoomToSettle}
 use Rattle.geocom_c.specs.FirstAre.{FirstAre}
 use Rattle.geocom_c.specs.Hearing.{IsFeed, at_feed, frame_settles, session_past}
 use Rattle.geocom_c.specs.Sending.{RequestRule, raw_rule, table_rule}
 use Rattle.geocom_c.specs.SessionCalls
-use Rattle.geocom_c.specs.SessionCalls.{AreMade, AreOfSession, ArePart, AreSideBySide, Handed, IsAskPart, IsHanded, IsMade, IsPart, IsPartOf, Part, Request, SessionCall, SessionCallsAreCalls, bytes_all, bytes_by, comes_calls, fed_part, first_handed, handed_all, handed_by, hears_calls, request_by, request_if, request_of, requests_all, state_after, state_before, written_all, written_by}
+use Rattle.geocom_c.specs.SessionCalls.{AreMade, AreOfSession, ArePart, AreSideBySide, Handed, IsAskPart, IsHanded, IsMade, IsOfItsCalls, IsPart, IsPartOf, KeepsSession, Part, Request, SessionCall, SessionCallsAreCalls, bytes_all, bytes_by, comes_calls, fed_part, first_handed, handed_all, handed_by, hears_calls, request_by, request_if, request_of, requests_all, state_after, state_before, written_all, written_by}
 use Rattle.geocom_c.specs.SessionState.{StandsForSession}
+use Rattle.geocom_c.specs.Sessions.{IsInit}
 use Rattle.geocom_c.specs.Settled.{IsRecord}
 use Rattle.geocom_c.specs.Stepping.{HasRoomToStep, IsStep, bytes_of, want_number}
 use Rattle.geocom_c.specs.declared.answers.GeocomHeard.{GeocomHeard}
@@ -267,24 +268,27 @@ short_if n least never = short_by n least never (cases_lt n least)
 
 -- Each call.
 
-does : (call : SessionCall) (s : Session) (rest : List ℕ) (part : Part) → StandsForSession (state_before call) s rest → IsMade call → IsPart s rest call part
+does : (call : SessionCall) (s : Session) (rest : List ℕ) (part : Part) → StandsForSession (state_before call) s rest → KeepsSession call → IsMade call → IsPart s rest call part
     → Does s part (state_after call) (handed_by call) (bytes_by call) (request_by call)
-does (SessionCalls.Opened now old new fault) s rest part held did same = does_one s new (Opens now) [] part [] [] [] same (did.stands s rest held).1 tt refl refl
-does (SessionCalls.Closed now old new fault) s rest part held did same = does_one s new (Closes now) [] part [] [] [] same (did.stands s rest held).1 tt refl refl
-does (SessionCalls.Next want now x) s rest part held did is = step_does want now x s rest part did held is
-does (SessionCalls.Ask target timeout procedure params x) s rest part held did is =
+does (SessionCalls.Init width timeout quiet old new fault) s rest part held keeps did same =
+    let r = did.refused (λ wide. keeps (did.made wide).0) in
+    does_nothing s new rest part [] [] [] same (subst (λ t. StandsForSession t s rest) (sym r.1) held) refl refl refl
+does (SessionCalls.Opened now old new fault) s rest part held keeps did same = does_one s new (Opens now) [] part [] [] [] same (did.stands s rest held).1 tt refl refl
+does (SessionCalls.Closed now old new fault) s rest part held keeps did same = does_one s new (Closes now) [] part [] [] [] same (did.stands s rest held).1 tt refl refl
+does (SessionCalls.Next want now x) s rest part held keeps did is = step_does want now x s rest part did held is
+does (SessionCalls.Ask target timeout procedure params x) s rest part held keeps did is =
     ask_does (table_rule procedure params) target timeout procedure x s rest did held part (λ y fits. fits.number) is
-does (SessionCalls.AskRaw target timeout procedure params x) s rest part held did is =
+does (SessionCalls.AskRaw target timeout procedure params x) s rest part held keeps did is =
     ask_does (raw_rule procedure params) target timeout procedure x s rest did held part (λ y fits. fits.0) is
-does (SessionCalls.Feed now bytes x) s rest part held did is = feed_does now bytes x s rest part did held is
-does (SessionCalls.Restart x) s rest part held did (inl (any, room, same)) =
+does (SessionCalls.Feed now bytes x) s rest part held keeps did is = feed_does now bytes x s rest part did held is
+does (SessionCalls.Restart x) s rest part held keeps did (inl (any, room, same)) =
     let h = did.restarted room s rest held in
     does_one s x.new Restarts [] part _ [] [] same h.stands (counted_of [] x.told.count x.after _ h.count h.recorded) refl refl
-does (SessionCalls.Restart x) s rest part held did (inr (none, same)) =
+does (SessionCalls.Restart x) s rest part held keeps did (inr (none, same)) =
     let fault = did.room.1 (short_if (length x.before) WINDOW (none tt)) in
     let r = did.refused (λ zero. omega (arith, fault, zero)) in
     does_nothing s x.new rest part _ [] [] same (subst (λ t. StandsForSession t s rest) (sym r.1) held) (none_handed [] x.told.count x.after r.0) refl refl
-does (SessionCalls.Status state told) s rest part held did same = does_nothing s state rest part [] [] [] same held refl refl refl
+does (SessionCalls.Status state told) s rest part held keeps did same = does_nothing s state rest part [] [] [] same held refl refl refl
 
 no_want : (number : ℕ) → number ≢ WANT_NOTHING → number ≢ WANT_ANSWERS → number ≢ WANT_SEND → (want : Want) → number ≡ want_number want → ⊥
 no_want number a b c Nothing e = a e
@@ -323,6 +327,7 @@ step_or_none number (inr never) wants = inr (λ want both. never both.0)
 
 -- each call is something to a session, or nothing
 has_part : (call : SessionCall) (s : Session) (rest : List ℕ) → StandsForSession (state_before call) s rest → IsMade call → (part : Part) × IsPart s rest call part
+has_part (SessionCalls.Init width timeout quiet old new fault) s rest held did = (_, refl)
 has_part (SessionCalls.Opened now old new fault) s rest held did = (_, refl)
 has_part (SessionCalls.Closed now old new fault) s rest held did = (_, refl)
 has_part (SessionCalls.Next number now x) s rest held did =
@@ -343,25 +348,25 @@ has_part (SessionCalls.Status state told) s rest held did = (_, refl)
 
 -- All calls.
 
-are : (calls : List SessionCall) (s : Session) (rest : List ℕ) (old new : GeocomSession) → StandsForSession old s rest → AreMade old calls new
+are : (calls : List SessionCall) (s : Session) (rest : List ℕ) (old new : GeocomSession) → StandsForSession old s rest → AllByRecursion KeepsSession calls → AreMade old calls new
     → (all : List Call) × (last : List ℕ) × ArePart s rest calls all last
-are [] s rest old new held made = ([], rest, (refl, refl))
-are (call ∷ calls) s rest old new held made =
+are [] s rest old new held keeps made = ([], rest, (refl, refl))
+are (call ∷ calls) s rest old new held keeps made =
     let begins = subst (λ t. StandsForSession t s rest) (sym made.0) held in
     let p = has_part call s rest begins made.1 in
-    let one = does call s rest p.0 begins made.1 p.1 in
-    let more = are calls (after_all p.0.calls s) p.0.rest (state_after call) new one.stands made.2 in
+    let one = does call s rest p.0 begins keeps.0 made.1 p.1 in
+    let more = are calls (after_all p.0.calls s) p.0.rest (state_after call) new one.stands keeps.1 made.2 in
     (p.0.calls ++ more.0, more.1, (p.0, more.0, p.1, refl, more.2))
 
-did : (calls : List SessionCall) (s : Session) (rest : List ℕ) (old new : GeocomSession) → StandsForSession old s rest → AreMade old calls new
+did : (calls : List SessionCall) (s : Session) (rest : List ℕ) (old new : GeocomSession) → StandsForSession old s rest → AllByRecursion KeepsSession calls → AreMade old calls new
     → (all : List Call) (last : List ℕ) → ArePart s rest calls all last → AreOfSession s all last calls new
-did [] s rest old new held made all last p =
+did [] s rest old new held keeps made all last p =
     let none : AreOfSession s [] rest [] old = record { stands = held; settled = tt; written = refl; taken = refl } in
     subst (λ t. AreOfSession s all last [] t) (sym made) (subst (λ l. AreOfSession s all l [] old) (sym p.1) (subst (λ a. AreOfSession s a rest [] old) (sym p.0) none))
-did (call ∷ calls) s rest old new held made all last (part, later, is, split, others) =
+did (call ∷ calls) s rest old new held keeps made all last (part, later, is, split, others) =
     let begins = subst (λ t. StandsForSession t s rest) (sym made.0) held in
-    let one = does call s rest part begins made.1 is in
-    let more = did calls (after_all part.calls s) part.rest (state_after call) new one.stands made.2 later last others in
+    let one = does call s rest part begins keeps.0 made.1 is in
+    let more = did calls (after_all part.calls s) part.rest (state_after call) new one.stands keeps.1 made.2 later last others in
     subst (λ a. AreOfSession s a last (call ∷ calls) new) (sym split)
     (record {
       stands = subst (λ t. StandsForSession new t last) (sym (after_append part.calls later s)) more.stands;
@@ -374,6 +379,29 @@ did (call ∷ calls) s rest old new held made all last (part, later, is, split, 
           ∙ ap (map request_of) (sym (taken_append part.calls later s));
     })
 
--- the law: any calls on a state of a session are calls on that session, and do what these do
+-- calls that are made after others
+made_since : (earlier later : List SessionCall) (old new : GeocomSession) → AreMade old (earlier ++ later) new → (from : GeocomSession) × AreMade from later new
+made_since [] later old new made = (old, made)
+made_since (call ∷ earlier) later old new made = made_since earlier later (state_after call) new made.2
+
+-- the state after an init that returned 0 is a new session's
+init_made : (width timeout quiet : ℕ) (old new : GeocomSession) (fault : ℕ) → IsInit width timeout quiet old new fault → fault ≡ 0 → IsWidth width ⊎ (IsWidth width → ⊥)
+    → StandsForSession new (opening (record { width = width; timeout = timeout; quiet = quiet })) []
+init_made width timeout quiet old new fault did none (inl wide) = (did.made wide).1
+init_made width timeout quiet old new fault did none (inr never) = absurd (omega (arith, (did.refused never).0, none))
+
+-- calls on a session's state are calls on the session, and do what these do
+on_session : (s : Session) (rest : List ℕ) (old new : GeocomSession) (calls : List SessionCall) → StandsForSession old s rest → AllByRecursion KeepsSession calls → AreMade old calls new
+    → IsOfItsCalls s rest calls new
+on_session s rest old new calls held keeps made =
+    record { are = are calls s rest old new held keeps made; did = did calls s rest old new held keeps made }
+
+-- the law: so are any calls since an init that returned 0
 pub calls_are_calls : SessionCallsAreCalls
-calls_are_calls s rest old new calls held made = record { are = are calls s rest old new held made; did = did calls s rest old new held made }
+calls_are_calls = record {
+  on = on_session;
+  since = λ old new made_of made earlier later width timeout quiet fault none keeps all.
+      let here = (made_since earlier (SessionCalls.Init width timeout quiet made_of made fault ∷ later) old new all).1 in
+      let wide = both_or_not {Both = IsWidth width} (λ both. both) (λ both. both) (wide_or_not width 1) (wide_or_not WINDOW width) in
+      on_session _ [] made new later (init_made width timeout quiet made_of made fault here.1 none wide) keeps here.2;
+}

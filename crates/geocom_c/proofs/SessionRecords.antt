@@ -46,6 +46,6 @@ module _ {State : Type 0} (ends : Ends State) (Good : State → Type 0) (kept : 
 
   -- the law: where each settlement of a session is its own, so is each record that is handed out
   pub records_own : EachSessionIsOwn ends Good kept → EachRecordIsOwn ends Good kept
-  records_own law old new calls x last held made part u lines may over =
-      each_handed_own (placed_runs WINDOW ends u x.runs) (handed_all calls) _ ((calls_are_calls _ [] old new calls held made).did x.calls last part).settled
+  records_own law old new calls x last held keeps made part u lines may over =
+      each_handed_own (placed_runs WINDOW ends u x.runs) (handed_all calls) _ ((calls_are_calls.on _ [] old new calls held keeps made).did x.calls last part).settled
       (law u lines may x over).own

@@ -1,7 +1,7 @@
--- Any sequence of the calls of a session that C has, this project's own: each with what it found, left and returned, and what it is to a
--- session. A sequence begins with a state of `geocom_session_init`; another such call begins another one.
-use Rattle.std.specs.Prelude.{◌≡◌, ◌⊎◌, ◌≤◌, ℕ, List, [], ◌∷◌, ◌++◌, length, take, map, if◌then◌else◌, nat_eq, Option, Some, None}
-use Rattle.std.specs.List.{position}
+-- Any sequence of the nine calls of a session that C has, this project's own: each with what it found, left and returned, and what it is to
+-- a session.
+use Rattle.std.specs.Prelude.{◌≡◌, ◌≢◌, ◌⊎◌, ◌≤◌, ℕ, List, [], ◌∷◌, ◌++◌, length, take, map, if◌then◌else◌, nat_eq, Option, Some, None}
+use Rattle.std.specs.List.{AllByRecursion, position}
 use Rattle.gc_lines.specs.Frames.{is_line_feed, frame_of}
 use Rattle.gc_lines.specs.Lines.{with_end}
 use Rattle.gc_lines.specs.declared.frame.Frame.{Frame}
@@ -14,13 +14,13 @@ use Rattle.gc_client.specs.declared.window.TheConstants.{WINDOW}
 use Rattle.gc_session.specs.declared.settings.Want.{Want}
 use Rattle.gc_session.specs.Calls.{Call, Steps, Asks, Comes, Hears, Opens, Closes, Restarts, after, after_all, settled_all}
 use Rattle.gc_session.specs.Laws.{taken_all}
-use Rattle.gc_session.specs.Sessions.{Session, act_for, at_step, closed, line_of, next_of, opened, takes}
+use Rattle.gc_session.specs.Sessions.{Session, act_for, at_step, closed, line_of, next_of, opened, opening, takes}
 use Rattle.geocom_c.specs.Asking.{IsAsk}
 use Rattle.geocom_c.specs.Feeding.{HasRoomToSettle}
 use Rattle.geocom_c.specs.Hearing.{IsFeed}
 use Rattle.geocom_c.specs.Sending.{RequestRule, raw_rule, table_rule}
 use Rattle.geocom_c.specs.SessionState.{StandsForSession}
-use Rattle.geocom_c.specs.Sessions.{IsRestart, IsStatus, IsTold}
+use Rattle.geocom_c.specs.Sessions.{IsInit, IsRestart, IsStatus, IsTold}
 use Rattle.geocom_c.specs.Settled.{IsRecord}
 use Rattle.geocom_c.specs.Stepping.{HasRoomToStep, IsStep, bytes_of, rest_stepped, want_number}
 use Rattle.geocom_c.specs.declared.answers.GeocomStatus.{GeocomStatus}
@@ -34,6 +34,7 @@ use Rattle.geocom_c.specs.declared.answers.GeocomHeard.{GeocomHeard}
 -- a call that was made, each the `geocom_session_` function of its name: its arguments, the state and the rooms before and after it, and
 -- what it returned
 pub data SessionCall : Type 0 where
+  Init : (width timeout quiet : ℕ) (old new : GeocomSession) (fault : ℕ) → SessionCall
   Opened : (now : ℕ) (old new : GeocomSession) (fault : ℕ) → SessionCall
   Closed : (now : ℕ) (old new : GeocomSession) (fault : ℕ) → SessionCall
   Next : (want now : ℕ) (x : SettlingEffect GeocomStep) → SessionCall
@@ -45,6 +46,7 @@ pub data SessionCall : Type 0 where
 
 -- the call did what its function's contract says
 abbrev pub IsMade : SessionCall → Type 0
+IsMade (Init width timeout quiet old new fault) = IsInit width timeout quiet old new fault
 IsMade (Opened now old new fault) = IsTold (opened now) old new fault
 IsMade (Closed now old new fault) = IsTold (closed now) old new fault
 IsMade (Next want now x) = IsStep want now x
@@ -56,6 +58,7 @@ IsMade (Status state told) = IsStatus state told
 
 -- the bytes of the state before a call, and after it
 abbrev pub state_before : SessionCall → GeocomSession
+state_before (Init width timeout quiet old new fault) = old
 state_before (Opened now old new fault) = old
 state_before (Closed now old new fault) = old
 state_before (Next want now x) = x.old
@@ -66,6 +69,7 @@ state_before (Restart x) = x.old
 state_before (Status state told) = state
 
 abbrev pub state_after : SessionCall → GeocomSession
+state_after (Init width timeout quiet old new fault) = new
 state_after (Opened now old new fault) = new
 state_after (Closed now old new fault) = new
 state_after (Next want now x) = x.new
@@ -79,6 +83,11 @@ state_after (Status state told) = state
 abbrev pub AreMade : (old : GeocomSession) → List SessionCall → (new : GeocomSession) → Type 0
 AreMade old [] new = new ≡ old
 AreMade old (call ∷ calls) new = (state_before call ≡ old) × IsMade call × AreMade (state_after call) calls new
+
+-- a call doesn't make another session: it is no `geocom_session_init` that returned 0
+abbrev pub KeepsSession : SessionCall → Type 0
+KeepsSession (Init width timeout quiet old new fault) = fault ≢ 0
+KeepsSession other = Unit {0}
 
 -- What calls are to a session.
 
@@ -114,8 +123,9 @@ fed_part now rest bytes (Some at) = record { calls = comes_calls now bytes ++ he
 
 -- what a call is to the session `s`, where `rest` are the bytes since the last line feed: that of its arguments, unless it is refused: a
 -- step with too little room or another want, a request with too little room or that doesn't read, and a feed or a restart with too little
--- room. No fault that it returned has a part in it. `geocom_session_status` is nothing to a session
+-- room. No fault that it returned has a part in it. `geocom_session_status`, and an init that is refused, are nothing to a session
 abbrev pub IsPart : (s : Session) → (rest : List ℕ) → SessionCall → Part → Type 0
+IsPart s rest (Init width timeout quiet old new fault) part = part ≡ record { calls = []; rest = rest }
 IsPart s rest (Opened now old new fault) part = part ≡ record { calls = Opens now ∷ []; rest = [] }
 IsPart s rest (Closed now old new fault) part = part ≡ record { calls = Closes now ∷ []; rest = [] }
 IsPart s rest (Next number now x) part =
@@ -225,14 +235,19 @@ pub record AreOfSession (s : Session) (all : List Call) (last : List ℕ) (calls
   pub written : bytes_all calls ≡ written_all all s
   pub taken : requests_all calls ≡ map request_of (taken_all all s)
 
--- any calls on a state that stands for the session `s`, with the bytes `rest` since the last line feed, are calls on that session (`are`);
--- and whichever they are, what the calls did is what these do (`AreOfSession`)
+-- calls on a state that stands for the session `s`, with the bytes `rest` since the last line feed, are calls on that session (`are`); and
+-- whichever they are, what the calls did is what these do (`AreOfSession`)
 pub record IsOfItsCalls (s : Session) (rest : List ℕ) (calls : List SessionCall) (state : GeocomSession) : Type 0 where
   pub are : (all : List Call) × (last : List ℕ) × ArePart s rest calls all last
   pub did : (all : List Call) (last : List ℕ) → ArePart s rest calls all last → AreOfSession s all last calls state
 
--- it is so of any calls
-abbrev pub SessionCallsAreCalls : Type 0
-SessionCallsAreCalls =
-    (s : Session) (rest : List ℕ) (old new : GeocomSession) (calls : List SessionCall) → StandsForSession old s rest → AreMade old calls new
-    → IsOfItsCalls s rest calls new
+-- it is so of any calls from a state of some session on, as long as none makes another one (`on`); and so of any calls from any bytes on, since
+-- the last one that made a session (`since`)
+pub record SessionCallsAreCalls : Type 0 where
+  pub on :
+      (s : Session) (rest : List ℕ) (old new : GeocomSession) (calls : List SessionCall) → StandsForSession old s rest → AllByRecursion KeepsSession calls → AreMade old calls new
+      → IsOfItsCalls s rest calls new
+  pub since :
+      (old new made_of made : GeocomSession) (earlier later : List SessionCall) (width timeout quiet fault : ℕ) → fault ≡ 0 → AllByRecursion KeepsSession later
+      → AreMade old (earlier ++ Init width timeout quiet made_of made fault ∷ later) new
+      → IsOfItsCalls (opening (record { width = width; timeout = timeout; quiet = quiet })) [] later new

@@ -1,6 +1,7 @@
 -- What holds of calls of C on a session's state if there is an instrument at the other end, this project's own: what holds of the session on
 -- which these are calls.
 use Rattle.std.specs.Prelude.{◌≡◌, ◌≢◌, ℕ, List, [], take, Option}
+use Rattle.std.specs.List.{AllByRecursion}
 use Rattle.gc_catalogue.specs.declared.asked.Asked.{Asked}
 use Rattle.gc_client.specs.Rule.{Settlement}
 use Rattle.gc_client.specs.declared.window.TheConstants.{WINDOW}
@@ -14,7 +15,7 @@ use Rattle.gc_field.specs.Instrument.{OfAnyInstrument}
 use Rattle.gc_field.specs.Owned.{HasExecution, IsItsOwn}
 use Rattle.gc_field.specs.Sessions.{IsSessionOver, SessionRun}
 use Rattle.gc_field.specs.World.{Ends}
-use Rattle.geocom_c.specs.SessionCalls.{AreMade, ArePart, AreSideBySide, Handed, IsHanded, SessionCall, handed_all}
+use Rattle.geocom_c.specs.SessionCalls.{AreMade, ArePart, AreSideBySide, Handed, IsHanded, KeepsSession, SessionCall, handed_all}
 use Rattle.geocom_c.specs.SessionState.{StandsForSession}
 use Rattle.geocom_c.specs.declared.header.TheConstants.{ANSWERED, LATE}
 use Rattle.geocom_c.specs.declared.session_state.GeocomSession.{GeocomSession}
@@ -28,12 +29,13 @@ module _ {State : Type 0} (ends : Ends State) (Good : State → Type 0) (kept : 
     pub late : h.settlement.target ≢ OWN → h.settlement.outcome ≡ LATE → HasExecution WINDOW ends Good kept ps s
 
 -- over the ends `ends` with states of which `Good` holds, which retain the reply `kept`: the records that any calls hand out on the state of
--- a new session, which are the calls of `x`, are those of its settlements, in order, and own (`IsOwnHanded`), if what happens on the line is
+-- a new session, which are the calls of `x` and make no other one, are those of its settlements, in order, and own (`IsOwnHanded`), if what happens on the line is
 -- possible and its events are those of the calls (`IsSessionOver`); whatever is in flight at first (`u`), if it is well formed and the word
 -- isn't in it
 abbrev pub EachRecordIsOwn : {State : Type 0} → (ends : Ends State) → (Good : State → Type 0) → (kept : State → Option KeptReply) → Type 0
 EachRecordIsOwn {State = State} ends Good kept =
-    (old new : GeocomSession) (calls : List SessionCall) (x : SessionRun State) (last : List ℕ) → StandsForSession old (opening x.settings) [] → AreMade old calls new
+    (old new : GeocomSession) (calls : List SessionCall) (x : SessionRun State) (last : List ℕ) → StandsForSession old (opening x.settings) []
+    → AllByRecursion KeepsSession calls → AreMade old calls new
     → ArePart (opening x.settings) [] calls x.calls last → (u : UnderWay State) → IsWellFormed Good u → LacksTheWord u → IsSessionOver ends Good kept u x
     → AreSideBySide (IsOwnHanded ends Good kept (placed_runs WINDOW ends u x.runs)) (handed_all calls) (settled_all x.calls (opening x.settings))
 

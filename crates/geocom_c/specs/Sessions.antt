@@ -1,9 +1,9 @@
 -- What is told a session, this project's own: its connections, a new start, and how far it is, in plain fields.
 use Rattle.std.specs.Prelude.{◌≡◌, ◌≢◌, ◌↔◌, ◌≤◌, ℕ, List, [], length}
 use Rattle.gc_catalogue.specs.declared.asked.Asked.{Asked}
-use Rattle.gc_client.specs.Rule.{Settlement}
+use Rattle.gc_client.specs.Rule.{IsWidth, Settlement}
 use Rattle.gc_session.specs.Exchange.{has_begun}
-use Rattle.gc_session.specs.Sessions.{Session, all_of, anew, anew_settles, current_of, is_ready, is_up}
+use Rattle.gc_session.specs.Sessions.{Session, all_of, anew, anew_settles, current_of, is_ready, is_up, opening}
 use Rattle.gc_client.specs.declared.window.TheConstants.{WINDOW}
 use Rattle.geocom_c.specs.FirstAre.{FirstAre}
 use Rattle.geocom_c.specs.Rooms.{Effect, FaultLeavesAll, ReportsNoRoom, WritesFirst}
@@ -11,9 +11,14 @@ use Rattle.geocom_c.specs.SessionState.{IfOfSession, IsOfNoSession, IsOfSession,
 use Rattle.geocom_c.specs.Settled.{IsRecord}
 use Rattle.geocom_c.specs.declared.answers.GeocomCount.{GeocomCount}
 use Rattle.geocom_c.specs.declared.answers.GeocomStatus.{GeocomStatus}
-use Rattle.geocom_c.specs.declared.header.TheConstants.{NO_CLIENT}
+use Rattle.geocom_c.specs.declared.header.TheConstants.{NO_CLIENT, NO_WIDTH}
 use Rattle.geocom_c.specs.declared.session_state.GeocomSession.{GeocomSession}
 use Rattle.geocom_c.specs.declared.settled.GeocomSettlement.{GeocomSettlement}
+
+-- a state was made, with these settings: if the width is allowed it is that of a new session, and else it stays as it was
+pub record IsInit (width timeout quiet : ℕ) (old new : GeocomSession) (fault : ℕ) : Type 0 where
+  pub made : IsWidth width → (fault ≡ 0) × StandsForSession new (opening (record { width = width; timeout = timeout; quiet = quiet })) []
+  pub refused : (IsWidth width → ⊥) → (fault ≡ NO_WIDTH) × (new ≡ old)
 
 -- a session's state was told something that makes of a session what `told` says, and discards half a line: the fault is 0, and the
 -- state (`old` before, `new` after) stands for that. The fault comes exactly of a state that is no session's, which has not changed

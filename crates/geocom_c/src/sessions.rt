@@ -1,11 +1,7 @@
 //! Sessions: a new one, its connections, what is outstanding of it, and how far it is.
 
-ghost use Rattle.std.specs.Prelude.{◌≡◌, []};
-ghost use Rattle.gc_client.specs.Rule.{IsWidth};
-ghost use Rattle.gc_session.specs.Sessions.{opening, opened, closed};
-ghost use Rattle.geocom_c.specs.SessionState.{StandsForSession};
-ghost use Rattle.geocom_c.specs.Sessions.{IsRestart, IsStatus, IsTold};
-ghost use Rattle.geocom_c.specs.declared.header.TheConstants.{NO_WIDTH};
+ghost use Rattle.gc_session.specs.Sessions.{opened, closed};
+ghost use Rattle.geocom_c.specs.Sessions.{IsInit, IsRestart, IsStatus, IsTold};
 ghost use Rattle.geocom_c.specs.Rooms.{effect};
 
 use crate::answers::{GeocomCount, GeocomStatus, as_number, counted, refused};
@@ -26,8 +22,7 @@ pub extern "C" fn geocom_session_init(
     timeout: u64,
     quiet: u64,
 ) -> u32
-    ensures made { IsWidth width → (result ≡ 0) × StandsForSession state.new (opening (record { width = width; timeout = timeout; quiet = quiet })) [] }
-    ensures refused { (IsWidth width → ⊥) → (result ≡ NO_WIDTH) × (state.new ≡ state.old) }
+    ensures { IsInit width timeout quiet state.old state.new result }
 {
     if width < 1 || width > WINDOW as u8 {
         return NO_WIDTH;
