@@ -13,7 +13,7 @@ use Rattle.gc_session.specs.declared.next.Next.TheVariants as next
 use Rattle.gc_session.specs.declared.session.TheConstants.{OWN}
 use Rattle.gc_session.specs.declared.settings.Settings.{Settings}
 use Rattle.gc_session.specs.declared.settings.Want.{Want}
-use Rattle.gc_session.specs.declared.settings.Want.TheVariants.{Nothing, Answers, Send}
+use Rattle.gc_session.specs.declared.settings.Want.TheVariants.{Send}
 use Rattle.gc_session.specs.declared.standing.Phase.{Phase}
 use Rattle.gc_session.specs.declared.standing.Phase.TheVariants as phase
 use Rattle.gc_session.specs.declared.standing.Standing.{Standing}
@@ -24,10 +24,11 @@ use Rattle.gc_session.specs.Exchange as exchange
 use Rattle.gc_session.specs.Exchange.{has_begun, later}
 use Rattle.gc_session.specs.Lines.{calls_for_renewal}
 use Rattle.gc_session.specs.Laws.{taken_if, taken_by, taken_all}
-use Rattle.gc_session.specs.Sessions.{Session, opening, attended, timed, is_up, met_in, quieted, quieted_in, connected, unconnected, with_standing, sign_on_noted, at_step, next_of, done, settled_by, takes, may_send, asked_if, line_came_in, line_heard_if, settled_in, begun_anew, anew_settles, phase_anew}
+use Rattle.gc_session.specs.Sessions.{Session, opening, attended, timed, is_up, met_in, quieted, connected, unconnected, with_standing, sign_on_noted, at_step, next_of, done, settled_by, takes, may_send, asked_if, line_came_in, line_heard_if, settled_in, begun_anew, anew_settles, phase_anew}
 use Rattle.gc_session.proofs.Brings.{Fits, Brings, brings_both, Keeps, keeps_all, keeps_both, brings_none, brings_null, brings_came, brings_moment, brings_hear, brings_restart, brings_renewal, brings_send}
 use Rattle.gc_session.proofs.Nexts.{HoldsAt, next_holds}
 use Rattle.gc_session.proofs.Places.{Place, the_start, moved_all}
+use Rattle.gc_session.proofs.Walk.{attended_along, quieted_along}
 
 -- Moments.
 
@@ -40,31 +41,15 @@ moment_brings c x y p now f k = by_test (has_begun x) refl where
   by_test false e =
       subst (λ (d : ById Asked). Brings p [] [] [] d y) (sym (ap (λ (d : ById Asked). expires d now) (f.new e) ∙ sym (f.new e))) (brings_none c x y p f k)
 
--- what is wanted keeps the exchange
-attended_keeps : (want : Want) (now : ℕ) (t : Standing) → Keeps t.exchange (attended want now t).exchange
-attended_keeps Nothing now t = record { word = refl; ended = refl; behind = refl; doubtful = λ e. e }
-attended_keeps Answers now t = record { word = refl; ended = refl; behind = refl; doubtful = λ e. e }
-attended_keeps Send now t = record { word = refl; ended = refl; behind = refl; doubtful = λ e. e }
-
--- so does the end of a pause or a draining
-quieted_keeps : (p : Phase) (settings : Settings) (t : Standing) → Keeps t.exchange (quieted_in p settings t).exchange
-quieted_keeps phase.Down settings t = keeps_all t.exchange
-quieted_keeps phase.Pausing settings t = record { word = refl; ended = refl; behind = refl; doubtful = λ e. e }
-quieted_keeps phase.Draining settings t = by_test (t.listened && exchange.is_past settings.quiet t.moment t.exchange) where
-  -- the lemma above, whether it was quiet for long enough
-  by_test : (b : Bool) → Keeps t.exchange ((if b then record t { phase = phase.Ready; exchange = exchange.drained t.moment t.exchange } else t).exchange)
-  by_test true = record { word = refl; ended = refl; behind = refl; doubtful = λ e. e }
-  by_test false = record { word = refl; ended = refl; behind = refl; doubtful = λ e. e }
-quieted_keeps phase.Clearing settings t = keeps_all t.exchange
-quieted_keeps phase.Ready settings t = keeps_all t.exchange
-
--- so does the moment of a step
+-- the moment of a step keeps the exchange
 step_keeps : (want : Want) (now : ℕ) (s : Session) → Keeps s.standing.exchange (at_step want now s).standing.exchange
 step_keeps want now s =
     let t = attended want now s.standing in
     let u = timed now t in
-    keeps_both s.standing.exchange t.exchange (quieted s.settings u).exchange (attended_keeps want now s.standing)
-    (keeps_both t.exchange u.exchange (quieted s.settings u).exchange (record { word = refl; ended = refl; behind = refl; doubtful = λ e. e }) (quieted_keeps u.phase s.settings u))
+    keeps_both s.standing.exchange t.exchange (quieted s.settings u).exchange
+    (attended_along (λ (v : Standing). Keeps s.standing.exchange v.exchange) want now s.standing (keeps_all s.standing.exchange) (record { word = refl; ended = refl; behind = refl; doubtful = λ e. e }))
+    (quieted_along (λ (v : Standing). Keeps t.exchange v.exchange) u.phase s.settings u (λ q. record { word = refl; ended = refl; behind = refl; doubtful = λ e. e })
+    (record { word = refl; ended = refl; behind = refl; doubtful = λ e. e }))
 
 -- so do bytes that come
 met_keeps : (up : Bool) (now : ℕ) (t : Standing) → Keeps t.exchange (met_in up now t).exchange
@@ -83,8 +68,6 @@ FitsIn s p = Fits s.client s.standing.exchange p
 
 -- what is next
 next_brings : (s : Session) (n : Next) (p : Place) → FitsIn s p → HoldsAt s n → BringsTo p (next_events n s) (settled_by n s) [] (done n s)
-next_brings s next.Open p f holds = brings_none s.client s.standing.exchange s.standing.exchange p f (keeps_all s.standing.exchange)
-next_brings s next.Wait p f holds = brings_none s.client s.standing.exchange s.standing.exchange p f (keeps_all s.standing.exchange)
 next_brings s next.Clear p f holds =
     brings_none s.client s.standing.exchange _ p f (record { word = refl; ended = refl; behind = refl; doubtful = λ e. e })
 next_brings s next.Null p f holds = brings_null s.client s.standing.exchange _ p f refl refl refl (λ e. e)
@@ -92,21 +75,12 @@ next_brings s next.Flush p f holds =
     brings_send s.client s.standing.exchange (exchange.request_noted s.standing.moment s.standing.exchange) p f holds.0 OWN (Table NullProc)
     (later s.standing.moment s.settings.timeout) [] holds.1 (λ other. absurd (other refl)) (λ same. refl) refl refl refl refl (λ e. e)
 next_brings s next.Renew p f holds = brings_renewal s.client s.standing.exchange _ p f holds refl refl refl
-next_brings s next.Ask p f holds = brings_none s.client s.standing.exchange s.standing.exchange p f (keeps_all s.standing.exchange)
-next_brings s next.Read p f holds = brings_none s.client s.standing.exchange s.standing.exchange p f (keeps_all s.standing.exchange)
-next_brings s next.Close p f holds = brings_none s.client s.standing.exchange s.standing.exchange p f (keeps_all s.standing.exchange)
+next_brings s _ p f holds = brings_none s.client s.standing.exchange s.standing.exchange p f (keeps_all s.standing.exchange)
 
 -- a session takes a request only where that is next
 asks_hold : (s : Session) (n : Next) → may_send n ≡ true → HoldsAt s n → HoldsAt s next.Ask
 asks_hold s next.Ask e holds = holds
-asks_hold s next.Open e holds = cc
-asks_hold s next.Wait e holds = cc
-asks_hold s next.Clear e holds = cc
-asks_hold s next.Null e holds = cc
-asks_hold s next.Flush e holds = cc
-asks_hold s next.Renew e holds = cc
-asks_hold s next.Read e holds = cc
-asks_hold s next.Close e holds = cc
+asks_hold s _ e holds = cc
 
 -- a request of the caller's, taken or not
 ask_brings : (s : Session) (target : ℕ) (call : Asked) (wait : ℕ) (p : Place) → FitsIn s p
@@ -153,10 +127,7 @@ line_brings s line p f = by_phase s.standing.phase (has_begun s.standing.exchang
   by_phase : (q : Phase) (b : Bool) → has_begun s.standing.exchange ≡ b → BringsTo p (line_events q b line) (settled_in q b line s) [] (line_came_in q b line noted)
   by_phase phase.Ready true e = heard_by e (is_sign_on line)
   by_phase phase.Ready false e = brings_came s.client s.standing.exchange _ p line f e refl refl refl or_first
-  by_phase phase.Down b e = discarded
-  by_phase phase.Pausing b e = discarded
-  by_phase phase.Clearing b e = discarded
-  by_phase phase.Draining b e = discarded
+  by_phase _ b e = discarded
 
 -- the caller's wish that the session begins anew
 anew_brings : (s : Session) (p : Place) → FitsIn s p → BringsTo p (events_of Restarts s) (settles Restarts s) [] (after Restarts s)

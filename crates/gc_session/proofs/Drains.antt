@@ -7,9 +7,7 @@ use Rattle.gc_catalogue.specs.declared.asked.Asked.{Asked}
 use Rattle.gc_texts.specs.SignOns.{is_sign_on}
 use Rattle.gc_session.specs.declared.next.Next.{Next}
 use Rattle.gc_session.specs.declared.next.Next.TheVariants as next
-use Rattle.gc_session.specs.declared.settings.Settings.{Settings}
 use Rattle.gc_session.specs.declared.settings.Want.{Want}
-use Rattle.gc_session.specs.declared.settings.Want.TheVariants.{Nothing, Answers, Send}
 use Rattle.gc_session.specs.declared.standing.Phase.{Phase}
 use Rattle.gc_session.specs.declared.standing.Phase.TheVariants as phase
 use Rattle.gc_session.specs.declared.standing.Standing.{Standing}
@@ -17,68 +15,33 @@ use Rattle.gc_session.specs.Calls.{Call, Steps, Asks, Comes, Hears, Opens, Close
 use Rattle.gc_session.specs.Exchange as exchange
 use Rattle.gc_session.specs.Exchange.{has_begun, is_past}
 use Rattle.gc_session.specs.Laws.{moment_of, moment_after, GoesForward, came_at, last_came, ConnectionsAreDrained}
-use Rattle.gc_session.specs.Sessions.{Session, attended, timed, quieted_in, at_step, next_of, next_in, done, stepped, takes, with_standing, sign_on_noted, asked_if, line_came_in, line_heard_if, begun_anew, is_up, met_in, wanted_of, all_of}
+use Rattle.gc_session.specs.Sessions.{Session, attended, timed, quieted_in, at_step, next_of, next_in, done, stepped, takes, with_standing, sign_on_noted, asked_if, begun_anew, is_up, met_in, wanted_of, all_of}
+use Rattle.gc_session.proofs.Walk.{attended_along, line_along, quieted_along}
 
--- the moment from which the quiet time counts, and the last one that was told
+-- the moment from which the quiet time counts
 abbrev since_of : Session → ℕ
 since_of s = s.standing.exchange.since
 
--- what is wanted changes neither
+-- what is wanted doesn't change it
 attended_since : (want : Want) (now : ℕ) (t : Standing) → (attended want now t).exchange.since ≡ t.exchange.since
-attended_since Nothing now t = refl
-attended_since Answers now t = refl
-attended_since Send now t = refl
+attended_since want now t = attended_along (λ (u : Standing). u.exchange.since ≡ t.exchange.since) want now t refl refl
 
--- nor does the end of a pause or a draining
-quieted_since : (p : Phase) (settings : Settings) (t : Standing) → ((quieted_in p settings t).exchange.since ≡ t.exchange.since) × ((quieted_in p settings t).moment ≡ t.moment)
-quieted_since phase.Down settings t = (refl, refl)
-quieted_since phase.Pausing settings t = (refl, refl)
-quieted_since phase.Draining settings t = by_test (t.listened && is_past settings.quiet t.moment t.exchange) where
-  -- the lemma above, whether it was quiet for long enough
-  by_test : (b : Bool) → ((if b then record t { phase = phase.Ready; exchange = exchange.drained t.moment t.exchange } else t).exchange.since ≡ t.exchange.since)
-      × ((if b then record t { phase = phase.Ready; exchange = exchange.drained t.moment t.exchange } else t).moment ≡ t.moment)
-  by_test true = (refl, refl)
-  by_test false = (refl, refl)
-quieted_since phase.Clearing settings t = (refl, refl)
-quieted_since phase.Ready settings t = (refl, refl)
-
--- the same of a step, before what is next is done
+-- nor does a step, before what is next is done, but for the clock
 step_since : (want : Want) (now : ℕ) (s : Session) → (since_of (at_step want now s) ≡ min (since_of s) now) × ((at_step want now s).standing.moment ≡ now)
 step_since want now s =
     let t = timed now (attended want now s.standing) in
-    let it = quieted_since t.phase s.settings t in
+    let it = quieted_along (λ (u : Standing). (u.exchange.since ≡ t.exchange.since) × (u.moment ≡ t.moment)) t.phase s.settings t (λ q. (refl, refl)) (refl, refl) in
     (it.0 ∙ ap (λ (n : ℕ). min n now) (attended_since want now s.standing), it.1)
 
 -- what is next: only a line feed has it count from now
 done_since : (n : Next) (s : Session) → (lo hi : ℕ) → lo ≤ since_of s → since_of s ≤ hi → lo ≤ s.standing.moment → s.standing.moment ≤ hi → (lo ≤ since_of (done n s)) × (since_of (done n s) ≤ hi)
 done_since next.Clear s lo hi a b c d = (c, d)
-done_since next.Open s lo hi a b c d = (a, b)
-done_since next.Wait s lo hi a b c d = (a, b)
-done_since next.Null s lo hi a b c d = (a, b)
-done_since next.Flush s lo hi a b c d = (a, b)
-done_since next.Renew s lo hi a b c d = (a, b)
-done_since next.Ask s lo hi a b c d = (a, b)
-done_since next.Read s lo hi a b c d = (a, b)
-done_since next.Close s lo hi a b c d = (a, b)
+done_since _ s lo hi a b c d = (a, b)
 
 -- a request changes nothing there
 ask_since : (s : Session) (target : ℕ) (call : Asked) (wait : ℕ) (b : Bool) → since_of (asked_if b target call wait s) ≡ since_of s
 ask_since s target call wait true = refl
 ask_since s target call wait false = refl
-
--- nor does a line that the client hears, or one with a sign-on in it
-heard_since : (s : Session) (line : List ℕ) (b : Bool) → since_of (line_heard_if b line s) ≡ since_of s
-heard_since s line true = refl
-heard_since s line false = refl
-
--- nor does any line
-line_since : (s : Session) (line : List ℕ) (p : Phase) (b : Bool) → since_of (line_came_in p b line s) ≡ since_of s
-line_since s line phase.Ready true = heard_since s line (is_sign_on line)
-line_since s line phase.Ready false = refl
-line_since s line phase.Down b = refl
-line_since s line phase.Pausing b = refl
-line_since s line phase.Clearing b = refl
-line_since s line phase.Draining b = refl
 
 -- nor does the caller's wish that the session begins anew
 anew_since : (s : Session) (b : Bool) → since_of (begun_anew b s) ≡ since_of s
@@ -105,7 +68,8 @@ call_between (Comes now) s last m (a, b) forward = by_test (is_up s.standing.pha
   by_test true = (omega arith, omega arith)
   by_test false = (omega (arith, a, b, forward), omega (arith, b, forward))
 call_between (Hears line) s last m (a, b) forward =
-    let e = line_since (with_standing (sign_on_noted (is_sign_on line)) s) line s.standing.phase (has_begun s.standing.exchange) in (omega (arith, a, e), omega (arith, b, e))
+    let e = line_along (λ (t : Session). since_of t ≡ since_of s) (with_standing (sign_on_noted (is_sign_on line)) s) line s.standing.phase (has_begun s.standing.exchange) refl refl refl in
+    (omega (arith, a, e), omega (arith, b, e))
 call_between (Opens now) s last m (a, b) forward = (omega (arith, a, b, forward), omega (arith, b, forward))
 call_between (Closes now) s last m (a, b) forward = (omega (arith, a, b, forward), omega arith)
 call_between Restarts s last m (a, b) forward = let e = anew_since s (has_begun s.standing.exchange) in (omega (arith, a, e), omega (arith, b, e))
@@ -133,9 +97,7 @@ ready_past want now s drains ready = (and_parts t.listened (is_past s.settings.q
 
   -- the phase there
   same : (w : Want) → (timed now (attended w now s.standing)).phase ≡ s.standing.phase
-  same Nothing = refl
-  same Answers = refl
-  same Send = refl
+  same w = attended_along (λ (u : Standing). u.phase ≡ s.standing.phase) w now s.standing refl refl
 
   -- the session once it is known that it drains
   at : Bool → Session
@@ -148,10 +110,7 @@ ready_past want now s drains ready = (and_parts t.listened (is_past s.settings.q
   -- one that still drains isn't ready after the step
   still : (p : Phase) → p ≡ phase.Draining → (w : Want) (u : Session) → u.standing.phase ≡ p → (done (next_in p w u) u).standing.phase ≡ phase.Ready → phase.Draining ≡ phase.Ready
   still phase.Draining e w u f ready = sym f ∙ ready
-  still phase.Down e w u f ready = cc
-  still phase.Pausing e w u f ready = cc
-  still phase.Clearing e w u f ready = cc
-  still phase.Ready e w u f ready = cc
+  still _ e w u f ready = cc
 
   -- the lemma above, by both tests
   by_test : (b : Bool) → (t.listened && is_past s.settings.quiet now t.exchange) ≡ b → b ≡ true

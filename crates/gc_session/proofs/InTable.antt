@@ -7,7 +7,7 @@ use Rattle.gc_catalogue.specs.declared.asked.Asked.{Asked}
 use Rattle.gc_client.specs.OneForOne as one
 use Rattle.gc_texts.specs.SignOns.{is_sign_on}
 use Rattle.gc_session.specs.Calls.{Call, Steps, Asks, Comes, Hears, Opens, Closes, Restarts, AsksTheTable, after, anew_events, ask_events, events_all, events_of, line_events, moment_events, next_events}
-use Rattle.gc_session.specs.Events.{ClientEvent, Null, Came, Stepped}
+use Rattle.gc_session.specs.Events.{ClientEvent, Stepped}
 use Rattle.gc_session.specs.Exchange.{has_begun, later}
 use Rattle.gc_session.specs.Sessions.{Session, at_step, next_of, takes}
 use Rattle.gc_session.specs.declared.next.Next.{Next}
@@ -17,12 +17,8 @@ use Rattle.gc_session.specs.declared.standing.Phase.TheVariants as phase
 
 -- the event asks for nothing but a call of the table
 abbrev pub IsInTable : ClientEvent → Type 0
-IsInTable Null = Unit {0}
-IsInTable (Came line) = Unit {0}
 IsInTable (Stepped (one.Send target asked deadline)) = is_of_table asked ≡ true
-IsInTable (Stepped (one.Hear line)) = Unit {0}
-IsInTable (Stepped (one.Expire now)) = Unit {0}
-IsInTable (Stepped one.Restart) = Unit {0}
+IsInTable event = Unit {0}
 
 -- each of these events asks for nothing but a call of the table
 abbrev pub AreInTable : List ClientEvent → Type 0
@@ -35,15 +31,10 @@ moment_in_table false now = tt
 
 -- what is done next asks for null procedures alone
 next_in_table : (w : Next) (s : Session) → AreInTable (next_events w s)
-next_in_table next.Open s = tt
-next_in_table next.Wait s = tt
-next_in_table next.Clear s = tt
 next_in_table next.Null s = (tt, tt)
 next_in_table next.Flush s = (refl, tt)
 next_in_table next.Renew s = (tt, (tt, tt))
-next_in_table next.Ask s = tt
-next_in_table next.Read s = tt
-next_in_table next.Close s = tt
+next_in_table _ s = tt
 
 -- a request for a call of the table asks for that, if it is taken
 request_in_table : (may : Bool) (target : ℕ) (call : Asked) (deadline : ℕ) → IsInTable (Stepped (one.Send target call deadline)) → AreInTable (ask_events may target call deadline)
@@ -52,16 +43,13 @@ request_in_table false target call deadline h = tt
 
 -- a line asks for nothing
 line_in_table : (p : Phase) (begun : Bool) (line : List ℕ) → AreInTable (line_events p begun line)
-line_in_table phase.Down begun line = tt
-line_in_table phase.Pausing begun line = tt
-line_in_table phase.Clearing begun line = tt
-line_in_table phase.Draining begun line = tt
 line_in_table phase.Ready true line = by_test (is_sign_on line) where
   -- the lemma above, whether it has a sign-on in it
   by_test : (c : Bool) → AreInTable (if c then [] else Stepped (one.Hear line) ∷ [])
   by_test true = tt
   by_test false = (tt, tt)
 line_in_table phase.Ready false line = (tt, tt)
+line_in_table _ begun line = tt
 
 -- nor does a restart
 anew_in_table : (begun : Bool) → AreInTable (anew_events begun)

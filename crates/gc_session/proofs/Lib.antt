@@ -10,3 +10,4 @@ mod Nexts
 mod Places
 mod Repeats
 pub mod Stretches
+pub mod Walk

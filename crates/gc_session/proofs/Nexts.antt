@@ -51,15 +51,12 @@ module _ (s : Session) where
 
   -- of what is next in this phase
   in_phase : (p : Phase) (want : Want) → HoldsAt s (next_in p want s)
-  in_phase phase.Down Nothing = tt
-  in_phase phase.Down Answers = tt
-  in_phase phase.Down Send = tt
-  in_phase phase.Pausing want = tt
-  in_phase phase.Clearing Nothing = tt
-  in_phase phase.Clearing Answers = tt
-  in_phase phase.Clearing Send = tt
-  in_phase phase.Draining want = tt
   in_phase phase.Ready want = ready_holds want
+  in_phase phase.Down Nothing = tt
+  in_phase phase.Down _ = tt
+  in_phase phase.Clearing Nothing = tt
+  in_phase phase.Clearing _ = tt
+  in_phase _ want = tt
 
   -- of what is next
   pub next_holds : (want : Want) → HoldsAt s (next_of want s)

@@ -1,5 +1,5 @@
 -- A session's stretch: it never falls, and grows wherever a connection ends or the client restarts.
-use Rattle.std.proofs.Common.{◌≡◌, ℕ, ◌&&◌, ◌<◌, ◌≤◌, Bool, true, false, if◌then◌else◌, List, [], ◌∷◌, ◌++◌, refl, sym, ap, ◌∙◌, subst, arith}
+use Rattle.std.proofs.Common.{◌≡◌, ℕ, ◌<◌, ◌≤◌, Bool, true, false, if◌then◌else◌, List, [], ◌∷◌, ◌++◌, refl, sym, ap, ◌∙◌, subst, arith}
 use Rattle.std.specs.List.{AllByRecursion}
 use Rattle.gc_lines.proofs.Lists.{all_append}
 use Rattle.gc_catalogue.specs.Moments.{later}
@@ -8,18 +8,16 @@ use Rattle.gc_catalogue.specs.declared.asked.Asked.{Asked}
 use Rattle.gc_texts.specs.SignOns.{is_sign_on}
 use Rattle.gc_session.specs.declared.next.Next.{Next}
 use Rattle.gc_session.specs.declared.next.Next.TheVariants as next
-use Rattle.gc_session.specs.declared.settings.Settings.{Settings}
 use Rattle.gc_session.specs.declared.settings.Want.{Want}
-use Rattle.gc_session.specs.declared.settings.Want.TheVariants.{Nothing, Answers, Send}
 use Rattle.gc_session.specs.declared.standing.Phase.{Phase}
 use Rattle.gc_session.specs.declared.standing.Phase.TheVariants as phase
 use Rattle.gc_session.specs.declared.standing.Standing.{Standing}
 use Rattle.gc_session.specs.Calls.{Call, Steps, Asks, Comes, Hears, Opens, Closes, Restarts, after, after_all, moment_events, next_events, ask_events, line_events, events_of, events_all}
 use Rattle.gc_session.specs.Events.{ClientEvent, Stepped}
-use Rattle.gc_session.specs.Exchange as exchange
 use Rattle.gc_session.specs.Exchange.{has_begun}
 use Rattle.gc_session.specs.Laws.{StretchesAreUnbroken}
-use Rattle.gc_session.specs.Sessions.{Session, attended, timed, quieted_in, at_step, next_of, done, takes, with_standing, sign_on_noted, asked_if, line_came_in, line_heard_if, met_in, is_up, begun_anew}
+use Rattle.gc_session.specs.Sessions.{Session, attended, timed, at_step, next_of, done, takes, with_standing, sign_on_noted, asked_if, met_in, is_up, begun_anew}
+use Rattle.gc_session.proofs.Walk.{attended_along, line_along, quieted_along}
 
 -- the greatest `u64`
 abbrev greatest : ℕ
@@ -68,33 +66,14 @@ line_none phase.Ready true line = by_test (is_sign_on line) where
   by_test true = tt
   by_test false = (tt, tt)
 line_none phase.Ready false line = (tt, tt)
-line_none phase.Down b line = tt
-line_none phase.Pausing b line = tt
-line_none phase.Clearing b line = tt
-line_none phase.Draining b line = tt
+line_none _ b line = tt
 
--- what is wanted leaves the stretch as it is
-attended_stays : (want : Want) (now : ℕ) (t : Standing) → (attended want now t).stretch ≡ t.stretch
-attended_stays Nothing now t = refl
-attended_stays Answers now t = refl
-attended_stays Send now t = refl
-
--- so does the end of a pause or a draining
-quieted_stays : (p : Phase) (settings : Settings) (t : Standing) → (quieted_in p settings t).stretch ≡ t.stretch
-quieted_stays phase.Down settings t = refl
-quieted_stays phase.Pausing settings t = refl
-quieted_stays phase.Draining settings t = by_test (t.listened && exchange.is_past settings.quiet t.moment t.exchange) where
-  -- the lemma above, whether it was quiet for long enough
-  by_test : (b : Bool) → (if b then record t { phase = phase.Ready; exchange = exchange.drained t.moment t.exchange } else t).stretch ≡ t.stretch
-  by_test true = refl
-  by_test false = refl
-quieted_stays phase.Clearing settings t = refl
-quieted_stays phase.Ready settings t = refl
-
--- so does the moment of a step
+-- the moment of a step leaves the stretch as it is
 step_stays : (want : Want) (now : ℕ) (s : Session) → (at_step want now s).standing.stretch ≡ s.standing.stretch
 step_stays want now s =
-    let t = timed now (attended want now s.standing) in quieted_stays t.phase s.settings t ∙ attended_stays want now s.standing
+    let t = timed now (attended want now s.standing) in
+    quieted_along (λ (u : Standing). u.stretch ≡ t.stretch) t.phase s.settings t (λ q. refl) refl
+    ∙ attended_along (λ (u : Standing). u.stretch ≡ s.standing.stretch) want now s.standing refl refl
 
 -- a step of a session
 step_grows : (want : Want) (now : ℕ) (s : Session) → s.standing.stretch ≤ greatest
@@ -113,35 +92,17 @@ step_grows want now s most = by_next (next_of want (at_step want now s)) where
 
   -- the lemma above, by what is next
   by_next : (n : Next) → Grows (Steps want now) (moment_events (has_begun s.standing.exchange) now ++ next_events n before) s.standing.stretch (done n before).standing.stretch
-  by_next next.Open = without next.Open refl tt
-  by_next next.Wait = without next.Wait refl tt
-  by_next next.Clear = without next.Clear refl tt
   by_next next.Null = without next.Null refl (tt, tt)
   by_next next.Flush = without next.Flush refl (tt, tt)
   by_next next.Renew =
       subst (λ (b : ℕ). Grows (Steps want now) (moment_events (has_begun s.standing.exchange) now ++ next_events next.Renew before) s.standing.stretch b)
       (ap (λ (a : ℕ). later a 1) (sym (step_stays want now s))) (by_one (Steps want now) _ s.standing.stretch most)
-  by_next next.Ask = without next.Ask refl tt
-  by_next next.Read = without next.Read refl tt
-  by_next next.Close = without next.Close refl tt
+  by_next n = without n refl tt
 
 -- a request
 ask_stays : (s : Session) (target : ℕ) (call : Asked) (wait : ℕ) (b : Bool) → (asked_if b target call wait s).standing.stretch ≡ s.standing.stretch
 ask_stays s target call wait true = refl
 ask_stays s target call wait false = refl
-
--- a line
-line_stays : (s : Session) (line : List ℕ) (p : Phase) (b : Bool) → (line_came_in p b line s).standing.stretch ≡ s.standing.stretch
-line_stays s line phase.Ready true = by_test (is_sign_on line) where
-  -- the lemma above, whether it has a sign-on in it
-  by_test : (c : Bool) → (line_heard_if c line s).standing.stretch ≡ s.standing.stretch
-  by_test true = refl
-  by_test false = refl
-line_stays s line phase.Ready false = refl
-line_stays s line phase.Down b = refl
-line_stays s line phase.Pausing b = refl
-line_stays s line phase.Clearing b = refl
-line_stays s line phase.Draining b = refl
 
 -- the caller's wish that the session begins anew
 anew_stretch : (s : Session) (b : Bool) → (begun_anew b s).standing.stretch ≡ later s.standing.stretch 1
@@ -163,7 +124,8 @@ call_grows s (Comes now) most =
     by_none (Comes now) _ s.standing.stretch (after (Comes now) s).standing.stretch most (met_stays (is_up s.standing.phase) now s.standing) (moment_none (has_begun s.standing.exchange) now) tt
 call_grows s (Hears line) most =
     by_none (Hears line) _ s.standing.stretch (after (Hears line) s).standing.stretch most
-    (line_stays (with_standing (sign_on_noted (is_sign_on line)) s) line s.standing.phase (has_begun s.standing.exchange))
+    (line_along (λ (t : Session). t.standing.stretch ≡ s.standing.stretch) (with_standing (sign_on_noted (is_sign_on line)) s) line s.standing.phase (has_begun s.standing.exchange)
+    refl refl refl)
     (line_none s.standing.phase (has_begun s.standing.exchange) line) tt
 call_grows s (Opens now) most = by_none (Opens now) _ s.standing.stretch s.standing.stretch most refl (moment_none (has_begun s.standing.exchange) now) tt
 call_grows s (Closes now) most = by_one (Closes now) _ s.standing.stretch most

@@ -10,13 +10,9 @@ use Rattle.gc_session.specs.Exchange.{has_room, is_dead, is_near, later, may_ask
 abbrev pub width_within : (width : ℕ) → ℕ
 width_within width = min (max width 1) 7
 
--- after how many milliseconds without a reply line the line is dead: twice the longest wait
-abbrev pub dead_after : Load → ℕ
-dead_after load = later load.patience load.patience
-
--- whether the line is dead
+-- whether the line is dead: it is after twice the longest wait without a reply line
 abbrev pub is_line_dead : Load → Exchange → Bool
-is_line_dead load x = is_dead (dead_after load) load.now load.all load.current x
+is_line_dead load x = is_dead (later load.patience load.patience) load.now load.all load.current x
 
 module _ {A : Type 0} (choices : Choices A) (load : Load) (x : Exchange) where
   -- if nothing may be sent: to close a dead line; to synchronize anew, if all outstanding requests have timed out; and else to read, as a

@@ -3,8 +3,8 @@
 
 ghost use Rattle.std.specs.Prelude.{◌≡◌, ◌≤◌, length, map};
 ghost use Rattle.gc_client.specs.Settlements.{settlement_seen};
-ghost use Rattle.gc_session.specs.Choices.{dead_after, is_line_dead};
-ghost use Rattle.gc_session.specs.Exchange.{new_exchange, has_begun, is_past, past_at, is_silent, may_ask, asks_at, has_room, is_near, hold_left, moment_read, moment_passed, request_noted, null_noted, line_noted, heard_noted, doubt_noted, hold_noted, line_synchronizing, cleared, renewed, drained, pause_doubled, later};
+ghost use Rattle.gc_session.specs.Choices.{is_line_dead};
+ghost use Rattle.gc_session.specs.Exchange.{new_exchange, has_begun, is_past, past_at, may_ask, asks_at, has_room, is_near, hold_left, moment_read, moment_passed, request_noted, null_noted, line_noted, heard_noted, doubt_noted, hold_noted, line_synchronizing, cleared, renewed, drained, pause_doubled, later};
 
 use crate::lines::{ends_with_table, is_reply};
 use crate::load::Load;
@@ -94,22 +94,16 @@ impl Exchange {
         later(self.since, wait)
     }
 
-    /// Whether the line is silent: a request was sent on this connection, and since then no reply line came; a request is outstanding, or a
-    /// null procedure of the synchronization was sent on this connection; and twice the client's patience has passed since `alive`.
-    pub fn is_silent(&self, load: Load) -> bool
-        ensures { result ≡ is_silent (dead_after load) load.now load.all self.now }
-    {
-        self.asked
-            && (load.all > 0 || self.again > 0)
-            && load.dead_after() <= load.now.saturating_sub(self.alive)
-    }
-
-    /// Whether the line is dead: it is silent, and each of the outstanding requests has timed out. A request that was just sent still has
-    /// its deadline, so that a close loses no reply in time.
+    /// Whether the line is dead: a request was sent on this connection, and since then no reply line came; a request is outstanding, or a
+    /// null procedure of the synchronization was sent on this connection; each outstanding request has timed out; and twice the client's
+    /// patience has passed since `alive`. A request that was just sent still has its deadline, so that a close loses no reply in time.
     pub fn is_dead(&self, load: Load) -> bool
         ensures { result ≡ is_line_dead load self.now }
     {
-        load.current == 0 && self.is_silent(load)
+        load.current == 0
+            && self.asked
+            && (load.all > 0 || self.again > 0)
+            && later(load.patience, load.patience) <= load.now.saturating_sub(self.alive)
     }
 
     /// Whether the null procedure of the first id that isn't answered may be sent: no hold is left, and the deadline of the one that

@@ -1,9 +1,7 @@
 //! What counts of a client's requests when something is to be sent.
 
 ghost use Rattle.std.specs.Prelude.{◌≡◌};
-ghost use Rattle.gc_session.specs.Choices.{dead_after, width_within};
-
-use crate::exchange::later;
+ghost use Rattle.gc_session.specs.Choices.{width_within};
 
 /// What is outstanding, and what the client allows. Times are in milliseconds of the caller's clock.
 #[derive(Clone, Copy)]
@@ -25,13 +23,4 @@ pub fn width_within(width: u8) -> u8
     ensures { result ≡ width_within width }
 {
     width.max(1).min(7)
-}
-
-impl Load {
-    /// After how long without a reply line the line is dead: twice the longest wait.
-    pub(crate) fn dead_after(self) -> u64
-        ensures { result ≡ dead_after self }
-    {
-        later(self.patience, self.patience)
-    }
 }

@@ -150,7 +150,9 @@ impl Session {
         ensures line { line.new.items ≡ null_line self.old.standing.exchange.word }
     {
         *line = self.null_line();
-        self.standing.note_null(self.settings.timeout);
+        self.standing
+            .exchange
+            .note_null(self.standing.moment, self.settings.timeout);
     }
 
     // Loses all that is outstanding, and synchronizes anew.
@@ -185,7 +187,7 @@ impl Session {
                 *settled = self.renew();
                 self.send_null(line);
             }
-            Next::Read => self.standing.listen(),
+            Next::Read => self.standing.listened = true,
             _ => {}
         }
     }
@@ -201,7 +203,7 @@ impl Session {
         let Ok(()) = self.client.send_into(OWN, &null, deadline, line) else {
             unreachable!()
         };
-        self.standing.note_own_request();
+        self.standing.exchange.note_request(self.standing.moment);
     }
 
     /// What the caller does next at the moment `now`, if this is wanted. A line that is to be written counts as sent from now on: it is
@@ -308,7 +310,9 @@ impl Session {
             return;
         }
         if !self.standing.exchange.has_begun() {
-            self.standing.hear_synchronizing(line);
+            self.standing
+                .exchange
+                .hear_synchronizing(self.standing.moment, line);
         } else if !is_cut {
             let _ = self.hear_line(line, settled);
         }

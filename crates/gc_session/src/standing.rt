@@ -1,8 +1,8 @@
 //! How far a session is with its connections: its phase, its moments and its counts, beside the exchange.
 
-ghost use Rattle.std.specs.Prelude.{◌≡◌, ◌≤◌, length, true, if◌then◌else◌, nat_eq};
+ghost use Rattle.std.specs.Prelude.{◌≡◌, true, if◌then◌else◌, nat_eq};
 ghost use Rattle.gc_session.specs.Sessions.{new_standing, is_up, timed, attended, quieted, phase_cleared, restarted, unconnected, connected, met, sign_on_noted, requested, phase_anew, met_in};
-ghost use Rattle.gc_session.specs.Exchange.{request_noted, null_noted, line_synchronizing, later};
+ghost use Rattle.gc_session.specs.Exchange.{later};
 
 use crate::exchange::{Exchange, later};
 use crate::settings::{Settings, Want};
@@ -150,28 +150,6 @@ impl Standing {
         self.has_asked = true;
     }
 
-    // Notes that a null procedure of the client's own is sent.
-    pub(crate) fn note_own_request(&mut self)
-        ensures { self.new ≡ record self.old { exchange = request_noted self.old.moment self.old.exchange } }
-    {
-        self.exchange.note_request(self.moment);
-    }
-
-    // Notes that the null procedure of the first id of the synchronization that isn't answered is sent.
-    pub(crate) fn note_null(&mut self, timeout: u64)
-        ensures { self.new ≡ record self.old { exchange = null_noted self.old.moment timeout self.old.exchange } }
-    {
-        self.exchange.note_null(self.moment, timeout);
-    }
-
-    // Hears a line while the client synchronizes.
-    pub(crate) fn hear_synchronizing(&mut self, line: &[u8])
-        requires { length line.now ≤ 512 }
-        ensures { self.new ≡ record self.old { exchange = line_synchronizing self.old.moment self.old.exchange line.now } }
-    {
-        self.exchange.hear_synchronizing(self.moment, line);
-    }
-
     // Has a line feed come first, if there is a connection.
     pub(crate) fn clear_anew(&mut self)
         ensures { self.new ≡ record self.old { phase = phase_anew self.old.phase } }
@@ -207,13 +185,6 @@ impl Standing {
         } else {
             self.pass(now);
         }
-    }
-
-    // Notes that the caller is to read.
-    pub(crate) fn listen(&mut self)
-        ensures { self.new ≡ record self.old { listened = true } }
-    {
-        self.listened = true;
     }
 
     // Notes whether nothing is outstanding any more: the longest wait so far counts no more then.
