@@ -143,20 +143,26 @@ none_left (asked ∷ others) e = cc
 not_begun : (x : Exchange) → x.word ≡ [] → has_begun x ≡ false → ⊥
 not_begun x e f = let both : true ≡ false = sym (ap is_none_left e) ∙ f in cc
 
+-- what fits where nothing is sent or settled, and these ids are left unanswered
+fits_kept : (c : ById Asked) (x y : Exchange) (p : Place) (left : List ℕ) → Fits c x p → y.word ≡ left → (has_begun y ≡ false → c ≡ fresh) → y.last_ended ≡ x.last_ended
+    → CountsBehind (course_of p.since) y.behind → (y.doubtful ≡ false → x.doubtful ≡ false) → Fits c y (record p { left = left })
+fits_kept c x y p left f word new ended behind doubtful = record {
+  left = word;
+  client = f.client;
+  part = f.part;
+  ended = ended ∙ f.ended;
+  behind = behind;
+  calm = λ e. f.calm (doubtful e);
+  new = new;
+  own = f.own;
+}
+
 -- no event
 pub brings_none : (c : ById Asked) (x y : Exchange) (p : Place) → Fits c x p → Keeps x y → Brings p [] [] [] c y
 brings_none c x y p f k = record {
   along = tt;
-  fits = record {
-    left = k.word ∙ f.left;
-    client = f.client;
-    part = f.part;
-    ended = k.ended ∙ f.ended;
-    behind = subst (λ (b : ℕ). CountsBehind (course_of p.since) b) (sym k.behind) f.behind;
-    calm = λ e. f.calm (k.doubtful e);
-    new = λ e. f.new (sym (ap is_none_left k.word) ∙ e);
-    own = f.own;
-  };
+  fits = fits_kept c x y p p.left f (k.word ∙ f.left) (λ e. f.new (sym (ap is_none_left k.word) ∙ e)) k.ended
+      (subst (λ (b : ℕ). CountsBehind (course_of p.since) b) (sym k.behind) f.behind) k.doubtful;
   settled = sym (append-nil p.reached.settlements);
   taken = sym (append-nil (filter is_of_caller p.reached.sent));
 }
@@ -166,16 +172,8 @@ pub brings_null : (c : ById Asked) (x y : Exchange) (p : Place) → Fits c x p �
     → Brings p (Null ∷ []) [] [] c y
 brings_null c x y p f word ended behind doubtful = record {
   along = (tt, tt);
-  fits = record {
-    left = word ∙ f.left;
-    client = f.client;
-    part = f.part;
-    ended = ended ∙ f.ended;
-    behind = subst (λ (b : ℕ). CountsBehind (course_of p.since) b) (sym behind) (counts_one_more (course_of p.since) x.behind f.behind);
-    calm = λ e. f.calm (doubtful e);
-    new = λ e. f.new (sym (ap is_none_left word) ∙ e);
-    own = f.own;
-  };
+  fits = fits_kept c x y p p.left f (word ∙ f.left) (λ e. f.new (sym (ap is_none_left word) ∙ e)) ended
+      (subst (λ (b : ℕ). CountsBehind (course_of p.since) b) (sym behind) (counts_one_more (course_of p.since) x.behind f.behind)) doubtful;
   settled = sym (append-nil p.reached.settlements);
   taken = sym (append-nil (filter is_of_caller p.reached.sent));
 }
@@ -185,16 +183,8 @@ pub brings_came : (c : ById Asked) (x y : Exchange) (p : Place) (line : List ℕ
     → y.last_ended ≡ x.last_ended → y.behind ≡ x.behind → (y.doubtful ≡ false → x.doubtful ≡ false) → Brings p (Came line ∷ []) [] [] c y
 brings_came c x y p line f unbegun word ended behind doubtful = record {
   along = (tt, tt);
-  fits = record {
-    left = word ∙ ap (λ l. left_by l (heard line)) f.left;
-    client = f.client;
-    part = f.part;
-    ended = ended ∙ f.ended;
-    behind = subst (λ (b : ℕ). CountsBehind (course_of p.since) b) (sym behind) f.behind;
-    calm = λ e. f.calm (doubtful e);
-    new = λ e. f.new unbegun;
-    own = f.own;
-  };
+  fits = fits_kept c x y p (left_by p.left (heard line)) f (word ∙ ap (λ l. left_by l (heard line)) f.left) (λ e. f.new unbegun) ended
+      (subst (λ (b : ℕ). CountsBehind (course_of p.since) b) (sym behind) f.behind) doubtful;
   settled = sym (append-nil p.reached.settlements);
   taken = sym (append-nil (filter is_of_caller p.reached.sent));
 }
