@@ -36,7 +36,7 @@ impl<A: Copy> Choices<A> {
         }
     }
 
-    /// `send`, which sends a request, if there is room for one and the line isn't dead; else what is next if nothing may be sent.
+    // `send`, which sends a request, if there is room for one and the line isn't dead; else what is next if nothing may be sent.
     fn room(&self, load: Load, exchange: &Exchange, send: A) -> A
         ensures { result ≡ next_room self.now load exchange.now send }
     {

@@ -76,7 +76,7 @@ load_of plan p w = record {
   current = w.current;
 }
 
--- what may be next on a connection that is ready, beside the commands, and what is between cycles
+-- what the rules of an exchange choose between, as actions
 abbrev pub the_choices : Choices Action
 the_choices = record { close = Close Dead; renew = Renew; read = Read Limit; flush = Flush; null = Ask }
 

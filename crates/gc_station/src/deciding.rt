@@ -20,7 +20,8 @@
 //! further attempt of its own, so that it alone is left out.
 //!
 //! In any other case the table lists the actions that may be next in each phase, of which the first that fits is taken, and the
-//! phase after each.
+//! phase after each. The last rows of `Ready` for a station that synchronizes, and those of the next command that may be sent and of a
+//! station that waits, are rules of an exchange: gc_session has them (`Choices`).
 //!
 //! | Phase | Where | Action | What the action does | Next phase |
 //! |---|---|---|---|---|
@@ -78,7 +79,7 @@ use crate::plan::Plan;
 use crate::progress::{Action, Phase, Progress, Until, Waiting};
 use gc_session::{Choices, Load, width_within};
 
-// What may be next on a connection that is ready, beside the commands, and what is between cycles.
+// What the rules of an exchange choose between, as actions.
 const CHOICES: Choices<Action> = Choices {
     close: Action::Close(Cause::Dead),
     renew: Action::Renew,
