@@ -89,7 +89,7 @@ def grid():
 
 def bad_line(width, found):
     with simulator(ROUGH, width) as port:
-        for row in rows_of(port, f"--width {width} --unchained --cycles {CYCLES} --deadline 300 --quiet 100 --retries 0"):
+        for row in rows_of(port, f"--width {width} --unchained --cycles {CYCLES} --deadline 300 --settle 100 --retries always"):
             found[row["outcome"]] += 1
             found["of another"] += row["outcome"] == "answered" and row["values"] != VALUES[row["target"]][1]
 

@@ -57,7 +57,7 @@ def stations(program, pairs, seconds):
     help_text = subprocess.run([program, "station", "--help"], capture_output=True, text=True, check=False)
     appends = "--append" in help_text.stdout + help_text.stderr
     cycles = seconds // EVERY
-    words = f"--every {EVERY} --cycles {cycles} --quiet 200 --deadline 1000 --silent".split()
+    words = f"--every {EVERY} --cycles {cycles} --settle 200 --deadline 1000 --silent".split()
     with tempfile.TemporaryDirectory() as folder:
         commands = Path(folder, "commands")
         commands.write_bytes(COMMANDS)

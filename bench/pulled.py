@@ -4,7 +4,7 @@
 
 *Pulled* is a line whose connection ends, and at which none can be made for a minute. *Mute* is one behind a port that stays, as at a
 bridge: connections stand, and each request is lost. A cycle has three commands, and costs where one of them isn't answered. The minute
-begins 31 seconds after the first request. Each is measured with the defaults, and with `--deadline 2000 --retries 0`, side by side.
+begins 31 seconds after the first request. Each is measured with the defaults, and with `--deadline 2000 --retries always`, side by side.
 """
 
 import csv
@@ -54,7 +54,7 @@ def cost(kind, words):
 
 
 def main():
-    cases = [(kind, words) for kind in ("pulled", "mute") for words in ("", "--deadline 2000 --retries 0")]
+    cases = [(kind, words) for kind in ("pulled", "mute") for words in ("", "--deadline 2000 --retries always")]
     measures = [threading.Thread(target=cost, args=case) for case in cases]
     for measure in measures:
         measure.start()

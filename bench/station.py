@@ -95,8 +95,8 @@ async def served(*given):
 
 
 async def main():
-    lossy = [served(20, "--deadline 8000 --quiet 5000", 0.5, 2, seed) for seed in range(20)]
-    wide = [served(60, f"--deadline 8000 --quiet 2000 --width {width}", 0.25, 0, 0) for width in range(1, 8)]
+    lossy = [served(20, "--deadline 8000 --settle 5000", 0.5, 2, seed) for seed in range(20)]
+    wide = [served(60, f"--deadline 8000 --settle 2000 --width {width}", 0.25, 0, 0) for width in range(1, 8)]
     seconds = await asyncio.gather(*lossy, *wide)
     took, lost = zip(*seconds[:20])
     print(f"twenty commands: {sum(took) / 20:.1f} s on average, {min(took):.1f} to {max(took):.1f}, with {sum(lost) / 20:.2f} lines lost")

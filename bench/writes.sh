@@ -4,7 +4,7 @@
 #
 # A station measures twenty simulated targets, three commands each, every 40 seconds, which is longer than the kernel keeps what it hasn't
 # written. The rows go to a file system of ext4 in a file, which is mounted by a loop device. What the kernel wrote to that device, by its
-# /sys/block/LOOP/stat, is divided by the rows: with and without --sync, and with --log. A run before counts the calls by strace.
+# /sys/block/LOOP/stat, is divided by the rows: with and without --fsync, and with --log. A run before counts the calls by strace.
 set -eu
 export LC_ALL=C
 program=$(realpath "$1") cycles=${2:-3}
@@ -34,9 +34,9 @@ station() { "$program" station 4040 --every 40 --cycles "$cycles" --silent --app
 written() { sync -f "$work/disk"; echo $(($(awk '{ print $7 }' "/sys/block/${device#/dev/}/stat") * 512)); }
 rows=$((cycles * 60))
 
-strace -f -o "$work/calls" "$program" station 4040 --cycles 2 --silent --append "$work/disk/values.csv" --sync <"$work/commands" 2>/dev/null
+strace -f -o "$work/calls" "$program" station 4040 --cycles 2 --silent --append "$work/disk/values.csv" --fsync <"$work/commands" 2>/dev/null
 echo "calls for 120 rows: $(grep -c 'fdatasync(\|fsync(' "$work/calls") syncs, $(grep -c '[^a-z]write(' "$work/calls") writes"
-for words in '--sync' '' "--sync --log $work/disk/lines.log" "--log $work/disk/lines.log"; do
+for words in '--fsync' '' "--fsync --log $work/disk/lines.log" "--log $work/disk/lines.log"; do
     rm -f "$work"/disk/values.* "$work/disk/lines.log"
     before=$(written)
     # shellcheck disable=SC2086

@@ -63,7 +63,7 @@ def trial_of(seed: int, nights: int) -> Trial:
     by = random.Random(seed)
     options = ["--nights", str(nights), "--every", str(by.choice([60, 300])), "--seed", str(seed)]
     options += ["--width", str(by.choice([1, 1, 2, 7])), "--deadline", str(by.choice([1000, 3000, 10000]))]
-    options += ["--quiet", str(by.choice([100, 2000])), "--retries", str(by.choice([0, 3, 10]))]
+    options += ["--settle", str(by.choice([100, 2000])), "--retries", by.choice(["always", "3", "10"])]
     options += by.choice([[], ["--unchained"], ["--json"], ["--columns"]])
     return Trial(seed, line_of(by) + alter_of(seed), SCENE.format(seed=seed % 1000), commands_of(by), options)
 
@@ -106,7 +106,7 @@ def harsh_trial_of(seed: int) -> Trial:
     commands = harsh_commands_of(by)
     options = ["--nights", "1", "--cycles", str(by.choice([10, 30])), "--every", str(by.choice([60, 300])), "--seed", str(seed)]
     options += ["--width", str(by.choice([1, 2, 7, 7])), "--deadline", str(by.choice([300, 1000, 3000, 10000]))]
-    options += ["--quiet", str(by.choice([1, 100, 2000])), "--retries", str(by.choice([0, 3, 10]))]
+    options += ["--settle", str(by.choice([1, 100, 2000])), "--retries", by.choice(["always", "3", "10"])]
     options += by.choice([[], ["--unchained"], ["--unchained"]])
     return Trial(seed, line, SCENE.format(seed=seed % 1000), commands, options)
 

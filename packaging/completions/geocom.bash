@@ -24,7 +24,19 @@ _geocom() {
         mapfile -t COMPREPLY < <(compgen -W 'gon degree' -- "$cur")
         return
         ;;
-    --connections | --idle | --nights | --seed | --deadline | --every | --at | --cycles | --quiet | --retries | --stale | --log-bytes) return ;;
+    --cycles)
+        mapfile -t COMPREPLY < <(compgen -W unlimited -- "$cur")
+        return
+        ;;
+    --retries)
+        mapfile -t COMPREPLY < <(compgen -W always -- "$cur")
+        return
+        ;;
+    --stale)
+        mapfile -t COMPREPLY < <(compgen -W never -- "$cur")
+        return
+        ;;
+    --connections | --idle | --nights | --seed | --deadline | --every | --at | --settle | --log-bytes) return ;;
     esac
     case $command in
     exec | loop) given='--scene --help' ;;
@@ -32,8 +44,8 @@ _geocom() {
     drill) given='--scene --totals --width --help' ;;
     serve) given='--any-address --connections --keep --idle --scene --help' ;;
     ask) given='--help' ;;
-    station) given='--width --deadline --every --at --cycles --quiet --retries --stale --until --now --csv --columns --json --append --sync --unchained --silent --check --unit --log --log-bytes --help' ;;
-    rehearse) given='--nights --every --cycles --scene --line --seed --width --deadline --quiet --retries --stale --csv --columns --json --unchained --help' ;;
+    station) given='--width --deadline --every --at --cycles --settle --retries --stale --until --now --csv --columns --json --append --fsync --unchained --silent --check --unit --log --log-bytes --help' ;;
+    rehearse) given='--nights --every --cycles --scene --line --seed --width --deadline --settle --retries --stale --csv --columns --json --unchained --help' ;;
     *) return ;;
     esac
     # What can't be given behind what stands there.

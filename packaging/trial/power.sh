@@ -22,7 +22,7 @@ geocom serve 4030 --keep --idle 600 >/dev/null 2>&1 &
 sleep 1
 if [ $boots = 1 ]; then
     cp /etc/geocom/simulator.commands /etc/geocom/cut.commands
-    printf '%s\n' WHERE=/dev/ttyS0 'LINE=115200 cs8 -cstopb -parenb' 'WORDS=--every 2 --cycles 0 --retries 0 --deadline 1000 --quiet 300' >/etc/geocom/cut.conf
+    printf '%s\n' WHERE=/dev/ttyS0 'LINE=115200 cs8 -cstopb -parenb' 'WORDS=--every 2 --cycles unlimited --retries always --deadline 1000 --settle 300' >/etc/geocom/cut.conf
 fi
 [ $boots = 3 ] || sh /try/trial/terminal.sh in
 systemctl start $unit

@@ -48,7 +48,7 @@ for each in $sites held waits; do
     serve $port --keep --idle 600
     eval "port_$each=$port pid_$each=$served"
     sed 's/^deadline .*/deadline 500/' /etc/geocom/simulator.commands >/etc/geocom/$each.commands
-    printf 'WHERE=%s\nWORDS=--every 2 --cycles 0 --retries 0 --deadline 500 --quiet 200\n' $port >/etc/geocom/$each.conf
+    printf 'WHERE=%s\nWORDS=--every 2 --cycles unlimited --retries always --deadline 500 --settle 200\n' $port >/etc/geocom/$each.conf
     printf 'FILE=/var/lib/geocom/%s.csv\nWORDS=--within 12\n' $each >/etc/geocom/$each.alive
     printf 'FILE=/var/lib/geocom/%s.csv\nLIMITS=/etc/geocom/limits\nRUN=cat >>/var/lib/geocom/alarm/%s.told\nWORDS=--apart 1\n' $each $each >/etc/geocom/$each.alarm
 done

@@ -34,7 +34,7 @@ class Measuring:
         self.rows, self.logs = f"{folder}/rows-{form}.csv", f"{folder}/log-{form}.log"
         # What the clock showed, as dates of files.
         self.dates = [self.date()]
-        self.run = Run([program, "station", port, *words.split(), "--append", self.rows, "--log", self.logs, "--sync"], commands,
+        self.run = Run([program, "station", port, *words.split(), "--append", self.rows, "--log", self.logs, "--fsync"], commands,
                        env={**os.environ, **self.clock.environment})
 
     def date(self):
@@ -131,7 +131,7 @@ def change(station, changes, seconds):
 def main():
     program, changes = os.path.abspath(sys.argv[1]), int(sys.argv[2])
     with tempfile.TemporaryDirectory() as folder:
-        words = f"--every 1 --cycles 0 --until {folder}/stop --log-bytes 2000"
+        words = f"--every 1 --cycles unlimited --until {folder}/stop --log-bytes 2000"
         with measuring(program, Path(folder), words) as station:
             found = change(station, changes, DAY)
             logs = station.check_logs(2000)

@@ -10,7 +10,9 @@ ghost use Rattle.std.specs.String.{string_bytes};
 ghost use Rattle.std.specs.Vec.Iter.{into_iter_items};
 ghost use Rattle.gc_console.specs.Programs.{AreReadFrom, DoesAsked, DoesProgram, DoesWords, IsAnswered, IsUnread, LacksMemory, RefusesUnread, ShowsText, asks_for_text};
 ghost use Rattle.gc_console.specs.Stations.{DoesOver, HasNoRun, seeing_by};
+ghost use Rattle.gc_messages.specs.Refusals.{Refuses, refusal_line};
 ghost use Rattle.gc_messages.specs.Statuses.{IsStatusUpTo};
+ghost use Rattle.gc_words.specs.Limits.{limit_refusal};
 ghost use Rattle.gc_lines.specs.Answering.{ports_of};
 ghost use Rattle.gc_console.specs.Subcommands.{DoesCheck, DoesDrill, DoesExec, DoesServe, EndsFrom, opening, opening_ports};
 
@@ -21,7 +23,7 @@ use clap::Error;
 use clap::error::ErrorKind;
 use gc_lines::{Durable, FromReader, ReadAhead, Sink, Source, ToWriter};
 use gc_messages::{
-    Followed, Heard, Lossy, Noting, Standard, Streams, Told, refuse_at, refuse_date,
+    Followed, Heard, Lossy, Noting, Standard, Streams, Told, refuse, refuse_at, refuse_date,
     refuse_numbers, refuse_place, refuse_stale, refuse_unit, report_end,
 };
 use gc_nights::rehearse;
@@ -31,7 +33,7 @@ use gc_subcommands::exec::exec_scene;
 use gc_subcommands::serve::{Serving, serve_with_places_filled};
 use gc_subcommands::{ClientJob, Job, Subcommand, job_of};
 use gc_texts::RunFault;
-use gc_words::Rehearsal;
+use gc_words::{Limit, Rehearsal};
 use std::alloc::Global;
 use std::env::Args;
 use std::fs::File;
@@ -73,11 +75,11 @@ pub fn run_program<
     // - `serve`: each connection that was served had exactly the instrument's replies to its lines, in order; or none was served.
     // - `station`: over exactly the text that the input gave, by exactly the settings that the words give, it ran over the acts that the
     //   traces have, which are what the system's calls did at the place that the words name; and its output, or the file at the path that
-    //   they name, which syncs exactly with `--sync`, took exactly the rows that the traces have. Or the text was refused, or the file
+    //   they name, which syncs exactly with `--fsync`, took exactly the rows that the traces have. Or the text was refused, or the file
     //   couldn't be had, and nothing was sent. With `--check`: status 0 only if a station measures the text. Of its messages nothing is said.
     // - `rehearse`: the status is at most 1, and nothing more is said here.
     // - `loop`, `ask` and `station` over a closed stream: that is reported, with status 1, and nothing was read or written else.
-    // - A place, a number, a unit, a `--stale`, an `--at` or a file's name that is refused: status 2, and the messages took exactly the line
+    // - A place, a limit, a number, a unit, a `--stale`, an `--at` or a file's name that is refused: status 2, and the messages took exactly the line
     //   that says why.
     // - No job: if a word asks for help or version, status 0 and no message, or status 1 and the line of the fault `Output`; status 2, only
     //   for words that the command line doesn't take; or status 1, and the messages took exactly the line that memory ran out.
@@ -188,6 +190,10 @@ impl<'a, R: Net<Listener = TcpListener, Stream = TcpStream> + Clock + Files<File
             Job::Client(job) => self.run_client_job(job, streams),
             Job::Nowhere { serves } => {
                 let ended = refuse_place(serves, &mut streams.messages);
+                (ended, said_of(streams))
+            }
+            Job::NoLimit(limit) => {
+                let ended = refuse_limit(limit, &mut streams.messages);
                 (ended, said_of(streams))
             }
             Job::NumberMissing => {
@@ -448,6 +454,14 @@ fn show<O: Write, E: Write>(text: &Error, output: &mut O, messages: &mut E) -> i
         Ok(()) => Ok(ExitCode::SUCCESS),
         Err(_) => report_end(Err(RunFault::Output), messages),
     }
+}
+
+// Reports, with status 2, that an option with a limit has neither its word nor a number within its bounds. `Err`: the messages couldn't be
+// written.
+fn refuse_limit<E: Write>(limit: Limit, messages: &mut E) -> io::Result<ExitCode>
+    ensures { IfOk result (λ status. Refuses (refusal_line (limit_refusal limit)) (exit_status status) (E.contents messages.old) (E.contents messages.new)) }
+{
+    refuse(limit.refusal(), messages)
 }
 
 // Whether words name a subcommand that reads a text from standard input. `false` if they name none.

@@ -15,9 +15,9 @@ use gc_texts::{RunFault, end_of_serving};
 use std::io::{self, Write};
 use std::process::ExitCode;
 
-// Reports, with status 2, why a command line is refused. `Err`: the messages couldn't be written.
-fn refuse<E: Write>(why: &str, messages: &mut E) -> io::Result<ExitCode>
-    ensures { IfOk result (λ status. Refuses (refusal_line why.now) (exit_status status) (E.contents messages.old) (E.contents messages.new)) }
+/// Reports, with status 2, why a command line is refused. `Err`: the messages couldn't be written.
+pub fn refuse<E: Write>(why: &str, messages: &mut E) -> io::Result<ExitCode>
+    ensures told { IfOk result (λ status. Refuses (refusal_line why.now) (exit_status status) (E.contents messages.old) (E.contents messages.new)) }
 {
     writeln!(messages, "error: {why}")?;
     Ok(ExitCode::from(2))

@@ -23,8 +23,8 @@ mod unasked;
 
 pub use blanks::report_blanks;
 pub use ending::{
-    refuse_at, refuse_date, refuse_numbers, refuse_place, refuse_stale, refuse_unit, report_end,
-    report_end_at, report_served, tell_place,
+    refuse, refuse_at, refuse_date, refuse_numbers, refuse_place, refuse_stale, refuse_unit,
+    report_end, report_end_at, report_served, tell_place,
 };
 pub use files::{FilesNews, FilesSeen, FilesTold, LogSeen, MINUTE, report_copied, report_torn};
 pub use following::Followed;

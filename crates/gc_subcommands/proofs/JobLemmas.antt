@@ -1,6 +1,6 @@
 -- Which job the words ask for.
-use Rattle.std.proofs.Common.{◌≡◌, ◌∙◌, ℕ, Bool, true, false, List, [], ◌∷◌, Option, Some, None, refl, sym, subst, ap, codes, inl, find, option_map}
-use Rattle.std.specs.Prelude.{Box, is_some}
+use Rattle.std.proofs.Common.{◌≡◌, ◌∙◌, ℕ, Bool, true, false, List, [], ◌∷◌, Option, Some, None, refl, sym, subst, ap, codes, inl, inr, find, option_map}
+use Rattle.std.specs.Prelude.{Box, IsSome, is_some}
 use Rattle.std.proofs.lemmas.Slice.Eq.{bytes_eq-Decides}
 use Rattle.std.specs.Str.{bytes_eq}
 use Rattle.std.specs.Box.{box_value}
@@ -15,10 +15,13 @@ use Rattle.gc_subcommands.specs.declared.words.Job.{Job}
 use Rattle.gc_subcommands.specs.declared.words.Job.TheVariants as job
 use Rattle.gc_subcommands.specs.declared.words.Subcommand.{Subcommand}
 use Rattle.gc_subcommands.specs.declared.words.Subcommand.TheVariants as subcommand
-use Rattle.gc_words.specs.Chosen.{IsChosen, IsRecording, IsSite}
+use Rattle.gc_words.specs.Chosen.{HasNumbers, HasRehearsalNumbers, IsChosen, IsRecording, IsSite}
+use Rattle.gc_words.specs.Limits.{HasLimits}
 use Rattle.gc_words.specs.Stations.{is_at_without_multiple, is_stale_too_soon}
 use Rattle.gc_words.specs.Units.{unit_in}
 use Rattle.gc_words.specs.Words.{Words, has_flag}
+use Rattle.gc_words.specs.declared.limit.Limit.TheVariants.{Cycles, NightCycles}
+use Rattle.gc_words.specs.declared.rehearsal.Rehearsal.{Rehearsal}
 use Rattle.gc_words.specs.declared.settings.Settings.{Settings}
 use Rattle.gc_words.specs.declared.site.Recording.{Recording}
 use Rattle.gc_words.specs.declared.site.Site.{Site}
@@ -109,6 +112,26 @@ station_asked words site station recording checks unit at_site chosen recorded f
           named = refl;
           is = record { at_site = at_site; chosen = chosen; recorded = recorded; measures = flag; fresh = fresh; due = due; dated = dated };
         })
+
+-- where each limit is there, words of which no station is read lack a number
+pub station_missing : (words : Words) (r : Option Settings) → HasLimits words Cycles → (HasNumbers words → HasLimits words Cycles → IsSome r) → r ≡ None
+    → IsJobOf (Some (codes "station", words)) job.NumberMissing
+station_missing words r limits only none = inl (record { words = words; named = refl; is = (limits, lacking) })
+  where
+    lacking : HasNumbers words → ⊥
+    lacking numbers =
+        let bad : false ≡ true = subst (λ o. IsSome o) none (only numbers limits) in
+        cc
+
+-- likewise of a rehearsal
+pub rehearsal_missing : (words : Words) (r : Option Rehearsal) → HasLimits words NightCycles
+    → (HasRehearsalNumbers words → HasLimits words NightCycles → IsSome r) → r ≡ None → IsJobOf (Some (codes "rehearse", words)) job.NumberMissing
+rehearsal_missing words r limits only none = inr (record { words = words; named = refl; is = (limits, lacking) })
+  where
+    lacking : HasRehearsalNumbers words → ⊥
+    lacking numbers =
+        let bad : false ≡ true = subst (λ o. IsSome o) none (only numbers limits) in
+        cc
 
 -- a subcommand that was found has one name
 pub one_name : (a b : Text) (u v : Words) (asked : Option (Text × Words)) → asked ≡ Some (a, u) → asked ≡ Some (b, v) → a ≡ b

@@ -15,10 +15,12 @@ use Rattle.gc_subcommands.specs.declared.words.Subcommand.{Subcommand}
 use Rattle.gc_subcommands.specs.declared.words.Subcommand.TheVariants as subcommand
 use Rattle.gc_words.specs.Chosen.{GivesPlace, HasNumbers, HasRehearsalNumbers, IsChosen, IsLog, IsRecording, IsRehearsal, IsSite}
 use Rattle.gc_texts.specs.DatedPaths.{is_dated_path}
+use Rattle.gc_words.specs.Limits.{HasLimits, LacksLimit}
 use Rattle.gc_words.specs.Stations.{is_at_without_multiple, is_stale_too_soon}
 use Rattle.gc_words.specs.Units.{unit_in}
 use Rattle.gc_words.specs.Words.{IsNumberOr, ReadsNumber, Words, has_flag, text_in}
 use Rattle.gc_words.specs.declared.choice.Choice.{Choice}
+use Rattle.gc_words.specs.declared.limit.Limit.TheVariants.{Cycles, NightCycles}
 use Rattle.gc_words.specs.declared.rehearsal.Rehearsal.{Rehearsal}
 use Rattle.gc_words.specs.declared.settings.Settings.{Settings}
 use Rattle.gc_words.specs.declared.site.LogPlace.{LogPlace}
@@ -144,8 +146,9 @@ IsClientJobOf asked (kind.Station site station recording) =
     AsksFor (codes "station") (λ words. IsStation words site station recording) asked
 
 -- the subcommand that was asked for and the words behind it ask for this job: each job has the name of its subcommand and the
--- values of its arguments. `NumberMissing` comes only if a number is missing or doesn't fit its type, `NoUnit` only if the word for a
--- unit names none, `StaleTooSoon` only if the run would end too soon, `AtWithoutMultiple` only if its cycles would be due after the next whole
+-- values of its arguments. `NoLimit` comes only if an option with a limit has neither its word nor a number within its bounds,
+-- `NumberMissing` only if each has, and another number is missing or doesn't fit its type, `NoUnit` only if the word for a unit names
+-- none, `StaleTooSoon` only if the run would end too soon, `AtWithoutMultiple` only if its cycles would be due after the next whole
 -- multiple, and `NoDate` only if the name of a file has a percent sign that begins no part of a date; which words name no place isn't said
 abbrev pub IsJobOf : Asked → Job → Type 0
 IsJobOf asked (job.Exec scene) = AsksFor (codes "exec") (λ words. IsScene words scene) asked
@@ -156,9 +159,11 @@ IsJobOf asked (job.Rehearse rehearsal) = AsksFor (codes "rehearse") (λ words. I
 IsJobOf asked (job.Client client) = IsClientJobOf asked client
 IsJobOf asked (job.Nowhere true) = AsksFor (codes "serve") (λ words. ⊤) asked
 IsJobOf asked (job.Nowhere false) = AsksFor (codes "ask") (λ words. ⊤) asked ⊎ AsksFor (codes "station") (λ words. ⊤) asked
+IsJobOf asked (job.NoLimit limit) =
+    AsksFor (codes "station") (λ words. LacksLimit words Cycles limit) asked ⊎ AsksFor (codes "rehearse") (λ words. LacksLimit words NightCycles limit) asked
 IsJobOf asked job.NumberMissing =
-    AsksFor (codes "station") (λ words. HasNumbers words → ⊥) asked
-    ⊎ AsksFor (codes "rehearse") (λ words. HasRehearsalNumbers words → ⊥) asked
+    AsksFor (codes "station") (λ words. HasLimits words Cycles × (HasNumbers words → ⊥)) asked
+    ⊎ AsksFor (codes "rehearse") (λ words. HasLimits words NightCycles × (HasRehearsalNumbers words → ⊥)) asked
 IsJobOf asked job.NoUnit = AsksFor (codes "station") (λ words. unit_in words ≡ None) asked
 IsJobOf asked job.StaleTooSoon = AsksFor (codes "station") IsStaleStation asked ⊎ AsksFor (codes "rehearse") IsStaleRehearsal asked
 IsJobOf asked job.AtWithoutMultiple = AsksFor (codes "station") IsWithoutMultiple asked

@@ -21,14 +21,14 @@ use gc_links::Place;
 use gc_texts::is_dated_path;
 use gc_words::help::SCENES_AND_FAULTS;
 use gc_words::{
-    Choice, LogPlace, Recording, Rehearsal, Settings, Site, Unit, VERSION, has_flag, log_of,
-    named_place, recording_of, rehearsal_of, rehearse_command, signals_of, station_command,
-    station_of, text_in, unit_of,
+    Choice, Limit, LogPlace, Recording, Rehearsal, Settings, Site, Unit, VERSION, has_flag, log_of,
+    missing_limit, named_place, recording_of, rehearsal_of, rehearse_command, signals_of,
+    station_command, station_of, text_in, unit_of,
 };
 use std::alloc::{AllocError, Global};
 
-/// What a command line asks for, or why that can't be done (`Nowhere`, `NumberMissing`, `NoUnit`, `StaleTooSoon`, `AtWithoutMultiple`,
-/// `NoDate`). A scene is the name of its file, where one is named.
+/// What a command line asks for, or why that can't be done (`Nowhere`, `NoLimit`, `NumberMissing`, `NoUnit`, `StaleTooSoon`,
+/// `AtWithoutMultiple`, `NoDate`). A scene is the name of its file, where one is named.
 pub enum Job<'a> {
     /// Answers requests with the instrument of the scene, or with the simulator.
     Exec { scene: Option<&'a str> },
@@ -44,6 +44,8 @@ pub enum Job<'a> {
     Client(ClientJob<'a>),
     /// The word for the place is no place: none to serve a simulator on where `serves` is set, else none of an instrument.
     Nowhere { serves: bool },
+    /// The text for an option with a limit is neither its word nor a number within its bounds.
+    NoLimit(Limit),
     /// A number is missing that has a default, or is none of its type. clap fills the first in and refuses the second, so this
     /// doesn't come. It would be reported as a number out of its range.
     NumberMissing,
@@ -271,14 +273,17 @@ fn ask_job<'a>(words: &ArgMatches<'a>) -> Job<'a>
 }
 
 // A station at a place, with its records and its log in files where the words name them; with `--check` only the outline of what
-// it would do. `Nowhere`: the words name no place. `NumberMissing`: a number is missing or none of its type, which clap doesn't
-// let happen. `NoUnit`: the word for a unit names none. `StaleTooSoon`, `AtWithoutMultiple` and `NoDate` are as for `station_job_at`.
+// it would do. `Nowhere`: the words name no place. `NoLimit`: an option with a limit has neither its word nor a number within its
+// bounds. `NumberMissing`: a number is missing or none of its type, which clap doesn't let happen. `NoUnit`: the word for a unit names none. `StaleTooSoon`, `AtWithoutMultiple` and `NoDate` are as for `station_job_at`.
 fn station_job<'a>(words: &ArgMatches<'a>) -> Job<'a>
     ensures { IsJobOf (Some (codes "station", words_of words.now)) result }
 {
     let Some(place) = named_place(words) else {
         return Job::Nowhere { serves: false };
     };
+    if let Some(limit) = missing_limit(words, Limit::Cycles) {
+        return Job::NoLimit(limit);
+    }
     let Some(station) = station_of(words) else {
         return Job::NumberMissing;
     };
@@ -356,10 +361,13 @@ fn is_recording_dated(recording: Option<Recording<'_>>) -> bool
     }
 }
 
-// A rehearsal. `NumberMissing` and `StaleTooSoon` are as for a station.
+// A rehearsal. `NoLimit`, `NumberMissing` and `StaleTooSoon` are as for a station.
 fn rehearse_job<'a>(words: &ArgMatches<'a>) -> Job<'a>
     ensures { IsJobOf (Some (codes "rehearse", words_of words.now)) result }
 {
+    if let Some(limit) = missing_limit(words, Limit::NightCycles) {
+        return Job::NoLimit(limit);
+    }
     let Some(rehearsal) = rehearsal_of(words) else {
         return Job::NumberMissing;
     };

@@ -1,2 +1,3 @@
 mod Getters
+mod LimitLemmas
 mod TableLemmas

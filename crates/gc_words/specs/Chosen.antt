@@ -5,9 +5,12 @@ use Rattle.gc_links.specs.declared.place.Place.{Place}
 use Rattle.gc_links.specs.declared.signals.Signals.{Signals}
 use Rattle.gc_rows.specs.declared.record.Form.{Form}
 use Rattle.gc_rows.specs.declared.record.Form.TheVariants as form
+use Rattle.gc_words.specs.Limits.{GivesLimit}
 use Rattle.gc_words.specs.Words.{Words, text_in, has_flag, GivesNumber, HasNumber, IsNumberOr}
 use Rattle.gc_words.specs.declared.choice.Watch.{Watch}
 use Rattle.gc_words.specs.declared.choice.Watch.TheVariants as watch
+use Rattle.gc_words.specs.declared.limit.Limit.{Limit}
+use Rattle.gc_words.specs.declared.limit.Limit.TheVariants.{Cycles, NightCycles, Retries, Stale}
 use Rattle.gc_words.specs.declared.rehearsal.Rehearsal.{Rehearsal}
 use Rattle.gc_words.specs.declared.settings.Settings.{Settings}
 use Rattle.gc_words.specs.declared.site.LogPlace.{LogPlace}
@@ -20,20 +23,16 @@ pub record GivesSeconds (words : Words) (name : List ℕ) (milliseconds : ℕ) :
   pub gives : GivesNumber words name seconds
   pub is : milliseconds ≡ min (seconds * 1000) (2 ^ 64 - 1)
 
+-- the option with this limit gives seconds, which are so many milliseconds; its word gives the seconds that it stands for
+pub record GivesLimitSeconds (words : Words) (limit : Limit) (milliseconds : ℕ) : Type 0 where
+  pub seconds : ℕ
+  pub gives : GivesLimit words limit seconds
+  pub is : milliseconds ≡ min (seconds * 1000) (2 ^ 64 - 1)
+
 -- what is read for an option that gives seconds: so many milliseconds, if the words give it
 pub record ReadsSeconds (words : Words) (name : List ℕ) (r : Option ℕ) : Type 0 where
   pub found : IfSome r (λ milliseconds. GivesSeconds words name milliseconds)
   pub only : HasNumber words name 64 → IsSome r
-
--- how many times something is done for this number: 0 stands for no end, which is the greatest number, `endless`
-abbrev pub times_for : (endless number : ℕ) → ℕ
-times_for endless number = if nat_eq number 0 then endless else number
-
--- the option of this name says how many times something is done, where 0 stands for no end
-pub record GivesTimes (words : Words) (name : List ℕ) (endless times : ℕ) : Type 0 where
-  pub number : ℕ
-  pub gives : GivesNumber words name number
-  pub is : times ≡ times_for endless number
 
 -- who watches a station: nobody with `--silent`, and otherwise somebody who reads lines
 abbrev pub watch_for : (silent : Bool) → Watch
@@ -49,10 +48,10 @@ pub record IsChosen (words : Words) (station : Settings) : Type 0 where
   pub deadline : GivesNumber words (codes "deadline") station.choice.deadline
   pub unchained : station.choice.chained ≡ not (has_flag words (codes "unchained"))
   pub every : GivesSeconds words (codes "every") station.choice.every
-  pub cycles : GivesTimes words (codes "cycles") (2 ^ 64 - 1) station.choice.cycles
-  pub quiet : GivesNumber words (codes "quiet") station.choice.quiet
-  pub retries : GivesTimes words (codes "retries") (2 ^ 32 - 1) station.choice.retries
-  pub stale : GivesSeconds words (codes "stale") station.choice.stale
+  pub cycles : GivesLimit words Cycles station.choice.cycles
+  pub quiet : GivesNumber words (codes "settle") station.choice.quiet
+  pub retries : GivesLimit words Retries station.choice.retries
+  pub stale : GivesLimitSeconds words Stale station.choice.stale
   pub at : ReadsSeconds words (codes "at") station.choice.at
   pub watched : station.choice.watched ≡ (is_some (text_in words (codes "until")) || is_some (text_in words (codes "now")))
   pub silent : station.choice.watch ≡ watch_for (has_flag words (codes "silent"))
@@ -60,15 +59,12 @@ pub record IsChosen (words : Words) (station : Settings) : Type 0 where
   pub headed : station.layout.headed ≡ false
   pub run : station.layout.run ≡ 0
 
--- each number that the settings of a station need is given, and fits its type
+-- each number that the settings of a station need, apart from the limits (`HasLimits`), is given, and fits its type
 pub record HasNumbers (words : Words) : Type 0 where
   pub width : HasNumber words (codes "width") 8
   pub deadline : HasNumber words (codes "deadline") 64
   pub every : HasNumber words (codes "every") 64
-  pub cycles : HasNumber words (codes "cycles") 64
-  pub quiet : HasNumber words (codes "quiet") 64
-  pub retries : HasNumber words (codes "retries") 32
-  pub stale : HasNumber words (codes "stale") 64
+  pub quiet : HasNumber words (codes "settle") 64
 
 -- the argument WHERE names this place
 pub record GivesPlace (words : Words) (place : Place) : Type 0 where
@@ -96,21 +92,22 @@ pub record IsSite (words : Words) (site : Site) : Type 0 where
   pub log : IsLog words site.log
   pub signals : AreSignals words site.signals
 
--- the words ask for this file of records: the path is that of `--append`, and none is written without it; with `--sync` each row
+-- the words ask for this file of records: the path is that of `--append`, and none is written without it; with `--fsync` each row
 -- is on the disk before the next command
 abbrev pub IsRecording : Words → Option Recording → Type 0
 IsRecording words None = text_in words (codes "append") ≡ None
 IsRecording words (Some recording) =
-    (text_in words (codes "append") ≡ Some recording.path.now) × (recording.sync ≡ has_flag words (codes "sync"))
+    (text_in words (codes "append") ≡ Some recording.path.now) × (recording.sync ≡ has_flag words (codes "fsync"))
 
--- how many cycles a night has: the number that was chosen, or for 0 as many as are due in a day, one each `every` milliseconds
+-- how many cycles a night has: the number that was chosen, or for 0, which stands for no limit, as many as are due in a day, one each
+-- `every` milliseconds
 abbrev pub cycles_a_night : (number every : ℕ) → ℕ
 cycles_a_night number every = if nat_eq number 0 then (if nat_eq every 0 then 0 else 86400000 / every) else number
 
 -- `--cycles` of a rehearsal says how many cycles a night has
 pub record GivesNightCycles (words : Words) (every cycles : ℕ) : Type 0 where
   pub number : ℕ
-  pub gives : GivesNumber words (codes "cycles") number
+  pub gives : GivesLimit words NightCycles number
   pub is : cycles ≡ cycles_a_night number every
 
 -- the words of `rehearse` ask for this rehearsal: each option gives the value of its own name
@@ -122,7 +119,7 @@ pub record IsRehearsal (words : Words) (rehearsal : Rehearsal) : Type 0 where
   pub seed : GivesNumber words (codes "seed") rehearsal.seed
   pub station : IsChosen words rehearsal.station
 
--- each number that a rehearsal needs is given, and fits its type
+-- each number that a rehearsal needs, apart from the limits, is given, and fits its type
 pub record HasRehearsalNumbers (words : Words) : Type 0 where
   pub station : HasNumbers words
   pub nights : HasNumber words (codes "nights") 64

@@ -1,4 +1,5 @@
 pub mod Chosen
+pub mod Limits
 pub mod Options
 pub mod Stations
 pub mod Tables

@@ -32,6 +32,10 @@ signed_number name least most default = option name (takes.Signed (pos least) (p
 abbrev pub path : (name : Text) → Rule
 path name = option name takes.String []
 
+-- an option with a limit, a number or the word for none, and its default
+abbrev pub limited : (name : Text) → (default : Text) → Rule
+limited name default = option name takes.String (default ∷ [])
+
 -- a flag
 abbrev pub flag : (name : Text) → Rule
 flag name = record (new_rule name) { long = Some name; action = Some SetTrue; parser = Some takes.Bool }
@@ -44,10 +48,10 @@ station_rules =
     ∷ number (codes "deadline") 1 86400000 (codes "10000" ∷ [])
     ∷ number (codes "every") 0 86400 (codes "0" ∷ [])
     ∷ tied (number (codes "at") 0 86399 [])
-    ∷ number (codes "cycles") 0 (2 ^ 64 - 1) (codes "1" ∷ [])
-    ∷ number (codes "quiet") 1 86400000 (codes "2000" ∷ [])
-    ∷ signed_number (codes "retries") 0 4294967295 (codes "10" ∷ [])
-    ∷ number (codes "stale") 0 31536000 (codes "0" ∷ [])
+    ∷ limited (codes "cycles") (codes "1")
+    ∷ number (codes "settle") 1 86400000 (codes "2000" ∷ [])
+    ∷ limited (codes "retries") (codes "10")
+    ∷ limited (codes "stale") (codes "never")
     ∷ path (codes "until")
     ∷ path (codes "now")
     ∷ flag (codes "csv")
@@ -58,7 +62,7 @@ station_rules =
     ∷ flag (codes "check")
     ∷ tied (path (codes "unit"))
     ∷ path (codes "append")
-    ∷ tied (flag (codes "sync"))
+    ∷ tied (flag (codes "fsync"))
     ∷ path (codes "log")
     ∷ tied (number (codes "log-bytes") 1000 (2 ^ 64 - 1) [])
     ∷ []
@@ -68,15 +72,15 @@ abbrev pub rehearse_rules : List Rule
 rehearse_rules =
     number (codes "nights") 1 36525 (codes "1" ∷ [])
     ∷ number (codes "every") 1 86400 (codes "300" ∷ [])
-    ∷ number (codes "cycles") 0 86400 (codes "0" ∷ [])
+    ∷ limited (codes "cycles") (codes "unlimited")
     ∷ path (codes "scene")
     ∷ path (codes "line")
     ∷ number (codes "seed") 0 (2 ^ 64 - 1) (codes "0" ∷ [])
     ∷ signed_number (codes "width") 1 7 (codes "1" ∷ [])
     ∷ number (codes "deadline") 1 86400000 (codes "10000" ∷ [])
-    ∷ number (codes "quiet") 1 86400000 (codes "2000" ∷ [])
-    ∷ signed_number (codes "retries") 0 4294967295 (codes "10" ∷ [])
-    ∷ number (codes "stale") 0 31536000 (codes "0" ∷ [])
+    ∷ number (codes "settle") 1 86400000 (codes "2000" ∷ [])
+    ∷ limited (codes "retries") (codes "10")
+    ∷ limited (codes "stale") (codes "never")
     ∷ flag (codes "csv")
     ∷ flag (codes "columns")
     ∷ tied (flag (codes "json"))

@@ -1,25 +1,28 @@
 //! The choice: what an operator chooses beside the text, and by which options.
 
 ghost use Rattle.std.specs.Prelude.{◌≡◌, ◌^◌, ◌-◌, ◌||◌, codes, is_some, IfOk, IfSome, IsSome};
-ghost use Rattle.gc_words.specs.Chosen.{GivesSeconds, GivesTimes, HasNumbers, IsChosen, form_for};
+ghost use Rattle.gc_words.specs.Chosen.{GivesLimitSeconds, GivesSeconds, HasNumbers, IsChosen, form_for};
+ghost use Rattle.gc_words.specs.Limits.{HasLimit, HasLimits, ReadsLimit};
+ghost use Rattle.gc_words.specs.declared.limit.Limit.TheVariants.{Cycles, Retries, Stale};
 ghost use Rattle.gc_words.specs.Stations.{is_at_without_multiple, is_stale_too_soon, watch_shown};
 ghost use Rattle.gc_words.specs.Options.{station_rules};
 ghost use Rattle.gc_words.specs.Tables.{HasArguments};
 ghost use Rattle.gc_words.specs.Words.{words_of, has_flag, text_in, HasNumber};
 
 use crate::arguments::{Argument, FLAG, PLACE, Takes, command_of};
-use crate::given::{byte_in, has_flag, text_in, u32_in, u64_in};
+use crate::given::{byte_in, has_flag, text_in, u64_in};
 use crate::help::STATION;
 use crate::layout::Layout;
+use crate::limit::{Limit, limit_in};
 use crate::settings::Settings;
-use crate::shared::{COLUMNS, CSV, DEADLINE, JSON, QUIET, RETRIES, STALE, UNCHAINED, WIDTH};
+use crate::shared::{COLUMNS, CSV, DEADLINE, JSON, RETRIES, SETTLE, STALE, UNCHAINED, WIDTH};
 use crate::site::LOG_BYTES;
 use crate::unit::UNIT;
 use clap::{ArgMatches, Command};
 use gc_rows::Form;
 use std::alloc::{AllocError, Global};
 
-// A second, in milliseconds: the options `--every` and `--stale` are in seconds.
+// A second, in milliseconds: the options `--every`, `--at` and `--stale` are in seconds.
 const SECOND: u64 = 1_000;
 
 // The arguments of `station`: the place, and then the options.
@@ -45,13 +48,13 @@ const ARGUMENTS: &[Argument<'static>] = &[
     },
     Argument {
         name: "cycles",
-        takes: Takes::Unsigned(0, u64::MAX),
+        takes: Takes::Text,
         value_name: &["N"],
         default: &["1"],
-        help: "Runs N cycles; 0: without end",
+        help: "Runs N cycles, from 1 on; `unlimited`: without end",
         ..FLAG
     },
-    QUIET,
+    SETTLE,
     RETRIES,
     STALE,
     Argument {
@@ -91,7 +94,7 @@ const ARGUMENTS: &[Argument<'static>] = &[
         ..FLAG
     },
     Argument {
-        name: "sync",
+        name: "fsync",
         needs: &["append"],
         help: "With --append: has each row on the disk before the next command is sent",
         ..FLAG
@@ -200,11 +203,11 @@ impl Choice {
 }
 
 /// The settings of a station that the options ask for, without the paths of files, and for a run that hasn't begun. A flag or a
-/// text that the subcommand doesn't have counts as not given. `None`: a number is missing, or doesn't fit its type. In fact clap
-/// fills in the default of a missing number and refuses one outside its bounds.
+/// text that the subcommand doesn't have counts as not given. `None`: a number is missing, or doesn't fit its type, which in fact clap
+/// doesn't let happen; or a limit is missing, or isn't within its bounds (`missing_limit` says which).
 pub fn station_of(words: &ArgMatches) -> Option<Settings>
     ensures chosen { IfSome result (λ station. IsChosen (words_of words.now) station) }
-    ensures only { HasNumbers (words_of words.now) → IsSome result }
+    ensures only { HasNumbers (words_of words.now) → HasLimits (words_of words.now) Cycles → IsSome result }
 {
     Some(Settings {
         layout: Layout {
@@ -217,10 +220,10 @@ pub fn station_of(words: &ArgMatches) -> Option<Settings>
             deadline: u64_in(words, "deadline")?,
             chained: !has_flag(words, "unchained"),
             every: seconds_in(words, "every")?,
-            cycles: cycles_in(words)?,
-            quiet: u64_in(words, "quiet")?,
+            cycles: limit_in(words, Limit::Cycles)?,
+            quiet: u64_in(words, "settle")?,
             retries: retries_in(words)?,
-            stale: seconds_in(words, "stale")?,
+            stale: stale_in(words)?,
             at: seconds_in(words, "at"),
             watched: is_watched(words),
             watch: if has_flag(words, "silent") {
@@ -262,20 +265,17 @@ fn seconds_in(words: &ArgMatches, name: &str) -> Option<u64>
     Some(u64_in(words, name)?.saturating_mul(SECOND))
 }
 
-// How many cycles are measured; the greatest number for 0, which stands for no end.
-fn cycles_in(words: &ArgMatches) -> Option<u64>
-    ensures found { IfSome result (λ times. GivesTimes (words_of words.now) (codes "cycles") (2 ^ 64 - 1) times) }
-    ensures only { HasNumber (words_of words.now) (codes "cycles") 64 → IsSome result }
+// How many times in a row it reconnects; the greatest number of 32 bits: without end.
+fn retries_in(words: &ArgMatches) -> Option<u32>
+    ensures { ReadsLimit (words_of words.now) Retries result }
 {
-    let number = u64_in(words, "cycles")?;
-    Some(if number == 0 { u64::MAX } else { number })
+    u32::try_from(limit_in(words, Limit::Retries)?).ok()
 }
 
-// How many times in a row it reconnects; the greatest number for 0, which stands for no end.
-fn retries_in(words: &ArgMatches) -> Option<u32>
-    ensures found { IfSome result (λ times. GivesTimes (words_of words.now) (codes "retries") (2 ^ 32 - 1) times) }
-    ensures only { HasNumber (words_of words.now) (codes "retries") 32 → IsSome result }
+// For how many milliseconds the run goes on without an answer; 0: without limit.
+fn stale_in(words: &ArgMatches) -> Option<u64>
+    ensures found { IfSome result (λ time. GivesLimitSeconds (words_of words.now) Stale time) }
+    ensures only { HasLimit (words_of words.now) Stale → IsSome result }
 {
-    let number = u32_in(words, "retries")?;
-    Some(if number == 0 { u32::MAX } else { number })
+    Some(limit_in(words, Limit::Stale)?.saturating_mul(SECOND))
 }

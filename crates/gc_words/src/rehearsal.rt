@@ -3,6 +3,8 @@
 
 ghost use Rattle.std.specs.Prelude.{◌≡◌, IfOk, IfSome, IsSome};
 ghost use Rattle.gc_words.specs.Chosen.{HasRehearsalNumbers, IsRehearsal, cycles_a_night};
+ghost use Rattle.gc_words.specs.Limits.{HasLimits};
+ghost use Rattle.gc_words.specs.declared.limit.Limit.TheVariants.{NightCycles};
 ghost use Rattle.gc_words.specs.Options.{rehearse_rules};
 ghost use Rattle.gc_words.specs.Tables.{HasArguments};
 ghost use Rattle.gc_words.specs.Words.{words_of};
@@ -11,8 +13,9 @@ use crate::arguments::{Argument, FLAG, SCENE, Takes, command_of};
 use crate::choice::station_of;
 use crate::given::{text_in, u64_in};
 use crate::help::REHEARSAL;
+use crate::limit::{Limit, limit_in};
 use crate::settings::Settings;
-use crate::shared::{COLUMNS, CSV, DEADLINE, JSON, QUIET, RETRIES, STALE, UNCHAINED, WIDTH};
+use crate::shared::{COLUMNS, CSV, DEADLINE, JSON, RETRIES, SETTLE, STALE, UNCHAINED, WIDTH};
 use clap::{ArgMatches, Command};
 use std::alloc::{AllocError, Global};
 
@@ -39,10 +42,10 @@ const ARGUMENTS: &[Argument<'static>] = &[
     },
     Argument {
         name: "cycles",
-        takes: Takes::Unsigned(0, 86_400),
+        takes: Takes::Text,
         value_name: &["N"],
-        default: &["0"],
-        help: "Has N cycles a night, 0 to 86400; 0: as many as are due in a day",
+        default: &["unlimited"],
+        help: "Has N cycles a night, 1 to 86400; `unlimited`: as many as are due in a day",
         ..FLAG
     },
     SCENE,
@@ -63,7 +66,7 @@ const ARGUMENTS: &[Argument<'static>] = &[
     },
     WIDTH,
     DEADLINE,
-    QUIET,
+    SETTLE,
     RETRIES,
     STALE,
     CSV,
@@ -97,23 +100,23 @@ pub struct Rehearsal<'a> {
     pub station: Settings,
 }
 
-/// What the words of `rehearse` say. `None`, as of `station_of`: a number is missing, or doesn't fit its type.
+/// What the words of `rehearse` say. `None`, as of `station_of`: a number or a limit is missing, or isn't within its bounds.
 pub fn rehearsal_of<'a>(words: &ArgMatches<'a>) -> Option<Rehearsal<'a>>
     ensures chosen { IfSome result (λ rehearsal. IsRehearsal (words_of words.now) rehearsal) }
-    ensures only { HasRehearsalNumbers (words_of words.now) → IsSome result }
+    ensures only { HasRehearsalNumbers (words_of words.now) → HasLimits (words_of words.now) NightCycles → IsSome result }
 {
     let station = station_of(words)?;
     Some(Rehearsal {
         scene: text_in(words, "scene"),
         line: text_in(words, "line"),
         nights: u64_in(words, "nights")?,
-        cycles: cycles_of(u64_in(words, "cycles")?, station.choice.every),
+        cycles: cycles_of(limit_in(words, Limit::NightCycles)?, station.choice.every),
         seed: u64_in(words, "seed")?,
         station,
     })
 }
 
-// How many cycles a night has: the chosen number, or, for 0, as many as are due in a day.
+// How many cycles a night has: the chosen number, or, for 0, which stands for no limit, as many as are due in a day.
 fn cycles_of(chosen: u64, every: u64) -> u64
     ensures { result ≡ cycles_a_night chosen every }
 {

@@ -20,8 +20,8 @@ pub(crate) const DEADLINE: Argument<'static> = Argument {
     ..FLAG
 };
 
-pub(crate) const QUIET: Argument<'static> = Argument {
-    name: "quiet",
+pub(crate) const SETTLE: Argument<'static> = Argument {
+    name: "settle",
     takes: Takes::Unsigned(1, 86_400_000),
     value_name: &["MS"],
     default: &["2000"],
@@ -31,19 +31,19 @@ pub(crate) const QUIET: Argument<'static> = Argument {
 
 pub(crate) const RETRIES: Argument<'static> = Argument {
     name: "retries",
-    takes: Takes::Signed(0, 4_294_967_295),
+    takes: Takes::Text,
     value_name: &["N"],
     default: &["10"],
-    help: "Reconnects at most N times in a row; 0: without end",
+    help: "Reconnects at most N times in a row, 1 to 4294967295; `always`: without end",
     ..FLAG
 };
 
 pub(crate) const STALE: Argument<'static> = Argument {
     name: "stale",
-    takes: Takes::Unsigned(0, 31_536_000),
+    takes: Takes::Text,
     value_name: &["SECONDS"],
-    default: &["0"],
-    help: "Ends the run once some command of a cycle had no answer with quality `ok` or `warning` for SECONDS, 1 to 31536000 and not below --every; 0: never",
+    default: &["never"],
+    help: "Ends the run once some command of a cycle had no answer with quality `ok` or `warning` for SECONDS, 1 to 31536000 and not below --every; `never`: it goes on",
     ..FLAG
 };
 

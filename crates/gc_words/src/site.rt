@@ -78,6 +78,6 @@ pub fn recording_of<'a>(words: &ArgMatches<'a>) -> Option<Recording<'a>>
     let path = text_in(words, "append")?;
     Some(Recording {
         path,
-        sync: has_flag(words, "sync"),
+        sync: has_flag(words, "fsync"),
     })
 }

@@ -15,7 +15,7 @@ from side import Side
 ALTERED = b"alter 0.2\n"
 WIDTHS, COMMANDS, SEED = range(1, 7), 8, 71
 TEXT = b"unchained\n" + b"".join(b"%d 5003\n" % target for target in range(1, COMMANDS + 1))
-WORDS = "--deadline 250 --quiet 100 --retries 0"
+WORDS = "--deadline 250 --settle 100 --retries always"
 
 
 def station(program, width, has_store, cycles, folder):

@@ -35,7 +35,7 @@ def test_one_reply(program, folder, width, place, note):
 
     text = b"unchained\n" + b"".join(b"%d 5003\n" % target for target in range(1, COMMANDS + 1))
     with closing(Counting(min(width, MOST), changed=change, pause=0.3)) as instrument:
-        with measuring(program, instrument.port, f"--width {width} --deadline 1500 --quiet 100 --log {log}", text) as station:
+        with measuring(program, instrument.port, f"--width {width} --deadline 1500 --settle 100 --log {log}", text) as station:
             rows, _ = finished(station, patience=60)
     assert len(rows) == COMMANDS and len(others_then) == 1
     # Commands are asked, executed and answered in order.

@@ -26,7 +26,7 @@ def test_ppp(program, pytestconfig, folder, note):
     # A cycle takes a quarter of a second.
     cycles = max(1, pytestconfig.option.cycles // 4)
     (folder / "commands").write_text("unchained\n" + "".join(f"{target} {rpc}\n" for target, rpc in enumerate(CALLS, 1)))
-    words = [SCRIPT, program, folder, 10, 3, "--cycles", cycles, "--retries", 0]
+    words = [SCRIPT, program, folder, 10, 3, "--cycles", cycles, "--retries", "always"]
     path = f"{os.environ['PATH']}:/usr/sbin:/sbin"
     found = ended(["unshare", "--user", "--map-root-user", "--net", *words], patience=120 + cycles, env={**os.environ, "PATH": path})
     assert found.status == 0, found.messages

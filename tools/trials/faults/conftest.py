@@ -24,7 +24,7 @@ def watched(program, folder, broker_port):
     """Begins such a station at a place; all of it is gone in the end."""
     begun = []
 
-    def begin(where, words="--retries 0", **more):
+    def begin(where, words="--retries always", **more):
         begun.append(Watched(program, where, folder, broker_port, words, **more))
         return begun[-1]
 

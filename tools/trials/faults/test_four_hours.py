@@ -52,7 +52,7 @@ def rehearsed(program, folder, down, nights, *more):
     """The runs of some nights, each as its rows."""
     (folder / "line").write_text(down.line + "".join(more))
     (folder / "scene").write_text(SCENE)
-    words = f"--every {EVERY} --deadline {LONGEST}000 --cycles {CYCLES} --nights {nights} --retries 0 --seed 1 --csv"
+    words = f"--every {EVERY} --deadline {LONGEST}000 --cycles {CYCLES} --nights {nights} --retries always --seed 1 --csv"
     words = [program, "rehearse", *words.split(), "--line", folder / "line", "--scene", folder / "scene"]
     found = ended(words, (down.setup + CHAINS).encode(), patience=300)
     assert found.status == 0, found.messages

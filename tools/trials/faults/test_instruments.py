@@ -60,7 +60,7 @@ def test_prisms_are_gone_stale(watched):
     """The run ends, though a serial number is answered well in each cycle."""
     one = Failing(lambda request: request.rpc == 17017, NOT_FOUND)
     with standing(one.answer) as far:
-        site = watched(far.port, f"--retries 0 --stale {STALE}")
+        site = watched(far.port, f"--retries always --stale {STALE}")
         site.well()
         site.breaks()
         one.fails.set()
@@ -117,7 +117,7 @@ def test_refuses_all(watched):
     """Each row says so, with its return code; and with `--stale` the run ends."""
     one = Failing(lambda request: request.rpc != 0, REFUSES)
     with standing(one.answer) as far:
-        site = watched(far.port, f"--retries 0 --stale {STALE}")
+        site = watched(far.port, f"--retries always --stale {STALE}")
         site.well()
         site.breaks()
         one.fails.set()

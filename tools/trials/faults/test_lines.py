@@ -58,7 +58,7 @@ def test_line_is_dead_from_the_start(watched, note):
 @pytest.mark.title("the line is dead, for three cycles")
 def test_line_is_dead_for_three_cycles(program):
     """A run of few cycles comes to its end: its status is 0, and the counts say that nothing was measured."""
-    words = f"--every {EVERY} --cycles 3 --retries 0 --deadline 200 --quiet 100 --csv".split()
+    words = f"--every {EVERY} --cycles 3 --retries always --deadline 200 --settle 100 --csv".split()
     found = ended([program, "station", free_port(), *words], TEXT, patience=4 * EVERY + PATIENCE)
     assert (found.status, found.messages.splitlines()[-1]) == (0, counts_line(missed=3 * COMMANDS)), found
     assert found.output.count(b",missed,") == 3 * COMMANDS

@@ -80,11 +80,11 @@ class Listening:
 class Watched:
     """A station that runs, those who watch it, and what they said: lines, each with its source and the second of a clock that nobody sets."""
 
-    def __init__(self, program, where, folder, broker_port, words="--retries 0", text=TEXT, shell="", path=None, quiet=QUIET):
+    def __init__(self, program, where, folder, broker_port, words="--retries always", text=TEXT, shell="", path=None, quiet=QUIET):
         self.path, self.stack, self.said, self.lock = path or folder / "north.csv", ExitStack(), [], threading.Lock()
         self.setup = text.count(b"\n", text.find(b"at start"), text.find(b"each cycle")) - 1 if b"at start" in text else 0
-        words = f"--every {EVERY} --cycles 0 --deadline {1000 * DEADLINE:.0f} --quiet {1000 * quiet:.0f} {words}".split()
-        self.command = [program, "station", where, *words, "--append", self.path, "--sync"], text
+        words = f"--every {EVERY} --cycles unlimited --deadline {1000 * DEADLINE:.0f} --settle {1000 * quiet:.0f} {words}".split()
+        self.command = [program, "station", where, *words, "--append", self.path, "--fsync"], text
         self.broken = self.began = time.monotonic()
         (folder / "limits").write_text(LIMITS, encoding="utf-8")
         self.came = self.stack.enter_context(Arrivals(self.path))

@@ -73,7 +73,7 @@ def test_a_station_is_followed(servers, folder, kills, note, program):
 def follow_a_station(servers, kills, program, port, path, form):
     """One form of a station's rows; gives what is to be said of it."""
     commands = b"name 7 pier 4\n7 9027 0.5,1.5,0,1,0\n7 2008 1,1\n7 2108 5000,1\n8 5004\n9 2107 0\n"
-    words = ["--append", path, *"--deadline 200 --quiet 20 --cycles 0 --retries 0 --silent".split(), *form]
+    words = ["--append", path, *"--deadline 200 --settle 20 --cycles unlimited --retries always --silent".split(), *form]
     chance = random.Random(31)
     ending = threading.Event()
     starts = 0

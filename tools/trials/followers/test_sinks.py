@@ -74,11 +74,11 @@ def test_a_unit_names_its_file(folder):
     text = (TOOLS.parent / "packaging/systemd" / unit.name).read_text(encoding="utf-8")
     unit.write_text(text.replace("/etc/geocom", str(folder)), encoding="utf-8")
     for more, name in [("", "north.csv"), ("FILE=north.jsonl\n", "north.jsonl"), ("FILE=north-%Y-%m.jsonl\n", "north-%Y-%m.jsonl")]:
-        (folder / "north.conf").write_text(f"WHERE=4001\nWORDS=--json --cycles 0\n{more}", encoding="utf-8")
+        (folder / "north.conf").write_text(f"WHERE=4001\nWORDS=--json --cycles unlimited\n{more}", encoding="utf-8")
         status, output, messages = ended([sys.executable, TOOLS / "unit_line.py", unit, "north"])
         assert status == 0, messages
         words = shlex.split(output.decode())
-        wanted = ["station", "4001", "--json", "--cycles", "0", "--append", f"/var/lib/geocom/{name}", "--sync"]
+        wanted = ["station", "4001", "--json", "--cycles", "unlimited", "--append", f"/var/lib/geocom/{name}", "--fsync"]
         *given, asks, now, until, stop = words[words.index("station") : -2]
         assert (given, asks, until) == (wanted, "--now", "--until"), "the words of the unit"
         assert now.endswith("/geocom-station-north/now") and stop.endswith("/geocom-station-north/stop"), "the files of the unit"

@@ -150,7 +150,7 @@ def test_drill_stops(program, folder, text, why):
 def test_drill_of_station(program, folder):
     schedule = folder / "schedule"
     with simulator(program) as far, lining(folder, "", far, "--drill", schedule) as (port, _):
-        with measuring(program, port, "--quiet 100 --deadline 300", b"7 5003\n") as station:
+        with measuring(program, port, "--settle 100 --deadline 300", b"7 5003\n") as station:
             finished(station)
     assert schedule.read_bytes() == b"# From here on the run isn't played: what came up is no line.\n"
 
@@ -164,7 +164,7 @@ def test_stations(program, folder, place, note):
     values = {"9027": "", "17017": "2.25,1.625,110.0625,2", "5003": "123456"}
     near = {"another address": f"127.0.0.2:{free_port()}", "a name": str(folder / "device")}.get(place)
     with instrument(program, "device" in place) as far, lining(folder, text, far, "--seed", 5, near=near) as (where, line):
-        with measuring(program, where, "--quiet 60 --deadline 200 --cycles 30 --width 3", commands) as station:
+        with measuring(program, where, "--settle 60 --deadline 200 --cycles 30 --width 3", commands) as station:
             rows, _ = finished(station, patience=60)
         line.terminate()
         said = line.messages()

@@ -12,7 +12,7 @@ REPLY = b"%R1P,0,2:0,123456\r\n"
 # What `ask` writes of the commands.
 ANSWERED = b'0 7 answered %R1P,0,0:0,123456\n1 8 answered %R1P,0,1:0,"GEOCOM SIM"\n'
 # The times of a station where all is answered.
-SHORT = "--quiet 100 --deadline 2000"
+SHORT = "--settle 100 --deadline 2000"
 
 
 def ask(caller, request=REQUEST, reply=REPLY):

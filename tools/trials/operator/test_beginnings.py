@@ -33,7 +33,7 @@ def test_earlier_run(program):
 # Words and texts with which a run begins at once.
 BEGINNINGS = {
     "the beginning": ("", b"7 5003\n"),
-    "the beginning, long times": ("--quiet 60000 --deadline 60000", b"deadline 90000\n7 5003\n"),
+    "the beginning, long times": ("--settle 60000 --deadline 60000", b"deadline 90000\n7 5003\n"),
 }
 
 
@@ -73,7 +73,7 @@ def test_unanswered_null_procedures(program):
             return b"%R1P,0,0:0,111111\r\n%R1P,0,7:0\r\n"
         return b"%%R1P,3077,%d:13,5\r\n" % request.id
 
-    with standing(answers) as far, measuring(program, far.port, "--deadline 300 --quiet 100", b"7 5003\n") as run:
+    with standing(answers) as far, measuring(program, far.port, "--deadline 300 --settle 100", b"7 5003\n") as run:
         rows, _ = finished(run)
         assert came == [6, 5, 4, 4, 3, 3, 2, 2, 1, 0, 7, 0, 1], "the ids"
         assert len(far.came) == 2, "the connections"
@@ -98,7 +98,7 @@ def test_lost_null_procedure(program):
 
 
 @pytest.mark.title("the quiet time, {what}")
-@pytest.mark.parametrize("what, words, least", [("without a word", "", 2000), ("shorter than the deadline", "--quiet 300", 300)])
+@pytest.mark.parametrize("what, words, least", [("without a word", "", 2000), ("shorter than the deadline", "--settle 300", 300)])
 def test_quiet_time(program, what, words, least):
     """Within a run a connection is made again after so many milliseconds, and is quiet for as long before a request is sent on it."""
     opened, closed = [], []
@@ -133,7 +133,7 @@ def test_begins_anew(program, what, width):
 
     text = b"".join(b"%d 5003\n" % target for target in range(9))
     with standing(answers) as far:
-        with measuring(program, far.port, f"--deadline 300 --quiet 200 --unchained --width {width}", text) as run:
+        with measuring(program, far.port, f"--deadline 300 --settle 200 --unchained --width {width}", text) as run:
             rows, messages = finished(run, patience=10)
         assert [row["outcome"] for row in rows] == 6 * ["lost"] + 3 * ["answered"], "the outcomes"
         ids = [request.id for request in far.requests]
@@ -160,7 +160,7 @@ def falls_mute():
 ])
 def test_mute_line(program, what, answers, words, outcomes):
     """A line on which no reply comes is fault 46, and what was sent is lost."""
-    with standing(answers) as far, measuring(program, far.port, f"--deadline 200 --quiet 200 {words}", b"7 5003\n8 5004\n") as run:
+    with standing(answers) as far, measuring(program, far.port, f"--deadline 200 --settle 200 {words}", b"7 5003\n8 5004\n") as run:
         rows, messages = finished(run, status=1, patience=15)
         assert messages[-2:] == ["geocom: fault 46", f"geocom: 127.0.0.1:{far.port}: no further reply came"], "the last lines"
         assert [row["outcome"] for row in rows] == outcomes, "the outcomes"

@@ -12,7 +12,7 @@ from programs import PATIENCE, Run
 from records import COLUMNS_HEAD, counts_line
 
 PRISMS = b"7 9027 0.5,1.5,0,1,0\n7 17017 2\n8 9027 2.25,1.625,0,1,0\n8 17017 2\n"
-SHORT = "--deadline 300 --quiet 300"
+SHORT = "--deadline 300 --settle 300"
 
 
 def first(rpc, other):
@@ -79,7 +79,7 @@ def test_answer_behind_a_close(program, width):
         return [(0.6, held[0])] if connection == 2 else []
 
     with standing(first(9027, keeps), says) as far:
-        with measuring(program, far.port, f"--deadline 2000 --quiet 300 --width {width}", PRISMS) as run:
+        with measuring(program, far.port, f"--deadline 2000 --settle 300 --width {width}", PRISMS) as run:
             rows, _ = finished(run)
             assert outcomes_of(rows) == [(7, 9027, "answered"), (7, 17017, "skipped"), (8, 9027, "answered"), (8, 17017, "answered")]
             assert far.asked() == [9027, 9027, 17017], "what was asked"

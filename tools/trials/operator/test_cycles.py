@@ -27,7 +27,7 @@ def test_in_time(program, note):
     cycles = 20
     with standing() as far:
         processors = Processors()
-        with measuring(program, far.port, f"--every 1 --cycles {cycles} --quiet 100 --deadline 100", TWO) as run:
+        with measuring(program, far.port, f"--every 1 --cycles {cycles} --settle 100 --deadline 100", TWO) as run:
             rows, messages = finished(run, patience=cycles + 5)
         share = processors.share()
         expect_each_once(rows, 2, cycles)
@@ -46,7 +46,7 @@ def test_in_time(program, note):
 def test_by_the_clock(program, note, at):
     """Each cycle begins so many seconds after a whole multiple of the period, UTC: the first one, too."""
     with standing() as far:
-        with measuring(program, far.port, f"--every 2 --at {at} --cycles 3 --quiet 100 --deadline 100", TWO) as run:
+        with measuring(program, far.port, f"--every 2 --at {at} --cycles 3 --settle 100 --deadline 100", TWO) as run:
             rows, messages = finished(run, patience=15)
         expect_each_once(rows, 2, 3)
         assert (messages, {row["outcome"] for row in rows}) == ([], {"answered"}), "what was told, and the outcomes"
@@ -63,7 +63,7 @@ def test_asked_for(program, tmp_path):
     path = tmp_path / "now"
     path.touch()
     with standing() as far:
-        words = f"--every 4 --cycles 4 --quiet 100 --deadline 100 --now {path}"
+        words = f"--every 4 --cycles 4 --settle 100 --deadline 100 --now {path}"
         with measuring(program, far.port, words, TWO) as run:
             until(lambda: len(far.asked()) == 2, "no cycle began")
             time.sleep(1)
@@ -88,7 +88,7 @@ def test_asked_for_meanwhile(program, tmp_path):
         return good(request)
 
     with standing(answers) as far:
-        words = f"--every 3 --cycles 3 --quiet 100 --deadline 1000 --now {path}"
+        words = f"--every 3 --cycles 3 --settle 100 --deadline 1000 --now {path}"
         with measuring(program, far.port, words, TWO) as run:
             rows, _ = finished(run, patience=20)
         expect_each_once(rows, 2, 3)
@@ -127,7 +127,7 @@ def test_outage(program, note, width):
         far.plug()
 
     with standing(answers) as far:
-        words = f"--every 1 --cycles {cycles} --quiet 100 --deadline 300 --retries 50 --width {width}"
+        words = f"--every 1 --cycles {cycles} --settle 100 --deadline 300 --retries 50 --width {width}"
         with measuring(program, far.port, words, TWO) as run:
             rows, _ = finished(run, patience=cycles + 8)
         began = far.commands()[0].utc
@@ -149,7 +149,7 @@ def test_stopped(program):
     """A program that was stopped says of each cycle that it missed when that was due."""
     cycles = 7
     with standing() as far:
-        words = f"--every 1 --cycles {cycles} --quiet 100 --deadline 300"
+        words = f"--every 1 --cycles {cycles} --settle 100 --deadline 300"
         with measuring(program, far.port, words, TWO) as run:
             until(lambda: len(far.asked()) == 4, "no second cycle began")
             time.sleep(0.3)
@@ -168,7 +168,7 @@ def test_stopped(program):
 @pytest.mark.title("the program is stopped, without --every")
 def test_stopped_without_every(program):
     """Where each cycle begins once the one before it is done, none is missed."""
-    with standing() as far, measuring(program, far.port, "--cycles 3 --quiet 100 --deadline 300", TWO) as run:
+    with standing() as far, measuring(program, far.port, "--cycles 3 --settle 100 --deadline 300", TWO) as run:
         until(far.asked, "nothing was asked")
         with run.stopped():
             time.sleep(1)
@@ -177,25 +177,25 @@ def test_stopped_without_every(program):
         assert "missed" not in {row["outcome"] for row in rows}, "a cycle was missed"
 
 
-@pytest.mark.title("--cycles 0")
+@pytest.mark.title("--cycles unlimited")
 def test_no_end(program):
-    """A number of 0 is no end."""
+    """Then it measures without end."""
     with standing() as far:
-        with measuring(program, far.port, "--cycles 0 --quiet 100 --deadline 100", TWO) as run:
+        with measuring(program, far.port, "--cycles unlimited --settle 100 --deadline 100", TWO) as run:
             until(lambda: len(far.asked()) > 400, "it doesn't run on")
             assert run.is_running(), "it ended"
             run.send_signal(signal.SIGTERM)
             assert run.status() == -signal.SIGTERM, "the status"
 
 
-@pytest.mark.title("--retries 0")
+@pytest.mark.title("--retries always")
 def test_connects_on(program):
-    """With --retries 0 it connects again until it is ended; with ten it gives up."""
+    """With --retries always it connects again until it is ended; with ten it gives up."""
     with standing() as far:
         far.pull()
         began = time.time()
-        with measuring(program, far.port, "--retries 10 --quiet 1 --deadline 500", TWO) as bounded:
-            with measuring(program, far.port, "--retries 0 --quiet 1 --deadline 500", TWO) as run:
+        with measuring(program, far.port, "--retries 10 --settle 1 --deadline 500", TWO) as bounded:
+            with measuring(program, far.port, "--retries always --settle 1 --deadline 500", TWO) as run:
                 rows, messages = finished(bounded, status=1)
                 assert (rows, messages[-2]) == ([], "geocom: fault 54"), "the rows and the fault of ten tries"
                 assert messages[-1].startswith(f"geocom: 127.0.0.1:{far.port}: Connection refused"), f"{messages} was told"

@@ -21,7 +21,7 @@ from terminals import joined, lead, terminal
 NO_TERMINAL, HELD, FORBIDDEN = 58, 59, 60
 NOT_RAW = "geocom: the line changes CR to LF: set it to raw mode (stty raw)"
 # The times of a station where not all is answered.
-SHORTER = "--quiet 100 --deadline 300"
+SHORTER = "--settle 100 --deadline 300"
 NOBODY = 65534
 
 

@@ -40,7 +40,7 @@ def test_stops(program, note, tmp_path):
     for n in range(20):
         path = tmp_path / f"stop{n}"
         with standing(slow) as far:
-            words = f"--cycles 0 --quiet 100 --deadline 2000 --until {path}"
+            words = f"--cycles unlimited --settle 100 --deadline 2000 --until {path}"
             with measuring(program, far.port, words, CHAINS) as run:
                 until(lambda: far.commands(), "no command went out")
                 time.sleep(random.uniform(0, 0.5))
@@ -61,7 +61,7 @@ def test_stops_in_a_wait(program, tmp_path):
     for plugged in True, False:
         path = tmp_path / f"stop{plugged}"
         with standing() as far:
-            with measuring(program, far.port, f"--every 60 --cycles 0 --retries 0 --quiet 60000 --until {path}", CHAINS) as run:
+            with measuring(program, far.port, f"--every 60 --cycles unlimited --retries always --settle 60000 --until {path}", CHAINS) as run:
                 until(lambda: len(far.commands()) == 5, "the first cycle")
                 if not plugged:
                     far.pull()
@@ -78,7 +78,7 @@ def test_stops_beside_a_log(program, tmp_path):
     """A run that writes a log looks for the file, too."""
     path = tmp_path / "stop"
     with standing() as far:
-        words = f"--every 60 --cycles 0 --retries 0 --quiet 100 --deadline 100 --log {tmp_path / 'log'} --until {path}"
+        words = f"--every 60 --cycles unlimited --retries always --settle 100 --deadline 100 --log {tmp_path / 'log'} --until {path}"
         with measuring(program, far.port, words, CHAINS) as run:
             until(lambda: len(far.commands()) == 5, "the first cycle")
             path.touch()
@@ -95,7 +95,7 @@ def test_stops_at_a_deadline(program, tmp_path):
         return LOSES if request.rpc == 9027 else good(request)
 
     with standing(answers) as far:
-        with measuring(program, far.port, f"--cycles 0 --deadline 1500 --until {path}", CHAINS) as run:
+        with measuring(program, far.port, f"--cycles unlimited --deadline 1500 --until {path}", CHAINS) as run:
             until(lambda: far.commands(), "no command went out")
             path.touch()
             rows, _ = finished(run)
@@ -109,7 +109,7 @@ def test_stale(program):
     """A run ends where nothing is answered well, though each request is answered; a line says of which command, and since when."""
     with standing(lambda request: good(request) if request.rpc == 0 else request.reply(b"8710")) as far:
         began = time.time()
-        with measuring(program, far.port, "--cycles 0 --every 1 --retries 0 --stale 3", b"7 5003\n8 5003\n") as run:
+        with measuring(program, far.port, "--cycles unlimited --every 1 --retries always --stale 3", b"7 5003\n8 5003\n") as run:
             rows, messages = finished(run, status=1)
         lasted = time.time() - began
     assert messages[-1] == "geocom: fault 48", f"{messages} was told"
@@ -127,7 +127,7 @@ def test_stale_behind_answers(program):
         return good(request) if request.rpc == 0 or len(far.commands()) <= 2 else LOSES
 
     with standing(answers) as far:
-        with measuring(program, far.port, "--cycles 0 --every 1 --deadline 500 --retries 0 --stale 2 --silent", b"7 5003\n") as run:
+        with measuring(program, far.port, "--cycles unlimited --every 1 --deadline 500 --retries always --stale 2 --silent", b"7 5003\n") as run:
             rows, messages = finished(run, status=1)
     assert messages[-1] == "geocom: fault 48", f"{messages} was told"
     good_rows = [row for row in rows if row["quality"] == "ok"]

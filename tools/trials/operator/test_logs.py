@@ -58,7 +58,7 @@ def test_each_byte(program, folder, width):
 
     with standing(answers) as far:
         log = folder / "log"
-        words = f"--log {log} --quiet 200 --deadline 200 --cycles 6 --width {width}"
+        words = f"--log {log} --settle 200 --deadline 200 --cycles 6 --width {width}"
         with measuring(program, far.port, words, TWO) as run:
             rows, _ = finished(run, patience=12)
         expect_each_once(rows, 2, 6)
@@ -87,7 +87,7 @@ def expect_read_by_check(program, log):
 def expect_appends(program, far, log):
     """A second run leaves what is in the log."""
     before = log.read_bytes()
-    with measuring(program, far.port, f"--log {log} --quiet 100 --deadline 100", TWO) as run:
+    with measuring(program, far.port, f"--log {log} --settle 100 --deadline 100", TWO) as run:
         finished(run)
     assert log.read_bytes().startswith(before) and len(log.read_bytes()) > len(before), "the log was not appended to"
 
@@ -95,7 +95,7 @@ def expect_appends(program, far, log):
 def limited(program, port, log, words):
     """A station whose files can't grow above 4096 bytes, with a log that has nearly as many."""
     log.write_bytes(LOG_LINE * (4080 // len(LOG_LINE)))
-    return measuring(program, port, f"--log {log} --quiet 100 --deadline 100 {words}", TWO, shell="ulimit -f 4; trap '' XFSZ")
+    return measuring(program, port, f"--log {log} --settle 100 --deadline 100 {words}", TWO, shell="ulimit -f 4; trap '' XFSZ")
 
 
 @pytest.mark.title("--log, a full disk")
@@ -129,11 +129,11 @@ def test_limited_by_a_signal(program, folder):
     log = folder / "log"
     log.write_bytes(LOG_LINE * (4080 // len(LOG_LINE)))
     with standing() as far:
-        with measuring(program, far.port, f"--log {log} --quiet 100 --deadline 100 --silent", TWO, shell="ulimit -f 4") as run:
+        with measuring(program, far.port, f"--log {log} --settle 100 --deadline 100 --silent", TWO, shell="ulimit -f 4") as run:
             assert (run.status(), run.messages()) == (-signal.SIGXFSZ, ""), "how it ended"
         torn = log.read_bytes().rsplit(b"\n", 1)[1]
         assert torn, "no line is torn"
-        with measuring(program, far.port, f"--log {log} --quiet 100 --deadline 100", TWO) as run:
+        with measuring(program, far.port, f"--log {log} --settle 100 --deadline 100", TWO) as run:
             _, messages = finished(run)
     assert f"geocom: {len(torn)} bytes of an incomplete line of the log were cut off" in messages
 
@@ -147,7 +147,7 @@ def test_no_folder(program):
 
 def expect_refused(program, far, log, why=""):
     """A station with this log does nothing but report that it is refused."""
-    with measuring(program, far.port, f"--log {log} --quiet 100", TWO) as run:
+    with measuring(program, far.port, f"--log {log} --settle 100", TWO) as run:
         assert run.status() == 1, log
         assert run.messages().startswith("geocom: fault 57\n"), log
         assert why in run.messages(), log
@@ -175,7 +175,7 @@ def test_held_log(program, folder):
     """While a station has a log no second one writes into it, and the first goes on."""
     with standing() as far, standing() as other:
         log = folder / "log"
-        with measuring(program, far.port, f"--log {log} --quiet 100 --cycles 0 --every 1", TWO) as run:
+        with measuring(program, far.port, f"--log {log} --settle 100 --cycles unlimited --every 1", TWO) as run:
             until(lambda: log.exists() and log.read_bytes(), "the first one logs nothing")
             expect_refused(program, other, log)
             before = len(log.read_bytes())
@@ -191,7 +191,7 @@ def test_torn_line(program, folder):
             with standing() as far:
                 log = folder / "log"
                 log.write_bytes(whole + torn)
-                with measuring(program, far.port, f"--log {log} --quiet 100 --deadline 100", TWO) as run:
+                with measuring(program, far.port, f"--log {log} --settle 100 --deadline 100", TWO) as run:
                     _, messages = finished(run)
                 line = f"geocom: {len(torn)} bytes of an incomplete line of the log were cut off"
                 assert (line in messages) == (torn != b""), f"{messages} was told of {torn!r}"
@@ -205,7 +205,7 @@ LOST = "geocom: the log can't be written and ends here: measuring continues"
 MOST = 2000
 # More bytes than any line of these runs has.
 LONGEST = 100
-BOUNDED = f"--log-bytes {MOST} --quiet 100 --deadline 100"
+BOUNDED = f"--log-bytes {MOST} --settle 100 --deadline 100"
 
 
 def both(log):
@@ -324,7 +324,7 @@ def expect_lost(program, place, spoil):
     # Room for the first cycle, and not for the third.
     log.write_bytes(LOG_LINE * (800 // len(LOG_LINE)))
     with standing() as far:
-        with measuring(program, far.port, f"--log {log} {BOUNDED} --every 1 --cycles 0", TWO) as run:
+        with measuring(program, far.port, f"--log {log} {BOUNDED} --every 1 --cycles unlimited", TWO) as run:
             until(lambda: run.output().count(b",answered,") >= 2, "nothing is answered")
             spoil()
             until(lambda: LOST in run.messages(), "it isn't told")
@@ -347,7 +347,7 @@ def test_moved_log(program, folder):
     """If somebody moves the log away, its lines go on there until it is full, and then in a new one at the path, which they begin."""
     log, older, moved, stop = folder / "log", folder / "log.1", folder / "moved", folder / "stop"
     with standing() as far:
-        with measuring(program, far.port, f"--log {log} {BOUNDED} --cycles 0 --until {stop}", TWO) as run:
+        with measuring(program, far.port, f"--log {log} {BOUNDED} --cycles unlimited --until {stop}", TWO) as run:
             until(lambda: log.exists() and log.read_bytes(), "nothing is logged")
             until(lambda: is_moved(log, moved), "there is no log to be moved away")
             # One that was full before is of lines before those that were moved away.

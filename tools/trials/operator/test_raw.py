@@ -10,7 +10,7 @@ from measuring import finished, measuring, outcomes_of
 from programs import PATIENCE, Run, simulator
 from records import LAST
 
-SHORT = "--deadline 300 --quiet 150"
+SHORT = "--deadline 300 --settle 150"
 # A line of a text, what follows the colon of its request, and what it is answered with after the colon; the outcome of its row, its
 # fault, its quality and its items.
 ANSWERS = [

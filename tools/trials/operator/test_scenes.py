@@ -64,7 +64,7 @@ def test_serve(program, scene, command):
 def test_station(program, scene):
     """A station over a port with a scene has its values in its rows."""
     with simulator(program, "--scene", scene, "--keep") as port:
-        with measuring(program, port, "--quiet 100 --deadline 100", SCENE_COMMANDS) as run:
+        with measuring(program, port, "--settle 100 --deadline 100", SCENE_COMMANDS) as run:
             rows, _ = finished(run)
             assert [row["values"] for row in rows] == ["71", '"EAST"', "", "0.25,1.5,12.5,2"], "the values"
 

@@ -44,7 +44,7 @@ def pulls(far, outages):
 def test_outages(program, what, words, outages, signs):
     """Of outages within a minute the first is reported, and that there is a connection again."""
     with standing() as far:
-        words = f"--every 1 --cycles 8 --quiet 100 --deadline 100 --retries 50 {words}"
+        words = f"--every 1 --cycles 8 --settle 100 --deadline 100 --retries 50 {words}"
         with measuring(program, far.port, words, TWO) as run:
             until(lambda: len(far.asked()) == 2, "nothing was asked")
             pulls(far, outages)
@@ -63,7 +63,7 @@ def test_no_answer(program, what, answers, has_lost):
     is connected again only once something was answered. An instrument is off after a live port for 63 seconds."""
     began = time.time()
     with standing(lambda request: good(request) if time.time() > began + 63 else answers(request)) as far:
-        with measuring(program, far.port, "--quiet 500 --deadline 1000 --retries 0", TWO) as run:
+        with measuring(program, far.port, "--settle 500 --deadline 1000 --retries always", TWO) as run:
             until(lambda: "no answer since" in run.messages(), "no line within a minute", 61)
             assert time.time() < began + 61, "the line came late"
             assert "connected again" not in run.messages()
@@ -90,7 +90,7 @@ def measured_data(_):
 def test_no_reply(program, what, answers):
     """Where bytes arrive, and no reply, their number is in the line on the answer that doesn't come."""
     with standing(answers) as far:
-        with measuring(program, far.port, "--deadline 1000 --retries 0", TWO) as run:
+        with measuring(program, far.port, "--deadline 1000 --retries always", TWO) as run:
             until(lambda: "no answer since" in run.messages(), f"no line within a minute, {what}", 61)
             line = next(line for line in run.messages().splitlines() if "no answer" in line)
             found = re.fullmatch(rf"geocom: no answer since {STAMP}: (\d+) bytes arrived, none a reply", line)
@@ -104,7 +104,7 @@ def test_no_reply(program, what, answers):
 ])
 def test_why_no_connection(program, where, why):
     """Where no connection can be made, the line says why, as the system says it."""
-    with measuring(program, where, "--retries 0", TWO) as run:
+    with measuring(program, where, "--retries always", TWO) as run:
         until(lambda: "no connection since" in run.messages(), "no line", 5)
         expect_signs(run.messages().splitlines()[1:2], [f"geocom: no connection since {STAMP}: {why}"])
 
@@ -114,7 +114,7 @@ def test_start(program):
     """At its start a run says how many commands it has, where, and what it waits for; with --silent it doesn't."""
     with standing() as far:
         for words, count in ([], 1), (["--silent"], 0):
-            status, _, messages = ended([program, "station", far.port, "--quiet", "100", "--deadline", "100", *words], TWO)
+            status, _, messages = ended([program, "station", far.port, "--settle", "100", "--deadline", "100", *words], TWO)
             start = f"geocom: 2 commands for 127.0.0.1:{far.port}: waits until eight null procedures are answered, one after the other"
             assert (status, messages.splitlines().count(start)) == (0, count), f"status and start, of {messages!r}"
 
@@ -128,7 +128,7 @@ def refuses_positions(request):
 def test_skipped(program):
     """The first line of skipped commands has all of the chain, and not the first of them."""
     text = b"7 9027 0.5,1.5,0,1,0\n7 5003\n7 5004\n7 2011\n8 5003\n"
-    with standing(refuses_positions) as far, measuring(program, far.port, "--quiet 200 --deadline 200", text) as run:
+    with standing(refuses_positions) as far, measuring(program, far.port, "--settle 200 --deadline 200", text) as run:
         rows, messages = finished(run)
     assert [row["outcome"] for row in rows] == ["answered", "skipped", "skipped", "skipped", "answered"], "the outcomes"
     expect_signs(messages, [
@@ -156,7 +156,7 @@ def test_columns_of_a_terminal(program):
     text = b"7 9027 0.5,1.5,0,1,0\n7 5004\n8 5003\n9 5003\n"
     shown = b""
     with standing(lambda request: LOSES if request.rpc == 5003 else refuses_positions(request)) as far:
-        with at_a_terminal(program, far, "--every 1 --cycles 12 --quiet 300 --deadline 700", text) as (_, terminal):
+        with at_a_terminal(program, far, "--every 1 --cycles 12 --settle 300 --deadline 700", text) as (_, terminal):
             end = time.monotonic() + 10
             while select.select([terminal], [], [], max(0, end - time.monotonic()))[0] and time.monotonic() < end:
                 shown += terminal.read(4096)
@@ -169,7 +169,7 @@ def test_columns_of_a_terminal(program):
 def test_none_needed(program):
     """A connection that ends between cycles, and is made again once the next is due, is no sign."""
     with standing() as far:
-        with measuring(program, far.port, "--every 1 --cycles 3 --quiet 100 --deadline 100", TWO) as run:
+        with measuring(program, far.port, "--every 1 --cycles 3 --settle 100 --deadline 100", TWO) as run:
             until(lambda: len(far.asked()) == 2, "nothing was asked")
             time.sleep(0.1)
             far.near.shutdown(socket.SHUT_RDWR)
@@ -184,7 +184,7 @@ def test_terminal(program, what, words, most):
     """On a terminal, and only there, a line is written over, at most once a second; it is gone in the end."""
     shown = b""
     with standing() as far:
-        words = f"--every 1 --cycles 4 --quiet 100 --deadline 100 {words}"
+        words = f"--every 1 --cycles 4 --settle 100 --deadline 100 {words}"
         with at_a_terminal(program, far, words, TWO) as (run, terminal):
             assert run.status(10) == 0
             while select.select([terminal], [], [], 0.1)[0] and not shown.endswith(b"retried 0\n"):

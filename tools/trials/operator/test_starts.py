@@ -119,7 +119,7 @@ def test_kills_and_starts(program, note, width):
     draw, took, rows = random.Random(width), [], 0
     with simulator(program) as port:
         for n in range(20):
-            with Start(program, port, f"--cycles 0 --width {width}") as start:
+            with Start(program, port, f"--cycles unlimited --width {width}") as start:
                 if n % 2:
                     took.append(start.first_row())
                 time.sleep(draw.uniform(0, 0.2) if n % 2 else draw.uniform(0, 0.01))

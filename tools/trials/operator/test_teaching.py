@@ -60,7 +60,7 @@ def test_five_prisms(program, folder):
             assert status == 0 and "Prisms of " in rest and "5 (high)" in rest, rest
         expect_places(expect_text(program, path, PRISMS))
         assert os.listdir(folder) and not [name for name in os.listdir(folder) if name.startswith(".")]
-        with measuring(program, line.path, "--quiet 100 --cycles 2", path.read_bytes()) as run:
+        with measuring(program, line.path, "--settle 100 --cycles 2", path.read_bytes()) as run:
             rows, messages = finished(run, patience=30)
     assert messages == []
     chain = [9027, 17017, 9028, 17017]
@@ -288,7 +288,7 @@ def test_added(program, folder, text):
         target = {"a setup": 10, "lines": 8, "an empty": 1}[next(word for word in ("a setup", "lines", "an empty") if text.startswith(word))]
         assert f"name {target} rock\n".encode() in data and data.count(b"deadline ") == 1
         assert b"\n# 28.64789 85.94367 degree, 25.1250 m, taught " in data and b" 9028 " not in data and data.endswith(f"{target} 17017 2\n".encode())
-        assert ended([program, "station", port, "--cycles", "1", "--quiet", "100", "--silent"], data, patience=20).status == 0
+        assert ended([program, "station", port, "--cycles", "1", "--settle", "100", "--silent"], data, patience=20).status == 0
 
 
 KEPT = {

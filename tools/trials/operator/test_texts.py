@@ -83,7 +83,7 @@ def test_empty_text(program):
         port = listener.getsockname()[1]
         fault = "geocom: fault 50\ngeocom: the text has no command of a cycle\n"
         for text in b"", b"\n", b"# none\nname 7 pier\ndeadline 200\nunchained\n", b"at start\n7 5003\n":
-            for words in [], ["--cycles", "0"], ["--csv", "--every", "1", "--cycles", "0", "--retries", "0"]:
+            for words in [], ["--cycles", "unlimited"], ["--csv", "--every", "1", "--cycles", "unlimited", "--retries", "always"]:
                 assert ended([program, "station", port, *words], text) == (1, b"", fault), f"{words} of {text!r}"
         assert not select.select([listener], [], [], 0)[0], "it connected"
     assert ended([program, "loop"], b"") == (0, b"", ""), "loop"
@@ -98,7 +98,7 @@ def test_control_bytes(program):
         return request.reply(b"0" if request.rpc == 0 else evil)
 
     with standing(answers) as far:
-        words = ["station", far.port, "--quiet", "100", "--deadline", "300", "--silent"]
+        words = ["station", far.port, "--settle", "100", "--deadline", "300", "--silent"]
         status, output, messages = ended([program, *words], b"7 5004\n7 5003\n")
     assert status == 0, messages
     assert len(output.splitlines()) == 2
@@ -164,7 +164,7 @@ def test_two_texts(program, folder):
 def test_full_standard_error(program):
     """A run with all its rows ends with status 0, also where no message can be written."""
     with standing() as far:
-        words = [program, "station", far.port, "--csv", "--quiet", "100", "--deadline", "300"]
+        words = [program, "station", far.port, "--csv", "--settle", "100", "--deadline", "300"]
         status, output, _ = ended(words, b"7 5003\n8 5004\n", shell="exec 2>/dev/full")
     assert (status, output.count(b",answered,")) == (0, 2), "the status and the answers"
 
@@ -186,7 +186,7 @@ def test_lines_of_a_station(program):
 def test_names(program):
     """A name is in all rows of its target, wherever its line is."""
     text = b"7 5003\nname 7 pier 4\n8 5003\n7 5004\nname 0 it's %s: 100%\nname 9 " + 64 * b"x" + b"\r\n9 5003\n0 5003\n"
-    with standing() as far, measuring(program, far.port, "--quiet 100 --deadline 100 --cycles 2", text) as run:
+    with standing() as far, measuring(program, far.port, "--settle 100 --deadline 100 --cycles 2", text) as run:
         rows, _ = finished(run)
         expect_each_once(rows, 5, 2)
         names = [row["name"] for row in rows]
@@ -205,7 +205,7 @@ def test_deadlines(program):
             time.sleep(0.6)
         return good(request)
 
-    with standing(answers) as far, measuring(program, far.port, "--quiet 1500 --deadline 1500", text) as run:
+    with standing(answers) as far, measuring(program, far.port, "--settle 1500 --deadline 1500", text) as run:
         rows, messages = finished(run, patience=12)
         assert outcomes_of(rows) == [(7, 2107, "answered"), (8, 2107, "late"), (9, 2107, "answered")]
         assert messages == [], "what was told"
@@ -213,6 +213,7 @@ def test_deadlines(program):
 
 @pytest.mark.title("numbers out of their range")
 def test_ranges(program):
-    """Numbers out of their range are refused with status 2."""
-    for words in "--deadline 0", "--deadline 86400001", "--quiet 0", "--width 0", "--width 8", "--every 86401":
+    """Numbers out of their range are refused with status 2, and so is 0 where a word says that there is no limit."""
+    for words in ("--deadline 0", "--deadline 86400001", "--settle 0", "--width 0", "--width 8", "--every 86401", "--cycles 0", "--retries 0",
+                  "--stale 0"):
         assert ended([program, "station", "1", *words.split()]).status == 2, words

@@ -10,7 +10,7 @@ from far_end import LOSES, good, standing
 from measuring import STAMP, finished, measuring, outcomes_of
 from programs import until
 
-SHORT = "--deadline 300 --quiet 150"
+SHORT = "--deadline 300 --settle 150"
 # What a file has, how many seconds ago it was written, and what is sent of it; None: nothing.
 KEPT = [
     (b"1013.25\n", 0, b"1013.25"),
@@ -109,7 +109,7 @@ def test_nothing_asked(program, tmp_path, what, last, told):
     item = f"{{{tmp_path / 'none'} 60}}"
     text = f"procedure 2028 pressure_mbar Double ->\n0 2028 {item}\n0 2011\n7 2028 {item}\n{last}"
     with standing(lambda request: LOSES if request.rpc else good(request)) as far:
-        with measuring(program, far.port, f"{SHORT} --every 2 --cycles 40 --retries 0", text.encode()) as run:
+        with measuring(program, far.port, f"{SHORT} --every 2 --cycles 40 --retries always", text.encode()) as run:
             if told:
                 until(lambda: "no answer since" in run.messages(), f"no line within a minute, {what}", 64)
             else:

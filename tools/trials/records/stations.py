@@ -59,13 +59,13 @@ def instrument():
         far.pull()
 
 
-def appending(program, far, path, *words, cycles=0, shell=""):
+def appending(program, far, path, *words, cycles="unlimited", shell=""):
     """A running station that appends to this file."""
-    words = ["--append", path, "--cycles", cycles, "--quiet", "10", "--retries", "0", "--silent", *words]
+    words = ["--append", path, "--cycles", cycles, "--settle", "10", "--retries", "always", "--silent", *words]
     return Run([program, "station", far.port, *words], COMMANDS, shell=shell)
 
 
-def appended(program, far, path, *words, cycles=0, shell=""):
+def appended(program, far, path, *words, cycles="unlimited", shell=""):
     """How such a station ended by itself: its status, its output and its messages."""
     with appending(program, far, path, *words, cycles=cycles, shell=shell) as run:
         return run.status(PATIENCE), run.output(), run.messages()

@@ -19,10 +19,10 @@ needs_strace = pytest.mark.skipif(not shutil.which("strace"), reason="strace is 
 
 @needs_strace
 def test_syncs(program, folder):
-    """With `--sync` each row is synced before the next bytes are sent, and without it nothing is."""
+    """With `--fsync` each row is synced before the next bytes are sent, and without it nothing is."""
     trace = folder / "trace"
     shell = f'set -- strace -f -e trace=write,sendto,fdatasync,fsync -o {trace} "$@"'
-    for words in ["--sync"], []:
+    for words in ["--fsync"], []:
         with instrument() as far:
             found = appended(program, far, folder / "synced.csv", *words, cycles=3, shell=shell)
         assert found[0] == 0, f"{words}: {found}"
@@ -39,12 +39,12 @@ def test_syncs(program, folder):
 
 @needs_strace
 def test_syncs_its_folder(program, folder):
-    """With `--sync` the file's own folder is synced once the file is there, and before anything is written into it; also of a new file
-    at the path. Without `--sync` no folder is."""
+    """With `--fsync` the file's own folder is synced once the file is there, and before anything is written into it; also of a new file
+    at the path. Without `--fsync` no folder is."""
     place, trace = folder / "place", folder / "trace"
     place.mkdir()
     shell = f'cd {folder}; set -- strace -f -y -e trace=?open,openat,write,fdatasync,fsync -o {trace} "$@"'
-    for words in ["--sync"], []:
+    for words in ["--fsync"], []:
         for name, parent in [(place / "rows.csv", place), (Path("own.csv"), folder)]:
             path = folder / name
             path.unlink(missing_ok=True)
@@ -78,7 +78,7 @@ def small_disk(folder):
 def test_is_full(program, small_disk):
     """A disk that is full ends the run with fault 55: what is there stays, and with room again the table goes on."""
     path = small_disk / "rows.csv"
-    for words in ["--sync"], []:
+    for words in ["--fsync"], []:
         with instrument() as far:
             status, output, messages = appended(program, far, path, *words)
             assert (status, output) == (1, b""), messages
@@ -116,7 +116,7 @@ def test_is_limited(program, folder):
     """After a limit of a file's size (`ulimit -f`), with the signal ignored and not."""
     for is_ignored in True, False:
         path = folder / f"limited{is_ignored}.csv"
-        words = ["--append", path, "--cycles", "0", "--quiet", "10", "--retries", "0", "--silent", "--sync"]
+        words = ["--append", path, "--cycles", "unlimited", "--settle", "10", "--retries", "always", "--silent", "--fsync"]
         shell = "ulimit -f 4; trap '' XFSZ" if is_ignored else "ulimit -f 4"
         expect_limited(program, path, is_ignored, lambda far, words=words: [program, "station", far.port, *words], shell)
 
@@ -126,7 +126,7 @@ def test_a_unit_is_limited(program, folder):
     path, unit = folder / "north.csv", settings(UNIT, "north")
 
     def command(far):
-        known = {"FILE": path.name, "WHERE": str(far.port), "WORDS": "--cycles 0 --quiet 10 --retries 0 --silent"}
+        known = {"FILE": path.name, "WHERE": str(far.port), "WORDS": "--cycles unlimited --settle 10 --retries always --silent"}
         found = " ".join(words(unit["ExecStart"], known))
         for name, place in ("@BIN@/geocom", program), ("/var/lib/geocom", folder), ("%t", folder):
             assert name in found, name

@@ -29,7 +29,7 @@ def failed(program, folder, path):
     """A run whose third sync fails: the rows that are in the file then."""
     with instrument() as far:
         shell = injecting(folder / "trace", "fdatasync:error=EIO:when=3")
-        status, output, messages = appended(program, far, path, "--sync", shell=shell)
+        status, output, messages = appended(program, far, path, "--fsync", shell=shell)
         assert (status, output) == (1, b""), messages
         assert messages.endswith(f"geocom: fault 55\ngeocom: {path}: Input/output error (os error 5)\n"), messages
     assert mark_of(path.resolve()).exists(), "nothing says that a sync failed"
@@ -56,9 +56,9 @@ def expect_none_beside(path):
 
 
 def test_copies_behind_a_failed_sync(program, folder):
-    """After a sync that failed the next start copies the rows to a new file, with `--sync` or without; after a good end none does."""
+    """After a sync that failed the next start copies the rows to a new file, with `--fsync` or without; after a good end none does."""
     path = folder / "rows.csv"
-    for words in ["--sync"], []:
+    for words in ["--fsync"], []:
         path.unlink(missing_ok=True)
         rows = failed(program, folder, path)
         path.chmod(0o640)
@@ -75,7 +75,7 @@ def test_copies_before_it_appends(program, folder):
     path, trace = folder / "rows.csv", folder / "trace"
     failed(program, folder, path)
     with instrument() as far:
-        found = appended(program, far, path, "--sync", cycles=1, shell=injecting(trace))
+        found = appended(program, far, path, "--fsync", cycles=1, shell=injecting(trace))
     assert found[0] == 0, found
     lines = trace.read_text().splitlines()
 
@@ -95,9 +95,9 @@ def test_copies_before_it_appends(program, folder):
 
 
 def test_has_its_mark_before_a_row(program, folder):
-    """The mark is on the disk before anything is written into the file, and goes once all is synced; without `--sync` there is none."""
+    """The mark is on the disk before anything is written into the file, and goes once all is synced; without `--fsync` there is none."""
     trace = folder / "trace"
-    for words in ["--sync"], []:
+    for words in ["--fsync"], []:
         path = folder / f"rows{len(words)}.csv"
         with instrument() as far:
             found = appended(program, far, path, *words, cycles=1, shell=injecting(trace))
@@ -115,7 +115,7 @@ def test_has_its_mark_before_a_row(program, folder):
             assert marked == cleared == [], f"{marked}, {cleared}"
 
 
-@pytest.mark.parametrize("words", [["--sync"], []], ids=["synced", "plain"])
+@pytest.mark.parametrize("words", [["--fsync"], []], ids=["synced", "plain"])
 def test_copies_wholly_or_not(program, folder, words):
     """Where a call of the copying fails, or the program is killed at it, the old file stands, and the next start copies it."""
     path = folder / "rows.csv"
@@ -139,14 +139,14 @@ def test_is_held_while_it_is_copied(program, folder):
     """A file that another station holds is not copied, though its mark is there."""
     path = folder / "rows.csv"
     with instrument() as far, instrument() as other:
-        with appending(program, far, path, "--sync") as first:
+        with appending(program, far, path, "--fsync") as first:
             until(lambda: far.answered > 5, "nothing is answered", PATIENCE)
             before = path.stat().st_ino
-            assert appended(program, other, path, "--sync") == (1, b"", "geocom: fault 65\n")
+            assert appended(program, other, path, "--fsync") == (1, b"", "geocom: fault 65\n")
             assert path.stat().st_ino == before and mark_of(path).exists()
             first.kill()
     rows = split(path.read_bytes())[0]
-    expect_copy(program, path, rows, "--sync")
+    expect_copy(program, path, rows, "--fsync")
 
 
 def test_copies_where_its_link_leads(program, folder):
@@ -156,7 +156,7 @@ def test_copies_where_its_link_leads(program, folder):
     path = place / "values.csv"
     link.symlink_to(path)
     rows = failed(program, folder, link)
-    expect_copy(program, link, rows, "--sync")
+    expect_copy(program, link, rows, "--fsync")
     expect_none_beside(path)
     assert link.is_symlink() and not path.is_symlink()
 
@@ -167,7 +167,7 @@ def test_wants_its_mark(program, folder):
     path.write_bytes(HEAD)
     mark_of(path).mkdir()
     with instrument() as far:
-        status, output, messages = appended(program, far, path, "--sync", cycles=1)
+        status, output, messages = appended(program, far, path, "--fsync", cycles=1)
         assert (status, output, far.answered) == (1, b"", 0), messages
     assert messages.startswith("geocom: fault 55\n"), messages
     assert path.read_bytes() == HEAD
@@ -183,7 +183,7 @@ def test_copies_a_hundred_megabytes(program, folder, note):
             mark_of(path).touch()
         with instrument() as far:
             began = time.monotonic()
-            with appending(program, far, path, "--sync", cycles=1) as run:
+            with appending(program, far, path, "--fsync", cycles=1) as run:
                 until(lambda: far.came, "it makes no connection", 60)
                 took = time.monotonic() - began
                 assert run.status(PATIENCE) == 0, run.messages()

@@ -82,7 +82,7 @@ def test_refuses(program, folder):
     for path, held, fault in cases:
         if held is not None:
             path.write_bytes(held)
-        for words in [], ["--sync"]:
+        for words in [], ["--fsync"]:
             with instrument() as far:
                 status, output, messages = appended(program, far, path, *words)
                 assert (status, output) == (1, b""), f"{path} {held!r}"
@@ -97,7 +97,7 @@ def test_holds(program, folder):
     with instrument() as far, instrument() as other:
         with appending(program, far, path) as first:
             until(lambda: far.answered >= 10, "the first has no ten answers", PATIENCE)
-            found = appended(program, other, path, "--sync")
+            found = appended(program, other, path, "--fsync")
             before = far.answered
             time.sleep(0.3)
             assert first.is_running(), "the first ended"

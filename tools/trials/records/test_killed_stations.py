@@ -17,7 +17,7 @@ def test_kills(program, folder, note, pytestconfig):
         rows, torn, reported, copied = [], b"", 0, 0
         for kill in range(kills):
             copy = copied_line(len(rows) if mark_of(path).exists() else 0)
-            with appending(program, far, path, "--sync") as run:
+            with appending(program, far, path, "--fsync") as run:
                 # Nine null procedures are answered before the first row.
                 time.sleep(random.choice([random.uniform(0, 0.1), random.uniform(0.05, 0.3)]))
                 run.kill()

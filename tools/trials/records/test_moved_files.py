@@ -43,7 +43,7 @@ def test_follows_its_path(program, folder):
     """Where the file is moved, deleted or replaced the rows go on at its path, head and all, and that is reported: no row is lost, and none
     double."""
     path = folder / "rows.csv"
-    for words in [], ["--sync"], ["--json"]:
+    for words in [], ["--fsync"], ["--json"]:
         for change in move, replace, replace_by_half_a_row:
             if words == ["--json"] and change is replace_by_half_a_row:
                 continue

@@ -38,7 +38,7 @@ def rows_where_held(program, instrument, before):
     """The target, outcome and values of each row where the request after so many is held back."""
     with socket.create_server(("127.0.0.1", 0)) as port:
         port.settimeout(0.1)
-        with measuring(program, port.getsockname()[1], "--deadline 300 --quiet 300", COMMANDS) as run:
+        with measuring(program, port.getsockname()[1], "--deadline 300 --settle 300", COMMANDS) as run:
             held = b""
             while run.is_running():
                 try:

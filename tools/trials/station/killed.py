@@ -37,7 +37,7 @@ class Lane:
     def words(self):
         """How the station is asked."""
         width, deadline = self.random.choice([1, 3, 7, 7]), self.random.choice([40, 80, 160])
-        return f"{self.line.listener.getsockname()[1]} --csv --silent --quiet 30 --width {width} --deadline {deadline}".split()
+        return f"{self.line.listener.getsockname()[1]} --csv --silent --settle 30 --width {width} --deadline {deadline}".split()
 
     def run(self):
         """One run, until it ends or is killed. Its rows, those that are whole, and its status if it ended."""

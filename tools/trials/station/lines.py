@@ -83,7 +83,7 @@ def relay(case, program, plan, port, log):
     procedures = ",".join(str(procedure) for _, procedure in plan.commands)
     return Run([
         sys.executable, HERE / "relay.py", "--at", case.address, "--listen", port, "--geocom", program, "--procedures", procedures,
-        "--deadline", plan.deadline, "--quiet", plan.quiet, "--log", log, *case.line.split(), *(["--tag"] if plan.is_tagged else []),
+        "--deadline", plan.deadline, "--settle", plan.quiet, "--log", log, *case.line.split(), *(["--tag"] if plan.is_tagged else []),
         *(["--knowing"] if case.is_raw else [])])
 
 
@@ -113,7 +113,7 @@ def measure(case, program, cycles):
 
 def measured(case, program, plan, place, line):
     """How a station ended there, whose line has to be there as long. At a device a second one is refused."""
-    words = ["--deadline", plan.deadline, "--quiet", plan.quiet, "--every", plan.every, "--cycles", plan.cycles, "--retries", 1000]
+    words = ["--deadline", plan.deadline, "--settle", plan.quiet, "--every", plan.every, "--cycles", plan.cycles, "--retries", 1000]
     with Run([program, "station", place, *words, "--csv", *case.words.split()], case.text()) as run:
         if case.is_device:
             time.sleep(3)

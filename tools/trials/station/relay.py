@@ -44,7 +44,7 @@ KILLING = {"cut": 6, "close": 10, "refuse": 100}
 def text(options):
     """The text of the line."""
     half, twice = options.deadline // 2, 2 * options.deadline
-    behind = {"late": f" {half} {twice}", "hold": f" {3 * options.deadline}", "refuse": f" {1.5 * options.quiet:.0f}"}
+    behind = {"late": f" {half} {twice}", "hold": f" {3 * options.deadline}", "refuse": f" {1.5 * options.settle:.0f}"}
     shares = SHARES | (KILLING if options.kill else {})
     lines = [f"{word} {min(100, share * options.bad / 10):g}{behind.get(word, '')}" for word, share in shares.items()]
     lines += [f"delay 0 {options.delay}", "pieces 50 20", "keep 80 0 0"] + [f"idle {options.idle}"] * bool(options.idle)
@@ -104,7 +104,7 @@ class StationRelay(Relay):
         """The station has a new connection: what is in flight was held back."""
         self.note("clear")
         self.asked, self.still = False, 0.0
-        self.held = time.monotonic() + self.options.quiet / 1000 * self.random.choice([0, 0.5, 1.4, math.inf])
+        self.held = time.monotonic() + self.options.settle / 1000 * self.random.choice([0, 0.5, 1.4, math.inf])
         for old in [*self.up.queue, *self.down.queue]:
             old.at = self.held
         super().other(way, line)
@@ -150,7 +150,7 @@ def main():
     words.add_argument("--seed", type=int, required=True)
     words.add_argument("--procedures", required=True, help="of the commands, in their order, each once")
     words.add_argument("--deadline", type=int, required=True)
-    words.add_argument("--quiet", type=int, required=True)
+    words.add_argument("--settle", type=int, required=True)
     words.add_argument("--delay", type=int, default=8, help="milliseconds of a line, at most")
     words.add_argument("--bad", type=float, default=1, help="0: a good line")
     words.add_argument("--kill", action="store_true")

@@ -33,7 +33,7 @@ def answer(line):
 def stop(program):
     """Stops it, and looks what it booked, and when it went on."""
     with socket.create_server(("127.0.0.1", 0)) as port:
-        words = f"--deadline 6000 --quiet {1000 * QUIET:.0f}"
+        words = f"--deadline 6000 --settle {1000 * QUIET:.0f}"
         with measuring(program, port.getsockname()[1], words, b"7 5003\n8 5003\n") as run:
             # The first connection ends with the first command.
             line, _ = port.accept()

@@ -20,7 +20,7 @@ CYCLES = 500
 STARTS = 60
 # The places at which a chain, or a command by itself, ends.
 ENDS = [n for n in range(len(COMMANDS)) if n % len(CHAIN) == len(CHAIN) - 1 or n == len(COMMANDS) - 1]
-WORDS = "--deadline 400 --quiet 300 --every 1 --retries 0 --width 3"
+WORDS = "--deadline 400 --settle 300 --every 1 --retries always --width 3"
 # How late a row may be, in seconds: with the readings of the clock, and what a machine that is busy adds.
 BOUND = bound(every=1, longest=DEADLINE / 1000, setup=len(SETUP), call=1)
 
@@ -49,7 +49,7 @@ def test_stops(program, note, tmp_path):
         for n in range(20):
             path = tmp_path / f"stop{n}"
             began = len(night.line.asked)
-            with measuring(program, night.line.near.address[1], f"{WORDS} --cycles 0 --until {path}", text()) as run:
+            with measuring(program, night.line.near.address[1], f"{WORDS} --cycles unlimited --until {path}", text()) as run:
                 until(lambda: len(night.line.asked) > began + 9, "nothing went out", 60)
                 time.sleep(random.Random(n).uniform(0, 4))
                 path.touch()
@@ -75,7 +75,7 @@ def whole_chains(rows):
 def test_starts(program, note, tmp_path, starts):
     """Runs that are killed at any moment, each begun again at once over the same file of rows: it goes on by itself."""
     path, stop, chance = tmp_path / "rows.csv", tmp_path / "stop", random.Random(SEED)
-    words = f"{WORDS} --cycles 0 --stale 600 --append {path} --sync --until {stop}"
+    words = f"{WORDS} --cycles unlimited --stale 600 --append {path} --fsync --until {stop}"
     with closing(Night(SEED + 2)) as night:
         for _ in range(starts):
             with station(program, night, words) as run:

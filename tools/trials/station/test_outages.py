@@ -15,7 +15,7 @@ from side import Side
 
 SEED = 61
 CYCLES = 500
-WORDS = f"--deadline {DEADLINE} --quiet 300 --every 1 --retries 0"
+WORDS = f"--deadline {DEADLINE} --settle 300 --every 1 --retries always"
 PLAIN = "\n".join(f"{target} 2108 5000,1\n{target} raw 2167 5000,1" for target in (1, 2, 3)).encode() + b"\n"
 # What a row may come later for: readings of the clock, and a machine that is busy.
 SLACK = 1

@@ -1,8 +1,13 @@
 use Rattle.std.proofs.Common.{◌∙◌, Some, sym, subst, codes}
-use Rattle.gc_subcommands.proofs.JobLemmas.{station_asked}
+use Rattle.gc_subcommands.proofs.JobLemmas.{station_asked, station_missing}
 use Rattle.gc_subcommands.specs.Jobs.{IsJobOf}
 use Rattle.gc_words.specs.Words.{words_of}
 use Rattle.gc_subcommands.proofs.words.station_job.Goals as goal
+
+pub returns-in_default-station_of : goal.returns-in_default-station_of
+returns-in_default-station_of c =
+    station_missing (words_of c.args.words.now) c.station_of.result (c.missing_limit.ensures.none c.in_default-missing_limit.is) c.station_of.ensures.only
+    c.in_default-station_of.is
 
 pub returns : goal.returns
 returns c =
