@@ -25,7 +25,9 @@ _geocom() {
         return
         ;;
     --cycles)
-        mapfile -t COMPREPLY < <(compgen -W unlimited -- "$cur")
+        word=unlimited
+        [ "$command" != rehearse ] || word=day
+        mapfile -t COMPREPLY < <(compgen -W "$word" -- "$cur")
         return
         ;;
     --retries)

@@ -24,7 +24,7 @@ abbrev pub RefusesJob : (line : List ℕ) → (begun : Opening) → Traces → (
 RefusesJob line begun traces status = Refuses line status begun.told (Some traces.said.bytes)
 
 -- what a job without a client did. Of a rehearsal nothing but a bound of its status is said here (`run_nights` of gc_nights says more). Where
--- words name no place, no limit, no unit, a number that can't be, or a file with a percent sign that begins no part of a date, the job is refused
+-- words name no place, no unit, a limit or a number that can't be, or a file with a percent sign that begins no part of a date, the job is refused
 abbrev pub DoesWithoutClient : Standard → (begun : Opening) → Job → Traces → (status : ℕ) → Type 0
 DoesWithoutClient standard begun (asked.Exec scene) traces status = EndsFrom (DoesExec scene) begun traces status
 DoesWithoutClient standard begun (asked.Check log) traces status = EndsFrom (DoesCheck log) begun traces status
@@ -32,7 +32,7 @@ DoesWithoutClient standard begun (asked.Drill drilling) traces status = EndsFrom
 DoesWithoutClient standard begun (asked.Serve serving) traces status = DoesServe standard serving begun.told (Some traces.said.bytes) status
 DoesWithoutClient standard begun (asked.Rehearse rehearsal) traces status = status ≤ 1
 DoesWithoutClient standard begun (asked.Nowhere serves) traces status = RefusesJob (place_line serves) begun traces status
-DoesWithoutClient standard begun (asked.NoLimit limit) traces status = RefusesJob (refusal_line (limit_refusal limit)) begun traces status
+DoesWithoutClient standard begun (asked.BadLimit limit) traces status = RefusesJob (refusal_line (limit_refusal limit)) begun traces status
 DoesWithoutClient standard begun asked.NumberMissing traces status = RefusesJob range_line begun traces status
 DoesWithoutClient standard begun asked.NoUnit traces status = RefusesJob unit_line begun traces status
 DoesWithoutClient standard begun asked.StaleTooSoon traces status = RefusesJob stale_line begun traces status

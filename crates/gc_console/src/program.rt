@@ -192,7 +192,7 @@ impl<'a, R: Net<Listener = TcpListener, Stream = TcpStream> + Clock + Files<File
                 let ended = refuse_place(serves, &mut streams.messages);
                 (ended, said_of(streams))
             }
-            Job::NoLimit(limit) => {
+            Job::BadLimit(limit) => {
                 let ended = refuse_limit(limit, &mut streams.messages);
                 (ended, said_of(streams))
             }

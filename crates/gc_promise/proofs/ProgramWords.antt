@@ -63,7 +63,7 @@ module _ {S T F K E M A X : Type 0} (seeing : Seeing S T F K M) (shown : E → O
   by_job args read (job.Serve serving) is does = inl does.1
   by_job args read (job.Rehearse rehearsal) is does = inl does.1
   by_job args read (job.Nowhere serves) is does = inl does.1
-  by_job args read (job.NoLimit limit) is does = inl does.1
+  by_job args read (job.BadLimit limit) is does = inl does.1
   by_job args read job.NumberMissing is does = inl does.1
   by_job args read job.NoUnit is does = inl does.1
   by_job args read job.StaleTooSoon is does = inl does.1

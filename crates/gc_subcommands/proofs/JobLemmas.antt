@@ -58,7 +58,7 @@ named_so name s is = (bytes_eq-Decides (name_of s) name).0 (found_passes (λ kno
 
 -- what a station of these words is to do is what they ask for
 pub station_asked : (words : Words) (site : Site) (station : Settings) (recording : Option Recording) (checks : Bool) (unit : Option Unit) → IsSite words site
-    → IsChosen words station → IsRecording words recording → has_flag words (codes "check") ≡ checks → unit_in words ≡ Some unit
+    → IsChosen Cycles words station → IsRecording words recording → has_flag words (codes "check") ≡ checks → unit_in words ≡ Some unit
     → IsJobOf (Some (codes "station", words)) (station_job site station recording checks unit)
 station_asked words site station recording checks unit at_site chosen recorded flag shown =
     go (is_stale_too_soon station.choice) refl (is_at_without_multiple station.choice) refl (are_dated site.log recording) refl checks flag

@@ -70,7 +70,7 @@ pub record IsServing (words : Words) (serving : Serving) : Type 0 where
 pub record IsPlanned (words : Words) (station : Settings) : Type 0 where
   pub place : Place
   pub given : GivesPlace words place
-  pub chosen : IsChosen words station
+  pub chosen : IsChosen Cycles words station
 
 -- whether in the name of this log, if there is one, each percent sign begins a part of a date, or another percent sign (`is_dated_path`)
 abbrev pub is_log_dated : Option LogPlace → Bool
@@ -89,7 +89,7 @@ are_dated log recording = is_log_dated log && is_recording_dated recording
 -- the words of `station` ask to measure at this site, with these settings, and with its records in this file
 pub record IsStation (words : Words) (site : Site) (station : Settings) (recording : Option Recording) : Type 0 where
   pub at_site : IsSite words site
-  pub chosen : IsChosen words station
+  pub chosen : IsChosen Cycles words station
   pub recorded : IsRecording words recording
   pub measures : has_flag words (codes "check") ≡ false
   pub fresh : is_stale_too_soon station.choice ≡ false
@@ -146,8 +146,8 @@ IsClientJobOf asked (kind.Station site station recording) =
     AsksFor (codes "station") (λ words. IsStation words site station recording) asked
 
 -- the subcommand that was asked for and the words behind it ask for this job: each job has the name of its subcommand and the
--- values of its arguments. `NoLimit` comes only if an option with a limit has neither its word nor a number within its bounds,
--- `NumberMissing` only if each has, and another number is missing or doesn't fit its type, `NoUnit` only if the word for a unit names
+-- values of its arguments. `BadLimit` comes only if an option with a limit has neither its word nor a number within its bounds,
+-- `NumberMissing` only if all limits are within their bounds and another number is missing or doesn't fit its type, `NoUnit` only if the word for a unit names
 -- none, `StaleTooSoon` only if the run would end too soon, `AtWithoutMultiple` only if its cycles would be due after the next whole
 -- multiple, and `NoDate` only if the name of a file has a percent sign that begins no part of a date; which words name no place isn't said
 abbrev pub IsJobOf : Asked → Job → Type 0
@@ -159,7 +159,7 @@ IsJobOf asked (job.Rehearse rehearsal) = AsksFor (codes "rehearse") (λ words. I
 IsJobOf asked (job.Client client) = IsClientJobOf asked client
 IsJobOf asked (job.Nowhere true) = AsksFor (codes "serve") (λ words. ⊤) asked
 IsJobOf asked (job.Nowhere false) = AsksFor (codes "ask") (λ words. ⊤) asked ⊎ AsksFor (codes "station") (λ words. ⊤) asked
-IsJobOf asked (job.NoLimit limit) =
+IsJobOf asked (job.BadLimit limit) =
     AsksFor (codes "station") (λ words. LacksLimit words Cycles limit) asked ⊎ AsksFor (codes "rehearse") (λ words. LacksLimit words NightCycles limit) asked
 IsJobOf asked job.NumberMissing =
     AsksFor (codes "station") (λ words. HasLimits words Cycles × (HasNumbers words → ⊥)) asked

@@ -27,7 +27,7 @@ use gc_words::{
 };
 use std::alloc::{AllocError, Global};
 
-/// What a command line asks for, or why that can't be done (`Nowhere`, `NoLimit`, `NumberMissing`, `NoUnit`, `StaleTooSoon`,
+/// What a command line asks for, or why that can't be done (`Nowhere`, `BadLimit`, `NumberMissing`, `NoUnit`, `StaleTooSoon`,
 /// `AtWithoutMultiple`, `NoDate`). A scene is the name of its file, where one is named.
 pub enum Job<'a> {
     /// Answers requests with the instrument of the scene, or with the simulator.
@@ -45,7 +45,7 @@ pub enum Job<'a> {
     /// The word for the place is no place: none to serve a simulator on where `serves` is set, else none of an instrument.
     Nowhere { serves: bool },
     /// The text for an option with a limit is neither its word nor a number within its bounds.
-    NoLimit(Limit),
+    BadLimit(Limit),
     /// A number is missing that has a default, or is none of its type. clap fills the first in and refuses the second, so this
     /// doesn't come. It would be reported as a number out of its range.
     NumberMissing,
@@ -273,8 +273,9 @@ fn ask_job<'a>(words: &ArgMatches<'a>) -> Job<'a>
 }
 
 // A station at a place, with its records and its log in files where the words name them; with `--check` only the outline of what
-// it would do. `Nowhere`: the words name no place. `NoLimit`: an option with a limit has neither its word nor a number within its
-// bounds. `NumberMissing`: a number is missing or none of its type, which clap doesn't let happen. `NoUnit`: the word for a unit names none. `StaleTooSoon`, `AtWithoutMultiple` and `NoDate` are as for `station_job_at`.
+// it would do. `Nowhere`: the words name no place. `BadLimit`: an option with a limit has neither its word nor a number within its
+// bounds. `NumberMissing`: a number is missing or none of its type, which clap doesn't let happen. `NoUnit`: the word for a unit names
+// none. `StaleTooSoon`, `AtWithoutMultiple` and `NoDate` are as for `station_job_at`.
 fn station_job<'a>(words: &ArgMatches<'a>) -> Job<'a>
     ensures { IsJobOf (Some (codes "station", words_of words.now)) result }
 {
@@ -282,9 +283,9 @@ fn station_job<'a>(words: &ArgMatches<'a>) -> Job<'a>
         return Job::Nowhere { serves: false };
     };
     if let Some(limit) = missing_limit(words, Limit::Cycles) {
-        return Job::NoLimit(limit);
+        return Job::BadLimit(limit);
     }
-    let Some(station) = station_of(words) else {
+    let Some(station) = station_of(words, Limit::Cycles) else {
         return Job::NumberMissing;
     };
     let Some(unit) = unit_of(words) else {
@@ -361,12 +362,12 @@ fn is_recording_dated(recording: Option<Recording<'_>>) -> bool
     }
 }
 
-// A rehearsal. `NoLimit`, `NumberMissing` and `StaleTooSoon` are as for a station.
+// A rehearsal. `BadLimit`, `NumberMissing` and `StaleTooSoon` are as for a station.
 fn rehearse_job<'a>(words: &ArgMatches<'a>) -> Job<'a>
     ensures { IsJobOf (Some (codes "rehearse", words_of words.now)) result }
 {
     if let Some(limit) = missing_limit(words, Limit::NightCycles) {
-        return Job::NoLimit(limit);
+        return Job::BadLimit(limit);
     }
     let Some(rehearsal) = rehearsal_of(words) else {
         return Job::NumberMissing;

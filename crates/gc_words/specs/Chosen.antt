@@ -10,7 +10,7 @@ use Rattle.gc_words.specs.Words.{Words, text_in, has_flag, GivesNumber, HasNumbe
 use Rattle.gc_words.specs.declared.choice.Watch.{Watch}
 use Rattle.gc_words.specs.declared.choice.Watch.TheVariants as watch
 use Rattle.gc_words.specs.declared.limit.Limit.{Limit}
-use Rattle.gc_words.specs.declared.limit.Limit.TheVariants.{Cycles, NightCycles, Retries, Stale}
+use Rattle.gc_words.specs.declared.limit.Limit.TheVariants.{NightCycles, Retries, Stale}
 use Rattle.gc_words.specs.declared.rehearsal.Rehearsal.{Rehearsal}
 use Rattle.gc_words.specs.declared.settings.Settings.{Settings}
 use Rattle.gc_words.specs.declared.site.LogPlace.{LogPlace}
@@ -42,13 +42,14 @@ watch_for silent = if silent then watch.Nobody else watch.Lines
 abbrev pub form_for : (json columns csv : Bool) → Form
 form_for json columns csv = if json then form.Json else if columns then form.Columns else if csv then form.Csv else form.Lines
 
--- the words choose these settings of a station: each option gives the value of its own name, in its unit, and the run hasn't begun
-pub record IsChosen (words : Words) (station : Settings) : Type 0 where
+-- the words choose these settings of a station: each option gives the value of its own name, in its unit, and the run hasn't begun. The limit
+-- for cycles is `of_cycles`: that of `station`, or of a night
+pub record IsChosen (of_cycles : Limit) (words : Words) (station : Settings) : Type 0 where
   pub width : GivesNumber words (codes "width") station.choice.width
   pub deadline : GivesNumber words (codes "deadline") station.choice.deadline
   pub unchained : station.choice.chained ≡ not (has_flag words (codes "unchained"))
   pub every : GivesSeconds words (codes "every") station.choice.every
-  pub cycles : GivesLimit words Cycles station.choice.cycles
+  pub cycles : GivesLimit words of_cycles station.choice.cycles
   pub quiet : GivesNumber words (codes "settle") station.choice.quiet
   pub retries : GivesLimit words Retries station.choice.retries
   pub stale : GivesLimitSeconds words Stale station.choice.stale
@@ -99,8 +100,8 @@ IsRecording words None = text_in words (codes "append") ≡ None
 IsRecording words (Some recording) =
     (text_in words (codes "append") ≡ Some recording.path.now) × (recording.sync ≡ has_flag words (codes "fsync"))
 
--- how many cycles a night has: the number that was chosen, or for 0, which stands for no limit, as many as are due in a day, one each
--- `every` milliseconds
+-- how many cycles a night has: the number that was chosen, or for 0, for which the word stands, one for each whole period of `every`
+-- milliseconds in a day
 abbrev pub cycles_a_night : (number every : ℕ) → ℕ
 cycles_a_night number every = if nat_eq number 0 then (if nat_eq every 0 then 0 else 86400000 / every) else number
 
@@ -117,7 +118,7 @@ pub record IsRehearsal (words : Words) (rehearsal : Rehearsal) : Type 0 where
   pub nights : GivesNumber words (codes "nights") rehearsal.nights
   pub cycles : GivesNightCycles words rehearsal.station.choice.every rehearsal.cycles
   pub seed : GivesNumber words (codes "seed") rehearsal.seed
-  pub station : IsChosen words rehearsal.station
+  pub station : IsChosen NightCycles words rehearsal.station
 
 -- each number that a rehearsal needs, apart from the limits, is given, and fits its type
 pub record HasRehearsalNumbers (words : Words) : Type 0 where

@@ -1,4 +1,4 @@
--- The options that have a limit, or a word for none: this project's own.
+-- The options whose text is a number or a word: this project's own.
 use Rattle.std.specs.Prelude.{◌≡◌, ◌⊎◌, ℕ, ◌≤◌, ◌^◌, ◌-◌, List, Option, Some, codes, IfSome, IsSome}
 use Rattle.std.specs.Str.Parse.{IsNumeral, digits_value, without_leading_plus}
 use Rattle.gc_words.specs.Words.{Words, text_in}
@@ -12,14 +12,14 @@ limit_name NightCycles = codes "cycles"
 limit_name Retries = codes "retries"
 limit_name Stale = codes "stale"
 
--- the word that says that there is no limit
+-- the word in place of a number: that there is no limit, or of a night that it has as many cycles as a day has periods
 abbrev pub limit_word : Limit → List ℕ
 limit_word Cycles = codes "unlimited"
-limit_word NightCycles = codes "unlimited"
+limit_word NightCycles = codes "day"
 limit_word Retries = codes "always"
 limit_word Stale = codes "never"
 
--- what that word stands for: where something is counted to its end, the greatest number of its type
+-- what that word stands for: where something is counted to its end, the greatest number of its type; 0 where that is looked for
 abbrev pub limitless : Limit → ℕ
 limitless Cycles = 2 ^ 64 - 1
 limitless NightCycles = 0
@@ -35,10 +35,10 @@ most_of Stale = 31536000
 
 -- why a command line is refused that gives the option another text
 abbrev pub limit_refusal : Limit → List ℕ
-limit_refusal Cycles = codes "--cycles is unlimited or a number from 1 to 18446744073709551615"
-limit_refusal NightCycles = codes "--cycles is unlimited or a number from 1 to 86400"
-limit_refusal Retries = codes "--retries is always or a number from 1 to 4294967295"
-limit_refusal Stale = codes "--stale is never or a number of seconds from 1 to 31536000"
+limit_refusal Cycles = codes "--cycles takes 'unlimited' or a number from 1 to 18446744073709551615"
+limit_refusal NightCycles = codes "--cycles takes 'day' or a number from 1 to 86400"
+limit_refusal Retries = codes "--retries takes 'always' or a number from 1 to 4294967295"
+limit_refusal Stale = codes "--stale takes 'never' or a number of seconds from 1 to 31536000"
 
 -- the text is a decimal numeral of `number`, which is from 1 to `most`
 pub record IsCounted (most : ℕ) (text : List ℕ) (number : ℕ) : Type 0 where
@@ -47,7 +47,7 @@ pub record IsCounted (most : ℕ) (text : List ℕ) (number : ℕ) : Type 0 wher
   pub some : 1 ≤ number
   pub bound : number ≤ most
 
--- the text says `number` for this option: it is the word for no limit, which stands for that, or a numeral of it
+-- the text says `number` for this option: it is the option's word, which stands for that, or a numeral of it
 abbrev pub SaysLimit : Limit → (text : List ℕ) → (number : ℕ) → Type 0
 SaysLimit limit text number = ((text ≡ limit_word limit) × (number ≡ limitless limit)) ⊎ IsCounted (most_of limit) text number
 

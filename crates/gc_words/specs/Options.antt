@@ -72,7 +72,7 @@ abbrev pub rehearse_rules : List Rule
 rehearse_rules =
     number (codes "nights") 1 36525 (codes "1" ∷ [])
     ∷ number (codes "every") 1 86400 (codes "300" ∷ [])
-    ∷ limited (codes "cycles") (codes "unlimited")
+    ∷ limited (codes "cycles") (codes "day")
     ∷ path (codes "scene")
     ∷ path (codes "line")
     ∷ number (codes "seed") 0 (2 ^ 64 - 1) (codes "0" ∷ [])

@@ -3,7 +3,7 @@
 ghost use Rattle.std.specs.Prelude.{◌≡◌, ◌^◌, ◌-◌, ◌||◌, codes, is_some, IfOk, IfSome, IsSome};
 ghost use Rattle.gc_words.specs.Chosen.{GivesLimitSeconds, GivesSeconds, HasNumbers, IsChosen, form_for};
 ghost use Rattle.gc_words.specs.Limits.{HasLimit, HasLimits, ReadsLimit};
-ghost use Rattle.gc_words.specs.declared.limit.Limit.TheVariants.{Cycles, Retries, Stale};
+ghost use Rattle.gc_words.specs.declared.limit.Limit.TheVariants.{Retries, Stale};
 ghost use Rattle.gc_words.specs.Stations.{is_at_without_multiple, is_stale_too_soon, watch_shown};
 ghost use Rattle.gc_words.specs.Options.{station_rules};
 ghost use Rattle.gc_words.specs.Tables.{HasArguments};
@@ -204,10 +204,11 @@ impl Choice {
 
 /// The settings of a station that the options ask for, without the paths of files, and for a run that hasn't begun. A flag or a
 /// text that the subcommand doesn't have counts as not given. `None`: a number is missing, or doesn't fit its type, which in fact clap
-/// doesn't let happen; or a limit is missing, or isn't within its bounds (`missing_limit` says which).
-pub fn station_of(words: &ArgMatches) -> Option<Settings>
-    ensures chosen { IfSome result (λ station. IsChosen (words_of words.now) station) }
-    ensures only { HasNumbers (words_of words.now) → HasLimits (words_of words.now) Cycles → IsSome result }
+/// doesn't let happen; or a limit is missing, or isn't within its bounds (`missing_limit` says which). The limit for cycles is `cycles`:
+/// `Cycles`, or `NightCycles` for a rehearsal.
+pub fn station_of(words: &ArgMatches, cycles: Limit) -> Option<Settings>
+    ensures chosen { IfSome result (λ station. IsChosen cycles (words_of words.now) station) }
+    ensures only { HasNumbers (words_of words.now) → HasLimits (words_of words.now) cycles → IsSome result }
 {
     Some(Settings {
         layout: Layout {
@@ -220,7 +221,7 @@ pub fn station_of(words: &ArgMatches) -> Option<Settings>
             deadline: u64_in(words, "deadline")?,
             chained: !has_flag(words, "unchained"),
             every: seconds_in(words, "every")?,
-            cycles: limit_in(words, Limit::Cycles)?,
+            cycles: limit_in(words, cycles)?,
             quiet: u64_in(words, "settle")?,
             retries: retries_in(words)?,
             stale: stale_in(words)?,

@@ -1,4 +1,4 @@
-//! The options that have a limit: a number from 1 on, or the word for none. 0 says neither.
+//! The options that have a limit: a number from 1 on, or a word in its place. 0 is neither.
 
 ghost use Rattle.std.specs.Prelude.{◌≡◌, ℕ, IfSome, IsSome, None};
 ghost use Rattle.gc_words.specs.Limits.{HasLimits, LacksLimit, ReadsLimit, SaysLimit, limit_name, limit_refusal, limit_word, limitless, most_of};
@@ -32,12 +32,13 @@ impl Limit {
         }
     }
 
-    // The word that says that there is no limit.
+    // The word in place of a number: that there is no limit, or of a night that it has as many cycles as a day has periods.
     fn word(self) -> &'static str
         ensures { result.now ≡ limit_word self }
     {
         match self {
-            Limit::Cycles | Limit::NightCycles => "unlimited",
+            Limit::Cycles => "unlimited",
+            Limit::NightCycles => "day",
             Limit::Retries => "always",
             Limit::Stale => "never",
         }
@@ -71,14 +72,15 @@ impl Limit {
         ensures { result.now ≡ limit_refusal self }
     {
         match self {
-            Limit::Cycles => "--cycles is unlimited or a number from 1 to 18446744073709551615",
-            Limit::NightCycles => "--cycles is unlimited or a number from 1 to 86400",
-            Limit::Retries => "--retries is always or a number from 1 to 4294967295",
-            Limit::Stale => "--stale is never or a number of seconds from 1 to 31536000",
+            Limit::Cycles =>
+                "--cycles takes 'unlimited' or a number from 1 to 18446744073709551615",
+            Limit::NightCycles => "--cycles takes 'day' or a number from 1 to 86400",
+            Limit::Retries => "--retries takes 'always' or a number from 1 to 4294967295",
+            Limit::Stale => "--stale takes 'never' or a number of seconds from 1 to 31536000",
         }
     }
 
-    // The number that a text says, or that the word for no limit stands for. `None`: the text is neither.
+    // The number that a text says, or that the option's word stands for. `None`: the text is neither.
     fn said_by(self, text: &str) -> Option<u64>
         ensures found { IfSome result (λ number. SaysLimit self text.now number) }
         ensures only { (number : ℕ) → SaysLimit self text.now number → IsSome result }

@@ -13,7 +13,7 @@ use crate::arguments::{Argument, FLAG, SCENE, Takes, command_of};
 use crate::choice::station_of;
 use crate::given::{text_in, u64_in};
 use crate::help::REHEARSAL;
-use crate::limit::{Limit, limit_in};
+use crate::limit::Limit;
 use crate::settings::Settings;
 use crate::shared::{COLUMNS, CSV, DEADLINE, JSON, RETRIES, SETTLE, STALE, UNCHAINED, WIDTH};
 use clap::{ArgMatches, Command};
@@ -44,8 +44,8 @@ const ARGUMENTS: &[Argument<'static>] = &[
         name: "cycles",
         takes: Takes::Text,
         value_name: &["N"],
-        default: &["unlimited"],
-        help: "Has N cycles a night, 1 to 86400; `unlimited`: as many as are due in a day",
+        default: &["day"],
+        help: "Has N cycles a night, 1 to 86400; `day`: one for each whole period in a day",
         ..FLAG
     },
     SCENE,
@@ -105,18 +105,18 @@ pub fn rehearsal_of<'a>(words: &ArgMatches<'a>) -> Option<Rehearsal<'a>>
     ensures chosen { IfSome result (λ rehearsal. IsRehearsal (words_of words.now) rehearsal) }
     ensures only { HasRehearsalNumbers (words_of words.now) → HasLimits (words_of words.now) NightCycles → IsSome result }
 {
-    let station = station_of(words)?;
+    let station = station_of(words, Limit::NightCycles)?;
     Some(Rehearsal {
         scene: text_in(words, "scene"),
         line: text_in(words, "line"),
         nights: u64_in(words, "nights")?,
-        cycles: cycles_of(limit_in(words, Limit::NightCycles)?, station.choice.every),
+        cycles: cycles_of(station.choice.cycles, station.choice.every),
         seed: u64_in(words, "seed")?,
         station,
     })
 }
 
-// How many cycles a night has: the chosen number, or, for 0, which stands for no limit, as many as are due in a day.
+// How many cycles a night has: the chosen number, or, for 0, for which the word stands, one for each whole period in a day.
 fn cycles_of(chosen: u64, every: u64) -> u64
     ensures { result ≡ cycles_a_night chosen every }
 {

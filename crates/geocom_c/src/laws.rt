@@ -43,11 +43,12 @@ pub fn simulators_calls_are_safe()
 
 /// Any calls of the nine functions `geocom_session_` on a state, from any bytes on: since the last `geocom_session_init` that returned 0 they
 /// are calls on a session of gc_session, those that their arguments ask for; and so are calls on a state that stands for a session, as one
-/// that was saved does. A call is refused only for want of room, for another want or width, or for a request that doesn't read, and is nothing
-/// to the session then. The state stands for the session after those calls; the records that the functions hand out are those of what the
-/// session settles, in order, and no others; what they have their caller write is what the session has written; and the requests for which
-/// they return 0 are those that the session takes. So what is proved of any calls on a session is proved of any calls of C, and each call
-/// tells what its contract says of the session at that point.
+/// that was saved does. A call that is refused for want of room, for another want or width, or for a request that doesn't read is nothing to
+/// the session, and no other reason makes it so: a request out of turn, or with the session's own target, is a call by which the session takes
+/// nothing. The state stands for the session after those calls; the records that the functions hand out are those of what the session
+/// settles, in order, and no others; what they have their caller write is what the session has written; and the requests for which they
+/// return 0 are those that the session takes. So what is proved of any calls on a session is proved of any calls of C, and each call tells
+/// what its contract says of the session at that point.
 pub fn session_calls_are_calls()
     ensures { SessionCallsAreCalls }
 {}

@@ -31,10 +31,10 @@ returns-in-Nowhere-clause-done g c =
     rw (c.in-Nowhere.is, c.said_of.ensures.said) (IfOk-weaker c.refuse_place-ended.result _ _
     (λ status refuses. (refuses, c.said_of.ensures.none)) c.refuse_place-ended.ensures.told)
 
-pub returns-in-NoLimit-clause-done : goal.returns-in-NoLimit-clause-done
-returns-in-NoLimit-clause-done g c =
-    rw (c.in-NoLimit.is, c.said_of-in-NoLimit.ensures.said) (IfOk-weaker c.refuse_limit-ended.result _ _
-    (λ status refuses. (refuses, c.said_of-in-NoLimit.ensures.none)) c.refuse_limit-ended.ensures)
+pub returns-in-BadLimit-clause-done : goal.returns-in-BadLimit-clause-done
+returns-in-BadLimit-clause-done g c =
+    rw (c.in-BadLimit.is, c.said_of-in-BadLimit.ensures.said) (IfOk-weaker c.refuse_limit-ended.result _ _
+    (λ status refuses. (refuses, c.said_of-in-BadLimit.ensures.none)) c.refuse_limit-ended.ensures)
 
 pub returns-in-NumberMissing-clause-done : goal.returns-in-NumberMissing-clause-done
 returns-in-NumberMissing-clause-done g c =
