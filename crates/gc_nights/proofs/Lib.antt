@@ -1,3 +1,4 @@
+mod Asked
 mod Explaining
 mod Matching
 mod Running

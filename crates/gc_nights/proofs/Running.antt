@@ -2,11 +2,10 @@
 use Rattle.std.proofs.Common.{◌≡◌, ℕ, Bool, true, false, List, [], ◌∷◌, ◌++◌, Option, None, Some, Result, Ok, Err, inl, inr, refl, sym, ap, subst, ◌∙◌, append_assoc, append-nil}
 use Rattle.std.specs.List.{AllByRecursion}
 use Rattle.std.specs.Prelude.{IfSome}
-use Rattle.gc_station.proofs.Lists.{all_append, all_on}
+use Rattle.gc_station.proofs.Lists.{all_append}
 use Rattle.gc_links.specs.Acts.{Act, Closed}
 use Rattle.gc_rehearsal.specs.Carrying.{IsOfLine, CarriesNothing}
 use Rattle.gc_rehearsal.specs.Inside.{told}
-use Rattle.gc_rehearsed.specs.Rehearsals.{RehearsedStation, RunsAndStops, AreAskable, RehearsalsInARowAreFaithful, acts_of_all}
 use Rattle.gc_station.specs.Model.{Runs, opening}
 use Rattle.gc_station.specs.Records.{Record}
 use Rattle.gc_station.specs.Runs.{Ran}
@@ -16,7 +15,8 @@ use Rattle.gc_station.specs.declared.tally.Tally.{Tally}
 use Rattle.gc_texts.specs.declared.fault.RunFault.{RunFault}
 use Rattle.gc_texts.specs.declared.fault.RunFault.TheVariants.{Output}
 use Rattle.gc_texts.specs.declared.tasks.Task.{Task}
-use Rattle.gc_nights.specs.Runs.{IsRunOf, AreRuns, AddRuns, AreFaithfulRuns, AreFaithfulUnlessAltered}
+use Rattle.gc_nights.specs.Askable.{AreAskable}
+use Rattle.gc_nights.specs.Runs.{RehearsedStation, IsRunOf, AreRuns, AddRuns, AreRunsUnlessAltered, acts_of_all}
 
 -- where the acts before and after are the same, they are those of no run at all (`AddRuns`)
 pub no_runs : (commands : List Task) (acts : Option (List Act)) → AddRuns commands acts acts
@@ -73,18 +73,10 @@ module _ (plan : Plan) (commands : List Task) (scope : Scope) (text : Record →
   run_is_one (Some old) None end r = absurd (stays_seen old end r)
   run_is_one (Some old) (Some new) end r = one_run_seen old new end r
 
--- runs that made all acts of a rehearsal's line, from the first on, are as `AreFaithfulRuns` says, by the law on rehearsals in a row
-pub faithful_runs : (commands : List Task) (acts : List Act) → RehearsalsInARowAreFaithful → IsOfLine acts → AreRuns commands [] acts → AreFaithfulRuns commands acts
-faithful_runs commands acts law line runs = record {
-  runs = runs;
-  line = line;
-  faithful = λ lines happened few. law runs.stations lines happened (all_on (IsRunOf commands) RunsAndStops runs.stations (λ x run. run.1) runs.each) few;
-}
-
--- runs over the link of a rehearsal, new before them, are as `AreFaithfulUnlessAltered` says, by that law
-pub faithful_unless_altered : (alters : Bool) (commands : List Task) (old new : Option (List Act)) → RehearsalsInARowAreFaithful
-    → IfSome new IsOfLine → old ≡ told alters [] → AddRuns commands old new → AreFaithfulUnlessAltered alters commands new
-faithful_unless_altered true commands old new law line is runs sure = let wrong : ◌≡◌ {A = Bool} true false = sure in cc
-faithful_unless_altered false commands old None law line is runs sure = absurd (subst (λ x. AddRuns commands x None) is runs)
-faithful_unless_altered false commands old (Some acts) law line is runs sure =
-    (acts, refl, faithful_runs commands acts law line (subst (λ x. AddRuns commands x (Some acts)) is runs))
+-- runs over the link of a rehearsal, new before them, are as `AreRunsUnlessAltered` says
+pub runs_unless_altered : (alters : Bool) (commands : List Task) (old new : Option (List Act)) → IfSome new IsOfLine → old ≡ told alters [] → AddRuns commands old new
+    → AreRunsUnlessAltered alters commands new
+runs_unless_altered true commands old new line is runs sure = let wrong : ◌≡◌ {A = Bool} true false = sure in cc
+runs_unless_altered false commands old None line is runs sure = absurd (subst (λ x. AddRuns commands x None) is runs)
+runs_unless_altered false commands old (Some acts) line is runs sure =
+    (acts, refl, record { runs = subst (λ x. AddRuns commands x (Some acts)) is runs; line = line })

@@ -1,3 +1,4 @@
+pub mod Askable
 pub mod Claims
 pub mod Explained
 pub mod Runs

@@ -2,6 +2,7 @@
 //! reply came is compared with the truth.
 #![tactic(auto)]
 
+mod askable;
 mod book;
 mod claim;
 mod deadlines;
@@ -14,5 +15,6 @@ mod report;
 mod seeded;
 mod summary;
 
+pub use askable::commands_are_askable;
 pub use claim::{Claim, first_false};
 pub use rehearsal::rehearse;

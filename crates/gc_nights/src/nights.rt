@@ -3,9 +3,10 @@
 ghost use Rattle.std.specs.Prelude.{[], ◌≡◌, false};
 ghost use Rattle.gc_nights.specs.Claims.{Compares, IsIncomplete};
 ghost use Rattle.gc_nights.specs.Explained.{Explains};
-ghost use Rattle.gc_nights.specs.Runs.{AddRuns, AreFaithfulUnlessAltered};
+ghost use Rattle.gc_nights.specs.Runs.{AddRuns, AreRunsUnlessAltered};
 ghost use Rattle.gc_rehearsal.specs.Inside.{told};
 
+use crate::askable::commands_are_askable;
 use crate::book::{Interruption, RunBook, RunLimits};
 use crate::claim::first_false;
 use crate::explained::{FalseRows, explain};
@@ -16,8 +17,6 @@ use gc_fates::{Draws, among};
 use gc_lines::Sink;
 use gc_measuring::plan_of;
 use gc_rehearsal::Rehearsed;
-use gc_rehearsed::commands_are_askable;
-use gc_rehearsed::laws::rehearsals_in_a_row_are_faithful;
 use gc_station::{Kept, Plan, Watches, run_station};
 use gc_texts::{RunFault, Task};
 use gc_words::{Choice, DAY};
@@ -81,22 +80,20 @@ pub(crate) struct Rehearsing<K> {
 
 impl<K: Sink> Rehearsing<K> {
     /// Rehearses all nights over a link that is new. However they end, the acts that the link recorded are those of a station, run after
-    /// run, and of a line that keeps order. As long as fewer than six runs in a row ended while they synchronized, each answer that
-    /// they recorded was made, on that line, on executing the very request of its cycle and place, whatever the line lost, repeated,
-    /// held or closed. A run isn't one of those six if no null procedure of its last synchronization was answered. Nothing of this is
-    /// said of a line that alters bytes, or whose instrument sends replies late. Runs that end before they are done are counted in the
-    /// book's summary, but not a run at which the rehearsal fails.
+    /// run, and of a line that keeps order, whatever it lost, repeated, held or closed. So each answer that these runs recorded was made
+    /// on executing its own request (`gc_rehearsed::laws::nights_are_faithful`). Nothing of this is said of a line that alters bytes, or
+    /// whose instrument sends replies late. Runs that end before they are done are counted in the book's summary, but not a run at which
+    /// the rehearsal fails.
     ///
     /// It fails with `Untrue` after the first run with a false row, with the fault `Memory` if memory was refused for a claim, a
     /// count or a truth, and with the fault `Output` if a row couldn't be written. The nights that are left aren't rehearsed then. A
     /// line for which memory is refused is lost, and that is no failure.
     pub(crate) fn run_nights(&mut self, programme: Programme<'_>) -> Result<(), Halt>
         requires { self.old.link.carried ≡ told programme.alters [] }
-        ensures { AreFaithfulUnlessAltered programme.entry.alters programme.entry.tasks.now self.new.link.carried }
+        ensures { AreRunsUnlessAltered programme.entry.alters programme.entry.tasks.now self.new.link.carried }
     {
         let end = self.run_each_night(programme);
         self.link.acts_are_of_line();
-        rehearsals_in_a_row_are_faithful();
         end
     }
 

@@ -1,4 +1,3 @@
-mod Asked
 pub mod Steps
 pub mod Sides
 pub mod Courses
@@ -6,3 +5,4 @@ pub mod Acted
 pub mod Rehearsed
 pub mod InARow
 mod OnLine
+mod Nights

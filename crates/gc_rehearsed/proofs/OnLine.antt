@@ -22,7 +22,8 @@ use Rattle.gc_field.specs.Shown.{Stretch, stretches}
 use Rattle.gc_field.specs.World.{Up_deliver}
 use Rattle.gc_rehearsed.specs.Exchanges.{Exchange, exchange_in, exchange_of_front, exchange_of_move, exchanges_if_begun, exchanges_of_all, exchanges_of_moves, exchanges_of_runs, exchanges_of_turns}
 use Rattle.gc_rehearsed.specs.OnLine.{AllAreOnLine, AnswersAreOnLine, IsOwnOnLine}
-use Rattle.gc_rehearsed.specs.Rehearsals.{RehearsedStation, as_program, programs}
+use Rattle.gc_nights.specs.Runs.{RehearsedStation}
+use Rattle.gc_rehearsed.specs.Rehearsals.{as_program, programs}
 use Rattle.gc_rehearsed.proofs.Courses.{after_move, after_moves}
 use Rattle.gc_rehearsed.proofs.Sides.{SceneWorld}
 

@@ -1,3 +1,4 @@
 pub mod Exchanges
+pub mod Nights
 pub mod OnLine
 pub mod Rehearsals

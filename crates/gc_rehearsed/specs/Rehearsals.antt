@@ -2,42 +2,19 @@
 -- scene at its end; nothing is assumed of which lines it loses, repeats and holds.
 use Rattle.std.specs.Prelude.{◌≡◌, ℕ, ◌≤◌, List, [], ◌∷◌, ◌++◌, length}
 use Rattle.std.specs.List.{AllByRecursion}
-use Rattle.gc_catalogue.specs.Asked.{IsAskedFitting}
-use Rattle.gc_links.specs.Acts.{Act}
 use Rattle.gc_scenes.specs.SceneState.{SceneState}
-use Rattle.gc_texts.specs.Tasks.{call_at}
-use Rattle.gc_texts.specs.declared.tasks.Task.{Task}
-use Rattle.gc_texts.specs.declared.occasion.Occasion.{Occasion}
-use Rattle.gc_station.specs.declared.plan.Plan.{Plan}
 use Rattle.gc_station.specs.Model.{Runs, opening}
 use Rattle.gc_station.specs.Runs.{state_after}
-use Rattle.gc_station.specs.Scopes.{Scope}
 use Rattle.gc_field.specs.Begin.{none_under_way}
 use Rattle.gc_field.specs.Beginnings.{Run, killed_unless_begun}
 use Rattle.gc_field.specs.InARow.{AreFaithful, AreInARow}
 use Rattle.gc_field.specs.Runs.{IsInField, IsRunFaithful, Program}
 use Rattle.gc_field.specs.SceneField.{KeptReplyReads, scene_ends, scene_kept}
-use Rattle.gc_rehearsal.specs.Carrying.{HasComeTo, CarriesNothing, Lines}
+use Rattle.gc_rehearsal.specs.Carrying.{HasComeTo, Lines}
+use Rattle.gc_nights.specs.Askable.{AreAskable}
+use Rattle.gc_nights.specs.Runs.{RehearsedStation, RunsAndStops, acts_of_all}
 use Rattle.gc_rehearsed.specs.Exchanges.{Exchange, exchanges_of, exchanges_of_all, exchanges_of_runs}
 use Rattle.gc_rehearsed.specs.OnLine.{AllAreOnLine, AnswersAreOnLine}
-
--- what a command asks is allowed, whenever it is sent: a call's numbers lie in their types, and a procedure that isn't in the
--- table may be asked with its parameters (`IsAskedFitting`)
-abbrev pub IsAskable : Task → Type 0
-IsAskable task = (occasion : Occasion) → IsAskedFitting (call_at task occasion)
-
--- each of these commands is `IsAskable`
-abbrev pub AreAskable : List Task → Type 0
-AreAskable commands = AllByRecursion IsAskable commands
-
--- a station that ran over a rehearsed line: its plan, its commands, its scope, and the acts of its link while it ran; and the
--- acts after that run and before the next (`after_run`), such as a close after the output failed
-pub record RehearsedStation : Type 0 where
-  pub plan : Plan
-  pub commands : List Task
-  pub scope : Scope
-  pub acts : List Act
-  pub after_run : List Act
 
 -- the run of a station as a program of the field, where `runs` is what happens on the line in each part of the run
 abbrev pub as_program : RehearsedStation → (runs : List (Run SceneState)) → Program SceneState
@@ -72,18 +49,6 @@ RehearsalsAreFaithful =
     → IsRehearsed x lines h
 
 -- Stations one after the other.
-
--- the acts of the link while these stations ran, in order
-abbrev pub acts_of_all : List RehearsedStation → List Act
-acts_of_all [] = []
-acts_of_all (x ∷ xs) = x.acts ++ (x.after_run ++ acts_of_all xs)
-
--- a station's commands are `IsAskable`, its acts are a run of it, and after them nothing was sent whole and nothing came
--- (`CarriesNothing`)
-pub record RunsAndStops (x : RehearsedStation) : Type 0 where
-  pub askable : AreAskable x.commands
-  pub runs : Runs x.plan x.commands (opening x.plan x.scope) x.acts
-  pub quiet : AllByRecursion CarriesNothing x.after_run
 
 -- these stations as programs of the field, with what happens on the line in each of their runs: as many as there are of both
 abbrev pub programs : List RehearsedStation → List (List (Run SceneState)) → List (Program SceneState)

@@ -1,7 +1,7 @@
 use Rattle.std.proofs.Common.{take}
 use Rattle.std.specs.List.{AllByRecursion}
-use Rattle.gc_rehearsed.specs.Rehearsals.{IsAskable}
-use Rattle.gc_rehearsed.proofs.askable.commands_are_askable.Given as goal
+use Rattle.gc_nights.specs.Askable.{IsAskable}
+use Rattle.gc_nights.proofs.askable.commands_are_askable.Given as goal
 
 -- the commands so far can be asked
 abbrev pub invariant-loop-task : goal.invariant-loop-task

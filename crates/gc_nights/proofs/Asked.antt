@@ -8,7 +8,7 @@ use Rattle.gc_texts.specs.Stamps.{date_of, date_time}
 use Rattle.gc_texts.specs.declared.tasks.Task.{Task}
 use Rattle.gc_texts.proofs.LogStamps.{date_within}
 use Rattle.gc_texts.proofs.TaskMoments.{at_any_moment}
-use Rattle.gc_rehearsed.specs.Rehearsals.{IsAskable}
+use Rattle.gc_nights.specs.Askable.{IsAskable}
 
 -- the numbers of the call that sets the date to a moment lie in their types
 date_fits : (utc : ℕ) → IsAskedFitting (Table (SetDate (date_time utc)))

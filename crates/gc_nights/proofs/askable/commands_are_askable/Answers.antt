@@ -2,8 +2,8 @@ use Rattle.std.proofs.Common.{rules, ◌≡◌, get_or, subst}
 use Rattle.std.proofs.lemmas.List.{take_all}
 use Rattle.std.specs.List.{AllByRecursion}
 use Rattle.gc_values.proofs.Every.{every_more}
-use Rattle.gc_rehearsed.specs.Rehearsals.{IsAskable}
-use Rattle.gc_rehearsed.proofs.askable.commands_are_askable.Goals as goal
+use Rattle.gc_nights.specs.Askable.{IsAskable}
+use Rattle.gc_nights.proofs.askable.commands_are_askable.Goals as goal
 
 pub loop-task-preserved : goal.loop-task-preserved
 loop-task-preserved c =

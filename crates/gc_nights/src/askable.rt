@@ -1,7 +1,7 @@
 //! That what a station's commands ask is allowed, as Rust's types say of every `Task`.
 //! The functions here serve proofs alone: their contracts say this for the laws.
 
-ghost use Rattle.gc_rehearsed.specs.Rehearsals.{AreAskable, IsAskable};
+ghost use Rattle.gc_nights.specs.Askable.{AreAskable, IsAskable};
 
 use gc_catalogue::encode_asked;
 use gc_texts::Task;
