@@ -7,7 +7,7 @@ ghost use Rattle.gc_field.specs.SceneField.{SceneIsAnInstrument};
 /// each request with that request's id, in each state in which what it keeps reads as a reply with its id (`KeptReplyReads`).
 /// After a call of the table it keeps its reply to that call, or none; after another request it may also still keep what it
 /// kept before. So the proofs on answers over any instrument hold over it, too, as in
-/// `gc_rehearsed::laws::rehearsals_are_faithful`.
+/// `gc_promise::laws::rehearsals_are_faithful`.
 pub fn scene_is_an_instrument()
     ensures { SceneIsAnInstrument }
 {}

@@ -81,7 +81,7 @@ pub(crate) struct Rehearsing<K> {
 impl<K: Sink> Rehearsing<K> {
     /// Rehearses all nights over a link that is new. However they end, the acts that the link recorded are those of a station, run after
     /// run, and of a line that keeps order, whatever it lost, repeated, held or closed. So each answer that these runs recorded was made
-    /// on executing its own request (`gc_rehearsed::laws::nights_are_faithful`). Nothing of this is said of a line that alters bytes, or
+    /// on executing its own request (`gc_promise::laws::nights_are_faithful`). Nothing of this is said of a line that alters bytes, or
     /// whose instrument sends replies late. Runs that end before they are done are counted in the book's summary, but not a run at which
     /// the rehearsal fails.
     ///

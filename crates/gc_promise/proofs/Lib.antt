@@ -30,3 +30,11 @@ mod ProgramWords
 mod ProgramRuns
 mod ProgramIdle
 mod ProgramRows
+mod Steps
+mod Sides
+mod Courses
+mod Acted
+mod Rehearsed
+mod InARow
+mod OnLine
+mod Nights

@@ -11,3 +11,7 @@ pub mod SoFar
 pub mod LastingSoFar
 pub mod RunMoments
 pub mod Programs
+pub mod Exchanges
+pub mod OnLine
+pub mod Rehearsals
+pub mod Nights

@@ -21,14 +21,14 @@ use Rattle.gc_field.proofs.InARow.{in_a_row, run}
 use Rattle.gc_field.proofs.SceneField.{scene_is_an_instrument}
 use Rattle.gc_field.proofs.BeginJoin.{word_small}
 use Rattle.gc_rehearsal.specs.Carrying.{Lines, Happening, Acts, ActLeads, CarriesNothing, LeadAll, acts_of}
-use Rattle.gc_rehearsed.specs.Exchanges.{Exchange, exchange_at, exchanges_of, exchanges_of_all, exchanges_of_runs}
+use Rattle.gc_promise.specs.Exchanges.{Exchange, exchange_at, exchanges_of, exchanges_of_all, exchanges_of_runs}
 use Rattle.gc_nights.specs.Runs.{RunsAndStops, RehearsedStation, acts_of_all}
-use Rattle.gc_rehearsed.specs.Rehearsals.{FewEndUnbegun, RehearsalsInARowAreFaithful, exchanges_happened, left_at_its_end, none_in_flight, programs}
-use Rattle.gc_rehearsed.proofs.Courses.{BeginIsAt, FromBegin, Sequel, after_exchanges, begins_in_flight, few_from, killed_more, sequel}
-use Rattle.gc_rehearsed.proofs.Rehearsed.{OnBegin, begin_happens, first_and_others, first_part, none_kept, other_parts, shows_the_run}
+use Rattle.gc_promise.specs.Rehearsals.{FewEndUnbegun, RehearsalsInARowAreFaithful, exchanges_happened, left_at_its_end, none_in_flight, programs}
+use Rattle.gc_promise.proofs.Courses.{BeginIsAt, FromBegin, Sequel, after_exchanges, begins_in_flight, few_from, killed_more, sequel}
+use Rattle.gc_promise.proofs.Rehearsed.{OnBegin, begin_happens, first_and_others, first_part, none_kept, other_parts, shows_the_run}
 use Rattle.gc_station.proofs.PartFronts.{some_parts}
-use Rattle.gc_rehearsed.proofs.OnLine.{all_on_line}
-use Rattle.gc_rehearsed.proofs.Steps.{Holds}
+use Rattle.gc_promise.proofs.OnLine.{all_on_line}
+use Rattle.gc_promise.proofs.Steps.{Holds}
 use Rattle.gc_world.proofs.Booked.{Has, has_more}
 use Rattle.gc_field.proofs.BeginWords.{cons_not_nil}
 

@@ -4,8 +4,8 @@ use Rattle.gc_links.specs.Acts.{Act}
 use Rattle.gc_station.proofs.Lists.{all_on}
 use Rattle.gc_texts.specs.declared.tasks.Task.{Task}
 use Rattle.gc_nights.specs.Runs.{AreRunsOnLine, IsRunOf, RunsAndStops}
-use Rattle.gc_rehearsed.specs.Nights.{AreFaithfulRuns, NightsAreFaithful}
-use Rattle.gc_rehearsed.proofs.InARow.{stations_are_faithful}
+use Rattle.gc_promise.specs.Nights.{AreFaithfulRuns, NightsAreFaithful}
+use Rattle.gc_promise.proofs.InARow.{stations_are_faithful}
 
 -- runs on a line that made all of its acts, from the first on, are as `AreFaithfulRuns` says
 faithful_runs : (commands : List Task) (acts : List Act) → AreRunsOnLine commands acts → AreFaithfulRuns commands acts

@@ -37,9 +37,9 @@ use Rattle.gc_field.specs.SceneField.{scene_ends}
 use Rattle.gc_field.specs.Shown.{first_heard, shows}
 use Rattle.gc_field.specs.World.{Numbered, Request, down_delivered, requested, with_settled, without}
 use Rattle.gc_rehearsal.specs.Carrying.{Lines, ActLeads, GiveLeads, IsOneLine, PutLeads, TakesReply}
-use Rattle.gc_rehearsed.proofs.Courses.{BeginIsAt, FromBegin, FromClient, Sequel, WorldIsAt, after_move, move_first, steps_move, steps_turn, turn_first}
-use Rattle.gc_rehearsed.proofs.Sides.{SceneWorld}
-use Rattle.gc_rehearsed.proofs.Steps.{Holds, IsLineOf, Lose_down, Lose_up, under_way, holds_one_less, holds_one_more, without_last, holds_dropped}
+use Rattle.gc_promise.proofs.Courses.{BeginIsAt, FromBegin, FromClient, Sequel, WorldIsAt, after_move, move_first, steps_move, steps_turn, turn_first}
+use Rattle.gc_promise.proofs.Sides.{SceneWorld}
+use Rattle.gc_promise.proofs.Steps.{Holds, IsLineOf, Lose_down, Lose_up, under_way, holds_one_less, holds_one_more, without_last, holds_dropped}
 use Rattle.gc_field.proofs.BeginJoin.{AreSmall, small_left}
 use Rattle.gc_field.proofs.BeginWords.{cons_not_nil}
 use Rattle.gc_instrument.proofs.HeardFrames.{lines_of}

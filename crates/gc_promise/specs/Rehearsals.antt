@@ -13,8 +13,8 @@ use Rattle.gc_field.specs.SceneField.{KeptReplyReads, scene_ends, scene_kept}
 use Rattle.gc_rehearsal.specs.Carrying.{HasComeTo, Lines}
 use Rattle.gc_nights.specs.Askable.{AreAskable}
 use Rattle.gc_nights.specs.Runs.{RehearsedStation, RunsAndStops, acts_of_all}
-use Rattle.gc_rehearsed.specs.Exchanges.{Exchange, exchanges_of, exchanges_of_all, exchanges_of_runs}
-use Rattle.gc_rehearsed.specs.OnLine.{AllAreOnLine, AnswersAreOnLine}
+use Rattle.gc_promise.specs.Exchanges.{Exchange, exchanges_of, exchanges_of_all, exchanges_of_runs}
+use Rattle.gc_promise.specs.OnLine.{AllAreOnLine, AnswersAreOnLine}
 
 -- the run of a station as a program of the field, where `runs` is what happens on the line in each part of the run
 abbrev pub as_program : RehearsedStation → (runs : List (Run SceneState)) → Program SceneState

@@ -15,13 +15,13 @@ use Rattle.gc_field.specs.Begin.{AreTurns, IsTurn, SyncModel, UnderWay, begins, 
 use Rattle.gc_field.specs.Beginnings.{AreFewKilled, ArePossibleIfBegun, AreRuns, Run, after_turns, killed_by, killed_over, killed_unless_begun, left_by_run, left_by_runs, left_if_begun, under_way_on}
 use Rattle.gc_field.specs.Begun.{ids_begun}
 use Rattle.gc_field.specs.Field.{Move, ArePossible, IsPossible, moved, moves, seen}
-use Rattle.gc_rehearsed.specs.Exchanges.{Exchange, exchange_of_move, exchange_of_turn, exchanges_if_begun, exchanges_of_moves, exchanges_of_runs, exchanges_of_turns}
+use Rattle.gc_promise.specs.Exchanges.{Exchange, exchange_of_move, exchange_of_turn, exchanges_if_begun, exchanges_of_moves, exchanges_of_runs, exchanges_of_turns}
 use Rattle.gc_field.specs.SceneField.{KeptReplyReads, scene_ends, scene_kept}
 use Rattle.gc_field.specs.Shown.{AreShownAs, shown, shows}
 use Rattle.gc_field.specs.World.{Numbered}
 use Rattle.gc_rehearsal.specs.Carrying.{Lines}
-use Rattle.gc_rehearsed.proofs.Sides.{SceneWorld, client_move, is_move, is_turn, leaves_turn, turn_answers_none, line_move, move_exchange, move_of, seen_none, shows_none, turn_exchange, turn_of}
-use Rattle.gc_rehearsed.proofs.Steps.{AreSteps, Holds, Step, all_stepped, exchange_of_step, exchanges_of_steps, stepped, under_way}
+use Rattle.gc_promise.proofs.Sides.{SceneWorld, client_move, is_move, is_turn, leaves_turn, turn_answers_none, line_move, move_exchange, move_of, seen_none, shows_none, turn_exchange, turn_of}
+use Rattle.gc_promise.proofs.Steps.{AreSteps, Holds, Step, all_stepped, exchange_of_step, exchanges_of_steps, stepped, under_way}
 use Rattle.gc_field.proofs.InARow.{same_lines, run}
 use Rattle.gc_field.proofs.InTime.{seen_append}
 

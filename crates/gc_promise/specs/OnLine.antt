@@ -20,7 +20,7 @@ use Rattle.gc_field.specs.Runs.{IsItsOwn, Program, program_parts, program_record
 use Rattle.gc_field.specs.SceneField.{KeptReplyReads, scene_ends, scene_kept}
 use Rattle.gc_field.specs.Shown.{Stretch, stretches}
 use Rattle.gc_field.specs.World.{World}
-use Rattle.gc_rehearsed.specs.Exchanges.{Exchange}
+use Rattle.gc_promise.specs.Exchanges.{Exchange}
 
 -- the line that was made on executing this request (`made`) was made so on the rehearsed line: among these exchanges, which are those
 -- that happened there, is the one of that request, in the state in which it was executed, with this line as the reply

@@ -20,12 +20,12 @@ use Rattle.gc_field.specs.Runs.{IsOwnAnswer, Program, program_parts, program_rec
 use Rattle.gc_field.specs.SceneField.{KeptReplyReads, scene_ends, scene_handed, scene_kept}
 use Rattle.gc_field.specs.Shown.{Stretch, stretches}
 use Rattle.gc_field.specs.World.{Up_deliver}
-use Rattle.gc_rehearsed.specs.Exchanges.{Exchange, exchange_in, exchange_of_front, exchange_of_move, exchanges_if_begun, exchanges_of_all, exchanges_of_moves, exchanges_of_runs, exchanges_of_turns}
-use Rattle.gc_rehearsed.specs.OnLine.{AllAreOnLine, AnswersAreOnLine, IsOwnOnLine}
+use Rattle.gc_promise.specs.Exchanges.{Exchange, exchange_in, exchange_of_front, exchange_of_move, exchanges_if_begun, exchanges_of_all, exchanges_of_moves, exchanges_of_runs, exchanges_of_turns}
+use Rattle.gc_promise.specs.OnLine.{AllAreOnLine, AnswersAreOnLine, IsOwnOnLine}
 use Rattle.gc_nights.specs.Runs.{RehearsedStation}
-use Rattle.gc_rehearsed.specs.Rehearsals.{as_program, programs}
-use Rattle.gc_rehearsed.proofs.Courses.{after_move, after_moves}
-use Rattle.gc_rehearsed.proofs.Sides.{SceneWorld}
+use Rattle.gc_promise.specs.Rehearsals.{as_program, programs}
+use Rattle.gc_promise.proofs.Courses.{after_move, after_moves}
+use Rattle.gc_promise.proofs.Sides.{SceneWorld}
 
 -- an element of a list is one of the list with others before it, too
 has_behind : {A : Type 0} (a : A) (xs ys : List A) → Has a ys → Has a (xs ++ ys)

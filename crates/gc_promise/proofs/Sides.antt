@@ -18,8 +18,8 @@ use Rattle.gc_field.specs.SceneField.{KeptReplyReads, scene_ends, scene_handed, 
 use Rattle.gc_field.specs.Shown.{shows}
 use Rattle.gc_field.specs.World as world
 use Rattle.gc_field.specs.World.{Numbered, Request, Wire, World, without, doubled, up_delivered, with_up, with_down}
-use Rattle.gc_rehearsed.specs.Exchanges.{exchange_of_move, exchange_of_turn}
-use Rattle.gc_rehearsed.proofs.Steps.{Step, Reach, Lose_up, Repeat_up, Lose_down, Repeat_down, Start, Change, IsStep, exchange_of_step, under_way, reached, stepped}
+use Rattle.gc_promise.specs.Exchanges.{exchange_of_move, exchange_of_turn}
+use Rattle.gc_promise.proofs.Steps.{Step, Reach, Lose_up, Repeat_up, Lose_down, Repeat_down, Start, Change, IsStep, exchange_of_step, under_way, reached, stepped}
 use Rattle.gc_field.proofs.Shown.{left_reaches}
 
 -- While a station synchronizes.

@@ -15,7 +15,7 @@ use Rattle.gc_field.specs.SceneField.{KeptReplyReads, scene_handed, scene_kept}
 use Rattle.gc_field.specs.World.{Request, without, doubled}
 use Rattle.gc_field.proofs.SceneField.{scene_is_an_instrument}
 use Rattle.gc_rehearsal.specs.Carrying.{Lines, Happening, Acts, Reaches, Restarts, Passes, Repeats_up, Repeats_down, Loses_up, Loses_down, Loses_front, HasReached, IsOneLine, IsSentOrLost, Leads, TakesReply}
-use Rattle.gc_rehearsed.specs.Exchanges.{Exchange, exchange_at, exchange_in, exchange_of_front}
+use Rattle.gc_promise.specs.Exchanges.{Exchange, exchange_at, exchange_in, exchange_of_front}
 use Rattle.gc_lines.proofs.Lists.{all_append}
 use Rattle.gc_values.proofs.Every.{every_behind as all_behind}
 

@@ -1,4 +1,0 @@
-pub mod Exchanges
-pub mod Nights
-pub mod OnLine
-pub mod Rehearsals
