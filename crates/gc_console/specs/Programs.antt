@@ -23,7 +23,7 @@ use Rattle.gc_texts.specs.declared.fault.RunFault.TheVariants.{Memory, Output}
 abbrev pub RefusesJob : (line : List ℕ) → (begun : Opening) → Traces → (status : ℕ) → Type 0
 RefusesJob line begun traces status = Refuses line status begun.told (Some traces.said.bytes)
 
--- what a job without a client did. Of a rehearsal nothing but a bound of its status is said here (`run_nights` of gc_nights says more). Where
+-- what a job without a client did. Of a rehearsal nothing but a bound of its status is said here (`run_nights` of gc_rehearsal says more). Where
 -- words name no place, no unit, a limit or a number that can't be, or a file with a percent sign that begins no part of a date, the job is refused
 abbrev pub DoesWithoutClient : Standard → (begun : Opening) → Job → Traces → (status : ℕ) → Type 0
 DoesWithoutClient standard begun (asked.Exec scene) traces status = EndsFrom (DoesExec scene) begun traces status

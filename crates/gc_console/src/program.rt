@@ -26,7 +26,7 @@ use gc_messages::{
     Followed, Heard, Lossy, Noting, Standard, Streams, Told, refuse, refuse_at, refuse_date,
     refuse_numbers, refuse_place, refuse_stale, refuse_unit, report_end,
 };
-use gc_nights::rehearse;
+use gc_rehearsal::rehearse;
 use gc_subcommands::check::check;
 use gc_subcommands::drill::{Drilling, drill_scene};
 use gc_subcommands::exec::exec_scene;

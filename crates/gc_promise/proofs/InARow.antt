@@ -22,7 +22,7 @@ use Rattle.gc_field.proofs.SceneField.{scene_is_an_instrument}
 use Rattle.gc_field.proofs.BeginJoin.{word_small}
 use Rattle.gc_rehearsal.specs.Carrying.{Lines, Happening, Acts, ActLeads, CarriesNothing, LeadAll, acts_of}
 use Rattle.gc_promise.specs.Exchanges.{Exchange, exchange_at, exchanges_of, exchanges_of_all, exchanges_of_runs}
-use Rattle.gc_nights.specs.Runs.{RunsAndStops, RehearsedStation, acts_of_all}
+use Rattle.gc_rehearsal.specs.Runs.{RunsAndStops, RehearsedStation, acts_of_all}
 use Rattle.gc_promise.specs.Rehearsals.{FewEndUnbegun, RehearsalsInARowAreFaithful, exchanges_happened, left_at_its_end, none_in_flight, programs}
 use Rattle.gc_promise.proofs.Courses.{BeginIsAt, FromBegin, Sequel, after_exchanges, begins_in_flight, few_from, killed_more, sequel}
 use Rattle.gc_promise.proofs.Rehearsed.{OnBegin, begin_happens, first_and_others, first_part, none_kept, other_parts, shows_the_run}

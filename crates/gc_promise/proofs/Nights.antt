@@ -3,7 +3,7 @@ use Rattle.std.proofs.Common.{List, []}
 use Rattle.gc_links.specs.Acts.{Act}
 use Rattle.gc_station.proofs.Lists.{all_on}
 use Rattle.gc_texts.specs.declared.tasks.Task.{Task}
-use Rattle.gc_nights.specs.Runs.{AreRunsOnLine, IsRunOf, RunsAndStops}
+use Rattle.gc_rehearsal.specs.Runs.{AreRunsOnLine, IsRunOf, RunsAndStops}
 use Rattle.gc_promise.specs.Nights.{AreFaithfulRuns, NightsAreFaithful}
 use Rattle.gc_promise.proofs.InARow.{stations_are_faithful}
 

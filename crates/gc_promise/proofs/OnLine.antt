@@ -22,7 +22,7 @@ use Rattle.gc_field.specs.Shown.{Stretch, stretches}
 use Rattle.gc_field.specs.World.{Up_deliver}
 use Rattle.gc_promise.specs.Exchanges.{Exchange, exchange_in, exchange_of_front, exchange_of_move, exchanges_if_begun, exchanges_of_all, exchanges_of_moves, exchanges_of_runs, exchanges_of_turns}
 use Rattle.gc_promise.specs.OnLine.{AllAreOnLine, AnswersAreOnLine, IsOwnOnLine}
-use Rattle.gc_nights.specs.Runs.{RehearsedStation}
+use Rattle.gc_rehearsal.specs.Runs.{RehearsedStation}
 use Rattle.gc_promise.specs.Rehearsals.{as_program, programs}
 use Rattle.gc_promise.proofs.Courses.{after_move, after_moves}
 use Rattle.gc_promise.proofs.Sides.{SceneWorld}

@@ -47,7 +47,7 @@ use Rattle.gc_field.proofs.BeginJoin.{AreSmall, word_small}
 use Rattle.gc_field.proofs.BeginWords.{cons_not_nil}
 use Rattle.gc_rehearsal.specs.Carrying.{Lines, Happening, Acts, ActLeads, Leads, PutLeads, LeadAll, acts_of}
 use Rattle.gc_promise.specs.Exchanges.{Exchange, exchange_at, exchanges_of}
-use Rattle.gc_nights.specs.Askable.{AreAskable, IsAskable}
+use Rattle.gc_rehearsal.specs.Askable.{AreAskable, IsAskable}
 use Rattle.gc_promise.specs.Rehearsals.{RehearsalsAreFaithful, as_program, exchanges_happened, none_in_flight}
 use Rattle.gc_promise.proofs.Acted.{MovesTo, TurnsTo, feed_no_line, left_ids_are_small, moves_gave, moves_moment, moves_none, moves_sends, same_line, turns_act}
 use Rattle.gc_promise.proofs.Courses.{BeginIsAt, FromBegin, FromClient, Sequel, WorldIsAt, after_exchanges, begins_in_flight, begun_from, begun_in_flight, ended_from, ends_client_idly, ends_begin, ends_client, sequel, steps_move, steps_turn}

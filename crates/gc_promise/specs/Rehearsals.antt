@@ -11,8 +11,8 @@ use Rattle.gc_field.specs.InARow.{AreFaithful, AreInARow}
 use Rattle.gc_field.specs.Runs.{IsInField, IsRunFaithful, Program}
 use Rattle.gc_field.specs.SceneField.{KeptReplyReads, scene_ends, scene_kept}
 use Rattle.gc_rehearsal.specs.Carrying.{HasComeTo, Lines}
-use Rattle.gc_nights.specs.Askable.{AreAskable}
-use Rattle.gc_nights.specs.Runs.{RehearsedStation, RunsAndStops, acts_of_all}
+use Rattle.gc_rehearsal.specs.Askable.{AreAskable}
+use Rattle.gc_rehearsal.specs.Runs.{RehearsedStation, RunsAndStops, acts_of_all}
 use Rattle.gc_promise.specs.Exchanges.{Exchange, exchanges_of, exchanges_of_all, exchanges_of_runs}
 use Rattle.gc_promise.specs.OnLine.{AllAreOnLine, AnswersAreOnLine}
 

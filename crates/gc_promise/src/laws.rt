@@ -218,7 +218,7 @@ pub fn programs_are_faithful<
 /// that very line, and in which the station is faithful. So each recorded answer was made on executing the very request of that
 /// cycle and place, on the rehearsed line. Nothing is assumed of what the line loses, repeats, holds or closes, of when the
 /// instrument restarts, of the station's moments or of its plan; of its commands only that what each asks is allowed
-/// (`commands_are_askable` of gc_nights).
+/// (`commands_are_askable` of gc_rehearsal).
 pub fn rehearsals_are_faithful()
     ensures { RehearsalsAreFaithful }
 {}
@@ -232,11 +232,10 @@ pub fn rehearsals_in_a_row_are_faithful()
     ensures { RehearsalsInARowAreFaithful }
 {}
 
-/// The runs of the nights that `rehearse` rehearses are such stations. What `run_nights` of gc_nights says of the link over which they
-/// ran is enough: as long as fewer than six runs in a row ended while they synchronized, each answer that they recorded was made, on
-/// that line, on executing the very request of its cycle and place, whatever the line lost, repeated, held or closed. A run isn't one
-/// of those six if no null procedure of its last synchronization was answered. Nothing of this is said of a line that alters bytes, or
-/// whose instrument sends replies late.
+/// The runs of a rehearsal's nights are faithful, by what `run_nights` of gc_rehearsal says of the link over which they ran: as long as
+/// fewer than six in a row ended while they synchronized, each answer that they recorded was made, on that line, on executing the very
+/// request of its cycle and place, whatever the line lost, repeated, held or closed. A run isn't one of those six if no null procedure of
+/// its last synchronization was answered. Nothing of this is said of a line that alters bytes, or whose instrument sends replies late.
 pub fn nights_are_faithful()
     ensures { NightsAreFaithful }
 {}

@@ -1,4 +1,17 @@
+pub mod Altering
+pub mod Askable
 pub mod Carrying
+pub mod Claims
+pub mod Draws
+pub mod Explained
+pub mod Fates
 pub mod Inside
+pub mod Laws
 pub mod Queues
 pub mod Reading
+pub mod Refusals
+pub mod RuleForms
+pub mod Rules
+pub mod Runs
+pub mod Shares
+pub mod Spaced

@@ -7,10 +7,10 @@ ghost use Rattle.gc_rehearsal.specs.Carrying.{IsOfLine, CarriesNothing};
 ghost use Rattle.gc_rehearsal.specs.Inside.{told};
 ghost use Rattle.gc_rehearsal.specs.Queues.{MaySend};
 
-use crate::altering::{Receivers, Sent, receive};
 use crate::flight::{
     Flight, Origin, Written, add, add_request, due, len_with_end, repeat_last, write_into,
 };
+use crate::receivers::{Receivers, Sent, receive};
 use gc_lines::{Line, is_plain, line_from, read_request};
 use gc_links::{History, Moment, Note};
 use gc_scenes::SceneInstrument;

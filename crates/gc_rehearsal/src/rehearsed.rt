@@ -6,13 +6,13 @@ ghost use Rattle.gc_rehearsal.specs.Carrying.{IsOfLine};
 ghost use Rattle.gc_rehearsal.specs.Inside.{told};
 ghost use Rattle.gc_rehearsal.specs.Reading.{AddsRead, MayRead};
 
-use crate::altering::Sent;
 use crate::carried::Carried;
 use crate::chance::{Chance, Fate};
 use crate::counts::Counts;
 use crate::flight::{Flight, Origin, Written, len_with_end, line_of};
 use crate::late::LateReplies;
 use crate::line_state::{LineState, Next, next_at_instrument};
+use crate::receivers::Sent;
 use crate::truth::Truth;
 use arrayvec::ArrayVec;
 use gc_lines::{PortFailed, line_from, with_end};

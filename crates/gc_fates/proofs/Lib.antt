@@ -1,2 +1,0 @@
-mod ShareForms
-mod Leading

@@ -1,4 +1,0 @@
-mod Asked
-mod Explaining
-mod Matching
-mod Running

@@ -1,4 +1,0 @@
-pub mod Askable
-pub mod Claims
-pub mod Explained
-pub mod Runs
