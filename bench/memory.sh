@@ -10,14 +10,14 @@ cd "$(dirname "$0")"
 work=$(mktemp -d)
 trap 'rm -rf "$work"' EXIT
 
-[ "${1-}" = resident ] || built gc_examples once
+[ "${1-}" = resident ] || built gc_cases once
 built geocom exec
 
 cc -O2 -Wall -Wextra -shared -fPIC -o "$work/refuse.so" refuse.c
 if [ "${1-}" = resident ]; then
     python3 refused.py "$work/refuse.so" "$geocom"
 else
-    python3 refused.py "$work/refuse.so" "$examples" "$geocom" ../crates/gc_examples/data
+    python3 refused.py "$work/refuse.so" "$cases" "$geocom" ../crates/gc_cases/data
 fi
 
 python3 requests.py mixed 16777216 >"$work/requests"

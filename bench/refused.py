@@ -1,10 +1,10 @@
 #!/usr/bin/env python3
 """Refuses each allocation of a run in turn, until a run meets none, and stops where a run ends otherwise than it may.
 
-refused.py REFUSE.so GC_EXAMPLES GEOCOM FOLDER
+refused.py REFUSE.so GC_CASES GEOCOM FOLDER
 refused.py REFUSE.so GEOCOM        a run of `geocom exec` alone
 
-A run of all examples (`gc_examples once`) may give another line than with ample memory for one of them: that it found no
+A run of all examples (`gc_cases once`) may give another line than with ample memory for one of them: that it found no
 memory and sent and wrote nothing, or that a port of the tests couldn't store. Or it ends before its next example, where a
 file of the folder couldn't be read for want of memory. A run of `geocom` writes all of its output, or ends with fault 52,
 and has written nothing then.
@@ -165,8 +165,8 @@ def main():
         counts = program(library, [geocom, "exec"], b"%R1Q,5003,2:\r\n", b"%R1P,0,2:0,123456\r\n")
         print(f"exec: {counts.total()} allocations; refused in turn: {counts[True]} fault 52, {counts[False]} all of its output")
         return
-    library, gc_examples, geocom, folder = map(os.path.abspath, sys.argv[1:])
-    examples(library, folder, gc_examples)
+    library, gc_cases, geocom, folder = map(os.path.abspath, sys.argv[1:])
+    examples(library, folder, gc_cases)
     for name, words, text, expected in runs(geocom, folder):
         tell(f"{' '.join(words[1:])} < {name}", program(library, words, text, expected))
     tell("ask, two commands", asks(library, geocom))

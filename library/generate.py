@@ -1,6 +1,6 @@
 #!/usr/bin/env python3
 """Writes what the Python package and the tools have of the tables of docs/PROTOCOL.md: generate.py [--check], from the top of the repository. It
-compares them with the columns of rows in crates/gc_examples/data/columns.csv.
+compares them with the columns of rows in crates/gc_cases/data/columns.csv.
 
 `codes.py` has the return codes, `results.py` the procedures with the tuples that they answer, and `named.py`, of the package and of
 `aio`, a method for each procedure; `tools/return_codes.py` has the codes' meanings. With --check it writes nothing, and ends with status 1 where a file differs.
@@ -264,7 +264,7 @@ def main():
     text = Path("docs/PROTOCOL.md").read_text(encoding="utf-8")
     procedures = read_procedures(text)
     # The quantities of the answers are called what the columns of a station's rows are called.
-    with open("crates/gc_examples/data/columns.csv", encoding="utf-8", newline="") as file:
+    with open("crates/gc_cases/data/columns.csv", encoding="utf-8", newline="") as file:
         columns = {column["name"] for column in csv.DictReader(file) if column["procedures"]}
     answered = {name for each in procedures for name, _ in each.answer}
     if answered != columns:

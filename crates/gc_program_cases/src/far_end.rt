@@ -2,10 +2,10 @@
 //! goes only as it waits. So no case waits, and each moment is known. No file is there; which were to be opened is noted.
 
 use crate::site::Site;
-use gc_cases::{StandIn, Told, in_use, not_found};
 use gc_console::{Oddities, run_exec};
 use gc_lines::{FromReader, ToWriter};
 use gc_links::millis_of;
+use gc_probes::{StandIn, Told, in_use, not_found};
 use std::alloc::Global;
 use std::cell::RefCell;
 use std::fs::File;

@@ -9,7 +9,7 @@ mod room;
 mod said;
 mod site;
 
-use gc_cases::play_folder;
+use gc_probes::play_folder;
 use program::Program;
 use std::io;
 use std::process::ExitCode;

@@ -10,7 +10,7 @@
 //!
 //! A case has at most sixteen lines of each of the first three, and one of each other.
 
-use gc_cases::{Case, Told, bytes_of, text_of};
+use gc_probes::{Case, Told, bytes_of, text_of};
 use std::alloc::AllocError;
 
 // The most texts that a case has under one key. Further ones aren't looked for.

@@ -22,9 +22,9 @@
 use crate::far_end::{FarEnd, Seen, paired_ends};
 use crate::said::{Said, compare_seen};
 use crate::site::Site;
-use gc_cases::{Case, CaseRuntime, Player, Told, input_of, port_of, text_of};
 use gc_console::{Oddities, Standard, Streams, run_program};
 use gc_links::listen;
+use gc_probes::{Case, CaseRuntime, Player, Told, input_of, port_of, text_of};
 use std::alloc::{AllocError, Global};
 use std::cell::RefCell;
 use std::env::Args;

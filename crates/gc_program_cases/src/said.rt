@@ -7,7 +7,7 @@
 use crate::far_end::Seen;
 use crate::parts::{asks_for_parts, tell_parts};
 use crate::room::Room;
-use gc_cases::{Case, Told, text_of};
+use gc_probes::{Case, Told, text_of};
 use std::alloc::Global;
 use std::process::ExitCode;
 

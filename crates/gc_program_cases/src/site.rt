@@ -1,8 +1,8 @@
 //! The instrument of a scene at the far end of a case, which keeps its state from request to request, as that of `serve` does.
 
-use gc_cases::{Case, bytes_of};
 use gc_engines::read_timed_scene;
 use gc_lines::{Line, with_end};
+use gc_probes::{Case, bytes_of};
 use gc_scenes::SlowInstrument;
 use std::alloc::Global;
 use std::io::Write;

@@ -41,7 +41,7 @@ pub enum NotTaken {
 }
 
 /// A session: what its caller asks is sent once nothing hinders it, over whatever connections that takes, and settled once, in the order of
-/// sending. It has neither a port nor a clock: its caller has both, and a loop (`crates/gc_own_station` is an example).
+/// sending. It has neither a port nor a clock: its caller has both, and a loop (`crates/gc_cases/src/own_station` is an example).
 ///
 /// 1. `step` with what is wanted and the moment, and do what it returns.
 /// 2. Report what came of that: `opened` or `closed`; `came`, and then each line to `hear`.

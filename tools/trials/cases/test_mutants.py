@@ -8,15 +8,16 @@ import pytest
 from mutants import ROOT, apply, build, copy_crates
 
 HERE = Path(__file__).resolve().parent
-# A mutant, with its crate; the crate that plays the case; the case's file; and the beginning of its name.
-MUTANTS = [("gc_world/fills_the_window_only_at_the_end", "gc_examples", "cases/pushes.world", "eight sends and a restart")]
+# A mutant, with its crate; the crate that plays the case; the case's file, in the folder of its part; and the beginning of its name.
+MUTANTS = [("gc_world/fills_the_window_only_at_the_end", "gc_cases", "cases/pushes.world", "eight sends and a restart")]
 # A mutant of the program, with its crate; and the trial that is there for it, by its command and its words.
 PROGRAMS = [("gc_console/removes_its_rows_at_the_end", "try-records", "starts_whole")]
 
 
 def played(player, file):
     """The status and the lines of a player that plays one file of cases. It is built without proofs."""
-    ran = subprocess.run(["rt", "try", "--data", f"{file}=data/{file}"], cwd=player, stdin=subprocess.DEVNULL, capture_output=True, text=True, timeout=1800, check=False)
+    part = Path(file).parent.name
+    ran = subprocess.run(["rt", "try", "--data", f"{file}=data/{file}", "--", part], cwd=player, stdin=subprocess.DEVNULL, capture_output=True, text=True, timeout=1800, check=False)
     return ran.returncode, ran.stdout + ran.stderr
 
 
