@@ -85,8 +85,6 @@ impl Instrument {
         ensures fits { IfOk result (λ i. IsFittingState i) }
         ensures full { IsErr result ↔ (32 < length scene.now) }
     {
-        // For the proof: this call's contract says that the name is a text.
-        let _ = name.as_bytes();
         let mut targets = ArrayVec::new();
         if targets.try_extend_from_slice(scene).is_err() {
             return Err(SceneFull);

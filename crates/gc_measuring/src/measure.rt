@@ -21,7 +21,7 @@ use crate::stop::Stop;
 use crate::task_text::{read_task_text, watches_of};
 use crate::unanswered::Unanswered;
 use crate::values::report_braces;
-use gc_lines::{Durable, PortFailed, Source, write_whole};
+use gc_lines::{Durable, PortFailed, Source};
 use gc_links::{Link, Moment};
 use gc_messages::{Noticed, Streams, report_odd_angles, report_unasked};
 use gc_rows::write_head;
@@ -191,8 +191,7 @@ fn write_front<K: Durable>(sink: &mut K, layout: Layout, columns: &[FieldName]) 
     ensures took { TakesText (K.taken sink.old) (K.taken sink.new) result (front_text layout (map (λ n. n.items) columns.now)) }
 {
     if layout.headed {
-        // For the proof: writing no bytes gives the clauses, which an `Ok(())` alone doesn't.
-        return write_whole(sink, b"");
+        return Ok(());
     }
     write_head(sink, layout.form, columns)
 }
@@ -264,11 +263,7 @@ impl<'a, K: Durable, E: Write> Book for Records<'a, K, E> {
 
     // Syncs the sink: if that succeeds, what was written outlasts all that the sink is meant to outlast.
     fn sync(&mut self) -> Result<(), PortFailed> {
-        // For the proof: the book's clause `fails` follows from the sink's in each of the two cases.
-        match self.sink.sync() {
-            Ok(()) => Ok(()),
-            Err(failed) => Err(failed),
-        }
+        self.sink.sync()
     }
 
     // Writes the messages that are due, by the health of the link and by what was noticed.

@@ -70,8 +70,7 @@ fn write_rotation<E: Write>(why: Unfit, messages: &mut E) -> io::Result<()>
             "geocom: the file does not begin as this station's rows do: it has other columns, or a rotation cut off its header \
              (copytruncate). To rotate it, stop the station, rename the file, and start it"
         ),
-        // For the proof: writing an empty text gives the clause, which an `Ok(())` alone doesn't.
-        Unfit::Unopened | Unfit::Held | Unfit::Failed => write!(messages, ""),
+        Unfit::Unopened | Unfit::Held | Unfit::Failed => Ok(()),
     }
 }
 

@@ -116,7 +116,8 @@ impl<K: Sink> Rehearsing<K> {
     {
         let begins = night.saturating_mul(DAY);
         let mut kills = programme.kills;
-        // For the proof that the loop ends. No night has so many runs: kills are few, and a station that gave up waits.
+        // No night has so many runs: kills are few, and a station that gave up waits. No clause says that the line's clock goes on, so
+        // the bound is what ends the loop. It costs an addition and a comparison for each run of the station.
         for _ in 0..u64::MAX {
             let cycles = cycles_left(programme, begins, self.link.elapsed());
             if cycles == 0 {
