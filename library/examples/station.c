@@ -42,7 +42,7 @@ int main(int count, char **words) {
         const struct { uint16_t procedure; const char *params; } chain[] = {{9027, position}, {2008, "1,1"}, {2108, "5000,1"}};
         geocom_settlement s = {0};
         geocom_status first = {0}, last = {0}; /* a chain goes on over the connection and the synchronization in which it began */
-        for (int c = 0; c < 3 && (c == 0 || (s.reading == GEOCOM_VALUE && last.stretch == first.stretch && last.sign_ons == first.sign_ons)); c++) {
+        for (int c = 0; c < 3 && (c == 0 || (s.reading == GEOCOM_VALUE && last.interruptions == first.interruptions && last.sign_ons == first.sign_ons)); c++) {
             if (geocom_ask(&session, &port, target, chain[c].procedure, chain[c].params, 35000, &s, (uint8_t *)text) != 0) return 1;
             last = geocom_session_status(&session);
             if (c == 0) first = last;

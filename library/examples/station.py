@@ -23,8 +23,10 @@ options = argparse.ArgumentParser(description="Measures targets again and again.
 options.add_argument("port", help="a device, HOST:PORT, or a port of this machine")
 options.add_argument("--targets", type=target, nargs="+", required=True, help="NUMBER:HZ,V")
 options.add_argument("--every", type=float, default=300, help="seconds between two cycles")
-options.add_argument("--cycles", type=int, default=0, help="stop after so many; 0 goes on")
+options.add_argument("--cycles", type=int, help="stop after so many, from 1 on; without it go on")
 given = options.parse_args()
+if given.cycles is not None and given.cycles < 1:
+    options.error("--cycles takes a number from 1 on; without it cycles go on")
 
 logging.basicConfig(level=logging.INFO)
 rows = csv.writer(sys.stdout, lineterminator="\n")

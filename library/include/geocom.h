@@ -32,7 +32,7 @@
  *      has timed out.
  *  12. If a duty was broken off, so that the caller can't say what was written, or fed, of a line: geocom_session_restart, before all else.
  * Whether what was asked before is still worth sending after another connection or synchronization is the caller's to say: it compares
- * `stretch` and `sign_ons` of geocom_session_status.
+ * `interruptions` and `sign_ons` of geocom_session_status.
  *
  * How a client is driven, without a session:
  *   1. geocom_client_init, once, with the width: how many requests may be outstanding at a time, 1 to 7.
@@ -311,21 +311,21 @@ typedef struct geocom_session {
     uint64_t moment;        /* the last moment that a call was given, in milliseconds of the caller's clock, as are all moments here */
     uint64_t patience;      /* milliseconds: the longest timeout since nothing was outstanding; after twice this time without a reply the line
                                is dead */
-    uint64_t stretch;       /* as in geocom_status */
+    uint64_t interruptions; /* as in geocom_status */
     uint64_t sign_ons;      /* as in geocom_status */
     uint64_t idle_since;    /* the moment since which nothing is wanted, if is_idle; else 0 */
     uint64_t null_deadline; /* the moment at which the null procedure of the synchronization times out, and is sent again; 0: one is sent at once */
-    uint64_t hold;          /* the moment until which nothing is sent; 0: nothing is held */
-    uint64_t since;         /* the moment from which a pause or the quiet time counts */
-    uint64_t alive;         /* the moment from which a dead line counts */
+    uint64_t hold_until;    /* the moment until which nothing is sent; 0: there is none, as no call here sets one */
+    uint64_t wait_since;    /* the moment from which a pause, or `settle`, counts */
+    uint64_t no_reply_since; /* the moment from which the time without a reply counts, after which the line is dead */
     uint64_t pause;         /* milliseconds: how long the current pause is, or the last one was; 0: the next one is as long as `settle` */
     uint8_t width;        /* how many requests that haven't timed out may be in flight, 1 to 7 */
     uint8_t phase;        /* 0 without a connection, 1 pausing, 2 a line feed is to be written, 3 discarding input until none comes for
                              `settle`, 4 ready */
     uint8_t is_idle;      /* 1 if nothing is wanted; else 0 */
     uint8_t has_asked;    /* 1 once a request was sent by geocom_session_ask or geocom_session_ask_raw; else 0 */
-    uint8_t asked;        /* 1 if something was sent over this connection, and no reply came after it; else 0 */
-    uint8_t doubtful;     /* 1 if nothing is sent before the next synchronization; else 0 */
+    uint8_t awaits_reply; /* 1 if something was sent over this connection, and no reply came after it; else 0 */
+    uint8_t must_resynchronize; /* 1 if nothing is sent before the next synchronization; else 0 */
     uint8_t requests_since_table_call; /* how many requests were sent after the last one of the table that a reply ended, 0 to 7 */
     uint8_t last_ended;   /* how many requests the last line settled that settled any, 1 to 7 */
     uint8_t has_listened; /* 1 if the caller was to read since what came last over this connection; else 0 */
@@ -342,14 +342,14 @@ typedef struct geocom_step {
 
 /* What geocom_session_status returns; after a fault all else is 0. */
 typedef struct geocom_status {
-    uint64_t stretch;     /* grows when a connection ends or can't be made, and when the session resynchronizes: what was sent at one number, and
-                             is sent at the same one, goes over one connection after one synchronization */
-    uint64_t sign_ons;    /* how many sign-ons came since the first request was sent by geocom_session_ask or geocom_session_ask_raw */
-    uint32_t fault;       /* 0 or 63 */
-    uint32_t is_up;       /* 1 if there is a connection; else 0 */
-    uint32_t is_ready;    /* 1 if it has synchronized, the connection is quiet, and nothing called for another synchronization; else 0 */
-    uint32_t outstanding; /* how many requests are outstanding, those that timed out included */
-    uint32_t current;     /* how many of these haven't timed out */
+    uint64_t interruptions; /* grows when a connection ends or can't be made, and when the session resynchronizes: what was sent at one number,
+                               and is sent at the same one, goes over one connection after one synchronization */
+    uint64_t sign_ons;      /* how many sign-ons came since the first request was sent by geocom_session_ask or geocom_session_ask_raw */
+    uint32_t fault;         /* 0 or 63 */
+    uint32_t is_up;         /* 1 if there is a connection; else 0 */
+    uint32_t is_ready;      /* 1 if it has synchronized, the connection is quiet, and nothing called for another synchronization; else 0 */
+    uint32_t outstanding;   /* how many requests are outstanding, those that timed out included */
+    uint32_t current;       /* how many of these haven't timed out */
 } geocom_status;
 
 /* Makes a session without a connection, which has sent nothing. At most `width` requests that haven't timed out are in flight, 1 to 7; 1 is
@@ -529,31 +529,34 @@ typedef struct geocom_port {
 /* What geocom_ask returns besides 0 and a fault: the request couldn't be sent in time, and wasn't. */
 enum geocom_trouble { GEOCOM_SILENT = -2 };
 
-/* geocom_session_ask or geocom_session_ask_raw. */
-typedef geocom_count geocom_asking(geocom_session *session, uint32_t target, uint64_t timeout, uint16_t procedure,
-                                   const uint8_t *params, size_t params_length, uint8_t *line, size_t line_room);
+/* What begins with geocom_detail_ is of geocom_ask and geocom_ask_raw alone, and may change: don't call it.
+ *
+ * geocom_session_ask or geocom_session_ask_raw. */
+typedef geocom_count geocom_detail_ask_call(geocom_session *session, uint32_t target, uint64_t timeout, uint16_t procedure,
+                                            const uint8_t *params, size_t params_length, uint8_t *line, size_t line_room);
 
 /* Closes the connection. */
-static inline void geocom_lose(geocom_session *session, const geocom_port *port) {
+static inline void geocom_detail_close(geocom_session *session, const geocom_port *port) {
     port->close(port->context);
     geocom_session_closed(session, port->now(port->context));
 }
 
 /* Writes a line, or closes the connection. */
-static inline void geocom_put(geocom_session *session, const geocom_port *port, const uint8_t *line, size_t length) {
-    if (port->write(port->context, line, length) < 0) geocom_lose(session, port);
+static inline void geocom_detail_write(geocom_session *session, const geocom_port *port, const uint8_t *line, size_t length) {
+    if (port->write(port->context, line, length) < 0) geocom_detail_close(session, port);
 }
 
 /* Reads for so many milliseconds at most, and returns how many bytes came, or closes the connection. Of what they settle, `last` becomes the
  * settlement of the request that was sent last. */
-static inline int geocom_hear(geocom_session *session, const geocom_port *port, uint64_t milliseconds, geocom_settlement *last, uint8_t *text) {
+static inline int geocom_detail_read(geocom_session *session, const geocom_port *port, uint64_t milliseconds, geocom_settlement *last,
+                                     uint8_t *text) {
     uint8_t bytes[256];
     geocom_settlement records[GEOCOM_WINDOW];
     const int came = port->read(port->context, bytes, sizeof bytes, milliseconds);
     const uint64_t now = port->now(port->context);
     geocom_feed_result heard = {0, 0, 0, 0, 0};
     size_t used;
-    if (came < 0) geocom_lose(session, port);
+    if (came < 0) geocom_detail_close(session, port);
     for (used = 0; came > 0 && used < (size_t)came && heard.fault == 0; used += heard.used) {
         heard = geocom_session_feed(session, now, bytes + used, (size_t)came - used, records, GEOCOM_WINDOW, text, GEOCOM_TEXT_ROOM);
         if (heard.count > 0) *last = records[heard.count - 1];
@@ -562,15 +565,15 @@ static inline int geocom_hear(geocom_session *session, const geocom_port *port, 
 }
 
 /* Does what is next at the moment `now`, until the moment `end` at most, and returns it. GEOCOM_SEND is left to the caller. */
-static inline geocom_step geocom_turn(geocom_session *session, const geocom_port *port, uint32_t want, uint64_t now, uint64_t end,
-                                      geocom_settlement *last, uint8_t *text) {
+static inline geocom_step geocom_detail_step(geocom_session *session, const geocom_port *port, uint32_t want, uint64_t now, uint64_t end,
+                                             geocom_settlement *last, uint8_t *text) {
     geocom_settlement lost[GEOCOM_WINDOW];
     uint8_t line[GEOCOM_LINE_ROOM];
     const geocom_step step = geocom_session_next(session, want, now, lost, GEOCOM_WINDOW, line, sizeof line);
     const uint64_t until = step.until < end ? step.until : end, rest = until > now ? until - now : 0;
-    if (step.act == GEOCOM_WRITE) geocom_put(session, port, line, step.bytes);
-    if (step.act == GEOCOM_CLOSE) geocom_lose(session, port);
-    if (step.act == GEOCOM_READ && now < end) geocom_hear(session, port, rest, last, text);
+    if (step.act == GEOCOM_WRITE) geocom_detail_write(session, port, line, step.bytes);
+    if (step.act == GEOCOM_CLOSE) geocom_detail_close(session, port);
+    if (step.act == GEOCOM_READ && now < end) geocom_detail_read(session, port, rest, last, text);
     if (step.act == GEOCOM_WAIT && now < end) port->wait(port->context, rest);
     if (step.act == GEOCOM_OPEN) {
         if (port->open(port->context) < 0) geocom_session_closed(session, port->now(port->context));
@@ -580,8 +583,8 @@ static inline geocom_step geocom_turn(geocom_session *session, const geocom_port
 }
 
 /* The loop of geocom_ask and geocom_ask_raw. */
-static inline int geocom_ask_by(geocom_asking *asking, geocom_session *session, const geocom_port *port, uint32_t target, uint16_t procedure,
-                                const char *params, uint64_t timeout, geocom_settlement *settlement, uint8_t *text) {
+static inline int geocom_detail_ask(geocom_detail_ask_call *ask_call, geocom_session *session, const geocom_port *port, uint32_t target,
+                                    uint16_t procedure, const char *params, uint64_t timeout, geocom_settlement *settlement, uint8_t *text) {
     const geocom_settlement lost = {target, procedure, 0, 0, 0, {{0, 0}}, GEOCOM_LOST, GEOCOM_NONE};
     const size_t length = strlen(params);
     uint8_t line[GEOCOM_LINE_ROOM];
@@ -590,23 +593,24 @@ static inline int geocom_ask_by(geocom_asking *asking, geocom_session *session, 
     geocom_session tried = *session; /* a copy: if it is a request's turn, nothing is sent yet */
     geocom_settlement last = lost;
     geocom_step step;
-    geocom_count sent = asking(&tried, target, timeout, procedure, (const uint8_t *)params, length, line, sizeof line);
+    geocom_count sent = ask_call(&tried, target, timeout, procedure, (const uint8_t *)params, length, line, sizeof line);
     if (sent.fault != 0 && sent.fault != 73) return (int)sent.fault;
-    while (now < end && geocom_session_status(session).is_up && geocom_hear(session, port, 0, &last, text) > 0) now = port->now(port->context);
+    while (now < end && geocom_session_status(session).is_up && geocom_detail_read(session, port, 0, &last, text) > 0)
+        now = port->now(port->context);
     for (; now < end && !is_settled; now = port->now(port->context)) {
-        step = geocom_turn(session, port, want, now, end, &last, text);
+        step = geocom_detail_step(session, port, want, now, end, &last, text);
         if (step.fault != 0) return (int)step.fault;
         if (step.act == GEOCOM_SEND) {
-            sent = asking(session, target, timeout, procedure, (const uint8_t *)params, length, line, sizeof line);
+            sent = ask_call(session, target, timeout, procedure, (const uint8_t *)params, length, line, sizeof line);
             if (sent.fault != 0) return (int)sent.fault;
             want = GEOCOM_WANT_ANSWERS;
             end = now + (timeout < UINT64_MAX - now ? timeout : UINT64_MAX - now);
-            geocom_put(session, port, line, sent.count);
+            geocom_detail_write(session, port, line, sent.count);
         }
         /* It was sent last: so it is settled once none is outstanding. */
         is_settled = want == GEOCOM_WANT_ANSWERS && geocom_session_status(session).outstanding == 0;
     }
-    geocom_turn(session, port, GEOCOM_WANT_NOTHING, now, 0, &last, text);
+    geocom_detail_step(session, port, GEOCOM_WANT_NOTHING, now, 0, &last, text);
     if (want == GEOCOM_WANT_SEND) return GEOCOM_SILENT;
     *settlement = is_settled ? last : lost;
     return 0;
@@ -618,17 +622,17 @@ static inline int geocom_ask_by(geocom_asking *asking, geocom_session *session, 
  * GEOCOM_TEXT_ROOM bytes. A program that blocks has one request at a time in flight, so width 1 is right for its session. Returns 0 with the
  * settlement; GEOCOM_SILENT if the request couldn't be sent within `timeout` milliseconds of the call: then it wasn't, and the next call
  * continues; or a fault, at once: a request that can't be sent, as geocom_session_ask refuses it, or 63. The time that `open`, `write` and
- * `close` take comes on top. If `stretch` or `sign_ons` of geocom_session_status changes during a call, the request may have gone over
+ * `close` take comes on top. If `interruptions` or `sign_ons` of geocom_session_status changes during a call, the request may have gone over
  * another connection than the one before it, or to an instrument that forgot its setup. */
 static inline int geocom_ask(geocom_session *session, const geocom_port *port, uint32_t target, uint16_t procedure, const char *params,
                              uint64_t timeout, geocom_settlement *settlement, uint8_t *text) {
-    return geocom_ask_by(geocom_session_ask, session, port, target, procedure, params, timeout, settlement, text);
+    return geocom_detail_ask(geocom_session_ask, session, port, target, procedure, params, timeout, settlement, text);
 }
 
 /* The same for a procedure that isn't in the table: as geocom_session_ask_raw. */
 static inline int geocom_ask_raw(geocom_session *session, const geocom_port *port, uint32_t target, uint16_t procedure, const char *params,
                                  uint64_t timeout, geocom_settlement *settlement, uint8_t *text) {
-    return geocom_ask_by(geocom_session_ask_raw, session, port, target, procedure, params, timeout, settlement, text);
+    return geocom_detail_ask(geocom_session_ask_raw, session, port, target, procedure, params, timeout, settlement, text);
 }
 
 #ifdef __cplusplus

@@ -259,7 +259,7 @@ public:
     }
 
     // Takes bytes that came at the moment `now`, in milliseconds, in any pieces, and returns the replies to the lines that they end.
-    std::vector<reply> hear(std::string_view bytes, std::uint64_t now) {
+    std::vector<reply> replies_to(std::string_view bytes, std::uint64_t now) {
         std::vector<reply> replies;
         while (!bytes.empty()) {
             const geocom_reply heard = geocom_instrument_feed(at(), bytes_of(bytes), bytes.size(), now);
@@ -273,7 +273,7 @@ public:
     // The texts of the replies, one after the other, at once, whatever delays the scene has.
     std::string feed(std::string_view bytes, std::uint64_t now = 0) {
         std::string all;
-        for (const reply &each : hear(bytes, now)) all += each.text;
+        for (const reply &each : replies_to(bytes, now)) all += each.text;
         return all;
     }
 
@@ -345,16 +345,17 @@ public:
     void synchronize() {
         const std::uint64_t end = later(later(now_(), session_.timeout < most / 8 ? 8 * session_.timeout : most), session_.settle);
         look(end);
-        for (std::uint64_t now; status().is_ready == 0; turn(GEOCOM_WANT_SEND, now, end))
+        for (std::uint64_t now; status().is_ready == 0; do_step(GEOCOM_WANT_SEND, now, end))
             if ((now = now_()) >= end) stop(silent());
-        turn(GEOCOM_WANT_NOTHING, now_(), 0);
+        do_step(GEOCOM_WANT_NOTHING, now_(), 0);
     }
 
     // Requests a procedure of the table, and returns the settlement, at the deadline at the latest, `timeout` milliseconds after the request
     // was sent: a request that isn't settled by then is returned as lost, as no answer will be taken for it. Throws `silent` if it couldn't be
     // sent within `timeout` milliseconds of the call, `restarted` if a sign-on came before it was sent, and, at once, the fault of one that
     // can't be sent.
-    settlement ask(std::uint32_t target, std::uint16_t procedure, std::string_view params = "", std::uint64_t timeout = 0) {
+    settlement ask(std::uint32_t target, std::uint16_t procedure, std::string_view params = "",
+                   std::optional<std::uint64_t> timeout = std::nullopt) {
         const description *by = find(procedure);
         if (by != nullptr) by->check(params);
         settlement s = exchange(by != nullptr, target, procedure, params, timeout, sign_ons(), std::nullopt);
@@ -371,7 +372,8 @@ public:
     }
 
     // The same as `ask` for a procedure that isn't in the table, described or not: its answer is text.
-    settlement ask_raw(std::uint32_t target, std::uint16_t procedure, std::string_view params = "", std::uint64_t timeout = 0) {
+    settlement ask_raw(std::uint32_t target, std::uint16_t procedure, std::string_view params = "",
+                       std::optional<std::uint64_t> timeout = std::nullopt) {
         return exchange(true, target, procedure, params, timeout, sign_ons(), std::nullopt);
     }
 
@@ -379,7 +381,7 @@ public:
     // synchronization, and if no sign-on came. It ends where one wasn't, or couldn't be sent; `silent` or `restarted` is thrown only if that
     // was the first. A procedure that isn't in the table is requested as by `ask_raw`. An answer whose return code is in `accept` is a value,
     // with this code, if its items can be read. Throws the fault of any command that can't be sent before the first one is.
-    std::vector<settlement> measure(std::uint32_t target, const std::vector<command> &chain, std::uint64_t timeout = 0,
+    std::vector<settlement> measure(std::uint32_t target, const std::vector<command> &chain, std::optional<std::uint64_t> timeout = std::nullopt,
                                     const std::vector<std::uint16_t> &accept = {}) {
         for (const command &each : chain) {
             check(is_raw(each), target, each.first, each.second);
@@ -387,15 +389,15 @@ public:
         }
         std::vector<settlement> all;
         const std::uint64_t known = sign_ons();
-        std::optional<std::uint64_t> stretch;
+        std::optional<std::uint64_t> interruptions;
         for (const command &each : chain) {
             try {
-                all.push_back(exchange(is_raw(each), target, each.first, each.second, timeout, known, stretch));
+                all.push_back(exchange(is_raw(each), target, each.first, each.second, timeout, known, interruptions));
             } catch (const silent &) {
                 if (all.empty()) throw;
                 break;
             }
-            stretch = sent_at_;
+            interruptions = sent_after_;
             if (const description *by = find(each.first)) by->read(all.back());
             if (std::find(accept.begin(), accept.end(), all.back().code) != accept.end()) read_values(all.back(), each);
             if (all.back().reading != reading::value) break;
@@ -456,17 +458,17 @@ private:
     bool is_raw(const command &each) { return refusal(false, 0, each.first, each.second) == 21; }
 
     // Reads a refusal's line as that of a value: the same line with return code 0.
-    void read_values(settlement &s, const command &asked) {
+    void read_values(settlement &s, const command &sent) {
         if (s.reading != reading::refused) return;
         const std::size_t end = s.line.find_first_not_of("0123456789", s.line.find(':') + 1);
         const std::string line = "%R1P,0,0:0" + (end == std::string::npos ? "" : s.line.substr(end));
         geocom::client other(1);
         other.synchronize("%R1P,0,6:0\r\n%R1P,0,5:0\r\n%R1P,0,4:0\r\n%R1P,0,3:0\r\n%R1P,0,2:0\r\n%R1P,0,1:0\r\n%R1P,0,0:0\r\n%R1P,0,7:0\r\n");
-        if (is_raw(asked)) other.send_raw(0, 0, asked.first, asked.second);
-        else other.send(0, 0, asked.first, asked.second);
+        if (is_raw(sent)) other.send_raw(0, 0, sent.first, sent.second);
+        else other.send(0, 0, sent.first, sent.second);
         std::vector<settlement> done = other.feed(line + "\r\n");
         if (done.size() != 1) return;
-        if (const description *by = find(asked.first)) by->read(done[0], line);
+        if (const description *by = find(sent.first)) by->read(done[0], line);
         if (done[0].reading != reading::value) return;
         s.reading = reading::value;
         s.items = done[0].items;
@@ -474,7 +476,7 @@ private:
     }
 
     // The connection ended, failed or is dead. Where the caller makes connections, the next one counts as made, and the caller is told.
-    void lose() {
+    void disconnect() {
         if (close_) close_();
         geocom_session_closed(&session_, now_());
         if (!open_) geocom_session_opened(&session_, now_());
@@ -486,21 +488,21 @@ private:
             call();
             return true;
         } catch (const std::runtime_error &) {
-            lose();
+            disconnect();
             if (!open_) throw;
         } catch (...) {
-            lose();
+            disconnect();
             throw;
         }
         return false;
     }
 
-    void put(std::size_t length) {
+    void write_line(std::size_t length) {
         kept([&] { write_(std::string_view(reinterpret_cast<const char *>(line_.data()), length)); });
     }
 
     // Reads for so many milliseconds at most. Whether something came, which the session has heard.
-    bool hear(std::uint64_t milliseconds) {
+    bool read_bytes(std::uint64_t milliseconds) {
         std::string came;
         if (!kept([&] { came = read_(milliseconds); })) return false;
         const std::uint64_t now = now_();
@@ -516,18 +518,18 @@ private:
 
     // What came while nobody read is heard first: a sign-on, and a connection that ended, are seen before a request is lost with them.
     void look(std::uint64_t end) {
-        while (status().is_up != 0 && now_() < end && hear(0)) {}
+        while (status().is_up != 0 && now_() < end && read_bytes(0)) {}
     }
 
     // Does what is next at the moment `now`, until the moment `end` at most, and returns it. GEOCOM_SEND is left to the caller.
-    std::uint32_t turn(std::uint32_t want, std::uint64_t now, std::uint64_t end) {
+    std::uint32_t do_step(std::uint32_t want, std::uint64_t now, std::uint64_t end) {
         const geocom_step step = geocom_session_next(&session_, want, now, records_.data(), records_.size(), line_.data(), line_.size());
         if (step.fault != 0) throw fault(step.fault);
         const std::uint64_t until = std::min(step.until, end), left = until > now ? until - now : 0;
-        if (step.act == GEOCOM_WRITE) put(step.bytes);
-        if (step.act == GEOCOM_READ && now < end) hear(left);
+        if (step.act == GEOCOM_WRITE) write_line(step.bytes);
+        if (step.act == GEOCOM_READ && now < end) read_bytes(left);
         if (step.act == GEOCOM_WAIT && now < end) wait_(left);
-        if (step.act == GEOCOM_CLOSE) lose();
+        if (step.act == GEOCOM_CLOSE) disconnect();
         if (step.act == GEOCOM_CLOSE && !open_) throw silent("geocom: the line is dead");
         if (step.act == GEOCOM_OPEN) open();
         return step.act;
@@ -545,31 +547,31 @@ private:
 
     // Ends a call whose request wasn't sent.
     template <typename Why> [[noreturn]] void stop(const Why &why) {
-        turn(GEOCOM_WANT_NOTHING, now_(), 0);
+        do_step(GEOCOM_WANT_NOTHING, now_(), 0);
         throw why;
     }
 
-    // Sends a request, and waits for its end. `known`: how many sign-ons the caller knew of. `stretch`: of a chain's further request, the one in
-    // which the first was sent.
-    settlement exchange(bool is_raw, std::uint32_t target, std::uint16_t procedure, std::string_view params, std::uint64_t timeout,
-                        std::uint64_t known, std::optional<std::uint64_t> stretch) {
+    // Sends a request, and waits for its end. `known`: how many sign-ons the caller knew of. `interruptions`: of a chain's further request,
+    // after how many the first was sent.
+    settlement exchange(bool is_raw, std::uint32_t target, std::uint16_t procedure, std::string_view params,
+                        std::optional<std::uint64_t> timeout, std::uint64_t known, std::optional<std::uint64_t> interruptions) {
         check(is_raw, target, procedure, params);
-        const std::uint64_t patience = timeout != 0 ? timeout : session_.timeout;
+        const std::uint64_t patience = timeout.value_or(session_.timeout);
         std::uint64_t now = now_(), end = later(now, patience);
         look(end);
         do {
             now = now_();
             if (sign_ons() != known) stop(restarted());
-            if (now >= end || stretch.value_or(status().stretch) != status().stretch) stop(silent());
-        } while (turn(GEOCOM_WANT_SEND, now, end) != GEOCOM_SEND);
+            if (now >= end || interruptions.value_or(status().interruptions) != status().interruptions) stop(silent());
+        } while (do_step(GEOCOM_WANT_SEND, now, end) != GEOCOM_SEND);
         const geocom_count sent = line_of(session_, is_raw, target, patience, procedure, params);
         if (sent.fault != 0) throw fault(sent.fault);
-        sent_at_ = status().stretch;
-        put(sent.count);
+        sent_after_ = status().interruptions;
+        write_line(sent.count);
         // It was sent last: so it is settled once none is outstanding.
-        for (end = later(now, patience); status().outstanding != 0 && (now = now_()) < end;) turn(GEOCOM_WANT_ANSWERS, now, end);
+        for (end = later(now, patience); status().outstanding != 0 && (now = now_()) < end;) do_step(GEOCOM_WANT_ANSWERS, now, end);
         const bool is_settled = status().outstanding == 0;
-        turn(GEOCOM_WANT_NOTHING, now_(), 0);
+        do_step(GEOCOM_WANT_NOTHING, now_(), 0);
         return is_settled ? settlement_of(last_, text_.data()) : settlement{target, procedure, outcome::lost, reading::none, 0, {}, {}};
     }
 
@@ -581,7 +583,7 @@ private:
     closer close_;
     clock now_;
     waiter wait_;
-    std::uint64_t sent_at_ = 0; // the stretch in which the last request was sent
+    std::uint64_t sent_after_ = 0; // after how many interruptions the last request was sent
     geocom_settlement last_{}; // the end of the request that was sent last among those that a line settled, and that line
     std::array<std::uint8_t, GEOCOM_TEXT_ROOM> text_;
     std::array<std::uint8_t, GEOCOM_LINE_ROOM> line_;

@@ -72,7 +72,7 @@ int main() {
     answers = {"0,0.25,1.5,7", "1285,0.25,1.5,7", "1285,0.25"};
     s = station.ask(7, 2167, "1");
     SEE(s.items.size() == 3 && s.columns.size() == 2 && s.items[2] == "7" && s.find("v_rad") == "1.5");
-    const auto rows = station.measure(7, {{2167, "1"}, {2167, "1"}}, 0, {1285});
+    const auto rows = station.measure(7, {{2167, "1"}, {2167, "1"}}, std::nullopt, {1285});
     SEE(rows.size() == 2 && rows[0].reading == geocom::reading::value && rows[0].code == 1285 && rows[0].find("hz_rad") == "0.25");
     SEE(rows[1].reading == geocom::reading::refused && rows[1].items.empty());
     std::printf("described procedures in C++: by their columns' names\n");

@@ -121,9 +121,9 @@ static void duties(void) {
         wire_pass(&w, &w.down, w.now, came, sizeof came - 1);
         w.now += 1000;
         w.faults.piece = k == 1 ? 256 : 1;
-        const uint64_t stretch = geocom_session_status(&session).stretch;
+        const uint64_t interruptions = geocom_session_status(&session).interruptions;
         SEE(geocom_ask(&session, &port, 5, 2107, "5", 9000, &s, text) == 0 && s.outcome == GEOCOM_ANSWERED);
-        SEE(geocom_session_status(&session).stretch == stretch + 1 && geocom_session_status(&session).sign_ons == k);
+        SEE(geocom_session_status(&session).interruptions == interruptions + 1 && geocom_session_status(&session).sign_ons == k);
     }
     /* And so is the end of a connection. */
     w.faults.broken = 1000;

@@ -11,9 +11,9 @@ int main() {
     geocom::instrument truck("target 0.5 1.5 10\nblocked 1 2 3\ndelay 17017 250\n");
     SEE(truck.feed("%R1Q,9027,0:0.5,1.5,0,1,0\r\n%R1Q,17017,1:2\r\n") == "%R1P,0,0:0\r\n%R1P,0,1:0,0.5,1.5,10.0,2\r\n")
     geocom::instrument other = std::move(truck);
-    const std::vector<geocom::reply> heard = other.hear("%R1Q,17017,2:2\r\n", 1000);
+    const std::vector<geocom::reply> heard = other.replies_to("%R1Q,17017,2:2\r\n", 1000);
     SEE(heard.size() == 1 && heard[0].due == 1250 && heard[0].text == "%R1P,0,2:1285\r\n")
-    SEE(other.hear("%R1Q,5003,", 2000).empty())
+    SEE(other.replies_to("%R1Q,5003,", 2000).empty())
     other.restart();
     SEE(other.feed("3:\r\n", 3000).empty())
     try {

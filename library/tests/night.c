@@ -40,7 +40,7 @@ int main(int count, char **words) {
         if (w.now < due) w.now = due;
         for (unsigned target = 1; target <= TARGETS; target++) {
             enum end end = VALUE;
-            uint64_t stretch = 0; /* that of the chain, after its first request */
+            uint64_t interruptions = 0; /* after the chain's first request */
             snprintf(direction, sizeof direction, "%u.%03u5", target % 6, cycle);
             snprintf(params[0], sizeof params[0], "%s,1.5,0,1,0", direction);
             for (int c = 0; c < COMMANDS; c++) {
@@ -48,12 +48,12 @@ int main(int count, char **words) {
                 uint8_t text[GEOCOM_TEXT_ROOM];
                 char item[64] = "";
                 const uint64_t begun = w.now;
-                const int told = end != VALUE || (c > 0 && geocom_session_status(&session).stretch != stretch) ? 1
+                const int told = end != VALUE || (c > 0 && geocom_session_status(&session).interruptions != interruptions) ? 1
                     : geocom_ask(&session, &port, target, procedures[c], params[c], 35000, &s, text);
                 end = told == 1 ? SKIPPED : told == GEOCOM_SILENT ? SILENT : end_of(&s);
                 if (told < GEOCOM_SILENT || told > 1 || (told == 0 && (s.target != target || s.procedure != procedures[c]))) wrong++;
                 if (w.now > begun + 70000 || (told == 0 && w.now > w.sent + 35000)) wrong++;
-                if (c == 0) stretch = geocom_session_status(&session).stretch;
+                if (c == 0) interruptions = geocom_session_status(&session).interruptions;
                 if (end == VALUE && c > 0) snprintf(item, sizeof item, "%.*s", s.item_spans[0].length, (const char *)text + s.item_spans[0].offset);
                 if (end == VALUE && c == 1 && strtod(item, NULL) != strtod(direction, NULL)) wrong++;
                 if (end == VALUE && c == 2 && strcmp(item, "71") != 0) wrong++;

@@ -7,7 +7,7 @@ constexpr unsigned CYCLES = 500, TARGETS = 8;
 constexpr link faults = {"a night", 30, 30, 0, 300, 1, 1, 0, 0, 256};
 
 void hear(wire *w, const char *request, std::size_t length) {
-    for (const geocom::reply &each : static_cast<geocom::instrument *>(w->instrument)->hear({request, length}, w->now))
+    for (const geocom::reply &each : static_cast<geocom::instrument *>(w->instrument)->replies_to({request, length}, w->now))
         wire_reply(w, each.due, each.text.data(), each.text.size());
 }
 

@@ -44,9 +44,9 @@ static int asks(uint32_t target, uint64_t timeout, uint16_t procedure, const cha
     return sent.fault == 0 && sent.count == strlen(bytes) && memcmp(line, bytes, sent.count) == 0;
 }
 
-static int is_status(uint32_t is_up, uint32_t is_ready, uint32_t outstanding, uint32_t current, uint64_t stretch, uint64_t sign_ons) {
+static int is_status(uint32_t is_up, uint32_t is_ready, uint32_t outstanding, uint32_t current, uint64_t interruptions, uint64_t sign_ons) {
     const geocom_status is = geocom_session_status(s);
-    return is.fault == 0 && is.is_up == is_up && is.is_ready == is_ready && is.outstanding == outstanding && is.current == current && is.stretch == stretch &&
+    return is.fault == 0 && is.is_up == is_up && is.is_ready == is_ready && is.outstanding == outstanding && is.current == current && is.interruptions == interruptions &&
            is.sign_ons == sign_ons;
 }
 
@@ -57,18 +57,18 @@ static int synchronizes(void) {
     SEE(geocom_session_init(s, 0, 1, 1) == 61 && geocom_session_init(s, 8, 1, 1) == 61 && s->width == 0xa5 && s->client.width == 0xa5)
     SEE(geocom_session_init(s, 2, 1000, 200) == 0)
     SEE(s->client.width == 7 && s->client.answered == 0 && s->client.outstanding == 0 && s->client.partial_line.length == 0)
-    SEE(s->timeout == 1000 && s->settle == 200 && s->moment == 0 && s->patience == 1000 && s->stretch == 0 && s->sign_ons == 0 && s->idle_since == 0)
-    SEE(s->null_deadline == 0 && s->hold == 0 && s->since == 0 && s->alive == 0 && s->pause == 0 && s->width == 2 && s->phase == 0 && s->is_idle == 0)
-    SEE(s->has_asked == 0 && s->asked == 0 && s->doubtful == 0 && s->requests_since_table_call == 7 && s->last_ended == 1 && s->has_listened == 0)
+    SEE(s->timeout == 1000 && s->settle == 200 && s->moment == 0 && s->patience == 1000 && s->interruptions == 0 && s->sign_ons == 0 && s->idle_since == 0)
+    SEE(s->null_deadline == 0 && s->hold_until == 0 && s->wait_since == 0 && s->no_reply_since == 0 && s->pause == 0 && s->width == 2 && s->phase == 0 && s->is_idle == 0)
+    SEE(s->has_asked == 0 && s->awaits_reply == 0 && s->must_resynchronize == 0 && s->requests_since_table_call == 7 && s->last_ended == 1 && s->has_listened == 0)
     SEE(is_status(0, 0, 0, 0, 0, 0))
     SEE(is_next(GEOCOM_WANT_NOTHING, 5, GEOCOM_WAIT, UINT64_MAX) && s->is_idle == 1 && s->idle_since == 5)
     SEE(is_next(GEOCOM_WANT_ANSWERS, 9, GEOCOM_WAIT, UINT64_MAX) && is_next(GEOCOM_WANT_SEND, 10, GEOCOM_OPEN, 0) && s->is_idle == 0)
     SEE(geocom_session_opened(s, 12) == 0 && s->phase == 2 && s->moment == 12 && is_status(1, 0, 0, 0, 0, 0))
     SEE(writes(GEOCOM_WANT_SEND, 12, "\n", 0) && s->phase == 4)
-    SEE(writes(GEOCOM_WANT_SEND, 12, "%R1Q,0,6:\r\n", 0) && s->null_deadline == 1012 && s->asked == 1 && s->alive == 12)
+    SEE(writes(GEOCOM_WANT_SEND, 12, "%R1Q,0,6:\r\n", 0) && s->null_deadline == 1012 && s->awaits_reply == 1 && s->no_reply_since == 12)
     SEE(is_next(GEOCOM_WANT_SEND, 13, GEOCOM_READ, 1012) && writes(GEOCOM_WANT_SEND, 1012, "%R1Q,0,6:\r\n", 0) && s->null_deadline == 2012)
     SEE(hears(1020, "%R1P,0,6:0\r", GEOCOM_MORE, 0) && s->client.partial_line.length == 11 && s->client.answered == 0)
-    SEE(hears(1021, "\n", GEOCOM_STRAY, 0) && s->client.answered == 1 && s->null_deadline == 0 && s->asked == 0 && s->alive == 1021)
+    SEE(hears(1021, "\n", GEOCOM_STRAY, 0) && s->client.answered == 1 && s->null_deadline == 0 && s->awaits_reply == 0 && s->no_reply_since == 1021)
     SEE(writes(GEOCOM_WANT_SEND, 1021, "%R1Q,0,5:\r\n", 0) && hears(1022, "noise\r\n", GEOCOM_UNREAD, 0) && heard.line_fault == 1)
     SEE(hears(1030, answers + 12, GEOCOM_STRAY, 0) && s->client.answered == 8 && is_status(1, 1, 0, 0, 0, 0))
     SEE(writes(GEOCOM_WANT_SEND, 1030, "%R1Q,0,0:\r\n", 0) && is_status(1, 1, 1, 1, 0, 0) && s->client.requests[0].target == GEOCOM_OWN)
@@ -81,30 +81,30 @@ static int synchronizes(void) {
 static int goes_on(void) {
     SEE(is_next(GEOCOM_WANT_SEND, 1050, GEOCOM_SEND, 0) && asks(0x01020304u, 5000, 2108, "5000,1", "%R1Q,2108,1:5000,1\r\n"))
     SEE(s->client.requests[0].target == 0x01020304u && s->client.requests[0].deadline == 6050 && s->patience == 5000 && s->has_asked == 1)
-    SEE(s->requests_since_table_call == 1 && s->asked == 1 && is_status(1, 1, 1, 1, 0, 0) && is_next(GEOCOM_WANT_SEND, 1060, GEOCOM_SEND, 0))
+    SEE(s->requests_since_table_call == 1 && s->awaits_reply == 1 && is_status(1, 1, 1, 1, 0, 0) && is_next(GEOCOM_WANT_SEND, 1060, GEOCOM_SEND, 0))
     sent = geocom_session_ask_raw(s, 9, 100, 2167, (const uint8_t *)"1", 1, line, sizeof line);
     SEE(sent.fault == 0 && sent.count == 15 && memcmp(line, "%R1Q,2167,2:1\r\n", 15) == 0 && is_status(1, 1, 2, 2, 0, 0))
     SEE(is_next(GEOCOM_WANT_SEND, 1070, GEOCOM_READ, 1160) && is_next(GEOCOM_WANT_ANSWERS, 1160, GEOCOM_READ, 6050) && is_status(1, 1, 2, 1, 0, 0))
     SEE(hears(1170, "%R1P,0,2:0,3\r\n", GEOCOM_SETTLED, 2) && s->last_ended == 2 && s->requests_since_table_call == 2)
     SEE(settled[0].target == 0x01020304u && settled[0].outcome == GEOCOM_LOST && settled[1].target == 9 && settled[1].outcome == GEOCOM_LATE)
     SEE(is_next(GEOCOM_WANT_SEND, 1170, GEOCOM_SEND, 0) && asks(7, 5000, 2108, "5000,1", "%R1Q,2108,3:5000,1\r\n"))
-    SEE(hears(1180, "%N1,0,255,,0%T0,0,0,:\r\n", GEOCOM_UNREAD, 0) && s->doubtful == 1 && is_status(1, 0, 1, 1, 0, 1))
+    SEE(hears(1180, "%N1,0,255,,0%T0,0,0,:\r\n", GEOCOM_UNREAD, 0) && s->must_resynchronize == 1 && is_status(1, 0, 1, 1, 0, 1))
     SEE(is_next(GEOCOM_WANT_SEND, 1180, GEOCOM_READ, 6170) && hears(1190, "%R1P,0,3:0,2.25, 1.625,110.0625\r\n", GEOCOM_SETTLED, 1))
     SEE(settled[0].reading == GEOCOM_VALUE && settled[0].items == 3 && memcmp(text + settled[0].item_spans[1].offset, "1.625", 5) == 0)
     SEE(is_next(GEOCOM_WANT_NOTHING, 1200, GEOCOM_READ, UINT64_MAX) && s->is_idle == 1 && s->idle_since == 1200)
-    SEE(writes(GEOCOM_WANT_SEND, 9000, "%R1Q,0,6:\r\n", 0) && is_status(1, 0, 0, 0, 1, 1) && s->doubtful == 0 && s->client.answered == 0)
+    SEE(writes(GEOCOM_WANT_SEND, 9000, "%R1Q,0,6:\r\n", 0) && is_status(1, 0, 0, 0, 1, 1) && s->must_resynchronize == 0 && s->client.answered == 0)
     SEE(hears(9010, answers, GEOCOM_STRAY, 0) && writes(GEOCOM_WANT_SEND, 9010, "%R1Q,0,0:\r\n", 0) && hears(9010, "%R1P,0,0:0\r\n", GEOCOM_SETTLED, 1))
     return 0;
 }
 
 static int reconnects(void) {
     SEE(is_next(GEOCOM_WANT_SEND, 9010, GEOCOM_SEND, 0) && asks(7, 5000, 5003, "", "%R1Q,5003,1:\r\n") && hears(9020, "%R1P,0", GEOCOM_MORE, 0))
-    SEE(geocom_session_closed(s, 9020) == 0 && s->phase == 1 && s->pause == 200 && s->since == 9020 && is_status(0, 0, 1, 1, 2, 1))
+    SEE(geocom_session_closed(s, 9020) == 0 && s->phase == 1 && s->pause == 200 && s->wait_since == 9020 && is_status(0, 0, 1, 1, 2, 1))
     SEE(is_next(GEOCOM_WANT_ANSWERS, 9030, GEOCOM_WAIT, 9220) && is_next(GEOCOM_WANT_ANSWERS, 9220, GEOCOM_OPEN, 0))
     SEE(geocom_session_closed(s, 9221) == 0 && is_next(GEOCOM_WANT_ANSWERS, 9221, GEOCOM_WAIT, 9621) && is_status(0, 0, 1, 1, 3, 1))
     SEE(is_next(GEOCOM_WANT_SEND, 9621, GEOCOM_OPEN, 0) && geocom_session_opened(s, 9700) == 0 && writes(GEOCOM_WANT_SEND, 9700, "\n", 0) && s->phase == 3)
     SEE(is_next(GEOCOM_WANT_SEND, 9710, GEOCOM_READ, 9900) && s->has_listened == 1 && hears(9800, ",1:0,5\r\n%R1P,0,1:0,5\r\n", GEOCOM_STRAY, 0))
-    SEE(s->has_listened == 0 && s->since == 9800)
+    SEE(s->has_listened == 0 && s->wait_since == 9800)
     SEE(is_next(GEOCOM_WANT_SEND, 9900, GEOCOM_READ, 10000) && is_next(GEOCOM_WANT_ANSWERS, 10000, GEOCOM_READ, 14010) && s->phase == 4)
     SEE(is_status(1, 1, 1, 1, 3, 1) && hears(10010, "%R1P,0,1:0,71\r\n", GEOCOM_SETTLED, 1) && settled[0].target == 7 && s->pause == 0)
     return 0;
@@ -169,7 +169,7 @@ static int refuses(void) {
     SEE(refused(GEOCOM_OWN - 1, 5003, "") == 73 && refused_raw(1, 2108, "\n") == 68 && refused_raw(1, 2167, "\n") == 11 && refused_raw(1, 2167, "\"") == 13)
     SEE(refused_raw(1, 2167, ",,,,,,,,,,,,,,,,") == 14 && refused_raw(1, 2167, longest) == 6 && refused_raw(GEOCOM_OWN, 2167, "1") == 74)
     SEE(refused_raw(0, 2167, "1") == 73 && is_kept())
-    uint8_t *const fields[] = {&s->width, &s->phase, &s->is_idle, &s->has_asked, &s->asked, &s->doubtful, &s->requests_since_table_call, &s->last_ended, &s->client.answered,
+    uint8_t *const fields[] = {&s->width, &s->phase, &s->is_idle, &s->has_asked, &s->awaits_reply, &s->must_resynchronize, &s->requests_since_table_call, &s->last_ended, &s->client.answered,
                                &s->client.width};
     static const uint8_t values[] = {0, 5, 2, 2, 2, 2, 8, 0, 9, 3};
     for (size_t k = 0; k < sizeof values; k++) {

@@ -278,12 +278,12 @@ def what_a_session_says():
         settled = session.feed(1000, b"%R1P") + session.feed(1000, b",0,%d:0\r\n" % id)
     assert [each.target for each in settled] == [OWN]
     assert session.next(Want.SEND, 3000).act is Act.SEND and session.ask(7, 1000, 2107, "1") == b"%R1Q,2107,1:1\r\n"
-    assert session.next(Want.ANSWERS, 3000) == (Act.READ, 4000, b"", []) and session.stretch == 0
+    assert session.next(Want.ANSWERS, 3000) == (Act.READ, 4000, b"", []) and session.interruptions == 0
     assert [(each.target, each.items) for each in session.feed(3500, b"%R1P,0,1:0,1.5,0.5\r\n")] == [(7, ("1.5", "0.5"))]
     session.closed(3500)
-    assert session.next(Want.SEND, 3500) == (Act.WAIT, 5500, b"", []) and session.delay(4000) == 3500 and session.stretch == 1
+    assert session.next(Want.SEND, 3500) == (Act.WAIT, 5500, b"", []) and session.delay(4000) == 3500 and session.interruptions == 1
     session.restart()
-    assert not session.is_up and session.stretch == 2
+    assert not session.is_up and session.interruptions == 2
     raised(geocom.BadWidth, geocom.aio.Station, 4001, width=8)
 
 

@@ -413,8 +413,10 @@ def timeouts_that_are_refused():
             raised(ValueError, kind, "4001", timeout=odd)
     raised(ValueError, geocom.Station, "4001", settle=-1)
     raised(TypeError, station.ask, 5003, timeout="5")
-    for odd in [float("nan"), float("inf"), -1]:
+    for odd in [float("nan"), float("inf"), -1, 0]:
         raised(ValueError, next, station.cycles([geocom.Chain.of(1, (5003,))], every=odd))
+    for odd in [0, -1]:
+        raised(ValueError, next, station.cycles([geocom.Chain.of(1, (5003,))], count=odd))
     assert len(port.written) == written
     with socket.create_connection(("127.0.0.1", 4001)) as connection, geocom.Station(connection, timeout=600000) as longest:
         assert longest.ask(5003, timeout=((1 << 31) - 1) / 1000).items == ("123456",)

@@ -27,9 +27,9 @@ def test_cut_anywhere(instrument):
 def test_delays_are_moments(instrument):
     slow = instrument("delay 9027 8000\n")
     ok = b"%R1P,0,0:0\r\n"
-    assert slow.hear(b"%R1Q,9027,0:0.5,1.5,0,1,0\r\n", 1000) == [geocom.Reply(9000, ok)]
-    assert [each.due for each in slow.hear(b"%R1Q,0,1:\r\n%R1Q,0,2:\r\n", 2000)] == [9000, 9000]
-    assert [each.due for each in slow.hear(b"%R1Q,0,3:\r\n", 9500)] == [9500]
+    assert slow.replies_to(b"%R1Q,9027,0:0.5,1.5,0,1,0\r\n", 1000) == [geocom.Reply(9000, ok)]
+    assert [each.due for each in slow.replies_to(b"%R1Q,0,1:\r\n%R1Q,0,2:\r\n", 2000)] == [9000, 9000]
+    assert [each.due for each in slow.replies_to(b"%R1Q,0,3:\r\n", 9500)] == [9500]
 
 
 @pytest.mark.parametrize(

@@ -10,4 +10,5 @@ mod Nexts
 mod Places
 mod Repeats
 pub mod Stretches
+mod Waits
 pub mod Walk

@@ -39,7 +39,8 @@ has_begun x = is_none_left x.word
 abbrev pub is_past : (wait now : ℕ) → Exchange → Bool
 is_past wait now x = nat_le wait (now - x.since)
 
--- the moment from which on that is so
+-- the moment `wait` milliseconds after `since`, or the greatest `u64` if that is more. Where it isn't more, and `wait` isn't 0, `is_past` is
+-- true exactly from then on (`WaitsEndAtTheirMoments`)
 abbrev pub past_at : (wait : ℕ) → Exchange → ℕ
 past_at wait x = later x.since wait
 
@@ -58,7 +59,8 @@ is_dead patience now all current x = nat_eq current 0 && is_silent patience now 
 abbrev pub may_ask : (now : ℕ) → Exchange → Bool
 may_ask now x = nat_eq x.hold 0 && nat_le x.again now
 
--- the moment from which on that is so
+-- the later one of that deadline and of the hold. Once a moment was noted (`moment_passed`), which ends a hold that it reaches, `may_ask` is
+-- true of it exactly if `asks_at` is no later (`WaitsEndAtTheirMoments`)
 abbrev pub asks_at : Exchange → ℕ
 asks_at x = max x.again x.hold
 

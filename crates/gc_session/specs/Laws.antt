@@ -1,6 +1,6 @@
 -- What holds of any calls on a session, this project's own: they are one list of events of its client, each in its turn; it sends by the
 -- rules that the theorems on an instrument and a line ask for; and its settlements are those of its client.
-use Rattle.std.specs.Prelude.{◌≡◌, ◌≢◌, ℕ, ◌+◌, ◌<◌, ◌≤◌, Bool, true, false, not, nat_eq, List, [], ◌∷◌, ◌++◌, length, map, filter, Some, slice_get, if◌then◌else◌}
+use Rattle.std.specs.Prelude.{◌≡◌, ◌≢◌, ◌↔◌, ℕ, ◌+◌, ◌<◌, ◌≤◌, Bool, true, false, not, nat_eq, List, [], ◌∷◌, ◌++◌, length, map, filter, Some, slice_get, if◌then◌else◌}
 use Rattle.std.specs.List.{AllByRecursion}
 use Rattle.gc_catalogue.specs.Asked.{is_of_table}
 use Rattle.gc_catalogue.specs.declared.asked.Asked.{Asked}
@@ -18,7 +18,8 @@ use Rattle.gc_session.specs.declared.session.TheConstants.{OWN}
 use Rattle.gc_session.specs.Calls.{Call, Asks, Closes, after, after_all, events_all, settled_all, Steps, Comes, Opens}
 use Rattle.gc_session.specs.Courses.{client_stepped}
 use Rattle.gc_session.specs.Events.{ClientEvent, Stepped, AreInTurn, left_among, steps_among, steps_since}
-use Rattle.gc_session.specs.Exchange.{ended_last}
+use Rattle.gc_session.specs.declared.exchange.Exchange.{Exchange}
+use Rattle.gc_session.specs.Exchange.{asks_at, ended_last, is_past, may_ask, moment_passed, past_at}
 use Rattle.gc_session.specs.Lines.{calls_for_renewal}
 use Rattle.gc_session.specs.Sessions.{Session, came, opening, takes, stepped, next_of, at_step, is_up}
 
@@ -184,3 +185,10 @@ ConnectionsAreDrained =
 -- if bytes came once more by the same moment, nothing more has changed
 abbrev pub ComingTwiceIsComingOnce : Type 0
 ComingTwiceIsComingOnce = (now : ℕ) (s : Session) → came now (came now s) ≡ came now s
+
+-- the moments that are said of waits are those at which they end: at least `wait` milliseconds lie between `since` and the moment `now` exactly
+-- from `past_at` on, if `wait` isn't 0, and that moment fits in 64 bits; and once the moment `now` was noted the null procedure of the first id
+-- that isn't answered may be sent exactly if `asks_at` is no later
+pub record WaitsEndAtTheirMoments : Type 0 where
+  pub past : (wait now : ℕ) (x : Exchange) → 0 < wait → x.since + wait ≤ 18446744073709551615 → (is_past wait now x ≡ true) ↔ (past_at wait x ≤ now)
+  pub asks : (now : ℕ) (x : Exchange) → (may_ask now (moment_passed now x) ≡ true) ↔ (asks_at x ≤ now)

@@ -87,7 +87,8 @@ impl Exchange {
         wait <= now.saturating_sub(self.since)
     }
 
-    /// The moment from which on that is so.
+    /// The moment `wait` milliseconds after `since`, or the greatest `u64` if that is more. Where it isn't more, and `wait` isn't 0, `is_past`
+    /// is true exactly from then on.
     pub fn past_at(&self, wait: u64) -> u64
         ensures { result ≡ past_at wait self.now }
     {
@@ -114,7 +115,8 @@ impl Exchange {
         self.hold == 0 && self.again <= now
     }
 
-    /// The moment from which on that is so.
+    /// The later one of that deadline and of the hold. Once a moment was noted (`pass_moment`), which ends a hold that it reaches, `may_ask` is
+    /// true of it exactly if `asks_at` is no later.
     pub fn asks_at(&self) -> u64
         ensures { result ≡ asks_at self.now }
     {

@@ -1,6 +1,6 @@
 //! What is proved of any calls on a session. Each function does nothing: its contract is the law.
 
-ghost use Rattle.gc_session.specs.Laws.{SessionsAreTheirClients, RequestsAreSentNearTheTable, RequestsAreHeldBack, NothingIsSentInDoubt, OwnRequestsAreNullProcedures, AccountsForAsks, StretchesAreUnbroken, ConnectionsAreDrained, ComingTwiceIsComingOnce};
+ghost use Rattle.gc_session.specs.Laws.{SessionsAreTheirClients, RequestsAreSentNearTheTable, RequestsAreHeldBack, NothingIsSentInDoubt, OwnRequestsAreNullProcedures, AccountsForAsks, StretchesAreUnbroken, ConnectionsAreDrained, ComingTwiceIsComingOnce, WaitsEndAtTheirMoments};
 ghost use Rattle.gc_session.specs.Witness.{ARunIsAnswered};
 
 /// Any calls on a session are one list of events of its client: the null procedures of a synchronization and the lines that arrive
@@ -60,4 +60,11 @@ pub fn connections_are_drained()
 /// To report once more that bytes came, by the same moment, changes nothing.
 pub fn coming_twice_is_coming_once()
     ensures { ComingTwiceIsComingOnce }
+{}
+
+/// The moments until which an exchange waits are those at which its waits end. A pause, or a quiet time, that isn't 0 is over exactly from
+/// `past_at` on, where that moment fits in 64 bits. The null procedure of the first id that isn't answered may be sent, once a moment was
+/// noted, exactly if `asks_at` is no later.
+pub fn waits_end_at_their_moments()
+    ensures { WaitsEndAtTheirMoments }
 {}

@@ -1,5 +1,5 @@
 -- What the words of `station` and of `rehearse` choose, each value by the name of its option: this project's own.
-use Rattle.std.specs.Prelude.{◌≡◌, ℕ, ◌*◌, ◌/◌, ◌^◌, ◌-◌, ◌||◌, Bool, true, false, not, List, Option, Some, None, min, is_some, IfSome, IsSome, option_map, if◌then◌else◌, nat_eq, codes}
+use Rattle.std.specs.Prelude.{◌≡◌, ◌⊎◌, ℕ, ◌*◌, ◌/◌, ◌^◌, ◌-◌, ◌||◌, Bool, true, false, not, List, Option, Some, None, min, is_some, IfSome, IsSome, option_map, if◌then◌else◌, nat_eq, codes}
 use Rattle.gc_links.specs.Places.{NamesPlace}
 use Rattle.gc_links.specs.declared.place.Place.{Place}
 use Rattle.gc_links.specs.declared.signals.Signals.{Signals}
@@ -34,6 +34,11 @@ pub record ReadsSeconds (words : Words) (name : List ℕ) (r : Option ℕ) : Typ
   pub found : IfSome r (λ milliseconds. GivesSeconds words name milliseconds)
   pub only : HasNumber words name 64 → IsSome r
 
+-- the period of cycles is what `--every` gives, in milliseconds; it is 0, for none, so that a cycle begins as soon as the last is done, if
+-- the words don't give that
+abbrev pub IsPeriod : (words : Words) (milliseconds : ℕ) → Type 0
+IsPeriod words milliseconds = GivesSeconds words (codes "every") milliseconds ⊎ ((HasNumber words (codes "every") 64 → ⊥) × (milliseconds ≡ 0))
+
 -- who watches a station: nobody with `--silent`, and otherwise somebody who reads lines
 abbrev pub watch_for : (silent : Bool) → Watch
 watch_for silent = if silent then watch.Nobody else watch.Lines
@@ -48,7 +53,7 @@ pub record IsChosen (of_cycles : Limit) (words : Words) (station : Settings) : T
   pub width : GivesNumber words (codes "width") station.choice.width
   pub deadline : GivesNumber words (codes "deadline") station.choice.deadline
   pub unchained : station.choice.chained ≡ not (has_flag words (codes "unchained"))
-  pub every : GivesSeconds words (codes "every") station.choice.every
+  pub every : IsPeriod words station.choice.every
   pub cycles : GivesLimit words of_cycles station.choice.cycles
   pub quiet : GivesNumber words (codes "settle") station.choice.quiet
   pub retries : GivesLimit words Retries station.choice.retries
@@ -64,7 +69,6 @@ pub record IsChosen (of_cycles : Limit) (words : Words) (station : Settings) : T
 pub record HasNumbers (words : Words) : Type 0 where
   pub width : HasNumber words (codes "width") 8
   pub deadline : HasNumber words (codes "deadline") 64
-  pub every : HasNumber words (codes "every") 64
   pub quiet : HasNumber words (codes "settle") 64
 
 -- the argument WHERE names this place

@@ -46,7 +46,7 @@ station_rules =
     positional (codes "where")
     ∷ signed_number (codes "width") 1 7 (codes "1" ∷ [])
     ∷ number (codes "deadline") 1 86400000 (codes "10000" ∷ [])
-    ∷ number (codes "every") 0 86400 (codes "0" ∷ [])
+    ∷ number (codes "every") 1 86400 []
     ∷ tied (number (codes "at") 0 86399 [])
     ∷ limited (codes "cycles") (codes "1")
     ∷ number (codes "settle") 1 86400000 (codes "2000" ∷ [])

@@ -1,7 +1,7 @@
 //! The choice: what an operator chooses beside the text, and by which options.
 
 ghost use Rattle.std.specs.Prelude.{◌≡◌, ◌^◌, ◌-◌, ◌||◌, codes, is_some, IfOk, IfSome, IsSome};
-ghost use Rattle.gc_words.specs.Chosen.{GivesLimitSeconds, GivesSeconds, HasNumbers, IsChosen, form_for};
+ghost use Rattle.gc_words.specs.Chosen.{GivesLimitSeconds, GivesSeconds, HasNumbers, IsChosen, IsPeriod, form_for};
 ghost use Rattle.gc_words.specs.Limits.{HasLimit, HasLimits, ReadsLimit};
 ghost use Rattle.gc_words.specs.declared.limit.Limit.TheVariants.{Retries, Stale};
 ghost use Rattle.gc_words.specs.Stations.{is_at_without_multiple, is_stale_too_soon, watch_shown};
@@ -32,10 +32,9 @@ const ARGUMENTS: &[Argument<'static>] = &[
     DEADLINE,
     Argument {
         name: "every",
-        takes: Takes::Unsigned(0, 86_400),
+        takes: Takes::Unsigned(1, 86_400),
         value_name: &["SECONDS"],
-        default: &["0"],
-        help: "Begins a cycle SECONDS after the last was due, 1 to 86400; 0: as soon as the last is done",
+        help: "Begins a cycle SECONDS after the last was due, 1 to 86400; without it as soon as the last is done",
         ..FLAG
     },
     Argument {
@@ -220,7 +219,7 @@ pub fn station_of(words: &ArgMatches, cycles: Limit) -> Option<Settings>
             width: byte_in(words, "width")?,
             deadline: u64_in(words, "deadline")?,
             chained: !has_flag(words, "unchained"),
-            every: seconds_in(words, "every")?,
+            every: every_in(words),
             cycles: limit_in(words, cycles)?,
             quiet: u64_in(words, "settle")?,
             retries: retries_in(words)?,
@@ -256,6 +255,13 @@ fn form_of(words: &ArgMatches) -> Form
     } else {
         Form::Lines
     }
+}
+
+// The period of cycles that the options ask for, in milliseconds; 0: none.
+fn every_in(words: &ArgMatches) -> u64
+    ensures { IsPeriod (words_of words.now) result }
+{
+    seconds_in(words, "every").unwrap_or(0)
 }
 
 // The time that an option gives in seconds, in milliseconds. `None`: there is none, or it is no number of 64 bits.

@@ -29,7 +29,7 @@ same_session settings standing client s a b c =
 
 -- a standing stays in a state whose client and settings are others, if as many null procedures are answered
 pub standing_stays : (s : GeocomSession) (t : Standing) (client : GeocomClient) (width timeout quiet : ℕ) → KeepsAnswered s.client client → HoldsStanding s t
-    → HoldsStanding (record s { client = client; width = width; timeout = timeout; quiet = quiet }) t
+    → HoldsStanding (record s { client = client; width = width; timeout = timeout; settle = quiet }) t
 standing_stays s t client width timeout quiet answered h = record {
   phase = h.phase;
   moment = h.moment;

@@ -61,12 +61,12 @@ current_few ps = omega (arith, length-map (filter (λ (p : Pending Asked). not p
 -- what is said of a session, by its parts
 abbrev pub status_by : (t : Standing) (up ready waiting current : ℕ) → GeocomStatus
 status_by t up ready waiting current = record {
-  stretch = t.stretch;
+  interruptions = t.stretch;
   sign_ons = t.sign_ons;
   fault = 0;
   is_up = up;
   is_ready = ready;
-  waiting = waiting;
+  outstanding = waiting;
   current = current;
 }
 

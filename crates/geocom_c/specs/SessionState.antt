@@ -39,15 +39,15 @@ pub record AreCounts (x : Exchange) : Type 0 where
 -- the bytes of a state are those of this exchange
 pub record HoldsExchange (s : GeocomSession) (x : Exchange) : Type 0 where
   pub word : left_of s.client ≡ x.word
-  pub again : s.again ≡ x.again
-  pub hold : s.hold ≡ x.hold
-  pub since : s.since ≡ x.since
-  pub alive : s.alive ≡ x.alive
-  pub asked : s.asked ≡ flag_byte x.asked
+  pub again : s.null_deadline ≡ x.again
+  pub hold : s.hold_until ≡ x.hold
+  pub since : s.wait_since ≡ x.since
+  pub alive : s.no_reply_since ≡ x.alive
+  pub asked : s.awaits_reply ≡ flag_byte x.asked
   pub pause : s.pause ≡ x.pause
-  pub behind : s.behind ≡ x.behind
+  pub behind : s.requests_since_table_call ≡ x.behind
   pub last_ended : s.last_ended ≡ x.last_ended
-  pub doubtful : s.doubtful ≡ flag_byte x.doubtful
+  pub doubtful : s.must_resynchronize ≡ flag_byte x.doubtful
   pub counts : AreCounts x
 
 -- the bytes of a state are those of this standing
@@ -55,18 +55,18 @@ pub record HoldsStanding (s : GeocomSession) (t : Standing) : Type 0 where
   pub phase : s.phase ≡ phase_byte t.phase
   pub moment : s.moment ≡ t.moment
   pub patience : s.patience ≡ t.patience
-  pub stretch : s.stretch ≡ t.stretch
+  pub stretch : s.interruptions ≡ t.stretch
   pub sign_ons : s.sign_ons ≡ t.sign_ons
   pub has_asked : s.has_asked ≡ flag_byte t.has_asked
-  pub rests : RestsSince s.is_resting s.rested t.rests
-  pub listened : s.listened ≡ flag_byte t.listened
+  pub rests : RestsSince s.is_idle s.idle_since t.rests
+  pub listened : s.has_listened ≡ flag_byte t.listened
   pub exchange : HoldsExchange s t.exchange
 
 -- the bytes of a state are those of these settings
 pub record HoldsSettings (s : GeocomSession) (settings : Settings) : Type 0 where
   pub width : s.width ≡ settings.width
   pub timeout : s.timeout ≡ settings.timeout
-  pub quiet : s.quiet ≡ settings.quiet
+  pub quiet : s.settle ≡ settings.quiet
   pub allowed : IsWidth settings.width
 
 -- the bytes of a state are those of this session, and the bytes `rest` came since the last line feed

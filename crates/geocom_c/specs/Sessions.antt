@@ -57,18 +57,18 @@ pub record IsRestart (x : Effect GeocomSession GeocomSettlement) : Type 0 where
 -- what is said of the session s
 abbrev pub status_of : Session → GeocomStatus
 status_of s = record {
-  stretch = s.standing.stretch;
+  interruptions = s.standing.stretch;
   sign_ons = s.standing.sign_ons;
   fault = 0;
   is_up = flag_byte (is_up s.standing.phase);
   is_ready = flag_byte (is_ready s);
-  waiting = all_of s;
+  outstanding = all_of s;
   current = current_of s;
 }
 
 -- what is said of a state that is no session's
 abbrev pub no_status : GeocomStatus
-no_status = record { stretch = 0; sign_ons = 0; fault = NO_CLIENT; is_up = 0; is_ready = 0; waiting = 0; current = 0 }
+no_status = record { interruptions = 0; sign_ons = 0; fault = NO_CLIENT; is_up = 0; is_ready = 0; outstanding = 0; current = 0 }
 
 -- what is returned of a state: what is said of its session, or that it is no session's
 pub record IsStatus (state : GeocomSession) (status : GeocomStatus) : Type 0 where

@@ -78,7 +78,7 @@ pub struct GeocomStep {
 pub struct GeocomStatus {
     /// How often a connection was closed or couldn't be made, or the session resynchronized: what is sent at one number is sent over one
     /// connection after one synchronization.
-    pub stretch: u64,
+    pub interruptions: u64,
     /// How many sign-ons came since the first request was asked.
     pub sign_ons: u64,
     pub fault: u32,
@@ -87,7 +87,7 @@ pub struct GeocomStatus {
     /// 1 if it has synchronized, its connection is quiet, and nothing called for another synchronization; otherwise 0.
     pub is_ready: u32,
     /// How many requests are outstanding, those that timed out included.
-    pub waiting: u32,
+    pub outstanding: u32,
     /// How many outstanding requests haven't timed out.
     pub current: u32,
 }

@@ -24,45 +24,45 @@ pub struct GeocomSession {
     /// How long a null procedure waits for its reply.
     pub timeout: u64,
     /// How long a new connection has to be quiet, and the first pause lasts.
-    pub quiet: u64,
+    pub settle: u64,
     /// The last moment that the session was told.
     pub moment: u64,
     /// The longest wait of a request since nothing was outstanding, at least `timeout`.
     pub patience: u64,
     /// How often a connection was closed or couldn't be made, or the session resynchronized.
-    pub stretch: u64,
+    pub interruptions: u64,
     /// How many sign-ons came since the first request was asked.
     pub sign_ons: u64,
-    /// Since when nothing is wanted, if `is_resting` is 1.
-    pub rested: u64,
+    /// Since when nothing is wanted, if `is_idle` is 1.
+    pub idle_since: u64,
     /// The deadline of the null procedure that the synchronization sent last on this connection; 0: none was sent.
-    pub again: u64,
+    pub null_deadline: u64,
     /// Until when nothing is asked; 0: nothing holds requests back.
-    pub hold: u64,
-    /// From when a pause and the quiet time count.
-    pub since: u64,
-    /// From when a dead line counts.
-    pub alive: u64,
-    /// The length of the current pause, or of the last one; 0: the next one lasts `quiet`.
+    pub hold_until: u64,
+    /// From when a pause, or `settle`, counts.
+    pub wait_since: u64,
+    /// From when the time without a reply counts, after which the line is dead.
+    pub no_reply_since: u64,
+    /// The length of the current pause, or of the last one; 0: the next one lasts `settle`.
     pub pause: u64,
     /// How many requests that haven't timed out may be in flight, 1 to 7.
     pub width: u8,
     /// 0 without a connection, 1 in a pause before the next one, 2 before its line feed, 3 until it is quiet, 4 ready.
     pub phase: u8,
     /// 1 if nothing is wanted; otherwise 0.
-    pub is_resting: u8,
+    pub is_idle: u8,
     /// 1 if a request was asked; otherwise 0.
     pub has_asked: u8,
     /// 1 if a request was sent on this connection, and since then no reply line came; otherwise 0.
-    pub asked: u8,
+    pub awaits_reply: u8,
     /// 1 if something came that calls for another synchronization; otherwise 0.
-    pub doubtful: u8,
+    pub must_resynchronize: u8,
     /// How many requests were sent after the last call of the table that a reply ended, at most 7.
-    pub behind: u8,
+    pub requests_since_table_call: u8,
     /// How many requests the last line ended that ended any, 1 to 7.
     pub last_ended: u8,
     /// 1 if the caller was to read since what came last on this connection; otherwise 0.
-    pub listened: u8,
+    pub has_listened: u8,
 }
 
 // What `load` and `store` write as a phase.
@@ -87,26 +87,26 @@ pub(crate) fn new_session(width: u8, timeout: u64, quiet: u64) -> GeocomSession
     GeocomSession {
         client: fresh(FULL),
         timeout: timeout.max(1),
-        quiet,
+        settle: quiet,
         moment: 0,
         patience: timeout.max(1),
-        stretch: 0,
+        interruptions: 0,
         sign_ons: 0,
-        rested: 0,
-        again: 0,
-        hold: 0,
-        since: 0,
-        alive: 0,
+        idle_since: 0,
+        null_deadline: 0,
+        hold_until: 0,
+        wait_since: 0,
+        no_reply_since: 0,
         pause: 0,
         width: width.max(1).min(7),
         phase: DOWN,
-        is_resting: 0,
+        is_idle: 0,
         has_asked: 0,
-        asked: 0,
-        doubtful: 0,
-        behind: FULL,
+        awaits_reply: 0,
+        must_resynchronize: 0,
+        requests_since_table_call: FULL,
         last_ended: 1,
-        listened: 0,
+        has_listened: 0,
     }
 }
 
@@ -166,20 +166,20 @@ fn read_exchange(state: &GeocomSession) -> Option<Exchange>
     ensures found { IfSome result (λ exchange. HoldsExchange state.now exchange) }
     ensures only { (exchange : Exchange) → HoldsExchange state.now exchange → result ≡ Some exchange }
 {
-    let asked = flag_of(state.asked)?;
-    let doubtful = flag_of(state.doubtful)?;
-    if state.behind > FULL || state.last_ended < 1 || state.last_ended > FULL {
+    let asked = flag_of(state.awaits_reply)?;
+    let doubtful = flag_of(state.must_resynchronize)?;
+    if state.requests_since_table_call > FULL || state.last_ended < 1 || state.last_ended > FULL {
         return None;
     }
     Some(Exchange {
         word: Beginning::resume(usize::from(state.client.answered)),
-        again: state.again,
-        hold: state.hold,
-        since: state.since,
-        alive: state.alive,
+        again: state.null_deadline,
+        hold: state.hold_until,
+        since: state.wait_since,
+        alive: state.no_reply_since,
         asked,
         pause: state.pause,
-        behind: usize::from(state.behind),
+        behind: usize::from(state.requests_since_table_call),
         last_ended: usize::from(state.last_ended),
         doubtful,
     })
@@ -192,15 +192,15 @@ fn read_standing(state: &GeocomSession) -> Option<Standing>
     ensures only { (standing : Standing) → HoldsStanding state.now standing → result ≡ Some standing }
 {
     let phase = phase_of(state.phase)?;
-    let rests = rests_of(state.is_resting, state.rested)?;
+    let rests = rests_of(state.is_idle, state.idle_since)?;
     let has_asked = flag_of(state.has_asked)?;
-    let listened = flag_of(state.listened)?;
+    let listened = flag_of(state.has_listened)?;
     let exchange = read_exchange(state)?;
     Some(Standing {
         phase,
         moment: state.moment,
         patience: state.patience,
-        stretch: state.stretch,
+        stretch: state.interruptions,
         sign_ons: state.sign_ons,
         has_asked,
         rests,
@@ -227,7 +227,7 @@ pub(crate) fn load_session(state: &GeocomSession) -> Option<Session>
     let settings = Settings {
         width: state.width,
         timeout: state.timeout,
-        quiet: state.quiet,
+        quiet: state.settle,
     };
     Some(Session::resume(settings, standing, client))
 }
@@ -243,22 +243,22 @@ fn write_standing(state: &mut GeocomSession, standing: &Standing)
     state.client.answered = exchange.word.answered() as u8;
     state.moment = standing.moment;
     state.patience = standing.patience;
-    state.stretch = standing.stretch;
+    state.interruptions = standing.stretch;
     state.sign_ons = standing.sign_ons;
-    state.rested = rested;
-    state.again = exchange.again;
-    state.hold = exchange.hold;
-    state.since = exchange.since;
-    state.alive = exchange.alive;
+    state.idle_since = rested;
+    state.null_deadline = exchange.again;
+    state.hold_until = exchange.hold;
+    state.wait_since = exchange.since;
+    state.no_reply_since = exchange.alive;
     state.pause = exchange.pause;
     state.phase = phase_byte(standing.phase);
-    state.is_resting = is_resting;
+    state.is_idle = is_resting;
     state.has_asked = u8::from(standing.has_asked);
-    state.asked = u8::from(exchange.asked);
-    state.doubtful = u8::from(exchange.doubtful);
-    state.behind = exchange.behind as u8;
+    state.awaits_reply = u8::from(exchange.asked);
+    state.must_resynchronize = u8::from(exchange.doubtful);
+    state.requests_since_table_call = exchange.behind as u8;
     state.last_ended = exchange.last_ended as u8;
-    state.listened = u8::from(standing.listened);
+    state.has_listened = u8::from(standing.listened);
 }
 
 // Stores a session in a state. The bytes of an incomplete line stay as they are.
@@ -270,7 +270,7 @@ pub(crate) fn store_session(state: &mut GeocomSession, session: Session)
     write_standing(state, &standing);
     state.width = settings.width;
     state.timeout = settings.timeout;
-    state.quiet = settings.quiet;
+    state.settle = settings.quiet;
     store(&mut state.client, client);
 }
 

@@ -88,12 +88,12 @@ pub extern "C" fn geocom_session_restart(
 
 // What is said of a state that is no session's.
 const NO_STATUS: GeocomStatus = GeocomStatus {
-    stretch: 0,
+    interruptions: 0,
     sign_ons: 0,
     fault: NO_CLIENT,
     is_up: 0,
     is_ready: 0,
-    waiting: 0,
+    outstanding: 0,
     current: 0,
 };
 
@@ -109,12 +109,12 @@ pub extern "C" fn geocom_session_status(state: &GeocomSession) -> GeocomStatus
     };
     let standing = session.standing();
     GeocomStatus {
-        stretch: standing.stretch,
+        interruptions: standing.stretch,
         sign_ons: standing.sign_ons,
         fault: 0,
         is_up: as_number(standing.phase.is_up()),
         is_ready: as_number(session.is_ready()),
-        waiting: session.waiting() as u32,
+        outstanding: session.waiting() as u32,
         current: session.current() as u32,
     }
 }

@@ -83,10 +83,10 @@ class _FeedResult(ctypes.Structure):
 class _Session(ctypes.Structure):
     _fields_ = [
         ("client", _Client),
-        *_all(_U64, "timeout settle moment patience stretch sign_ons idle_since"),
-        *_all(_U64, "null_deadline hold since alive pause"),
-        *_all(_U8, "width phase is_idle has_asked asked doubtful requests_since_table_call"),
-        *_all(_U8, "last_ended has_listened"),
+        *_all(_U64, "timeout settle moment patience interruptions sign_ons idle_since"),
+        *_all(_U64, "null_deadline hold_until wait_since no_reply_since pause"),
+        *_all(_U8, "width phase is_idle has_asked awaits_reply must_resynchronize"),
+        *_all(_U8, "requests_since_table_call last_ended has_listened"),
     ]
 
 
@@ -96,7 +96,7 @@ class _Step(ctypes.Structure):
 
 class _Status(ctypes.Structure):
     _fields_ = [
-        *_all(_U64, "stretch sign_ons"),
+        *_all(_U64, "interruptions sign_ons"),
         *_all(_U32, "fault is_up is_ready outstanding current"),
     ]
 

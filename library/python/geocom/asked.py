@@ -39,7 +39,7 @@ class Asked(Session):
         line = self.ask(
             number, request.timeout, request.procedure, request.parameters, request.is_raw
         )
-        request.stretch, request.deadline = self.stretch, now + request.timeout
+        request.interruptions, request.deadline = self.interruptions, now + request.timeout
         request.sent = datetime.datetime.now(datetime.timezone.utc)
         log.debug("> %r", line)
         return line
@@ -74,10 +74,10 @@ class Asked(Session):
             (super().opened if is_connected else super().closed)(now)
 
     def is_skipped(self, request: Request) -> bool:
-        """Whether it may be sent no more: its chain's stretch is over, or a sign-on came after its
+        """Whether it may be sent no more: its chain was interrupted, or a sign-on came after its
         call.
         """
-        is_broken = request.within not in (None, self.stretch)
+        is_broken = request.within not in (None, self.interruptions)
         return not request.is_sent and (is_broken or request.is_outdated(self.sign_ons))
 
     def why_not(self, request: Request | None, failure: Exception | None) -> NotReady:

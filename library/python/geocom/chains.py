@@ -78,8 +78,8 @@ class Row:
     """
 
     target: int
-    #: its place in the chain, counted from 0
-    place: int
+    #: which command of the chain it is, counted from 0
+    index: int
     procedure: int
     #: None where it wasn't sent, so that nothing was asked
     settlement: Optional[Settlement]
@@ -166,16 +166,16 @@ def requests(chain: Chain, timeout: float, known: int, described: Described) -> 
     return made
 
 
-def ended(place: int, request: Request, settlement: Settlement, accept: tuple[int, ...]) -> Row:
+def ended(index: int, request: Request, settlement: Settlement, accept: tuple[int, ...]) -> Row:
     """The row of a command that ended just now."""
     return Row(
-        request.target, place, request.procedure, settlement, request.sent, utc(), accept
+        request.target, index, request.procedure, settlement, request.sent, utc(), accept
     )
 
 
-def skipped(chain: Chain, place: int) -> Row:
+def skipped(chain: Chain, index: int) -> Row:
     """The row of a command that isn't sent."""
-    return Row(chain.target, place, chain.commands[place][0], None, None, utc())
+    return Row(chain.target, index, chain.commands[index][0], None, None, utc())
 
 
 def utc() -> datetime.datetime:
@@ -184,16 +184,25 @@ def utc() -> datetime.datetime:
 
 
 class Pace:
-    """When cycles are due: each `every` seconds after the beginning of the one before it."""
+    """When cycles are due: each `every` seconds after the beginning of the one before it, and
+    `count` of them. None: as soon as that is done, and without end.
+    """
 
-    def __init__(self, every: float):
-        if not 0 <= every < math.inf:
-            raise ValueError(f"{every} s is no period")
-        self.every, self.number, self._began = every, 0, 0.0
+    def __init__(self, every: Optional[float] = None, count: Optional[int] = None):
+        if every is not None and not 0 < every < math.inf:
+            raise ValueError(f"{every} s is no period; None: one cycle directly after the other")
+        if count is not None and count < 1:
+            raise ValueError(f"{count} is no number of cycles; None: without end")
+        self.every, self.count, self.number, self._began = every, count, 0, 0.0
+
+    @property
+    def goes_on(self) -> bool:
+        """Whether a further cycle follows."""
+        return self.count is None or self.number < self.count
 
     def due(self, now: float) -> float:
         """How many seconds remain until the next cycle is due."""
-        return self._began + self.every - now if self.number else 0.0
+        return self._began + self.every - now if self.number and self.every else 0.0
 
     def begin(self, now: float) -> bool:
         """The next cycle begins: whether it isn't missed. One that is late by less than a period

@@ -42,11 +42,12 @@ class Instrument:
 
     Raises BadScene where the text is refused. No instrument is left then.
 
-    It is asked in one of four ways: `feed` gives what it replies, at once; `hear` gives each reply
-    with the moment at which it goes out; as a port (`write`, `read`, `timeout`, `close`) it stands
-    where pyserial's would, as in `Station(Instrument(scene))`, and a reply with a `delay` comes so
-    much later; `connect` is the same for asyncio, as in `aio.Station(Instrument(scene).connect)`.
-    Threads may share it. `clock` gives seconds, and `timeout` is how long a `read` waits.
+    It is asked in one of four ways: `feed` gives what it replies, at once; `replies_to` gives each
+    reply with the moment at which it goes out; as a port (`write`, `read`, `timeout`, `close`) it
+    stands where pyserial's would, as in `Station(Instrument(scene))`, and a reply with a `delay`
+    comes so much later; `connect` is the same for asyncio, as in
+    `aio.Station(Instrument(scene).connect)`. Threads may share it. `clock` gives seconds, and
+    `timeout` is how long a `read` waits.
     """
 
     def __init__(
@@ -71,7 +72,7 @@ class Instrument:
         if made.fault:
             raise BadScene(made.fault, made.line, text)
 
-    def hear(self, data: bytes, now: int) -> list[Reply]:
+    def replies_to(self, data: bytes, now: int) -> list[Reply]:
         """Takes bytes that came at the moment `now`, in milliseconds of a count of yours that never
         runs backwards, in any pieces, and gives the replies to the lines that they end, in order.
         """
@@ -89,7 +90,7 @@ class Instrument:
         """Takes bytes, in any pieces, and gives what is replied to the lines that they end, at once
         and whatever delays the scene has.
         """
-        return b"".join(reply.data for reply in self.hear(data, self._now()))
+        return b"".join(reply.data for reply in self.replies_to(data, self._now()))
 
     def restart(self) -> None:
         """Restarts the instrument: half a line is dropped, and replies that haven't gone out. The
@@ -106,7 +107,7 @@ class Instrument:
         if not self._is_open:
             raise OSError("the port is closed")
         with self._came:
-            self._waiting.extend(self.hear(data, self._now()))
+            self._waiting.extend(self.replies_to(data, self._now()))
             self._came.notify_all()
         return len(data)
 

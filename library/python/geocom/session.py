@@ -131,9 +131,11 @@ class Session:
         check(self._calls.geocom_session_restart(self._state, self._records, WINDOW).fault)
 
     @property
-    def stretch(self) -> int:
-        """It grows where a connection ends, and where the session resynchronizes."""
-        return int(self._state.stretch)
+    def interruptions(self) -> int:
+        """It grows where a connection ends or none can be made, and where the session
+        resynchronizes.
+        """
+        return int(self._state.interruptions)
 
     @property
     def sign_ons(self) -> int:
@@ -155,8 +157,8 @@ class Session:
     def delay(self, now: int) -> int:
         """What remains of a pause, and the quiet time after it, which a first connection hasn't."""
         state = self._state
-        paused = state.since + state.pause - now if state.phase == _PAUSING else 0
-        return int(max(0, paused) + (state.settle if state.stretch else 0))
+        paused = state.wait_since + state.pause - now if state.phase == _PAUSING else 0
+        return int(max(0, paused) + (state.settle if state.interruptions else 0))
 
 
 @functools.lru_cache(maxsize=256)

@@ -130,13 +130,13 @@ class Request:
     ):
         self.procedure, self.parameters, self.target = procedure, parameters, target
         self.timeout, self.is_raw, self.description = timeout, is_raw, description
-        #: The stretch that it has to go out in, where a chain asks for it: one ends with its
-        #: connection, and where the station resynchronizes.
+        #: After how many interruptions it has to go out, where a chain asks for it: the end of a
+        #: connection is one, and where the station resynchronizes.
         self.within: int | None = None
         #: How many sign-ons the caller knew of; after a further one it goes out no more.
         self.known: int | None = None
-        #: The stretch that it went out in, and its deadline there.
-        self.stretch: int | None = None
+        #: After how many it went out, and its deadline.
+        self.interruptions: int | None = None
         self.deadline = 0
         #: When it went out, by the system's clock.
         self.sent: datetime.datetime | None = None
@@ -158,7 +158,7 @@ class Request:
     @property
     def is_sent(self) -> bool:
         """Whether it went out."""
-        return self.stretch is not None
+        return self.interruptions is not None
 
     def is_over(self, now: int) -> bool:
         """Whether it is settled, or its deadline has come."""

@@ -185,27 +185,31 @@ class Station(Turns):
         within = None
         self._refuse_fork()
         with self._lock:
-            for place, request in enumerate(asked):
+            for index, request in enumerate(asked):
                 request.within = within
                 try:
                     settlement = self._ask(request)
                 except NotReady:
                     break
-                rows.append(ended(place, request, settlement, accept))
-                within = request.stretch
+                rows.append(ended(index, request, settlement, accept))
+                within = request.interruptions
                 if not is_good(settlement, accept):
                     break
-        return rows + [skipped(chain, place) for place in range(len(rows), len(chain.commands))]
+        return rows + [skipped(chain, index) for index in range(len(rows), len(chain.commands))]
 
     def cycles(
-        self, chains: Iterable[Chain], every: float = 0.0, count: int = 0
+        self,
+        chains: Iterable[Chain],
+        every: Optional[float] = None,
+        count: Optional[int] = None,
     ) -> Iterator[Cycle]:
         """Measures all chains again and again, each cycle `every` seconds after the beginning of
-        the one before it; `count` cycles, or without end. A cycle that can't begin before the next
-        one is due is missed. A sign-on ends a cycle: its other commands are skipped.
+        the one before it, or as soon as that is done; `count` cycles, or without end. A cycle that
+        can't begin before the next one is due is missed. A sign-on ends a cycle: its other commands
+        are skipped.
         """
-        chains, pace = list(chains), Pace(every)
-        while not count or pace.number < count:
+        chains, pace = list(chains), Pace(every, count)
+        while pace.goes_on:
             if (wait := pace.due(self._clock())) > 0:
                 self._sleep(wait)
             if pace.begin(self._clock()):

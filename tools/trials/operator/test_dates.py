@@ -15,10 +15,10 @@ ASTRAY = "geocom: no file of records can be opened at the path of the date: rows
 
 @pytest.mark.title("thirty-one changes of date, {form}, with --every {every} {more}")
 @pytest.mark.parametrize("form, seconds, every, more", [
-    ("%Y-%m-%d", DAY, 1, ""), ("%Y-%m", 31 * DAY, 0, ""), ("%Y-%m-%dT%H", 3600, 0, ""), ("%Y-%m-%d", DAY, 0, "--log-bytes 2000")])
+    ("%Y-%m-%d", DAY, 1, ""), ("%Y-%m", 31 * DAY, None, ""), ("%Y-%m-%dT%H", 3600, None, ""), ("%Y-%m-%d", DAY, None, "--log-bytes 2000")])
 def test_changes_of_date(program, folder, note, form, seconds, every, more):
     """The clock is set on by a day, a month or an hour, now in a cycle and now behind it: rows and logs go on in files of the new date."""
-    words = f"--every {every} --cycles {33 if every else 'unlimited'} --until {folder}/stop {more}"
+    words = f"{f'--every {every} --cycles 33' if every else '--cycles unlimited'} --until {folder}/stop {more}"
     with measuring(program, folder, words, form) as station:
         found = change(station, 31, seconds)
         logs = station.check_logs(2000 if more else None)
@@ -27,9 +27,9 @@ def test_changes_of_date(program, folder, note, form, seconds, every, more):
     note(f"{len(found)} files, {sum(map(len, found.values()))} rows, {logs} logs")
 
 
-@pytest.mark.title("a year of dates, with --every 0")
+@pytest.mark.title("a year of dates, without --every")
 def test_a_year(program, folder, note):
-    with measuring(program, folder, f"--every 0 --cycles unlimited --until {folder}/stop") as station:
+    with measuring(program, folder, f"--cycles unlimited --until {folder}/stop") as station:
         for _ in range(365):
             path = folder / f"rows-{station.date()}.csv"
             until(lambda: path.exists() and path.stat().st_size > len(HEAD) or not station.run.is_running() or os.path.exists(station.rows), "a row comes", 10)
@@ -47,7 +47,7 @@ def test_a_year(program, folder, note):
 @pytest.mark.title("a clock that is set back by a day")
 def test_set_back(program, folder):
     """Rows go on in the file of the day before, behind its own, and then in the later one; by their cycles they are in order."""
-    with measuring(program, folder, f"--every 0 --cycles unlimited --until {folder}/stop") as station:
+    with measuring(program, folder, f"--cycles unlimited --until {folder}/stop") as station:
         for seconds in (DAY, -DAY, DAY, 0):
             many = station.count() + 6
             until(lambda: station.count() >= many, f"rows come at {station.date()}", 10)

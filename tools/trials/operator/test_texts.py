@@ -214,6 +214,6 @@ def test_deadlines(program):
 @pytest.mark.title("numbers out of their range")
 def test_ranges(program):
     """Numbers out of their range are refused with status 2, and so is 0 where a word says that there is no limit."""
-    for words in ("--deadline 0", "--deadline 86400001", "--settle 0", "--width 0", "--width 8", "--every 86401", "--cycles 0", "--retries 0",
+    for words in ("--deadline 0", "--deadline 86400001", "--settle 0", "--width 0", "--width 8", "--every 0", "--every 86401", "--cycles 0", "--retries 0",
                   "--stale 0"):
         assert ended([program, "station", "1", *words.split()]).status == 2, words

@@ -105,7 +105,7 @@ def faults_of(rows, came, cycles):
 def measured(program, cycles, folder):
     """The rows, the messages, and the device."""
     device = Device(str(Path(folder, "device")))
-    words = f"--every 0 --deadline 300 --settle 100 --retries 1000 --cycles {cycles}"
+    words = f"--deadline 300 --settle 100 --retries 1000 --cycles {cycles}"
     with measuring(program, device.link, words, COMMANDS) as device.station:
         status = device.station.status(60 + cycles)
         rows = list(csv.DictReader(device.station.output().decode().splitlines()))
@@ -141,7 +141,7 @@ def hold(program, folder):
         return LOSES if len(came) in mute else good(request)
 
     with terminal(answer) as line:
-        words = f"--every 0 --cycles 4 --deadline 200 --settle 150 --retries 100 --log {log}"
+        words = f"--cycles 4 --deadline 200 --settle 150 --retries 100 --log {log}"
         with measuring(program, line.path, words, COMMANDS) as station:
             end = time.monotonic() + 60
             while station.is_running() and time.monotonic() < end:

@@ -113,7 +113,7 @@ def measure(case, program, cycles):
 
 def measured(case, program, plan, place, line):
     """How a station ended there, whose line has to be there as long. At a device a second one is refused."""
-    words = ["--deadline", plan.deadline, "--settle", plan.quiet, "--every", plan.every, "--cycles", plan.cycles, "--retries", 1000]
+    words = ["--deadline", plan.deadline, "--settle", plan.quiet, "--cycles", plan.cycles, "--retries", 1000, *(["--every", plan.every] if plan.every else [])]
     with Run([program, "station", place, *words, "--csv", *case.words.split()], case.text()) as run:
         if case.is_device:
             time.sleep(3)

@@ -154,7 +154,7 @@ def main():
     words.add_argument("--delay", type=int, default=8, help="milliseconds of a line, at most")
     words.add_argument("--bad", type=float, default=1, help="0: a good line")
     words.add_argument("--kill", action="store_true")
-    words.add_argument("--idle", type=int, default=0, help="milliseconds behind which a connection that carries nothing is closed; 0: none")
+    words.add_argument("--idle", type=int, help="milliseconds after which a connection that carries nothing is closed; without it none is")
     words.add_argument("--tag", action="store_true")
     words.add_argument("--knowing", action="store_true", help="the instrument knows procedures that aren't in the table")
     words.add_argument("--log", required=True)

@@ -27,7 +27,7 @@ class Connected:
     def write(self, data: bytes) -> None:
         """Takes all of it, now. Each reply comes when it is due, in order."""
         now = self._loop.time()
-        for reply in self._instrument.hear(data, round(now * 1000)):
+        for reply in self._instrument.replies_to(data, round(now * 1000)):
             self._waiting.append(reply.data)
             self._loop.call_at(reply.due / 1000, self._send)
 

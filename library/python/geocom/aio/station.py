@@ -125,25 +125,28 @@ class Station:
         asked = requests(chain, self._patience(chain.timeout), known, self._described)
         within = None
         async with self._turns.join():
-            for place, request in enumerate(asked):
+            for index, request in enumerate(asked):
                 request.within = within
                 try:
                     settlement = await self._ask(request)
                 except NotReady:
                     break
-                rows.append(ended(place, request, settlement, accept))
-                within = request.stretch
+                rows.append(ended(index, request, settlement, accept))
+                within = request.interruptions
                 if not is_good(settlement, accept):
                     break
-        return rows + [skipped(chain, place) for place in range(len(rows), len(chain.commands))]
+        return rows + [skipped(chain, index) for index in range(len(rows), len(chain.commands))]
 
     async def cycles(
-        self, chains: Iterable[Chain], every: float = 0.0, count: int = 0
+        self,
+        chains: Iterable[Chain],
+        every: Optional[float] = None,
+        count: Optional[int] = None,
     ) -> AsyncIterator[Cycle]:
         """As `geocom.Station.cycles`."""
         loop = asyncio.get_running_loop()
-        chains, pace = list(chains), Pace(every)
-        while not count or pace.number < count:
+        chains, pace = list(chains), Pace(every, count)
+        while pace.goes_on:
             if (wait := pace.due(loop.time())) > 0:
                 await asyncio.sleep(wait)
             if pace.begin(loop.time()):

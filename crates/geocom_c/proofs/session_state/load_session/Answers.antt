@@ -17,5 +17,5 @@ pub returns-clause-only : goal.returns-clause-only
 returns-clause-only c = λ session rest s.
     let client : c.in-Some.client ≡ record { width = WINDOW; ids = session.client } = same_Some _ _ (sym c.in-Some.is ∙ c.load.ensures.only _ rest s.client) in
     let standing = same_Some _ _ (sym c.in-Some-read_standing.is ∙ c.read_standing.ensures.only _ s.standing) in
-    let settings = same_settings c.args.state.now.width c.args.state.now.timeout c.args.state.now.quiet session.settings s.settings.width s.settings.timeout s.settings.quiet in
+    let settings = same_settings c.args.state.now.width c.args.state.now.timeout c.args.state.now.settle session.settings s.settings.width s.settings.timeout s.settings.quiet in
     ap (λ (x : Session). Some x) (c.resume.ensures ∙ same_session _ _ _ session settings standing (ap (λ (x : Windowed Asked). x.ids) client))

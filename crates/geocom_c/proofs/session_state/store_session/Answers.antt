@@ -29,7 +29,7 @@ returns c = λ rest is wide.
         client = c.store.new.state;
         width = c.into_parts-standing.result.0.width;
         timeout = c.into_parts-standing.result.0.timeout;
-        quiet = c.into_parts-standing.result.0.quiet;
+        settle = c.into_parts-standing.result.0.quiet;
       }) t) parts.standing (standing_stays w _ c.store.new.state _ _ _ c.store.ensures.answered c.write_standing.ensures.standing);
       client = subst (λ (d : Windowed Asked). StandsForClient c.store.new.state d rest) parts.client (c.store.ensures.client rest before kept.answered);
     }
