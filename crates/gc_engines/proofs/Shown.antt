@@ -9,8 +9,8 @@ use Rattle.gc_world.specs.Faithful.{sent_seen}
 use Rattle.gc_world.specs.Reports.{IsReport, made_seen}
 use Rattle.gc_world.specs.World.{Wire}
 use Rattle.gc_scenes.specs.SceneState.{SceneState}
-use Rattle.gc_scene_world.specs.declared.report.SceneReport.{SceneReport}
-use Rattle.gc_scene_world.specs.SceneReports.{IsSceneReport}
+use Rattle.gc_world.specs.declared.scene_report.SceneReport.{SceneReport}
+use Rattle.gc_world.specs.SceneReports.{IsSceneReport}
 use Rattle.gc_engines.specs.Reports.{report_text, scene_report_text}
 use Rattle.gc_engines.specs.Drill.{wire_text}
 

@@ -4,7 +4,7 @@ use Rattle.std.specs.Fmt.{decimal}
 use Rattle.gc_catalogue.specs.declared.call.Call.{Call}
 use Rattle.gc_client.specs.Rule.{Settlement}
 use Rattle.gc_client.specs.Settlements.{settlement_seen}
-use Rattle.gc_scene_world.specs.declared.report.SceneReport.{SceneReport}
+use Rattle.gc_world.specs.declared.scene_report.SceneReport.{SceneReport}
 use Rattle.gc_world.specs.declared.report.Report.{Report}
 use Rattle.gc_texts.specs.Settlements.{settlement_lines}
 use Rattle.gc_engines.specs.declared.report_text.Totals.{Totals}

@@ -2,7 +2,7 @@
 -- `Drill.antt`, over the run of another world.
 use Rattle.std.specs.Prelude.{ℕ, Bool, List}
 use Rattle.gc_scenes.specs.SceneState.{SceneState}
-use Rattle.gc_scene_world.specs.SceneRuns.{scene_played}
+use Rattle.gc_world.specs.SceneRuns.{scene_played}
 use Rattle.gc_world.specs.declared.event.Event.{Event}
 use Rattle.gc_engines.specs.Drill.{wire_text}
 

@@ -62,7 +62,7 @@ impl Playable for Instrument {
 /// failed, and has taken a first part of the text, maybe no byte, and not all.
 ///
 /// A run on the instrument of a scene with rules promises less than one on the simulator:
-/// [`play_scene`](gc_scene_world::play_scene) says what it promises, and what it doesn't.
+/// [`play_scene`](gc_world::play_scene) says what it promises, and what it doesn't.
 pub fn run_drill_on<I: Playable, S: Source, K: Sink>(
     alloc: Global,
     instrument: I,

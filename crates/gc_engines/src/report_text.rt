@@ -7,9 +7,8 @@ ghost use Rattle.gc_engines.specs.Reports.{totals_line, run_text, report_text, s
 
 use gc_catalogue::Call;
 use gc_client::Settlement;
-use gc_scene_world::SceneReport;
 use gc_texts::append_settlements;
-use gc_world::Report;
+use gc_world::{Report, SceneReport};
 use itoa::Buffer;
 use std::alloc::{AllocError, Global};
 

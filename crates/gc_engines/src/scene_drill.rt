@@ -2,9 +2,8 @@
 
 use crate::drill::Playable;
 use crate::report_text::scene_text_of;
-use gc_scene_world::play_scene;
 use gc_scenes::SceneInstrument;
-use gc_world::Event;
+use gc_world::{Event, play_scene};
 use std::alloc::{AllocError, Global};
 
 impl Playable for SceneInstrument {

@@ -1,7 +1,7 @@
 -- The executions of a run are as `HasExecutions` has them, and each booked answer was made for its request. Both are drawn from a
 -- replay (`Replays`): the executions of requests ns, one after the other, with replies ms, from the state s to the state t; j
 -- executions came before.
-use Rattle.std.proofs.Common.{◌≡◌, ℕ, zero, suc, ◌+◌, ◌-◌, Bool, true, false, List, [], ◌∷◌, length, Option, Some, refl, sym, ◌∙◌, ap, subst, arith}
+use Rattle.std.proofs.Common.{◌≡◌, ℕ, zero, suc, ◌+◌, Bool, true, false, List, [], ◌∷◌, length, Option, Some, refl, sym, ◌∙◌, ap, subst, arith}
 use Rattle.std.specs.List.{AllByRecursion}
 use Rattle.std.specs.Prelude.{slice_get}
 use Rattle.gc_client.specs.Rule.{Settlement}

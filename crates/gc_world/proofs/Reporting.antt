@@ -26,7 +26,7 @@ use Rattle.gc_instrument.specs.Execution.{exec}
 use Rattle.gc_instrument.specs.Replying.{executed_line, without_kept}
 use Rattle.gc_world.specs.World
 use Rattle.gc_world.specs.World.{Numbered, Wire}
-use Rattle.gc_world.proofs.Counts.{IsWithin}
+use Rattle.gc_world.proofs.Counting.{IsWithin}
 use Rattle.gc_world.proofs.Handing.{without_kept_after, line_without_kept, without_kept_restarted, fine}
 use Rattle.std.proofs.lemmas.Option.{same_Some, none-some, slice_get_within}
 use Rattle.gc_world.proofs.Places.{get_map, get_seen, element_at, all_at}

@@ -13,7 +13,7 @@ use Rattle.gc_world.specs.Clients.{by_ids, ids_open, streams_by_ids, ends, strea
 use Rattle.gc_world.specs.Stages.{StageParts, AreOfWorld, AreStreamsOf}
 use Rattle.gc_world.specs.Streams.{untouched, gone_of, up_lines, down_lines}
 use Rattle.gc_world.specs.World.{World, Ends}
-use Rattle.gc_world.proofs.Counts.{IsWithin, within_all}
+use Rattle.gc_world.proofs.Counting.{IsWithin, within_all}
 
 -- none of the lists and counts of a run by ids that `IsWithin` speaks of is above the count of its events
 pub run_within : {S : Type 0} (any_ends : Ends S) (width : ℕ) (state : S) (events : List Event)

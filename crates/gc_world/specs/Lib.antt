@@ -16,3 +16,8 @@ pub mod Laws
 pub mod FirstReply
 pub mod Pieces
 pub mod Width
+pub mod SceneRuns
+pub mod Lanes
+pub mod SceneStages
+pub mod SceneReports
+pub mod SceneLaws

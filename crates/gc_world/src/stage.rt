@@ -1,6 +1,6 @@
 //! The stage: what the events so far leave, and what the next one does.
 //!
-//! `gc_scene_world` has a stage of its own, in which `happen`, `deliver_bytes`, `deliver` and `go_on` stand again; its head says why.
+//! In the stage of a scene (`scene_stage.rt`) `happen`, `deliver_bytes`, `deliver` and `go_on` stand again; its head says why.
 //! Who changes one of them changes the other.
 
 ghost use Rattle.std.specs.Prelude.{◌≡◌, ◌↔◌, ◌+◌, ◌<◌, ◌≤◌, ◌^◌, ◌∷◌, ◌++◌, [], OnOk, IsOk, IsTrue, length};

@@ -1,5 +1,5 @@
 use Rattle.std.proofs.Common.{◌≡◌, subst, IfOk, ℕ, List}
-use Rattle.gc_scene_world.specs.SceneRuns.{scene_played}
+use Rattle.gc_world.specs.SceneRuns.{scene_played}
 use Rattle.gc_engines.specs.SceneDrill.{scene_drill_text}
 use Rattle.gc_engines.proofs.Shown.{scene_text_shown}
 use Rattle.gc_engines.proofs.scene_drill.SceneInstrumentPlayable.output.Goals as goal

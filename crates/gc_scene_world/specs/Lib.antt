@@ -1,5 +1,0 @@
-pub mod SceneRuns
-pub mod Lanes
-pub mod SceneStages
-pub mod SceneReports
-pub mod SceneLaws

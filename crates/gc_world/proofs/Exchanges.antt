@@ -1,0 +1,133 @@
+-- What the instrument of a scene does with the request line of a call. Its reply has the request's id, whatever the scene's
+-- rules say.
+use Rattle.std.proofs.Common.{◌≡◌, ℕ, ◌+◌, ◌<◌, Bool, true, false, cond, List, [], ◌∷◌, ◌++◌, length, Option, Some, None, refl, sym, ◌∙◌, ap, subst, lit<}
+use Rattle.std.proofs.lemmas.List.{length_push}
+use Rattle.gc_lines.specs.Answering.{AppendsAnswer}
+use Rattle.gc_lines.proofs.Requests.{request_found}
+use Rattle.gc_catalogue.proofs.LineLaws.{call_again}
+use Rattle.gc_catalogue.specs.Calls.{call_fields, IsFitting}
+use Rattle.gc_catalogue.specs.Texts.{request_line, request_of}
+use Rattle.gc_catalogue.specs.declared.call.Call.{Call}
+use Rattle.gc_client.specs.Rule.{heard}
+use Rattle.gc_instrument.specs.Replying.{Handed, kept_line, kept_after}
+use Rattle.gc_scenes.proofs.Codes.{fault_bound, call_bound}
+use Rattle.gc_scenes.proofs.Turns.{one_reply}
+use Rattle.gc_scenes.specs.Rules.{fault_of}
+use Rattle.gc_scenes.specs.SceneExecution.{Played, plays, played_call, unless_faulted, counting}
+use Rattle.gc_scenes.specs.SceneReplying.{IsHanded, IsPlayed, answers, names_call, resent_line, again_or_played, handed_call, played_line}
+use Rattle.gc_scenes.specs.SceneState.{SceneState}
+use Rattle.gc_world.specs.SceneRuns.{scene_handed, scene_ends}
+use Rattle.gc_world.specs.SceneStages.{CountsExecution}
+use Rattle.gc_world.specs.Exchange.{IsExchange, ReadsWithItsId}
+use Rattle.gc_instrument.specs.State.{kept_id}
+use Rattle.gc_world.proofs.Handing.{again_kept, kept_reads, id_is_not_kept, reply_heard}
+use Rattle.std.proofs.lemmas.Option.{same_Some, none-some}
+
+-- The reply to a request line.
+
+-- the instrument does with the request line of a call with values in range and an id below 8 what `scene_handed` says of the call
+plays_line : (s : SceneState) (id : ℕ) (call : Call) → id < 8 → IsFitting call
+    → IsPlayed s (request_line (Some id) call) (scene_handed s id call).state (Some (scene_handed s id call).reply)
+plays_line s id call small fits =
+    let q = request_of (Some id) call in
+    let back = call_again (Some id) call small fits in
+    answers q (request_found (request_line (Some id) call) q back.line) (scene_handed s id call).reply (names_call call back.is_asked (record { state = refl; line = refl })) refl
+
+-- where the instrument got the request line of a call with values in range and an id below 8, and its reply, if there is one (b),
+-- was appended to the empty text, the state then and this text are those that `scene_handed` says (`IsHanded`)
+pub exchanged_is_handed : (s after : SceneState) (new : List ℕ) (b : Bool) (id : ℕ) (call : Call) → id < 8 → IsFitting call
+    → AppendsAnswer (IsPlayed s (request_line (Some id) call) after) [] new b → IsHanded (scene_handed s id call) after new
+exchanged_is_handed s after new true id call small fits h =
+    let one = one_reply s after (scene_handed s id call).state (request_line (Some id) call) (Some h.0) (Some (scene_handed s id call).reply) h.1 (plays_line s id call small fits) in
+    record { state = one.0; line = h.2 ∙ same_Some h.0 (scene_handed s id call).reply one.1 }
+exchanged_is_handed s after new false id call small fits h =
+    let one = one_reply s after (scene_handed s id call).state (request_line (Some id) call) None (Some (scene_handed s id call).reply) h.0 (plays_line s id call small fits) in
+    absurd (none-some (scene_handed s id call).reply one.1)
+
+-- The id of a reply.
+
+-- in this state the stored line, if there is one, reads as a reply with the stored id
+abbrev pub StoredReads : SceneState → Type 0
+StoredReads s = ReadsWithItsId s.base.kept
+
+-- where the stored line reads as a reply with the stored id, the request's reply has the request's id, and the line that is
+-- stored after the request reads as a reply with the id that is stored then
+record KeepsIds (s : SceneState) (id : ℕ) (h : Handed SceneState) : Type 0 where
+  reads : StoredReads s → heard h.reply ≡ Some id
+  good : StoredReads s → StoredReads h.state
+
+-- `KeepsIds` holds of a request with an id below 8 that is answered by the line sent again (`o`), if there is one, or else by
+-- what was played, whose return code has 16 bits
+played_keeps_ids : (s : SceneState) (id : ℕ) (p : Played) (o : Option (List ℕ)) → resent_line s (Some id) ≡ o → id < 8 → p.rc < 65536
+    → KeepsIds s id (again_or_played s (Some id) p o)
+played_keeps_ids s id p (Some line) again small code =
+    record { reads = λ good. subst ReadsWithItsId (again_kept s.repeats s.base.kept id line again) good; good = λ good. good }
+played_keeps_ids s id p None again small code =
+    let line = played_line id p in
+    let own : heard line ≡ Some id = reply_heard 0 id p.rc p.params (lit< tt) small code in
+    record { reads = λ good. own; good = λ good. kept_reads p.state.repeats id line p.state.base.kept own }
+
+-- `KeepsIds` holds of a request for a call with an id below 8
+call_keeps_ids : (s : SceneState) (id : ℕ) (call : Call) → id < 8 → KeepsIds s id (scene_handed s id call)
+unfolding handed_call
+call_keeps_ids s id call small =
+    let rpc = (call_fields call).number in
+    played_keeps_ids s id (played_call s rpc call) (resent_line s (Some id)) refl small (call_bound (counting rpc s) call (fault_of rpc s.faults) (fault_bound rpc s.faults))
+
+-- from states in which the stored line reads as a reply with the stored id (`StoredReads`), replies have the ids of their
+-- requests, and requests and restarts lead to such states again
+pub exchange : IsExchange scene_ends StoredReads
+exchange = record {
+  reads = λ s id call good small. (call_keeps_ids s id call small).reads good;
+  stays_good = λ s id call good small. (call_keeps_ids s id call small).good good;
+  restart_good = λ s good. tt;
+}
+
+-- Executions.
+
+-- a call, whether a fault answers it or not, leaves as it is whether the instrument repeats
+pub same_repeats : (s : SceneState) (rpc : ℕ) (call : Call) (o : Option ℕ) → (unless_faulted (counting rpc s) call o).state.repeats ≡ s.repeats
+unfolding plays
+same_repeats s rpc call (Some code) = refl
+same_repeats s rpc call None = refl
+
+-- where a request was answered by the line sent again (`o`), if there is one, or else by what was played (`p`), and the count of
+-- executions, the length of xs, changed as `CountsExecution` says, it is the length of xs with n at its end if the request was
+-- executed, and else still that of xs
+execution_counted_by : (s : SceneState) (id : ℕ) (p : Played) (o : Option (List ℕ)) (new : ℕ) (xs : List ℕ) (n : ℕ) → resent_line s (Some id) ≡ o → p.state.repeats ≡ s.repeats
+    → CountsExecution s.repeats (kept_id s.base.kept) (kept_id (again_or_played s (Some id) p o).state.base.kept) (length xs) new
+    → new ≡ length (cond (again_or_played s (Some id) p o).executed (xs ++ n ∷ []) xs)
+execution_counted_by s id p (Some line) new xs n again same h = by_repeats s.repeats refl
+  where
+    -- the lemma above, by whether the instrument repeats (`b`)
+    by_repeats : (b : Bool) → s.repeats ≡ b → new ≡ length xs
+    by_repeats true e = h.same e refl
+    by_repeats false e = absurd (none-some line (sym (ap (λ b. cond b (kept_line s.base.kept (Some id)) None) e) ∙ again))
+execution_counted_by s id p None new xs n again same h = by_repeats s.repeats refl ∙ sym (length_push xs n)
+  where
+    -- the lemma above, by whether the instrument repeats (`b`)
+    by_repeats : (b : Bool) → s.repeats ≡ b → new ≡ length xs + 1
+    by_repeats false e = h.never e
+    by_repeats true e =
+        let none : kept_line s.base.kept (Some id) ≡ None = sym (ap (λ b. cond b (kept_line s.base.kept (Some id)) None) e) ∙ again in
+        let kept : kept_id (again_or_played s (Some id) p None).state.base.kept ≡ Some id =
+        ap (λ b. kept_id (cond b (kept_after p.state.base.kept (Some id) (played_line id p)) None)) (same ∙ e) in
+        h.another (λ equal. id_is_not_kept s.base.kept id none (equal ∙ kept))
+
+-- where the count of executions was the length of xs, and changes as `CountsExecution` says, it is the length of xs with n at its
+-- end if the request was executed, and else still that of xs
+pub execution_counted : (s : SceneState) (id : ℕ) (call : Call) (after : SceneState) (old new : ℕ) (xs : List ℕ) (n : ℕ) → after ≡ (scene_handed s id call).state
+    → CountsExecution s.repeats (kept_id s.base.kept) (kept_id after.base.kept) old new → old ≡ length xs
+    → new ≡ length (cond (scene_handed s id call).executed (xs ++ n ∷ []) xs)
+unfolding handed_call
+execution_counted s id call after old new xs n is h count =
+    let rpc = (call_fields call).number in
+    execution_counted_by s id (played_call s rpc call) (resent_line s (Some id)) new xs n refl (same_repeats s rpc call (fault_of rpc s.faults))
+    (subst (λ (t : SceneState). CountsExecution s.repeats (kept_id s.base.kept) (kept_id t.base.kept) (length xs) new) is
+    (subst (λ k. CountsExecution s.repeats (kept_id s.base.kept) (kept_id after.base.kept) k new) count h))
+
+-- if `CountsExecution` holds, it holds with values equal to its first three in their places, too
+pub counts_of_equal : {r repeats : Bool} {b before a after : Option ℕ} {old new : ℕ} → r ≡ repeats → b ≡ before → a ≡ after → CountsExecution r b a old new
+    → CountsExecution repeats before after old new
+counts_of_equal {r} {repeats} {b} {before} {a} {after} {old} {new} er eb ea h =
+    subst (λ (x : Bool). CountsExecution x before after old new) er (subst (λ (x : Option ℕ). CountsExecution r x after old new) eb (subst (λ (x : Option ℕ). CountsExecution r b x old new) ea h))

@@ -1,0 +1,18 @@
+use Rattle.std.proofs.Common.{sym, subst}
+use Rattle.gc_catalogue.specs.declared.call.Call.{Call}
+use Rattle.gc_client.specs.Rule.{ById}
+use Rattle.gc_scenes.specs.SceneState.{SceneState, scene_restarted}
+use Rattle.gc_world.specs.SceneRuns.{scene_ends}
+use Rattle.gc_world.specs.Clients.{by_ids, ids_open}
+use Rattle.gc_world.specs.Record.{IsOneForOne}
+use Rattle.gc_world.specs.Streams.{untouched}
+use Rattle.gc_world.specs.World.{World}
+use Rattle.gc_world.proofs.Flow.{taken, flow_run}
+use Rattle.gc_world.proofs.Runs.{one_for_one_at}
+use Rattle.gc_world.proofs.scene_laws.settlements_are_one_for_one.Goals as goal
+
+pub returns : goal.returns
+returns c = λ width opening events.
+    let v = untouched (ids_open (scene_restarted opening)) in
+    subst (λ (w : World (ById Call) SceneState). IsOneForOne w.wire.sent w.wire.settled) (sym (flow_run scene_ends (by_ids width scene_ends) events v))
+    (one_for_one_at width scene_ends (taken scene_ends (by_ids width scene_ends) events v) (scene_restarted opening))
