@@ -9,6 +9,8 @@ import datetime
 import math
 from html import escape
 
+from outcomes import SORTS
+
 # The size of a chart, and what is left beside it for the scale, in the unit of its coordinates.
 WIDTH, HEIGHT, LEFT, TOP, BOTTOM = 360, 120, 44, 8, 16
 # How many places of a day a strip has, and how many of its width a chart.
@@ -40,9 +42,6 @@ def at(number):
     return format(number, ".1f").removesuffix(".0")
 
 
-ORDER = ["ok", "warning", "unconfirmed", "disagree", "unexpected", "refused", "unanswered", "unsent"]
-
-
 def parts_of(moments, span):
     """Into how many parts a strip is divided: each is as long as a cycle takes, or longer."""
     begun = [after - before for before, after in zip(moments, moments[1:]) if after - before >= 60]
@@ -55,11 +54,11 @@ def shares(outcomes, begin, end, parts):
     counted = {}
     for moment, sort in outcomes:
         if begin <= moment < end:
-            part = counted.setdefault(int((moment - begin) / (end - begin) * parts), dict.fromkeys(ORDER, 0))
+            part = counted.setdefault(int((moment - begin) / (end - begin) * parts), dict.fromkeys(SORTS, 0))
             part[sort] += 1
     for place, part in sorted(counted.items()):
         below, found = STRIP, []
-        for sort in ORDER:
+        for sort in SORTS:
             high = STRIP * part[sort] / sum(part.values())
             below -= high
             found += [(sort, at(below), at(high))] if high else []
@@ -77,7 +76,7 @@ def strip(outcomes, begin, end, said):
             runs[-1][1] += 1
         else:
             runs.append([place, place + 1, found])
-    paths = dict.fromkeys(ORDER, "")
+    paths = dict.fromkeys(SORTS, "")
     for first, behind, found in runs:
         for sort, top, high in found:
             paths[sort] += f"M{first} {top}h{behind - first}v{high}h-{behind - first}z"

@@ -17,16 +17,14 @@ import freshness
 import limits
 import reductions
 import viewed
+from outcomes import SHOWN
 
 REFRESH = 60
 # Older than this a page isn't to be relied on, in seconds.
 STALE = 180
 # From good to worst: what is said of a station.
 STATES = ["ok", "doubtful", limits.ATTENTION, limits.ALARM, "unknown"]
-SAID = {
-    "ok": "answered well", "warning": "with a warning", "unconfirmed": "unconfirmed", "disagree": "in disagreement (disagree)",
-    "unexpected": "not as expected (unexpected)", "refused": "refused", "unanswered": "not answered in time", "unsent": "not sent",
-}
+SAID = {sort: said for sort, (said, _, _) in SHOWN.items()}
 SCRIPT = """\
 (function () {
   var box = document.getElementById("stale"), written = Number(box.getAttribute("data-written"));
@@ -41,11 +39,9 @@ SCRIPT = """\
 """
 POLICY = f"default-src 'none'; style-src 'unsafe-inline'; script-src 'sha256-{base64.b64encode(hashlib.sha256(SCRIPT.encode()).digest()).decode()}'"
 STYLE = """\
-:root { color-scheme: light dark; --ground: #fff; --text: #1a1a1a; --faint: #666; --line: #ddd; --none: #eee; --ok: #7fbf9b; --warning: #e5c04b;
-  --unconfirmed: #9fb4c4; --disagree: #c2569b; --unexpected: #8a5a3c; --refused: #c64f43; --unanswered: #4a4a8c; --unsent: #b9a3d1; --sure: #14507f;
+:root { color-scheme: light dark; --ground: #fff; --text: #1a1a1a; --faint: #666; --line: #ddd; --none: #eee; DAY_COLOURS --sure: #14507f;
   --attention: #b26a00; --alarm: #c01818; --unknown: #555; }
-@media (prefers-color-scheme: dark) { :root { --ground: #14171a; --text: #e8e8e8; --faint: #a0a0a0; --line: #33383d; --none: #24292e; --ok: #3f8a64;
-  --warning: #b3922a; --unconfirmed: #6b8496; --disagree: #d97fb8; --unexpected: #b98563; --refused: #d5665a; --unanswered: #9a9ae8; --unsent: #6f5c8a;
+@media (prefers-color-scheme: dark) { :root { --ground: #14171a; --text: #e8e8e8; --faint: #a0a0a0; --line: #33383d; --none: #24292e; NIGHT_COLOURS
   --sure: #7ab8ea; --attention: #f0a040; --alarm: #ff7b72; --unknown: #aaa; } }
 body { margin: 0 auto; max-width: 72rem; padding: 0.6rem; background: var(--ground); color: var(--text); font: 16px/1.4 system-ui, sans-serif; overflow-wrap: break-word; }
 h1 { font-size: 1.4rem; margin: 0.2rem 0; } h2 { font-size: 1.1rem; margin: 1.2rem 0 0.3rem; } h3 { font-size: 1rem; margin: 0.2rem 0; }
@@ -60,16 +56,16 @@ li.attention, td.attention, b.attention { color: var(--attention); } li.alarm, t
 #stale { background: #b01515; color: #fff; padding: 0.4rem; font-weight: bold; }
 svg { display: block; width: 100%; } svg.strip { height: 1.1rem; } svg.chart { height: auto; }
 svg text { font-size: 9px; fill: var(--faint); }
-path.none { fill: var(--none); } path.ok { fill: var(--ok); } path.warning { fill: var(--warning); } path.refused { fill: var(--refused); }
-path.unconfirmed { fill: var(--unconfirmed); } path.disagree { fill: var(--disagree); } path.unexpected { fill: var(--unexpected); }
-path.unanswered { fill: var(--unanswered); }
-path.unsent { fill: var(--unsent); }
+path.none { fill: var(--none); } PATHS
 path.axis { stroke: var(--line); stroke-width: 0.6; fill: none; }
 path.sure, path.doubtful { stroke: var(--sure); stroke-width: 2.2; stroke-linecap: round; fill: none; } path.doubtful { stroke: var(--warning); }
 path.limit { stroke-width: 1; fill: none; } path.limit.attention { stroke: var(--attention); stroke-dasharray: 4 3; } path.limit.alarm { stroke: var(--alarm); }
 .key { display: inline-block; width: 0.8rem; height: 0.8rem; border-radius: 2px; vertical-align: -1px; margin: 0 0.2rem 0 0.6rem; }
 table { border-collapse: collapse; display: block; overflow-x: auto; margin: 0.3rem 0 0.6rem; } th, td { text-align: left; padding: 0.1rem 0.7rem 0.1rem 0; border-bottom: 1px solid var(--line); font-size: 0.9rem; }
 """
+for place, colours in enumerate(["DAY_COLOURS", "NIGHT_COLOURS"], 1):
+    STYLE = STYLE.replace(colours, " ".join(f"--{sort}: {shown[place]};" for sort, shown in SHOWN.items()))
+STYLE = STYLE.replace("PATHS", "\n".join(f"path.{sort} {{ fill: var(--{sort}); }}" for sort in SHOWN))
 
 
 def moment_words(moment):

@@ -8,6 +8,8 @@ import io
 import json
 import re
 
+from outcomes import COUNTED, NO_VALUE
+
 # tools/columns: lists
 # The columns of a station's rows, of which the last ones come last in every table. Further ones are handed on under their names.
 LAST = ["quality", "attempt", "request"]
@@ -49,12 +51,6 @@ def with_columns(columns):
 
 
 COLUMNS_HEAD = ",".join(with_columns(ANSWER_COLUMNS)).encode() + b"\n"
-# In the order of the counts, and the one that counts as skipped; those of a reply that came in time, and those of a command that wasn't sent.
-COUNTED = ["answered", "late", "lost", "skipped", "unreadable", "missed", "off_target", "unexpected", "disagree"]
-NO_VALUE = "no_value"
-OUTCOMES = [*COUNTED, NO_VALUE]
-REPLIED = ["answered", "unreadable", "off_target", "unexpected", "disagree"]
-UNSENT = ["skipped", "missed", NO_VALUE]
 # The qualities of an answer whose values read and count; and that of one whose command is sent once more, which counts only then.
 GOOD = ["ok", "warning"]
 UNCONFIRMED = "unconfirmed"

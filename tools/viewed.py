@@ -21,16 +21,12 @@ import records
 import reductions
 import sites
 from faulty import Faulty
+from outcomes import SORTS
 
 DAY = 86_400
 # How far back a table of some days is read.
 MOST_BYTES = 1 << 27
-# What a command came to, from good to worst, and of which outcomes.
-SORTS = {
-    "ok": ["ok"], "warning": ["warning"], "unconfirmed": ["unconfirmed"], "disagree": ["disagree"],
-    "unexpected": ["unexpected"], "refused": ["refused"],
-    "unanswered": ["late", "lost", "unreadable", "off_target"], "unsent": ["skipped", "missed", "no_value"],
-}
+# What a command came to, by its outcome.
 SORT_OF = {outcome: sort for sort, outcomes in SORTS.items() for outcome in outcomes}
 # The columns of a table of reductions that are shown where no limit names one.
 MOVED = movements.MOVED_COLUMNS[:3]

@@ -10,7 +10,8 @@ import os
 import random
 import threading
 
-from records import ANSWER_COLUMNS, COLUMNS, GOOD, HEAD, LAST, NUMBERS, UNCONFIRMED, UNSENT, line_of, moment_text, with_columns
+from outcomes import COUNTED, JUDGED, UNSENT
+from records import ANSWER_COLUMNS, COLUMNS, GOOD, HEAD, LAST, NUMBERS, UNCONFIRMED, line_of, moment_text, with_columns
 
 TARGETS = [(7, b"pier 4", 2.25, 1.625, 110.0625), (8, b"", 0.5, 1.5, 25.125), (9, b"a/b+c #1", 4.0, 1.5, 48.5)]
 COMMANDS = [b"9027", b"2008", b"2108", b"2107", b"5004"]
@@ -29,8 +30,7 @@ def row(chance, number):
     target, name, hz, v, distance = TARGETS[number // len(COMMANDS) % len(TARGETS)]
     place = number % (len(COMMANDS) * len(TARGETS))
     procedure = COMMANDS[number % len(COMMANDS)]
-    outcome = chance.choices([b"answered", b"late", b"lost", b"skipped", b"unreadable", b"missed", b"off_target", b"unexpected", b"disagree"],
-                             [80, 3, 3, 6, 1, 2, 1, 1, 1])[0]
+    outcome = chance.choices([*map(str.encode, COUNTED)], [80, 3, 3, 6, 1, 2, *(1 for _ in JUDGED)])[0]
     fault = rc_com = rc = values = quality = b""
     if outcome == b"answered":
         rc_com, rc, quality = b"0", b"0", b"ok"
@@ -49,7 +49,7 @@ def row(chance, number):
             quality = b"unconfirmed"
     elif outcome == b"unreadable":
         fault, rc_com, rc, values = b"11", b"0", b"0", rb'"x,\xff\x00%d"' % number
-    elif outcome in (b"off_target", b"unexpected", b"disagree"):
+    elif outcome.decode() in JUDGED:
         rc_com, rc, values = b"0", b"0", b'"%.9f,%.9f"' % (hz + 0.5, v)
     sent = b"" if outcome.decode() in UNSENT else stamp(moment - datetime.timedelta(milliseconds=1_234))
     fields = {

@@ -6,8 +6,9 @@ import io
 import re
 from pathlib import Path
 
+from outcomes import OUTCOMES, REPLIED, UNSENT
 from programs import PATIENCE, Run
-from records import HEAD, MOMENT, OUTCOMES, REPLIED, UNSENT, counts_line, moment
+from records import HEAD, MOMENT, counts_line, moment
 
 STAMP = MOMENT.pattern
 # The line that says at the start what a run has to do, where, and what it waits for.

@@ -10,7 +10,8 @@ from dataclasses import dataclass, field
 from decimal import Decimal
 
 from judging import has_said, settled
-from records import GOOD, REPLIED
+from outcomes import REPLIED
+from records import GOOD
 from surveying import READ
 
 TURN = Decimal("6.283185307179586476925287")

@@ -12,7 +12,7 @@ from dataclasses import dataclass, field
 
 from altering import Place
 from line_notes import shown
-from records import REPLIED
+from outcomes import REPLIED
 
 SENT = re.compile(r"%R1Q,(\d+),(\d):")
 REPLY = re.compile(r"%R1P,(\d{1,5}),([0-7]):(\d{1,5})(?:,(.*))?$")

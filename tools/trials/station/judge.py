@@ -15,7 +15,8 @@ from dataclasses import dataclass
 
 from line_log import WHILE
 from measuring import ECHOES, START, STAMP, counts_of, is_request_of
-from records import COLUMNS, GOOD, OUTCOMES, UNSENT, moment
+from outcomes import JUDGED, OUTCOMES, UNSENT
+from records import COLUMNS, GOOD, moment
 from tagging import tagged
 
 # What a row has of a reply.
@@ -228,7 +229,7 @@ def faults_of_messages(plan, rows, lines, late_cycles):
     if skipped > sum(row["outcome"] == "skipped" for row in rows):
         yield f"{skipped} told as skipped, and fewer were"
     unwell = sum(int(found[1]) for found in (re.search(r"not answered well since \S+: (\d+);", line) for line in signs) if found)
-    if unwell > sum(row["cycle"] != "0" and (row["quality"] == "refused" or row["outcome"] in ("unreadable", "off_target", "unexpected", "disagree")) for row in rows):
+    if unwell > sum(row["cycle"] != "0" and (row["quality"] == "refused" or row["outcome"] in ("unreadable", *JUDGED)) for row in rows):
         yield f"{unwell} told as not answered well, and fewer were"
     written = sum(int(found[1]) for found in (re.search(r"missed.*: (\d+) rows? written", line) for line in signs) if found)
     if written > sum(row["outcome"] == "missed" for row in rows):

@@ -11,6 +11,7 @@ from judge import Plan, cycles_begun, judge, rows_of
 from knowing import KNOWN
 from line_log import read_log
 from programs import Run, ended, free_port, is_listening, until
+from records import counts_line
 
 HERE = Path(__file__).resolve().parent
 # Each target, its procedure and parameters, and the right values.
@@ -107,7 +108,7 @@ def measure(case, program, cycles):
     if verdict.faults:
         raise AssertionError("\n".join([*verdict.faults[:10], verdict.counts]))
     if case.name == "good":
-        assert " late 0 lost 0 skipped 0 unreadable 0 missed 0 off_target 0 unexpected 0 disagree 0 retried 0, " in verdict.counts and " 0 cycles not done in time, " in verdict.counts
+        assert counts_line().partition(")")[2] + ", " in verdict.counts and " 0 cycles not done in time, " in verdict.counts
     return f"station at {place}, {case.words}, {plan.cycles} cycles; {verdict.counts}; line: {seen}"
 
 

@@ -8,8 +8,9 @@ import itertools
 
 from measuring import counts_of
 from night import AGAIN, CHAIN, COMMANDS, PRISMS, RETRIES, SETUP, TOLERANCE
+from outcomes import REPLIED, UNSENT
 from pointing import apart
-from records import GOOD, REPLIED, UNSENT, moment
+from records import GOOD, moment
 
 # The procedures whose replies have the number of their execution.
 NUMBERED = ["2108", "2167", "2028"]
