@@ -4,7 +4,6 @@ use Rattle.std.specs.Fmt.{decimal}
 use Rattle.gc_catalogue.specs.declared.call.Call.{Call}
 use Rattle.gc_client.specs.Rule.{Settlement}
 use Rattle.gc_client.specs.Settlements.{settlement_seen}
-use Rattle.gc_world.specs.declared.scene_report.SceneReport.{SceneReport}
 use Rattle.gc_world.specs.declared.report.Report.{Report}
 use Rattle.gc_texts.specs.Settlements.{settlement_lines}
 use Rattle.gc_engines.specs.declared.report_text.Totals.{Totals}
@@ -21,7 +20,7 @@ abbrev pub run_text : List (Settlement Call) → Totals → (totals : Bool) → 
 run_text settled counts totals = settlement_lines settled ++ (if totals then totals_line counts else [])
 
 -- what is written of a report
-abbrev pub report_text : Report → (totals : Bool) → List ℕ
+abbrev pub report_text : {S : Type 0} → Report S → (totals : Bool) → List ℕ
 report_text r totals = run_text (map settlement_seen r.settled) (record {
   sent = length r.sent;
   executed = length r.executed;
@@ -29,15 +28,4 @@ report_text r totals = run_text (map settlement_seen r.settled) (record {
   settled = length r.settled;
   refused = r.refused_sends;
   idle = r.idle_events;
-}) totals
-
--- what is written of the report of a run on the instrument of a scene with rules
-abbrev pub scene_report_text : SceneReport → (totals : Bool) → List ℕ
-scene_report_text r totals = run_text (map settlement_seen r.settled.items) (record {
-  sent = r.counts.sent;
-  executed = r.counts.executed;
-  made = r.counts.made;
-  settled = length r.settled.items;
-  refused = r.counts.refused_sends;
-  idle = r.counts.idle_events;
 }) totals

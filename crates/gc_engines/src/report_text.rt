@@ -3,12 +3,12 @@
 ghost use Rattle.std.specs.Prelude.{◌≡◌, ◌++◌, length, map, OnOk, IfOk};
 ghost use Rattle.std.specs.Fmt.{decimal};
 ghost use Rattle.gc_client.specs.Settlements.{settlement_seen};
-ghost use Rattle.gc_engines.specs.Reports.{totals_line, run_text, report_text, scene_report_text};
+ghost use Rattle.gc_engines.specs.Reports.{totals_line, run_text, report_text};
 
 use gc_catalogue::Call;
 use gc_client::Settlement;
 use gc_texts::append_settlements;
-use gc_world::{Report, SceneReport};
+use gc_world::Report;
 use itoa::Buffer;
 use std::alloc::{AllocError, Global};
 
@@ -24,7 +24,11 @@ struct Totals {
 }
 
 /// The lines of a report's settlements, and with `totals` the line of totals after them. `Err`: memory was refused.
-pub(crate) fn text_of(alloc: Global, report: &Report, totals: bool) -> Result<Vec<u8>, AllocError>
+pub(crate) fn text_of<I>(
+    alloc: Global,
+    report: &Report<I>,
+    totals: bool,
+) -> Result<Vec<u8>, AllocError>
     ensures { IfOk result (λ text. text.items ≡ report_text report.now totals) }
 {
     let counts = Totals {
@@ -34,25 +38,6 @@ pub(crate) fn text_of(alloc: Global, report: &Report, totals: bool) -> Result<Ve
         settled: report.settled.len(),
         refused: report.refused_sends,
         idle: report.idle_events,
-    };
-    run_text(alloc, report.settled.as_slice(), counts, totals)
-}
-
-/// The same lines as `text_of`, of the report of a run on the instrument of a scene with rules. `Err`: memory was refused.
-pub(crate) fn scene_text_of(
-    alloc: Global,
-    report: &SceneReport,
-    totals: bool,
-) -> Result<Vec<u8>, AllocError>
-    ensures { IfOk result (λ text. text.items ≡ scene_report_text report.now totals) }
-{
-    let counts = Totals {
-        sent: report.counts.sent,
-        executed: report.counts.executed,
-        made: report.counts.made,
-        settled: report.settled.len(),
-        refused: report.counts.refused_sends,
-        idle: report.counts.idle_events,
     };
     run_text(alloc, report.settled.as_slice(), counts, totals)
 }

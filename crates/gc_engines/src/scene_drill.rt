@@ -1,7 +1,7 @@
 //! The instrument of a scene with rules, on which a schedule can be played.
 
 use crate::drill::Playable;
-use crate::report_text::scene_text_of;
+use crate::report_text::text_of;
 use gc_scenes::SceneInstrument;
 use gc_world::{Event, play_scene};
 use std::alloc::{AllocError, Global};
@@ -20,6 +20,6 @@ impl Playable for SceneInstrument {
         width: u8,
     ) -> Result<Vec<u8>, AllocError> {
         let report = play_scene(alloc, self, width, events)?;
-        scene_text_of(alloc, &report, totals)
+        text_of(alloc, &report, totals)
     }
 }

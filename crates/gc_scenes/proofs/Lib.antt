@@ -1,3 +1,4 @@
+pub mod Plain
 pub mod Acted
 pub mod Codes
 pub mod Days

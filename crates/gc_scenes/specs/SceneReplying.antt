@@ -3,6 +3,7 @@
 use Rattle.std.specs.Prelude.{◌≡◌, ℕ, List, true, false, Option, Some, None, unwrap_or, if◌then◌else◌}
 use Rattle.gc_lines.specs.AnsweringLines.{RepliesTo}
 pub use Rattle.gc_lines.specs.AnsweringLines.{silent, answers}
+use Rattle.gc_lines.specs.Lines.{IsPlain}
 use Rattle.gc_lines.specs.Replies.{reply_text}
 use Rattle.gc_lines.specs.Requests.{RequestFields}
 use Rattle.gc_values.specs.declared.fault.ValueFault.{ValueFault}
@@ -76,6 +77,11 @@ pub data AnswersRequest (before : SceneState) (q : RequestFields) (after : Scene
   -- the request's parameters can't be read: nothing changes
   unreadable : (e : ValueFault) → IsRefusal q.rpc q.params (Parameters e) → after ≡ before
       → reply ≡ refusal_line (reply_id q) (Parameters e) → AnswersRequest before q after reply
+
+-- what the instrument does with a request, and its reply, which has neither CR nor LF
+pub record AnswersPlainly (before : SceneState) (q : RequestFields) (after : SceneState) (reply : List ℕ) : Type 0 where
+  pub answers : AnswersRequest before q after reply
+  pub plain : IsPlain reply
 
 -- what the instrument does with a line, and its reply, if there is one
 abbrev pub IsPlayed : (before : SceneState) → (line : List ℕ) → (after : SceneState) → (reply : Option (List ℕ)) → Type 0

@@ -1,6 +1,7 @@
 -- What a contract sees of a scene's instrument: this project's own.
 use Rattle.std.specs.Prelude.{[]}
 use Rattle.gc_instrument.specs.Replying.{with_kept}
+use Rattle.gc_instrument.specs.Seen.{IsPlainKept}
 use Rattle.gc_scenes.specs.SceneState.{SceneState, seeing}
 use Rattle.gc_scenes.specs.declared.instrument.SceneInstrument.TheInside.{Inside}
 
@@ -19,3 +20,7 @@ scene_of i = record {
   clock = i.clock;
   moment = i.moment;
 }
+
+-- what holds of the fields: the stored line, if there is one, has neither CR nor LF
+abbrev pub IsSound : Inside → Type 0
+IsSound i = IsPlainKept i.kept

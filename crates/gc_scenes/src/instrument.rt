@@ -48,9 +48,11 @@ impl Model for SceneInstrument {
 
     ghost Value = { SceneState };
 
-    ghost use Rattle.gc_scenes.specs.Seen.{scene_of};
+    ghost use Rattle.gc_scenes.specs.Seen.{scene_of, IsSound};
 
     ghost view = { scene_of };
+
+    ghost invariant = { IsSound };
 }
 
 impl SceneInstrument {

@@ -4,6 +4,7 @@ ghost use Rattle.std.specs.Prelude.{◌≡◌, ◌<◌, ◌≤◌, ◌++◌, len
 ghost use Rattle.std.specs.Option.{option_map};
 ghost use Rattle.gc_lines.specs.Answering.{AppendsAnswer, GrowsByReply, HasRoomForReply};
 ghost use Rattle.gc_lines.specs.Headers.{MayBeId};
+ghost use Rattle.gc_lines.specs.Lines.{IsPlain};
 ghost use Rattle.gc_catalogue.specs.Texts.{reply_line};
 ghost use Rattle.gc_scenes.specs.SceneExecution.{answer_or_values, plays, unless_faulted, faulted_call};
 ghost use Rattle.gc_scenes.specs.SceneReplying.{IsPlayed, resent_line, handed_fresh, handed_raw, played_fresh, played_line, line_with, kept_if_repeating, holding};
@@ -45,6 +46,7 @@ impl SceneInstrument {
         requires { HasRoomForReply N out.old }
         ensures played { AppendsAnswer (IsPlayed self.old line.now self.new) out.old.items out.new.items result }
         ensures bound { GrowsByReply out.old.items out.new.items }
+        ensures plain { AppendsAnswer (λ reply. IfSome reply IsPlain) out.old.items out.new.items result }
     {
         reply_to_line(self, line, out)
     }
@@ -54,6 +56,7 @@ impl SceneInstrument {
     fn resent_line(&self, id: Option<u8>) -> Option<&[u8]>
         ensures line { option_map (λ r. r.now) result ≡ resent_line self.now id }
         ensures within { IfSome result (λ r. length r.now ≤ 512) }
+        ensures plain { IfSome result (λ r. IsPlain r.now) }
     {
         if self.repeats {
             self.kept.line_of(id)
@@ -65,7 +68,8 @@ impl SceneInstrument {
     // If the instrument repeats, stores a reply's line, at most 512 bytes, with the request's id; without an id what is stored stays.
     // If it doesn't repeat, discards what is stored.
     fn keep(&mut self, id: Option<u8>, line: &[u8])
-        requires { length line.now ≤ 512 }
+        requires within { length line.now ≤ 512 }
+        requires plain { IsPlain line.now }
         ensures { self.new ≡ holding (kept_if_repeating self.old id line.now) self.old }
     {
         if self.repeats {
@@ -156,6 +160,7 @@ impl SceneInstrument {
         requires id { id < 8 }
         requires room { HasRoomForReply N out.old }
         ensures line { out.new.items ≡ out.old.items ++ played_line id (faulted_call self.now call.now rc) }
+        ensures plain { IsPlain (played_line id (faulted_call self.now call.now rc)) }
         ensures bound { GrowsByReply out.old.items out.new.items }
     {
         let distance = self.distance_in_warning(call, rc);
@@ -202,6 +207,7 @@ impl SceneInstrument {
         requires id { id < 8 }
         requires room { HasRoomForReply N out.old }
         ensures line { out.new.items ≡ out.old.items ++ reply_line id rc answer.now self.now.base.precision }
+        ensures plain { IsPlain (reply_line id rc answer.now self.now.base.precision) }
         ensures bound { GrowsByReply out.old.items out.new.items }
     {
         let mut line: ArrayVec<u8, BUFFER> = ArrayVec::new();
@@ -239,9 +245,9 @@ impl SceneInstrument {
 }
 
 impl<const N: usize> Replies<N> for SceneInstrument {
-    ghost use Rattle.gc_scenes.specs.SceneReplying.{AnswersRequest};
+    ghost use Rattle.gc_scenes.specs.SceneReplying.{AnswersPlainly};
 
-    ghost does = { AnswersRequest };
+    ghost does = { AnswersPlainly };
 
     // Parameters that can't be read are refused with the communication code 3080: then the instrument stays as it is, and no fault counts
     // the request.

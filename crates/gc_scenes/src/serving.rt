@@ -13,6 +13,7 @@ impl Answers for SceneInstrument {
 
     ghost answers = { PlaysFrame };
 
+    #[tactic(auto, using(crate::proofs::Plain::played_frame))]
     fn answer(&mut self, frame: Lent<'_>, text: &mut Outgoing) -> bool {
         answer_frame(self, frame, text)
     }

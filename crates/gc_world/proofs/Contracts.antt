@@ -1,5 +1,5 @@
 -- What functions of the code leave, by their contracts: variables such as `executed` and `made` are the values that they left.
-use Rattle.std.proofs.Common.{◌≡◌, ℕ, List, [], ◌∷◌, ◌++◌, length, Option, Some}
+use Rattle.std.proofs.Common.{◌≡◌, ℕ, Bool, cond, List, [], ◌∷◌, ◌++◌, length, Some}
 use Rattle.std.specs.Prelude.{slice_get}
 use Rattle.gc_catalogue.specs.declared.call.Call.{Call}
 use Rattle.gc_catalogue.specs.Calls.{IsFitting}
@@ -7,27 +7,17 @@ use Rattle.gc_catalogue.specs.Texts.{request_line}
 use Rattle.gc_client.specs.declared.settlement.Settlement.{Settlement}
 use Rattle.gc_client.specs.Rule.{Windowed, heard, hears, sends, restarts}
 use Rattle.gc_client.specs.Settlements.{AreSettlements}
-use Rattle.gc_instrument.specs.State.{State, restarted, kept_id}
-use Rattle.gc_instrument.specs.Replying.{IsExchanged, OfItsCall}
+use Rattle.gc_instrument.specs.Replying.{OfItsCall}
 use Rattle.gc_world.specs.declared.report.Made.{Made}
 use Rattle.gc_world.specs.declared.report.Report.{Report}
 use Rattle.gc_world.specs.declared.report.Sent.{Sent}
-
--- if the line is the request line of a call (`OfItsCall`), `IsExchanged` holds of the call, of the instrument from `before` to
--- `after`, and of this reply
-abbrev pub ExchangesItsCall : (before : State) → (line : List ℕ) → (after : State) → (reply : Option (List ℕ)) → Type 0
-ExchangesItsCall before line after reply = OfItsCall line (λ id call. IsExchanged before id call after reply)
-
--- the number n was appended to `old`, which gave `new`, where the kept id changed from `before` to `after`; else `new` is `old`
-pub record Notes (before after : State) (n : ℕ) (old new : List ℕ) : Type 0 where
-  pub new_is : (kept_id before.kept ≡ kept_id after.kept → ⊥) → new ≡ old ++ n ∷ []
-  pub same_is : kept_id before.kept ≡ kept_id after.kept → new ≡ old
+use Rattle.gc_world.specs.Behaviours.{Behaviour, IsHandedOver}
 
 -- What a function did to a report r, the queues `up` and `down` of its stage, and a client c. The first fields of these records
 -- are the values that it left, and what these depend on; the others say how they come of what was there before.
 
 -- the client sent this request: the report has it at its end, and its number is at the back of the upward queue
-pub record Sends (r : Report) (up : List ℕ) (c : Windowed Call) (entry : Sent) (deadline : ℕ) : Type 0 where
+pub record Sends {State : Type 0} (r : Report State) (up : List ℕ) (c : Windowed Call) (entry : Sent) (deadline : ℕ) : Type 0 where
   pub client : Windowed Call
   pub sent : List Sent
   pub queue : List ℕ
@@ -40,10 +30,10 @@ pub record Sends (r : Report) (up : List ℕ) (c : Windowed Call) (entry : Sent)
 
 -- the front request was handed to the instrument: `rest` is the upward queue then. The report has the reply at its end, and the
 -- reply's place is at the back of the downward queue
-pub record HandsToInstrument (r : Report) (up down rest : List ℕ) : Type 0 where
+pub record HandsToInstrument {State : Type 0} (acts : Behaviour State) (r : Report State) (up down rest : List ℕ) : Type 0 where
   pub number : ℕ
   pub request : Sent
-  pub reply : Option (List ℕ)
+  pub is_executed : Bool
   pub entry : Made
   pub executed : List ℕ
   pub made : List Made
@@ -51,15 +41,14 @@ pub record HandsToInstrument (r : Report) (up down rest : List ℕ) : Type 0 whe
   pub queue : List ℕ
   pub front : up ≡ number ∷ rest
   pub found : slice_get r.sent number ≡ Some request
-  pub replied : ExchangesItsCall r.instrument request.line.items state reply
-  pub told : reply ≡ Some entry.line.items
+  pub replied : OfItsCall request.line.items (λ id call. IsHandedOver (acts.handed r.instrument id call) state entry.line.items is_executed)
   pub same : entry.number ≡ number
-  pub executed_is : Notes r.instrument state number r.executed executed
+  pub executed_is : executed ≡ cond is_executed (r.executed ++ number ∷ []) r.executed
   pub made_is : made ≡ r.made ++ entry ∷ []
   pub queue_is : queue ≡ down ++ length r.made ∷ []
 
 -- the front reply was handed to the client: `rest` is the downward queue then. The report has at its end what the client settled
-pub record HandsToClient (r : Report) (down rest : List ℕ) (c : Windowed Call) : Type 0 where
+pub record HandsToClient {State : Type 0} (r : Report State) (down rest : List ℕ) (c : Windowed Call) : Type 0 where
   pub place : ℕ
   pub reply : Made
   pub line : List ℕ
@@ -75,7 +64,7 @@ pub record HandsToClient (r : Report) (down rest : List ℕ) (c : Windowed Call)
 
 -- the client was restarted, and the instrument with it, while no line was in flight. The report has at its end what the client
 -- settled
-pub record RestartsBoth (r : Report) (up down : List ℕ) (c : Windowed Call) : Type 0 where
+pub record RestartsBoth {State : Type 0} (acts : Behaviour State) (r : Report State) (up down : List ℕ) (c : Windowed Call) : Type 0 where
   pub more : List (Settlement Call)
   pub settled : List (Settlement Call)
   pub client : Windowed Call
@@ -87,4 +76,4 @@ pub record RestartsBoth (r : Report) (up down : List ℕ) (c : Windowed Call) : 
   pub client_is : client ≡ record c { ids = (restarts c.ids).client }
   pub settled_is : settled ≡ r.settled ++ more
   pub starts_is : starts ≡ r.starts ++ length r.executed ∷ []
-  pub state_is : state ≡ restarted r.instrument
+  pub state_is : state ≡ acts.restarted r.instrument

@@ -1,8 +1,9 @@
 -- What the instrument of a scene does with the request line of a call. Its reply has the request's id, whatever the scene's
 -- rules say.
-use Rattle.std.proofs.Common.{◌≡◌, ℕ, ◌+◌, ◌<◌, Bool, true, false, cond, List, [], ◌∷◌, ◌++◌, length, Option, Some, None, refl, sym, ◌∙◌, ap, subst, lit<}
-use Rattle.std.proofs.lemmas.List.{length_push}
+use Rattle.std.proofs.Common.{◌≡◌, ℕ, ◌<◌, Bool, true, false, cond, List, [], Option, Some, None, refl, sym, ◌∙◌, ap, subst, lit<}
+use Rattle.std.specs.Prelude.{IfSome}
 use Rattle.gc_lines.specs.Answering.{AppendsAnswer}
+use Rattle.gc_lines.specs.Lines.{IsPlain}
 use Rattle.gc_lines.proofs.Requests.{request_found}
 use Rattle.gc_catalogue.proofs.LineLaws.{call_again}
 use Rattle.gc_catalogue.specs.Calls.{call_fields, IsFitting}
@@ -11,13 +12,14 @@ use Rattle.gc_catalogue.specs.declared.call.Call.{Call}
 use Rattle.gc_client.specs.Rule.{heard}
 use Rattle.gc_instrument.specs.Replying.{Handed, kept_line, kept_after}
 use Rattle.gc_scenes.proofs.Codes.{fault_bound, call_bound}
+use Rattle.gc_scenes.proofs.Plain.{nothing_plain}
 use Rattle.gc_scenes.proofs.Turns.{one_reply}
 use Rattle.gc_scenes.specs.Rules.{fault_of}
 use Rattle.gc_scenes.specs.SceneExecution.{Played, plays, played_call, unless_faulted, counting}
 use Rattle.gc_scenes.specs.SceneReplying.{IsHanded, IsPlayed, answers, names_call, resent_line, again_or_played, handed_call, played_line}
 use Rattle.gc_scenes.specs.SceneState.{SceneState}
 use Rattle.gc_world.specs.SceneRuns.{scene_handed, scene_ends}
-use Rattle.gc_world.specs.SceneStages.{CountsExecution}
+use Rattle.gc_world.specs.Behaviours.{IsHandedOver, TellsExecution}
 use Rattle.gc_world.specs.Exchange.{IsExchange, ReadsWithItsId}
 use Rattle.gc_instrument.specs.State.{kept_id}
 use Rattle.gc_world.proofs.Handing.{again_kept, kept_reads, id_is_not_kept, reply_heard}
@@ -35,7 +37,7 @@ plays_line s id call small fits =
 
 -- where the instrument got the request line of a call with values in range and an id below 8, and its reply, if there is one (b),
 -- was appended to the empty text, the state then and this text are those that `scene_handed` says (`IsHanded`)
-pub exchanged_is_handed : (s after : SceneState) (new : List ℕ) (b : Bool) (id : ℕ) (call : Call) → id < 8 → IsFitting call
+exchanged_is_handed : (s after : SceneState) (new : List ℕ) (b : Bool) (id : ℕ) (call : Call) → id < 8 → IsFitting call
     → AppendsAnswer (IsPlayed s (request_line (Some id) call) after) [] new b → IsHanded (scene_handed s id call) after new
 exchanged_is_handed s after new true id call small fits h =
     let one = one_reply s after (scene_handed s id call).state (request_line (Some id) call) (Some h.0) (Some (scene_handed s id call).reply) h.1 (plays_line s id call small fits) in
@@ -91,22 +93,21 @@ unfolding plays
 same_repeats s rpc call (Some code) = refl
 same_repeats s rpc call None = refl
 
--- where a request was answered by the line sent again (`o`), if there is one, or else by what was played (`p`), and the count of
--- executions, the length of xs, changed as `CountsExecution` says, it is the length of xs with n at its end if the request was
--- executed, and else still that of xs
-execution_counted_by : (s : SceneState) (id : ℕ) (p : Played) (o : Option (List ℕ)) (new : ℕ) (xs : List ℕ) (n : ℕ) → resent_line s (Some id) ≡ o → p.state.repeats ≡ s.repeats
-    → CountsExecution s.repeats (kept_id s.base.kept) (kept_id (again_or_played s (Some id) p o).state.base.kept) (length xs) new
-    → new ≡ length (cond (again_or_played s (Some id) p o).executed (xs ++ n ∷ []) xs)
-execution_counted_by s id p (Some line) new xs n again same h = by_repeats s.repeats refl
+-- where a request was answered by the line sent again (`o`), if there is one, or else by what was played (`p`), what the stored
+-- ids tell (`TellsExecution`) is whether the request was executed
+execution_told_by : (s : SceneState) (id : ℕ) (p : Played) (o : Option (List ℕ)) (told : Bool) → resent_line s (Some id) ≡ o → p.state.repeats ≡ s.repeats
+    → TellsExecution s.repeats (kept_id s.base.kept) (kept_id (again_or_played s (Some id) p o).state.base.kept) told
+    → told ≡ (again_or_played s (Some id) p o).executed
+execution_told_by s id p (Some line) told again same h = by_repeats s.repeats refl
   where
     -- the lemma above, by whether the instrument repeats (`b`)
-    by_repeats : (b : Bool) → s.repeats ≡ b → new ≡ length xs
+    by_repeats : (b : Bool) → s.repeats ≡ b → told ≡ false
     by_repeats true e = h.same e refl
     by_repeats false e = absurd (none-some line (sym (ap (λ b. cond b (kept_line s.base.kept (Some id)) None) e) ∙ again))
-execution_counted_by s id p None new xs n again same h = by_repeats s.repeats refl ∙ sym (length_push xs n)
+execution_told_by s id p None told again same h = by_repeats s.repeats refl
   where
     -- the lemma above, by whether the instrument repeats (`b`)
-    by_repeats : (b : Bool) → s.repeats ≡ b → new ≡ length xs + 1
+    by_repeats : (b : Bool) → s.repeats ≡ b → told ≡ true
     by_repeats false e = h.never e
     by_repeats true e =
         let none : kept_line s.base.kept (Some id) ≡ None = sym (ap (λ b. cond b (kept_line s.base.kept (Some id)) None) e) ∙ again in
@@ -114,20 +115,31 @@ execution_counted_by s id p None new xs n again same h = by_repeats s.repeats re
         ap (λ b. kept_id (cond b (kept_after p.state.base.kept (Some id) (played_line id p)) None)) (same ∙ e) in
         h.another (λ equal. id_is_not_kept s.base.kept id none (equal ∙ kept))
 
--- where the count of executions was the length of xs, and changes as `CountsExecution` says, it is the length of xs with n at its
--- end if the request was executed, and else still that of xs
-pub execution_counted : (s : SceneState) (id : ℕ) (call : Call) (after : SceneState) (old new : ℕ) (xs : List ℕ) (n : ℕ) → after ≡ (scene_handed s id call).state
-    → CountsExecution s.repeats (kept_id s.base.kept) (kept_id after.base.kept) old new → old ≡ length xs
-    → new ≡ length (cond (scene_handed s id call).executed (xs ++ n ∷ []) xs)
+-- where `after` is the state after a request for a call, what the stored ids tell (`TellsExecution`) is whether it was executed
+execution_told : (s : SceneState) (id : ℕ) (call : Call) (after : SceneState) (told : Bool) → after ≡ (scene_handed s id call).state
+    → TellsExecution s.repeats (kept_id s.base.kept) (kept_id after.base.kept) told → told ≡ (scene_handed s id call).executed
 unfolding handed_call
-execution_counted s id call after old new xs n is h count =
+execution_told s id call after told is h =
     let rpc = (call_fields call).number in
-    execution_counted_by s id (played_call s rpc call) (resent_line s (Some id)) new xs n refl (same_repeats s rpc call (fault_of rpc s.faults))
-    (subst (λ (t : SceneState). CountsExecution s.repeats (kept_id s.base.kept) (kept_id t.base.kept) (length xs) new) is
-    (subst (λ k. CountsExecution s.repeats (kept_id s.base.kept) (kept_id after.base.kept) k new) count h))
+    execution_told_by s id (played_call s rpc call) (resent_line s (Some id)) told refl (same_repeats s rpc call (fault_of rpc s.faults))
+    (subst (λ (t : SceneState). TellsExecution s.repeats (kept_id s.base.kept) (kept_id t.base.kept) told) is h)
 
--- if `CountsExecution` holds, it holds with values equal to its first three in their places, too
-pub counts_of_equal : {r repeats : Bool} {b before a after : Option ℕ} {old new : ℕ} → r ≡ repeats → b ≡ before → a ≡ after → CountsExecution r b a old new
-    → CountsExecution repeats before after old new
-counts_of_equal {r} {repeats} {b} {before} {a} {after} {old} {new} er eb ea h =
-    subst (λ (x : Bool). CountsExecution x before after old new) er (subst (λ (x : Option ℕ). CountsExecution r x after old new) eb (subst (λ (x : Option ℕ). CountsExecution r b x old new) ea h))
+-- a text that is a plain reply, appended to the empty text, or none, is plain
+appended_plain : (new : List ℕ) (b : Bool) → AppendsAnswer (λ reply. IfSome reply IsPlain) [] new b → IsPlain new
+appended_plain new true h = subst IsPlain (sym h.2) h.1
+appended_plain new false h = subst IsPlain (sym h.1) nothing_plain
+
+-- where the instrument got the request line of a call with values in range and an id below 8, and its reply, if there is one (b),
+-- was appended to the empty text, the state, this text and what the stored ids tell are those that `scene_handed` says
+pub scene_handed_over : (s after : SceneState) (new : List ℕ) (b told : Bool) (id : ℕ) (call : Call) → id < 8 → IsFitting call
+    → AppendsAnswer (IsPlayed s (request_line (Some id) call) after) [] new b → AppendsAnswer (λ reply. IfSome reply IsPlain) [] new b
+    → TellsExecution s.repeats (kept_id s.base.kept) (kept_id after.base.kept) told → IsHandedOver (scene_handed s id call) after new told
+scene_handed_over s after new b told id call small fits h plain tells =
+    let did = exchanged_is_handed s after new b id call small fits h in
+    record { state = did.state; line = did.line; plain = appended_plain new b plain; is_executed = execution_told s id call after told did.state tells }
+
+-- if `TellsExecution` holds, it holds with values equal to its first three in their places, too
+pub told_of_equal : {r repeats : Bool} {b before a after : Option ℕ} {told : Bool} → r ≡ repeats → b ≡ before → a ≡ after → TellsExecution r b a told
+    → TellsExecution repeats before after told
+told_of_equal {r} {repeats} {b} {before} {a} {after} {told} er eb ea h =
+    subst (λ (x : Bool). TellsExecution x before after told) er (subst (λ (x : Option ℕ). TellsExecution r x after told) eb (subst (λ (x : Option ℕ). TellsExecution r b x told) ea h))

@@ -23,7 +23,7 @@ module _ (width : ℕ) (narrow : width ≤ 7) (opening : State) (events : List E
   level = level_at width narrow ends KeptFits kept_exchange (restarted opening) tt events
 
   -- a report of the run by ids is faithful, if the restarted opening state is fitting
-  pub faithful : (r : Report) (up down : List ℕ) (client : Windowed Call) → IsFittingState (restarted opening)
+  pub faithful : (r : Report State) (up down : List ℕ) (client : Windowed Call) → IsFittingState (restarted opening)
       → AreOfWorld width r up down client (played width opening events)
       → Faithful width opening events r
   faithful r up down client good shows =
@@ -42,7 +42,7 @@ module _ (width : ℕ) (narrow : width ≤ 7) (opening : State) (events : List E
       }
 
   -- by a report of the run by ids each request acted at most once (`ActsOnce`), if the restarted opening state is fitting
-  pub once : (r : Report) (up down : List ℕ) (client : Windowed Call) → IsFittingState (restarted opening)
+  pub once : (r : Report State) (up down : List ℕ) (client : Windowed Call) → IsFittingState (restarted opening)
       → AreOfWorld width r up down client (played width opening events) → ActsOnce opening r
   once r up down client good shows =
       let es = level.steps in
@@ -51,7 +51,7 @@ module _ (width : ℕ) (narrow : width ≤ 7) (opening : State) (events : List E
       acts_once r w h opening (execution_at width narrow ends IsFittingState exchange kept_of (keeper IsFittingState) refl es opening good)
 
   -- no list of a report of the run by ids is longer than the list of events
-  pub no_longer_than : (r : Report) (up down : List ℕ) (client : Windowed Call) → AreOfWorld width r up down client (played width opening events)
+  pub no_longer_than : (r : Report State) (up down : List ℕ) (client : Windowed Call) → AreOfWorld width r up down client (played width opening events)
       → IsNoLongerThan (length events) r
   no_longer_than r up down client shows =
       let es = level.steps in

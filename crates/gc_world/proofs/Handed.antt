@@ -8,10 +8,10 @@ use Rattle.std.proofs.lemmas.Bool.{both_ways, le-ltb}
 use Rattle.gc_lines.specs.Lines.{with_end}
 use Rattle.gc_catalogue.specs.declared.call.Call.{Call}
 use Rattle.gc_client.specs.Rule.{ById, fits, heard, hears, place_in, settles_at}
-use Rattle.gc_instrument.specs.State.{State}
 use Rattle.gc_world.specs.declared.direction.Direction.{Direction}
 use Rattle.gc_world.specs.declared.direction.Direction.TheVariants.{Up, Down}
-use Rattle.gc_world.specs.Clients.{by_ids, ends}
+use Rattle.gc_world.specs.Behaviours.{Behaviour, ends_with}
+use Rattle.gc_world.specs.Clients.{by_ids}
 use Rattle.gc_world.specs.Directions.{deliver, delivery, bytes, texts, lines, gone, to_go, with_front_gone, after_cut, handed_over}
 use Rattle.gc_world.specs.Memory.{FrontIsStray, AreStrays, TakesNoMemory}
 use Rattle.gc_world.specs.Sides.{IsPartOfFront}
@@ -107,25 +107,25 @@ module _ {Client State : Type 0} (ends : Ends State) (rule : Rule Client) (d : D
       by_cases (suc k) (l ∷ ls) some more = refl
 
 -- A delivery that takes no memory: upward there is none, and downward it is one of a stray.
-module _ (width : ℕ) (v : Streams (ById Call) State) where
+module _ {State : Type 0} (acts : Behaviour State) (width : ℕ) (v : Streams (ById Call) State) where
   -- bytes upward that complete the front line (`IsNext`) take memory
-  next_takes : (n used : ℕ) → IsNext ends (by_ids width ends) Up v n used → TakesNoMemory width v (bytes Up n) → ⊥
+  next_takes : (n used : ℕ) → IsNext (ends_with acts) (by_ids width (ends_with acts)) Up v n used → TakesNoMemory width v (bytes Up n) → ⊥
   next_takes n used h z =
       let s : suc (cut (map with_end h.behind) (n - used)).lines ≡ 0 = sym (ap (λ (c : Cut). c.lines) h.cut_is) ∙ z in
       absurd (omega (arith, s))
 
   -- where bytes downward that complete the front line take no memory, the delivery of this line takes none, and the other bytes
   -- take none after it
-  next_strays : (n used : ℕ) → IsNext ends (by_ids width ends) Down v n used → (q : List (Numbered (List ℕ))) → v.world.wire.down ≡ q
+  next_strays : (n used : ℕ) → IsNext (ends_with acts) (by_ids width (ends_with acts)) Down v n used → (q : List (Numbered (List ℕ))) → v.world.wire.down ≡ q
       → TakesNoMemory width v (bytes Down n)
-      → TakesNoMemory width v (delivery Down) × TakesNoMemory width (after_event ends width v (delivery Down)) (bytes Down (n - used))
+      → TakesNoMemory width v (delivery Down) × TakesNoMemory width (after_event (ends_with acts) width v (delivery Down)) (bytes Down (n - used))
   next_strays n used h [] e t = let wrong : [] ≡ h.text ∷ h.behind = sym (ap (map (λ x. x.line)) e) ∙ h.front in cc
   next_strays n used h (x ∷ xs) e t =
-      let w = after_step width v.world Down_deliver in
+      let w = after_step acts width v.world Down_deliver in
       let k = (cut (map with_end h.behind) (n - used)).lines in
       let all = subst (λ q. AreStrays v.world.client (suc k) q) e (subst (λ (c : Cut). AreStrays v.world.client c.lines v.world.wire.down) h.cut_is t) in
-      let same : w.client ≡ v.world.client = ap (λ q. (down_delivered (by_ids width ends) v.world q).client) e ∙ stray_same v.world.client x.line (heard x.line) all.0 in
-      let tail : xs ≡ w.wire.down = sym (ap (λ q. (down_delivered (by_ids width ends) v.world q).wire.down) e) in
+      let same : w.client ≡ v.world.client = ap (λ q. (down_delivered (by_ids width (ends_with acts)) v.world q).client) e ∙ stray_same v.world.client x.line (heard x.line) all.0 in
+      let tail : xs ≡ w.wire.down = sym (ap (λ q. (down_delivered (by_ids width (ends_with acts)) v.world q).wire.down) e) in
       let zero_more : n - used ≡ 0 + (n - used) = omega arith in
       let count : (cut (map with_end h.behind) (n - used)).lines ≡ (cut (down_lines w.wire) (0 + (n - used))).lines = ap₂ (λ q j. (cut (map with_end q) j).lines) h.tail zero_more in (
         subst (λ l. FrontIsStray v.world.client l) (sym e) (all.0, tt),
@@ -135,53 +135,53 @@ module _ (width : ℕ) (v : Streams (ById Call) State) where
 
 -- in either direction: where the bytes of an event complete the front line and take no memory, the delivery of this line takes
 -- none, and the other bytes take none after it
-front_spared : (width : ℕ) (d : Direction) (v : Streams (ById Call) State) (n used : ℕ) → IsNext ends (by_ids width ends) d v n used → TakesNoMemory width v (bytes d n)
-    → TakesNoMemory width v (delivery d) × TakesNoMemory width (after_event ends width v (delivery d)) (bytes d (n - used))
-front_spared width Up v n used h t = absurd (next_takes width v n used h t)
-front_spared width Down v n used h t = next_strays width v n used h v.world.wire.down refl t
+front_spared : {State : Type 0} (acts : Behaviour State) (width : ℕ) (d : Direction) (v : Streams (ById Call) State) (n used : ℕ) → IsNext (ends_with acts) (by_ids width (ends_with acts)) d v n used → TakesNoMemory width v (bytes d n)
+    → TakesNoMemory width v (delivery d) × TakesNoMemory width (after_event (ends_with acts) width v (delivery d)) (bytes d (n - used))
+front_spared acts width Up v n used h t = absurd (next_takes acts width v n used h t)
+front_spared acts width Down v n used h t = next_strays acts width v n used h v.world.wire.down refl t
 
 -- n bytes are to be handed over on the streams v, and `left` of them are left: the stage shows streams `now` from which handing
 -- over those left leads where all n lead from v. Since v no event was counted as not possible; and those left take no memory if
 -- all n take none (`spare`)
-pub record IsReached (width : ℕ) (d : Direction) (s : StageParts) (v : Streams (ById Call) State) (n left : ℕ) : Type 0 where
+pub record IsReached {State : Type 0} (acts : Behaviour State) (width : ℕ) (d : Direction) (s : StageParts State) (v : Streams (ById Call) State) (n left : ℕ) : Type 0 where
   pub now : Streams (ById Call) State
   pub shows : AreStreamsOf width s now
-  pub same : after_bytes ends width d now left ≡ after_bytes ends width d v n
+  pub same : after_bytes (ends_with acts) width d now left ≡ after_bytes (ends_with acts) width d v n
   pub spare : TakesNoMemory width v (bytes d n) → TakesNoMemory width now (bytes d left)
   pub idle : now.world.wire.idle ≡ v.world.wire.idle
 
 -- where a stage shows the streams v, `IsReached` holds before any byte was handed over, with all n bytes left
-pub reached_at_first : (width : ℕ) (d : Direction) (s : StageParts) (v : Streams (ById Call) State) (n : ℕ) → AreStreamsOf width s v → IsReached width d s v n n
-reached_at_first width d s v n h = record { now = v; shows = h; same = refl; spare = λ t. t; idle = refl }
+pub reached_at_first : {State : Type 0} (acts : Behaviour State) (width : ℕ) (d : Direction) (s : StageParts State) (v : Streams (ById Call) State) (n : ℕ) → AreStreamsOf width s v → IsReached acts width d s v n n
+reached_at_first acts width d s v n h = record { now = v; shows = h; same = refl; spare = λ t. t; idle = refl }
 
-module _ (width : ℕ) (d : Direction) (s : StageParts) (v : Streams (ById Call) State) (n left : ℕ) (h : IsReached width d s v n left) where
+module _ {State : Type 0} (acts : Behaviour State) (width : ℕ) (d : Direction) (s : StageParts State) (v : Streams (ById Call) State) (n left : ℕ) (h : IsReached acts width d s v n left) where
   -- `IsReached` holds also once one more line was delivered, which took `used` of the bytes that were left: `left - used` are
   -- left then
-  pub reaches_next : (t : StageParts) (used : ℕ) → used ≡ to_go d h.now → 0 < used → used ≤ left
-      → AreStreamsOf width t (after_event ends width h.now (delivery d)) → IsReached width d t v n (left - used)
+  pub reaches_next : (t : StageParts State) (used : ℕ) → used ≡ to_go d h.now → 0 < used → used ≤ left
+      → AreStreamsOf width t (after_event (ends_with acts) width h.now (delivery d)) → IsReached acts width d t v n (left - used)
   reaches_next t used e some le shows =
-      let one = next ends (by_ids width ends) d h.now left used e some le in
+      let one = next (ends_with acts) (by_ids width (ends_with acts)) d h.now left used e some le in
       record {
-        now = after_event ends width h.now (delivery d);
+        now = after_event (ends_with acts) width h.now (delivery d);
         shows = shows;
-        same = sym (next_same ends (by_ids width ends) d h.now left used one) ∙ h.same;
-        spare = λ t. (front_spared width d h.now left used one (h.spare t)).1;
-        idle = next_idle ends (by_ids width ends) d h.now left used one ∙ h.idle;
+        same = sym (next_same (ends_with acts) (by_ids width (ends_with acts)) d h.now left used one) ∙ h.same;
+        spare = λ t. (front_spared acts width d h.now left used one (h.spare t)).1;
+        idle = next_idle (ends_with acts) (by_ids width (ends_with acts)) d h.now left used one ∙ h.idle;
       }
 
   -- where the bytes that are left complete the front line, of which `used` remain, and the n bytes of the event take no memory,
   -- the delivery of this line takes none
   pub next_spares : (used : ℕ) → used ≡ to_go d h.now → 0 < used → used ≤ left
       → TakesNoMemory width v (bytes d n) → TakesNoMemory width h.now (delivery d)
-  next_spares used e some le t = (front_spared width d h.now left used (next ends (by_ids width ends) d h.now left used e some le) (h.spare t)).0
+  next_spares used e some le t = (front_spared acts width d h.now left used (next (ends_with acts) (by_ids width (ends_with acts)) d h.now left used e some le) (h.spare t)).0
 
   -- where a stage shows the streams that handing over the bytes that are left leads to, it shows those that all n bytes lead to
-  pub reaches_end : (t : StageParts) → AreStreamsOf width t (after_bytes ends width d h.now left) → AreStreamsOf width t (after_bytes ends width d v n)
+  pub reaches_end : (t : StageParts State) → AreStreamsOf width t (after_bytes (ends_with acts) width d h.now left) → AreStreamsOf width t (after_bytes (ends_with acts) width d v n)
   reaches_end t shows = subst (λ x. AreStreamsOf width t x) h.same shows
 
   -- where no byte is in flight any more, the stage shows the streams that all n bytes lead to
-  pub runs_dry : to_go d h.now ≡ 0 → AreStreamsOf width s (after_bytes ends width d v n)
-  runs_dry e = subst (λ x. AreStreamsOf width s x) (sym (none_to_hand_over ends (by_ids width ends) d h.now left (part width s h.now h.shows d) e) ∙ h.same) h.shows
+  pub runs_dry : to_go d h.now ≡ 0 → AreStreamsOf width s (after_bytes (ends_with acts) width d v n)
+  runs_dry e = subst (λ x. AreStreamsOf width s x) (sym (none_to_hand_over (ends_with acts) (by_ids width (ends_with acts)) d h.now left (part acts width s h.now h.shows d) e) ∙ h.same) h.shows
 
 -- where l bytes are at least the r bytes that are left of a line, and don't complete it (b is false), no byte is left: r is 0
 pub none_left_if_incomplete : (b : Bool) (r l : ℕ) → IsTrue b ↔ ((0 < r) × (r ≤ l)) → b ≡ false → (l < r → ⊥) → r ≡ 0

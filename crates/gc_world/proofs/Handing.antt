@@ -1,6 +1,8 @@
 -- What the instrument does with a request that a client wrote, and how its reply reads.
-use Rattle.std.proofs.Common.{◌≡◌, ℕ, ◌<◌, Bool, true, false, cond, List, Option, Some, None, Ok, inl, inr, refl, sym, ap, ◌∙◌, subst, lit<, eqb}
+use Rattle.std.proofs.Common.{◌≡◌, ℕ, ◌<◌, Bool, true, false, cond, List, [], Option, Some, None, Ok, inl, inr, refl, sym, ap, ◌∙◌, subst, lit<, eqb}
 use Rattle.std.proofs.lemmas.Bool.{eqb-true, eq-eqb, cond_both}
+use Rattle.gc_lines.specs.Answering.{AppendsAnswer}
+use Rattle.gc_lines.specs.Lines.{IsPlain}
 use Rattle.gc_lines.specs.Readers.{reply_at}
 use Rattle.gc_lines.specs.Replies.{IsReply, reply_text}
 use Rattle.gc_lines.proofs.Replies.{one_reply, reply_again, reply_found}
@@ -14,11 +16,12 @@ use Rattle.gc_catalogue.proofs.AnswerLaws.{one_reading}
 use Rattle.gc_client.specs.Rule.{id_in, heard}
 use Rattle.gc_instrument.specs.State.{State, KeptReply, IsFittingState, IsFittingKept, IsFittingReply, kept_id, restarted}
 use Rattle.gc_instrument.specs.Execution.{Executed, exec}
-use Rattle.gc_instrument.specs.Replying.{Handed, handed, kept_line, kept_after, without_kept, executed_line, reading_of}
+use Rattle.gc_instrument.specs.Replying.{Handed, handed, IsExchanged, kept_line, kept_after, without_kept, executed_line, reading_of}
 pub use Rattle.gc_instrument.specs.Replying.{kept_of}
 use Rattle.gc_instrument.proofs.Answering.{handed_answered, handed_again, handed_new, some_line_or_none}
 use Rattle.gc_instrument.proofs.Keeping.{executes_apart, fits_kept}
 use Rattle.gc_instrument.proofs.Executions.{exec_outcome, restarted_fits}
+use Rattle.gc_world.specs.Behaviours.{IsHandedOver, TellsExecution}
 use Rattle.gc_world.specs.Exchange.{IsExchange, IsKeeper, ReadsWithItsId}
 use Rattle.gc_world.specs.Faithful.{IsValueOrRefusal, restarted_if}
 use Rattle.gc_world.specs.Laws.{RepliesAreFine}
@@ -150,6 +153,30 @@ id_is_not_kept (Some k) id e is =
     let same : k.id ≡ id = same_Some k.id id is in
     let yes : eqb k.id id ≡ true = eq-eqb k.id id same in
     none-some k.line (sym e ∙ ap (λ b. cond b (Some k.line) None) yes)
+
+-- where `after` is the state after a request was handed to the instrument, what the stored ids tell (`TellsExecution`) is whether it
+-- was executed
+told_executed : (s : State) (id : ℕ) (call : Call) (after : State) (told : Bool) → after ≡ (handed s id call).state
+    → TellsExecution true (kept_id s.kept) (kept_id after.kept) told → told ≡ (handed s id call).executed
+told_executed s id call after told is h =
+    let same : kept_id after.kept ≡ kept_id (handed s id call).state.kept = ap (λ (t : State). kept_id t.kept) is in
+    elim (some_line_or_none (kept_line s.kept (Some id))) [
+      | inl again ↦
+          let did = handed_again s id call again.0 again.1 in
+          h.same refl (sym (same ∙ ap (λ (x : Handed State). kept_id x.state.kept) did)) ∙ ap (λ (x : Handed State). x.executed) (sym did)
+      | inr none ↦
+          let did = handed_new s id call none in
+          h.another (λ e. id_is_not_kept s.kept id none (e ∙ same ∙ ap (λ (x : Handed State). kept_id x.state.kept) did)) ∙ ap (λ (x : Handed State). x.executed) (sym did)
+    ]
+
+-- where the reply to a request, if there is one (b true), was appended to the empty text, the state, this text and what the stored
+-- ids tell are those that `handed` says
+pub handed_over : (s after : State) (id : ℕ) (call : Call) (new : List ℕ) (b told : Bool) → AppendsAnswer (IsExchanged s id call after) [] new b
+    → TellsExecution true (kept_id s.kept) (kept_id after.kept) told → IsHandedOver (handed s id call) after new told
+handed_over s after id call new true told h tells =
+    let line : new ≡ (handed s id call).reply = h.2 ∙ same_Some h.0 (handed s id call).reply h.1.line in
+    record { state = h.1.state; line = line; plain = subst IsPlain (sym line) h.1.plain; is_executed = told_executed s id call after told h.1.state tells }
+handed_over s after id call new false told h tells = absurd (none-some (handed s id call).reply h.0.line)
 
 -- the reading of an execution is a value or a refusal
 fine_reading : (x : Executed) → IsValueOrRefusal (reading_of x)

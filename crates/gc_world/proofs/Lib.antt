@@ -21,7 +21,7 @@ pub mod Contracts
 pub mod Showing
 pub mod Shown
 pub mod Handed
-pub mod Counting
+pub mod Counts
 pub mod Turns
 pub mod Sparing
 pub mod Handing
@@ -35,9 +35,5 @@ pub mod Delivering
 pub mod Additive
 pub mod FirstReply
 pub mod Exchanges
-pub mod Lanes
-pub mod SceneShown
-pub mod SceneHanded
-pub mod SceneTurns
 mod Booking
 mod Keeping

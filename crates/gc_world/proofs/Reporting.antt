@@ -26,7 +26,7 @@ use Rattle.gc_instrument.specs.Execution.{exec}
 use Rattle.gc_instrument.specs.Replying.{executed_line, without_kept}
 use Rattle.gc_world.specs.World
 use Rattle.gc_world.specs.World.{Numbered, Wire}
-use Rattle.gc_world.proofs.Counting.{IsWithin}
+use Rattle.gc_world.proofs.Counts.{IsWithin}
 use Rattle.gc_world.proofs.Handing.{without_kept_after, line_without_kept, without_kept_restarted, fine}
 use Rattle.std.proofs.lemmas.Option.{same_Some, none-some, slice_get_within}
 use Rattle.gc_world.proofs.Places.{get_map, get_seen, element_at, all_at}
@@ -44,7 +44,7 @@ increasing_rises low (x ∷ xs) i zero n m h lt e f = absurd (omega (arith, lt))
 increasing_rises low (x ∷ xs) zero (suc j) n m h lt e f = let above = above_low (x + 1) xs j m h.1 f in omega (arith, above, same_Some x n e)
 increasing_rises low (x ∷ xs) (suc i) (suc j) n m h lt e f = increasing_rises (x + 1) xs i j n m h.1 (omega (arith, lt)) e f
 
-module _ (r : Report) (w : Wire State) (h : IsReport r w) where
+module _ (r : Report State) (w : Wire State) (h : IsReport r w) where
   -- the report has as many requests as the run
   sent_length : length r.sent ≡ length w.sent
   sent_length = sym (length-map r.sent sent_seen) ∙ ap length h.sent

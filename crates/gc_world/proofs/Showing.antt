@@ -1,7 +1,7 @@
 -- For the proofs of `stage.rt`. A report, two queues and a client *show* a world where they are those of the world
 -- (`AreOfWorld`). Each lemma says: where they show a world, and a function has done to them what its contract says
 -- (`Contracts.antt`), they show the world after that step.
-use Rattle.std.proofs.Common.{◌≡◌, ℕ, ◌+◌, ◌<◌, ◌≤◌, Bool, true, false, cond, List, [], ◌∷◌, ◌++◌, length, map, Option, Some, None, inl, inr, refl, sym, ◌∙◌, ap, subst, ltb, eqb, arith}
+use Rattle.std.proofs.Common.{◌≡◌, ℕ, ◌+◌, ◌<◌, ◌≤◌, Bool, true, false, cond, List, [], ◌∷◌, ◌++◌, length, map, Option, Some, None, refl, sym, ◌∙◌, ap, subst, ltb, eqb, arith}
 use Rattle.std.specs.List.{AllByRecursion}
 use mathlib.Core.Path.{ap₂}
 use Rattle.std.specs.Prelude.{slice_get}
@@ -20,64 +20,36 @@ use Rattle.gc_client.specs.Rule.{ById, Windowed, Sending, heard, hears, place_in
 use Rattle.gc_client.specs.Rule
 use Rattle.gc_client.specs.Settlements.{AreSettlements}
 use Rattle.gc_client.proofs.Settling.{settled_append}
-use Rattle.gc_instrument.specs.State.{State, restarted, kept_id}
-use Rattle.gc_instrument.specs.Replying.{Handed, handed, kept_line, IsExchanged, AppendsExchange}
-use Rattle.gc_instrument.proofs.Answering.{handed_again, handed_new, some_line_or_none}
 use Rattle.gc_world.specs.declared.report.Made.{Made}
 use Rattle.gc_world.specs.declared.report.Report.{Report}
 use Rattle.gc_world.specs.declared.report.Sent.{Sent}
 use Rattle.gc_world.specs.World
 use Rattle.gc_world.specs.World.{Request, Numbered, Wire, World, bytes_of, Send, Up_deliver, Up_lose, Up_repeat, Down_deliver, Down_lose, Down_repeat, Restart_client, Restart_instrument, without, doubled, idle, up_delivered, with_up, with_down, on_wire, requested, down_delivered, client_restarted, instrument_restarted}
-use Rattle.gc_world.specs.Clients.{by_ids, ends}
+use Rattle.gc_world.specs.Behaviours.{Behaviour, ends_with}
+use Rattle.gc_world.specs.Clients.{by_ids}
 use Rattle.gc_world.specs.Faithful.{sent_seen}
 use Rattle.gc_world.specs.Memory.{SomeInFlight}
 use Rattle.gc_world.specs.Order.{numbers}
 use Rattle.gc_world.specs.Reports.{made_seen, IsReport}
 use Rattle.gc_world.specs.Stages.{after_step, IsSentIn, replies_at, AreOfWorld}
-use Rattle.gc_world.proofs.Contracts.{ExchangesItsCall, Notes, Sends, HandsToInstrument, HandsToClient, RestartsBoth}
-use Rattle.gc_world.proofs.Handing.{id_is_not_kept}
+use Rattle.gc_world.proofs.Contracts.{Sends, HandsToInstrument, HandsToClient, RestartsBoth}
 use Rattle.gc_world.proofs.Queues.{without_map, doubled_map, without_past, doubled_past}
 use Rattle.gc_world.proofs.Rows.{each_without, each_doubled}
 use Rattle.std.proofs.lemmas.Option.{same_Some, none-some}
 use Rattle.gc_world.proofs.Places.{get_map, get_more, get_push}
 
--- where the reply to the line, if there is one (b true), was appended to the empty text `old`, and gave `new`, `ExchangesItsCall`
--- holds with `new` as the reply, or with no reply where b is false
-pub exchanges_its_call : (before : State) (bytes line : List ℕ) (after : State) (old new : List ℕ) (b : Bool) → bytes ≡ line → old ≡ []
-    → AppendsExchange before bytes after old new b → ExchangesItsCall before line after (cond b (Some new) None)
-exchanges_its_call before bytes line after old new true is none h id call digit fits e =
-    let a = h id call digit fits (is ∙ e) in
-    subst (λ (t : List ℕ). IsExchanged before id call after (Some t)) (sym (a.2 ∙ ap (λ l. l ++ a.0) none)) a.1
-exchanges_its_call before bytes line after old new false is none h id call digit fits e = (h id call digit fits (is ∙ e)).0
-
--- where `after` is the state after a request was handed to the instrument, and n was appended to `old` exactly if the kept id
--- changed by that (`Notes`), n was appended exactly if the request was executed
-noted : (s : State) (id : ℕ) (call : Call) (after : State) (n : ℕ) (old new : List ℕ) → after ≡ (handed s id call).state → Notes s after n old new
-    → new ≡ cond (handed s id call).executed (old ++ n ∷ []) old
-noted s id call after n old new is h =
-    let same : kept_id after.kept ≡ kept_id (handed s id call).state.kept = ap (λ (t : State). kept_id t.kept) is in
-    elim (some_line_or_none (kept_line s.kept (Some id))) [
-      | inl again ↦
-          let did = handed_again s id call again.0 again.1 in
-          h.same_is (sym (same ∙ ap (λ (x : Handed State). kept_id x.state.kept) did)) ∙ ap (λ (x : Handed State). cond x.executed (old ++ n ∷ []) old) (sym did)
-      | inr none ↦
-          let did = handed_new s id call none in
-          h.new_is (λ e. id_is_not_kept s.kept id none (e ∙ same ∙ ap (λ (x : Handed State). kept_id x.state.kept) did))
-          ∙ ap (λ (x : Handed State). cond x.executed (old ++ n ∷ []) old) (sym did)
-    ]
-
 -- the report after an event: as it is if the event was possible (`possible`), else with one more event that wasn't
-abbrev pub counted : (possible : Bool) → Report → Report
+abbrev pub counted : {State : Type 0} → (possible : Bool) → Report State → Report State
 counted true r = r
 counted false r = record r { idle_events = r.idle_events + 1 }
 
 -- a report of a wire is still one where both count one more event that was not possible
-reports_idle : (r : Report) (w : Wire State) → IsReport r w → IsReport (counted false r) (idle w)
+reports_idle : {State : Type 0} (r : Report State) (w : Wire State) → IsReport r w → IsReport (counted false r) (idle w)
 reports_idle r w h =
     record { sent = h.sent; executed = h.executed; made = h.made; settled = h.settled; starts = h.starts; instrument = h.instrument; refused = h.refused; idle = ap (λ n. n + 1) h.idle }
 
 -- a report of a wire is also one of the wire with other queues, which a report doesn't have
-reports_queues : (r : Report) (w : Wire State) (up : List (Numbered Request)) (down : List (Numbered (List ℕ))) → IsReport r w
+reports_queues : {State : Type 0} (r : Report State) (w : Wire State) (up : List (Numbered Request)) (down : List (Numbered (List ℕ))) → IsReport r w
     → IsReport r (record w { up = up; down = down })
 reports_queues r w up down h =
     record { sent = h.sent; executed = h.executed; made = h.made; settled = h.settled; starts = h.starts; instrument = h.instrument; refused = h.refused; idle = h.idle }
@@ -144,7 +116,7 @@ pub map_nil : {A B : Type 0} (f : A → B) (xs : List A) → map f xs ≡ [] →
 map_nil f [] e = refl
 map_nil f (x ∷ xs) e = cc
 
-module _ (width : ℕ) (r : Report) (up down : List ℕ) (c : Windowed Call) (w : World (ById Call) State) (h : AreOfWorld width r up down c w) where
+module _ {State : Type 0} (acts : Behaviour State) (width : ℕ) (r : Report State) (up down : List ℕ) (c : Windowed Call) (w : World (ById Call) State) (h : AreOfWorld width r up down c w) where
   -- an event that is not possible is only counted, in the report as in the world
   pub shows_idle : AreOfWorld width (counted false r) up down c (on_wire w (idle w.wire))
   shows_idle =
@@ -181,14 +153,14 @@ module _ (width : ℕ) (r : Report) (up down : List ℕ) (c : Windowed Call) (w 
 
   -- once line k of the upward queue was lost (b true), or the step counted as idle where there is no line k (b false), the world
   -- after that step is shown
-  pub shows_up_lose : (k : ℕ) (b : Bool) → b ≡ ltb k (length up) → AreOfWorld width (counted b r) (without k up) down c (after_step width w (Up_lose k))
+  pub shows_up_lose : (k : ℕ) (b : Bool) → b ≡ ltb k (length up) → AreOfWorld width (counted b r) (without k up) down c (after_step acts width w (Up_lose k))
   shows_up_lose k b e =
       up_changed k b (without k up) (without k w.wire.up) e (without_past k up)
       (ap (without k) h.up_is ∙ without_map (λ x. x.number) k w.wire.up) (each_without (IsSentIn r.sent) k w.wire.up h.requests)
 
   -- once line k of the upward queue was repeated (b true), or the step counted as idle where there is no line k (b false), the
   -- world after that step is shown
-  pub shows_up_repeat : (k : ℕ) (b : Bool) → b ≡ ltb k (length up) → AreOfWorld width (counted b r) (doubled k up) down c (after_step width w (Up_repeat k))
+  pub shows_up_repeat : (k : ℕ) (b : Bool) → b ≡ ltb k (length up) → AreOfWorld width (counted b r) (doubled k up) down c (after_step acts width w (Up_repeat k))
   shows_up_repeat k b e =
       up_changed k b (doubled k up) (doubled k w.wire.up) e (doubled_past k up)
       (ap (doubled k) h.up_is ∙ doubled_map (λ x. x.number) k w.wire.up) (each_doubled (IsSentIn r.sent) k w.wire.up h.requests)
@@ -208,14 +180,14 @@ module _ (width : ℕ) (r : Report) (up down : List ℕ) (c : Windowed Call) (w 
 
   -- once line k of the downward queue was lost (b true), or the step counted as idle where there is no line k (b false), the
   -- world after that step is shown
-  pub shows_down_lose : (k : ℕ) (b : Bool) → b ≡ ltb k (length down) → AreOfWorld width (counted b r) up (without k down) c (after_step width w (Down_lose k))
+  pub shows_down_lose : (k : ℕ) (b : Bool) → b ≡ ltb k (length down) → AreOfWorld width (counted b r) up (without k down) c (after_step acts width w (Down_lose k))
   shows_down_lose k b e =
       down_changed k b (without k down) (without k w.wire.down) e (without_past k down)
       (sym (without_map (slice_get (map made_seen r.made)) k down) ∙ ap (without k) h.down_is ∙ without_map Some k w.wire.down)
 
   -- once line k of the downward queue was repeated (b true), or the step counted as idle where there is no line k (b false), the
   -- world after that step is shown
-  pub shows_down_repeat : (k : ℕ) (b : Bool) → b ≡ ltb k (length down) → AreOfWorld width (counted b r) up (doubled k down) c (after_step width w (Down_repeat k))
+  pub shows_down_repeat : (k : ℕ) (b : Bool) → b ≡ ltb k (length down) → AreOfWorld width (counted b r) up (doubled k down) c (after_step acts width w (Down_repeat k))
   shows_down_repeat k b e =
       down_changed k b (doubled k down) (doubled k w.wire.down) e (doubled_past k down)
       (sym (doubled_map (slice_get (map made_seen r.made)) k down) ∙ ap (doubled k) h.down_is ∙ doubled_map Some k w.wire.down)
@@ -248,14 +220,14 @@ module _ (width : ℕ) (r : Report) (up down : List ℕ) (c : Windowed Call) (w 
 
   -- once the client sent a request, the world after that step is shown
   pub shows_send : (entry : Sent) (deadline : ℕ) (left : Sends r up c entry deadline)
-      → AreOfWorld width (record r { sent = left.sent }) left.queue down left.client (after_step width w (Send entry.target entry.call deadline))
+      → AreOfWorld width (record r { sent = left.sent }) left.queue down left.client (after_step acts width w (Send entry.target entry.call deadline))
   shows_send entry deadline left =
       let x : Sending (ById Call) = record { id = c.ids.next; client = left.client.ids } in
       let ruled : sends width w.client entry.target entry.call deadline ≡ Some x = ap (λ (k : Windowed Call). sends k.width k.ids entry.target entry.call deadline) (sym h.client_is) ∙ left.sends_is in
       let total : length r.sent ≡ length w.wire.sent = sym (length-map r.sent sent_seen) ∙ ap length h.reports.sent in
       let number : slice_get (r.sent ++ entry ∷ []) (length w.wire.sent) ≡ Some entry = subst (λ n. slice_get (r.sent ++ entry ∷ []) n ≡ Some entry) total (get_push r.sent entry) in
       let digit : c.ids.next < IDS = subst (λ (k : Windowed Call). k.ids.next < IDS) (sym h.client_is) h.next in
-      subst (λ l. AreOfWorld width (record r { sent = l }) left.queue down left.client (after_step width w (Send entry.target entry.call deadline))) (sym left.sent_is)
+      subst (λ l. AreOfWorld width (record r { sent = l }) left.queue down left.client (after_step acts width w (Send entry.target entry.call deadline))) (sym left.sent_is)
       (subst (λ o. AreOfWorld width (record r { sent = r.sent ++ entry ∷ [] }) left.queue down left.client (requested w entry.target entry.call o)) (sym ruled) (record {
         reports = record {
           sent = map-append sent_seen r.sent (entry ∷ []) ∙ ap₂ (λ (l : List World.Sent) t. l ++ record { target = entry.target; call = entry.call; line = t } ∷ []) h.reports.sent left.line_is;
@@ -285,8 +257,8 @@ module _ (width : ℕ) (r : Report) (up down : List ℕ) (c : Windowed Call) (w 
       }))
 
   -- once the front request was handed to the instrument, the world after that step is shown
-  pub shows_up_deliver : (rest : List ℕ) (left : HandsToInstrument r up down rest)
-      → AreOfWorld width (record r { executed = left.executed; made = left.made; instrument = left.state }) rest left.queue c (after_step width w Up_deliver)
+  pub shows_up_deliver : (rest : List ℕ) (left : HandsToInstrument acts r up down rest)
+      → AreOfWorld width (record r { executed = left.executed; made = left.made; instrument = left.state }) rest left.queue c (after_step acts width w Up_deliver)
   shows_up_deliver rest left =
       let f = up_front left.number rest left.front in
       let y = f.0 in
@@ -295,21 +267,21 @@ module _ (width : ℕ) (r : Report) (up down : List ℕ) (c : Windowed Call) (w 
       let this : left.request ≡ sound.0.request = same_Some left.request sound.0.request (sym left.found ∙ ap (λ k. slice_get r.sent k) (sym f.3) ∙ sound.0.found) in
       let line : left.request.line.items ≡ bytes_of y.line = ap (λ (q : Sent). q.line.items) this ∙ sound.0.line in
       let did = left.replied y.line.id y.line.call sound.0.digit sound.0.fits line in
-      let reply : left.entry.line.items ≡ (handed w.wire.state y.line.id y.line.call).reply =
-      same_Some _ _ (sym left.told ∙ did.line) ∙ ap (λ s. (handed s y.line.id y.line.call).reply) h.reports.instrument in
-      let entry_is : made_seen left.entry ≡ record { number = y.number; line = (handed w.wire.state y.line.id y.line.call).reply } =
+      let reply : left.entry.line.items ≡ (acts.handed w.wire.state y.line.id y.line.call).reply =
+      did.line ∙ ap (λ s. (acts.handed s y.line.id y.line.call).reply) h.reports.instrument in
+      let entry_is : made_seen left.entry ≡ record { number = y.number; line = (acts.handed w.wire.state y.line.id y.line.call).reply } =
       ap₂ (λ k (l : List ℕ). record { number = k; line = l }) (left.same ∙ sym f.3) reply in
-      subst (λ q. AreOfWorld width (record r { executed = left.executed; made = left.made; instrument = left.state }) rest left.queue c (on_wire w (up_delivered ends w.wire q))) (sym f.2) (record {
+      subst (λ q. AreOfWorld width (record r { executed = left.executed; made = left.made; instrument = left.state }) rest left.queue c (on_wire w (up_delivered (ends_with acts) w.wire q))) (sym f.2) (record {
         reports = record {
           sent = h.reports.sent;
           executed =
-              noted r.instrument y.line.id y.line.call left.state left.number r.executed left.executed did.state left.executed_is
-              ∙ ap (λ (s : State). cond (handed s y.line.id y.line.call).executed (r.executed ++ left.number ∷ []) r.executed) h.reports.instrument
-              ∙ ap₂ (λ l k. cond (handed w.wire.state y.line.id y.line.call).executed (l ++ k ∷ []) l) h.reports.executed (sym f.3);
+              left.executed_is
+              ∙ ap (λ b. cond b (r.executed ++ left.number ∷ []) r.executed) (did.is_executed ∙ ap (λ (s : State). (acts.handed s y.line.id y.line.call).executed) h.reports.instrument)
+              ∙ ap₂ (λ l k. cond (acts.handed w.wire.state y.line.id y.line.call).executed (l ++ k ∷ []) l) h.reports.executed (sym f.3);
           made = ap (map made_seen) left.made_is ∙ map-append made_seen r.made (left.entry ∷ []) ∙ ap₂ (λ l m. l ++ m ∷ []) h.reports.made entry_is;
           settled = h.reports.settled;
           starts = h.reports.starts;
-          instrument = did.state ∙ ap (λ s. (handed s y.line.id y.line.call).state) h.reports.instrument;
+          instrument = did.state ∙ ap (λ s. (acts.handed s y.line.id y.line.call).state) h.reports.instrument;
           refused = h.reports.refused;
           idle = h.reports.idle;
         };
@@ -323,20 +295,9 @@ module _ (width : ℕ) (r : Report) (up down : List ℕ) (c : Windowed Call) (w 
         calls = h.calls;
       })
 
-  -- where o is what the instrument replies to the front request (`ExchangesItsCall`), o isn't `None`
-  pub up_answered : (n : ℕ) (rest : List ℕ) (request : Sent) (state : State) (o : Option (List ℕ)) → up ≡ n ∷ rest → slice_get r.sent n ≡ Some request
-      → ExchangesItsCall r.instrument request.line.items state o → o ≡ None → ⊥
-  up_answered n rest request state o e found replied told =
-      let f = up_front n rest e in
-      let sound = subst (λ q. AllByRecursion (IsSentIn r.sent) q) f.2 h.requests in
-      let this : request ≡ sound.0.request = same_Some request sound.0.request (sym found ∙ ap (λ k. slice_get r.sent k) (sym f.3) ∙ sound.0.found) in
-      let line : request.line.items ≡ bytes_of f.0.line = ap (λ (q : Sent). q.line.items) this ∙ sound.0.line in
-      let did = replied f.0.line.id f.0.line.call sound.0.digit sound.0.fits line in
-      none-some _ (sym told ∙ did.line)
-
   -- once the front reply was handed to the client, the world after that step is shown
   pub shows_down_deliver : (rest : List ℕ) (left : HandsToClient r down rest c)
-      → AreOfWorld width (record r { settled = left.settled }) up rest left.client (after_step width w Down_deliver)
+      → AreOfWorld width (record r { settled = left.settled }) up rest left.client (after_step acts width w Down_deliver)
   shows_down_deliver rest left =
       let f = down_front left.place rest left.front in
       let x = f.0 in
@@ -344,7 +305,7 @@ module _ (width : ℕ) (r : Report) (up down : List ℕ) (c : Windowed Call) (w 
       let same : hears c.ids left.line (heard left.line) ≡ hears w.client x.line (heard x.line) = ap₂ (λ (k : Windowed Call) l. hears k.ids l (heard l)) h.client_is line in
       let are : AreSettlements left.more (hears w.client x.line (heard x.line)).settlements =
       subst (λ (s : Rule.Settled Call (ById Call)). AreSettlements left.more s.settlements) same left.more_are in
-      subst (λ q. AreOfWorld width (record r { settled = left.settled }) up rest left.client (down_delivered (by_ids width ends) w q)) (sym f.2) (record {
+      subst (λ q. AreOfWorld width (record r { settled = left.settled }) up rest left.client (down_delivered (by_ids width (ends_with acts)) w q)) (sym f.2) (record {
         reports = record {
           sent = h.reports.sent;
           executed = h.reports.executed;
@@ -366,13 +327,13 @@ module _ (width : ℕ) (r : Report) (up down : List ℕ) (c : Windowed Call) (w 
       })
 
   -- once both ends were restarted, while no line is in flight, the world after that step is shown
-  pub shows_restart_client : (left : RestartsBoth r up down c)
-      → AreOfWorld width (record r { settled = left.settled; starts = left.starts; instrument = left.state }) up down left.client (after_step width w Restart_client)
+  pub shows_restart_client : (left : RestartsBoth acts r up down c)
+      → AreOfWorld width (record r { settled = left.settled; starts = left.starts; instrument = left.state }) up down left.client (after_step acts width w Restart_client)
   shows_restart_client left =
       let are : AreSettlements left.more (restarts w.client).settlements = subst (λ (k : Windowed Call). AreSettlements left.more (restarts k.ids).settlements) h.client_is left.more_are in
-      let r' : Report = record r { settled = left.settled; starts = left.starts; instrument = left.state } in
-      subst (λ u. AreOfWorld width r' up down left.client (client_restarted ends (by_ids width ends) w u w.wire.down)) (sym (no_up left.up_empty))
-      (subst (λ d. AreOfWorld width r' up down left.client (client_restarted ends (by_ids width ends) w [] d))
+      let r' : Report State = record r { settled = left.settled; starts = left.starts; instrument = left.state } in
+      subst (λ u. AreOfWorld width r' up down left.client (client_restarted (ends_with acts) (by_ids width (ends_with acts)) w u w.wire.down)) (sym (no_up left.up_empty))
+      (subst (λ d. AreOfWorld width r' up down left.client (client_restarted (ends_with acts) (by_ids width (ends_with acts)) w [] d))
       (sym (no_down left.down_empty)) (record {
         reports = record {
           sent = h.reports.sent;
@@ -381,7 +342,7 @@ module _ (width : ℕ) (r : Report) (up down : List ℕ) (c : Windowed Call) (w 
           settled = subst (λ l. AreSettlements l (w.wire.settled ++ (restarts w.client).settlements)) (sym left.settled_is)
               (settled_append IsReading r.settled left.more w.wire.settled (restarts w.client).settlements h.reports.settled are);
           starts = left.starts_is ∙ ap₂ (λ (l m : List ℕ). l ++ length m ∷ []) h.reports.starts h.reports.executed;
-          instrument = left.state_is ∙ ap restarted h.reports.instrument;
+          instrument = left.state_is ∙ ap acts.restarted h.reports.instrument;
           refused = h.reports.refused;
           idle = h.reports.idle;
         };
@@ -394,21 +355,21 @@ module _ (width : ℕ) (r : Report) (up down : List ℕ) (c : Windowed Call) (w 
       }))
 
   -- while a line is in flight, a restart of the client is only counted
-  pub shows_restart_client_idle : SomeInFlight up down → AreOfWorld width (counted false r) up down c (after_step width w Restart_client)
+  pub shows_restart_client_idle : SomeInFlight up down → AreOfWorld width (counted false r) up down c (after_step acts width w Restart_client)
   shows_restart_client_idle b = by_queues w.wire.up w.wire.down refl refl
     where
       by_queues : (us : List (Numbered Request)) (ds : List (Numbered (List ℕ))) → w.wire.up ≡ us → w.wire.down ≡ ds
-          → AreOfWorld width (counted false r) up down c (client_restarted ends (by_ids width ends) w us ds)
+          → AreOfWorld width (counted false r) up down c (client_restarted (ends_with acts) (by_ids width (ends_with acts)) w us ds)
       by_queues [] [] eu ed = absurd (b (h.up_is ∙ ap numbers eu, map_nil (slice_get (map made_seen r.made)) down (h.down_is ∙ ap (map Some) ed)))
       by_queues [] (y ∷ ds) eu ed = shows_idle
       by_queues (x ∷ us) ds eu ed = shows_idle
 
   -- while a line is in flight, a restart of the instrument is only counted
-  pub shows_restart_instrument_idle : SomeInFlight up down → AreOfWorld width (counted false r) up down c (after_step width w Restart_instrument)
+  pub shows_restart_instrument_idle : SomeInFlight up down → AreOfWorld width (counted false r) up down c (after_step acts width w Restart_instrument)
   shows_restart_instrument_idle b = by_queues w.wire.up w.wire.down refl refl
     where
       by_queues : (us : List (Numbered Request)) (ds : List (Numbered (List ℕ))) → w.wire.up ≡ us → w.wire.down ≡ ds
-          → AreOfWorld width (counted false r) up down c (on_wire w (instrument_restarted ends w.wire us ds))
+          → AreOfWorld width (counted false r) up down c (on_wire w (instrument_restarted (ends_with acts) w.wire us ds))
       by_queues [] [] eu ed = absurd (b (h.up_is ∙ ap numbers eu, map_nil (slice_get (map made_seen r.made)) down (h.down_is ∙ ap (map Some) ed)))
       by_queues [] (y ∷ ds) eu ed = shows_idle
       by_queues (x ∷ us) ds eu ed = shows_idle

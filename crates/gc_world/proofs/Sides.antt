@@ -25,7 +25,7 @@ named_first f queue place rest texts e h = by_texts texts (sym (ap (map f) e) �
     by_texts [] g = cc
     by_texts (t ∷ ts) g = let one : f place ≡ Some t = cc in record { text = t; behind = ts; are = refl; found = one }
 
-module _ (d : Direction) (r : Report) (s : Side) (texts : List (List ℕ)) (h : Carries d r s texts) where
+module _ {State : Type 0} (d : Direction) (r : Report State) (s : Side) (texts : List (List ℕ)) (h : Carries d r s texts) where
   -- where the queue has this place at its front, the report has a line at that place
   pub front_written : (place : ℕ) (rest : List ℕ) → s.queue ≡ place ∷ rest → (text : List ℕ) × (text_at d r place ≡ Some text)
   front_written place rest e = let f = named_first (text_at d r) s.queue place rest texts e h.names in (f.text, f.found)

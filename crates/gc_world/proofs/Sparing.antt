@@ -5,9 +5,9 @@ use mathlib.Core.Path.{ap₂}
 use Rattle.std.specs.Prelude.{slice_get}
 use Rattle.gc_catalogue.specs.declared.call.Call.{Call}
 use Rattle.gc_client.specs.Rule.{ById, Windowed, fits, heard}
-use Rattle.gc_instrument.specs.State.{State}
 use Rattle.gc_world.specs.declared.report.Made.{Made}
 use Rattle.gc_world.specs.declared.report.Report.{Report}
+use Rattle.gc_world.specs.Behaviours.{Behaviour}
 use Rattle.gc_world.specs.Memory.{SomeInFlight, FrontIsStray, IsNoRepeat}
 use Rattle.gc_world.specs.Order.{numbers}
 use Rattle.gc_world.specs.Stages.{AreOfWorld}
@@ -21,7 +21,7 @@ no_repeat : {A B : Type 0} (k gone gone' : ℕ) (xs : List A) (ys : List B) → 
 no_repeat k gone gone' xs ys same e (inl begun) = inl (ap (is_begun k) e ∙ begun)
 no_repeat k gone gone' xs ys same e (inr past) = inr (omega (arith, same, past))
 
-module _ (width : ℕ) (r : Report) (up down : List ℕ) (c : Windowed Call) (w : World (ById Call) State) (h : AreOfWorld width r up down c w) where
+module _ {State : Type 0} (acts : Behaviour State) (width : ℕ) (r : Report State) (up down : List ℕ) (c : Windowed Call) (w : World (ById Call) State) (h : AreOfWorld width r up down c w) where
   -- where the world's client has as many requests waiting as its window is wide, the stage's client
   -- has as many as its own is wide
   pub full : length w.client.waiting ≡ width → length c.ids.waiting ≡ c.width
@@ -34,22 +34,22 @@ module _ (width : ℕ) (r : Report) (up down : List ℕ) (c : Windowed Call) (w 
   -- where a repeat of line k of the world's upward queue isn't possible (`IsNoRepeat`), one of line k of the stage's isn't
   -- either, with as many bytes gone of its front line
   pub no_repeat_up : (k gone gone' : ℕ) → gone ≡ gone' → IsNoRepeat k gone' w.wire.up → IsNoRepeat k gone up
-  no_repeat_up k gone gone' e t = no_repeat k gone gone' up w.wire.up (same_up width r up down c w h) e t
+  no_repeat_up k gone gone' e t = no_repeat k gone gone' up w.wire.up (same_up acts width r up down c w h) e t
 
   -- where a repeat of line k of the world's downward queue isn't possible (`IsNoRepeat`), one of line k of the stage's isn't
   -- either, with as many bytes gone of its front line
   pub no_repeat_down : (k gone gone' : ℕ) → gone ≡ gone' → IsNoRepeat k gone' w.wire.down → IsNoRepeat k gone down
-  no_repeat_down k gone gone' e t = no_repeat k gone gone' down w.wire.down (same_down width r up down c w h) e t
+  no_repeat_down k gone gone' e t = no_repeat k gone gone' down w.wire.down (same_down acts width r up down c w h) e t
 
   -- where the world has a line in flight, the stage has
   pub some_in_flight : SomeInFlight w.wire.up w.wire.down → SomeInFlight up down
-  some_in_flight b = λ quiet. b (no_up width r up down c w h quiet.0, no_down width r up down c w h quiet.1)
+  some_in_flight b = λ quiet. b (no_up acts width r up down c w h quiet.0, no_down acts width r up down c w h quiet.1)
 
   -- where the world's front reply is a stray (`FrontIsStray`), no request of the stage's client waits for a reply with these
   -- bytes: those of reply m, which the report has at place p, the front of the stage's downward queue
   pub stray : (p : ℕ) (rest : List ℕ) (m : Made) (bytes : List ℕ) → down ≡ p ∷ rest → slice_get r.made p ≡ Some m → bytes ≡ m.line.items
       → FrontIsStray w.client w.wire.down → fits c.ids (heard bytes) ≡ false
   stray p rest m bytes e found same t =
-      let f = down_front width r up down c w h p rest e in
+      let f = down_front acts width r up down c w h p rest e in
       ap₂ (λ (k : Windowed Call) (l : List ℕ). fits k.ids (heard l)) h.client_is
-      (same ∙ ap (λ (x : Numbered (List ℕ)). x.line) (down_line width r up down c w h p rest m e found)) ∙ (subst (λ q. FrontIsStray w.client q) f.2 t).0
+      (same ∙ ap (λ (x : Numbered (List ℕ)). x.line) (down_line acts width r up down c w h p rest m e found)) ∙ (subst (λ q. FrontIsStray w.client q) f.2 t).0

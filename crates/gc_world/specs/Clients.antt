@@ -5,10 +5,11 @@ use Rattle.std.specs.Prelude.{ℕ, ◌+◌, ◌-◌, ◌%◌, Bool, true, false,
 use Rattle.gc_catalogue.specs.declared.call.Call.{Call}
 use Rattle.gc_client.specs.declared.window.TheConstants.{IDS}
 use Rattle.gc_client.specs.declared.pending.Pending.{Pending}
-use Rattle.gc_client.specs.Rule.{Settled, Sending, ById, fresh, pending_of, expired, lost, settle, sends, heard, hears, expires, restarts}
+use Rattle.gc_client.specs.Rule.{Settled, Sending, ById, fresh, pending_of, expired, lost, settle, sends, hears, expires, restarts}
 use Rattle.gc_instrument.specs.Replying.{handed}
 use Rattle.gc_instrument.specs.State.{State, restarted}
 use Rattle.gc_world.specs.declared.event.Event.{Event}
+use Rattle.gc_world.specs.Behaviours.{Behaviour, ends_with}
 use Rattle.gc_world.specs.Streams.{Streams, untouched, flow}
 use Rattle.gc_world.specs.World.{Numbered, Ends, Wire, World, Step, opened, run}
 use Rattle.gc_world.specs.Worlds
@@ -128,9 +129,13 @@ module _ {State : Type 0} where
   abbrev pub played_by_numbers_between : Ends State → ℕ → State → List Event → World (ByNumber Call) State
   played_by_numbers_between ends width opening events = (streams_by_numbers width ends events (ends.restarted opening)).world
 
+-- what the simulated instrument does
+abbrev pub simulator : Behaviour State
+simulator = record { handed = handed; restarted = restarted }
+
 -- the two ends: the simulated instrument, and a client that reads replies by their grammar
 abbrev pub ends : Ends State
-ends = record { handed = handed; restarted = restarted; heard = heard; joint = true }
+ends = ends_with simulator
 
 -- the streams that the run by ids of these events leaves on the simulated instrument (`streamed_between`)
 abbrev pub streamed : ℕ → State → List Event → Streams (ById Call) State

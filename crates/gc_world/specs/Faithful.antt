@@ -22,7 +22,7 @@ use Rattle.gc_world.specs.World
 use Rattle.gc_world.specs.World.{Wire}
 
 -- one for one: there are no more settlements than requests, and settlement m has the target and the call of request m
-pub record OneForOne (r : Report) : Type 0 where
+pub record OneForOne (r : Report State) : Type 0 where
   pub count : length r.settled ≤ length r.sent
   pub same :
       (m : ℕ) (settlement : Settlement Call) (request : Sent) → slice_get r.settled m ≡ Some settlement → slice_get r.sent m ≡ Some request →
@@ -37,7 +37,7 @@ IsValueOrRefusal (Unreadable fault) = ⊥
 
 -- the line is among those that the instrument made for request m, and the reading is the value or the refusal that the
 -- line has for the call
-pub record IsBookedFor (r : Report) (m : ℕ) (call : Call) (reading : Reading) (line : List ℕ) : Type 0 where
+pub record IsBookedFor (r : Report State) (m : ℕ) (call : Call) (reading : Reading) (line : List ℕ) : Type 0 where
   pub place : ℕ
   pub entry : Made
   pub made : slice_get r.made place ≡ Some entry
@@ -47,13 +47,13 @@ pub record IsBookedFor (r : Report) (m : ℕ) (call : Call) (reading : Reading) 
   pub fine : IsValueOrRefusal reading
 
 -- if the outcome of this call is an answer, it is booked for request m (`IsBookedFor`); of any other outcome nothing is claimed
-abbrev pub IsBookedAnswer : Report → ℕ → Call → Outcome → Type 0
+abbrev pub IsBookedAnswer : Report State → ℕ → Call → Outcome → Type 0
 IsBookedAnswer r m call (Answered reading line) = IsBookedFor r m call reading line.items
 IsBookedAnswer r m call Late = ⊤
 IsBookedAnswer r m call Lost = ⊤
 
 -- booked answers: if settlement m is an answer, that answer is booked for request m (`IsBookedFor`)
-abbrev pub BooksAnswers : Report → Type 0
+abbrev pub BooksAnswers : (Report State) → Type 0
 BooksAnswers r =
     (m : ℕ) (settlement : Settlement Call) → slice_get r.settled m ≡ Some settlement → IsBookedAnswer r m settlement.call settlement.outcome
 
@@ -69,14 +69,14 @@ restarted_if restarted true state = restarted state
 
 -- `before j` is the state before execution j: at first the restarted opening state, then the one that execution j - 1 leaves,
 -- restarted where `starts` has the number j
-pub record AreStatesBefore (opening : State) (r : Report) (before : ℕ → State) : Type 0 where
+pub record AreStatesBefore (opening : State) (r : Report State) (before : ℕ → State) : Type 0 where
   pub first : before 0 ≡ restarted opening
   pub next :
       (j n : ℕ) (request : Sent) → slice_get r.executed j ≡ Some n → slice_get r.sent n ≡ Some request →
       before (j + 1) ≡ restarted_if restarted (has_number (j + 1) r.starts) (exec (before j) request.call).state
 
 -- an entry of `made` is the reply of execution j, the one execution of the entry's request
-pub record IsReplyOf (r : Report) (before : ℕ → State) (entry : Made) : Type 0 where
+pub record IsReplyOf (r : Report State) (before : ℕ → State) (entry : Made) : Type 0 where
   pub j : ℕ
   pub executed : slice_get r.executed j ≡ Some entry.number
   pub alone : (i : ℕ) → slice_get r.executed i ≡ Some entry.number → i ≡ j
@@ -91,7 +91,7 @@ pub record IsReplyOf (r : Report) (before : ℕ → State) (entry : Made) : Type
   pub line_is : entry.line.items ≡ executed_line id (exec (before j) request.call)
 
 -- the record of execution: each entry of `made` is the reply of one execution, and each executed number is in `made`
-pub record RecordsExecution (opening : State) (r : Report) : Type 0 where
+pub record RecordsExecution (opening : State) (r : Report State) : Type 0 where
   pub before : ℕ → State
   pub states : AreStatesBefore opening r before
   pub replies : (k : ℕ) (entry : Made) → slice_get r.made k ≡ Some entry → IsReplyOf r before entry
@@ -99,7 +99,7 @@ pub record RecordsExecution (opening : State) (r : Report) : Type 0 where
 
 -- each request acts at most once: the executed numbers strictly increase, and the instrument, apart from its kept reply, is in
 -- the state before the execution that would come next
-pub record ActsOnce (opening : State) (r : Report) : Type 0 where
+pub record ActsOnce (opening : State) (r : Report State) : Type 0 where
   pub climbs : (i j n m : ℕ) → i < j → slice_get r.executed i ≡ Some n → slice_get r.executed j ≡ Some m → n < m
   pub before : ℕ → State
   pub states : AreStatesBefore opening r before
@@ -111,14 +111,14 @@ sent_seen s = record { target = s.target; call = s.call; line = s.line.items }
 
 -- agreement: the report's requests and settlements, with their lines and readings, and its counts of refused sends and of idle
 -- events are those of the wire w
-pub record AgreesWith (w : Wire State) (r : Report) : Type 0 where
+pub record AgreesWith (w : Wire State) (r : Report State) : Type 0 where
   pub sent : map sent_seen r.sent ≡ w.sent
   pub settled : AreSettlements r.settled w.settled
   pub refused : r.refused_sends ≡ w.refused
   pub idle : r.idle_events ≡ w.idle
 
 -- the report of these events, from the restarted opening state on, with a window of this width, is faithful
-pub record Faithful (width : ℕ) (opening : State) (events : List Event) (r : Report) : Type 0 where
+pub record Faithful (width : ℕ) (opening : State) (events : List Event) (r : Report State) : Type 0 where
   pub one_for_one : OneForOne r
   pub booked : BooksAnswers r
   pub executed : RecordsExecution opening r

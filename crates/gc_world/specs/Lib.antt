@@ -1,6 +1,7 @@
 pub mod Worlds
 pub mod World
 pub mod Streams
+pub mod Behaviours
 pub mod Directions
 pub mod Clients
 pub mod Order
@@ -17,7 +18,4 @@ pub mod FirstReply
 pub mod Pieces
 pub mod Width
 pub mod SceneRuns
-pub mod Lanes
-pub mod SceneStages
-pub mod SceneReports
 pub mod SceneLaws

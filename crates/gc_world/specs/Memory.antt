@@ -5,9 +5,9 @@ use Rattle.gc_client.specs.Rule.{ById, fits, heard}
 use Rattle.gc_instrument.specs.State.{State}
 use Rattle.gc_world.specs.declared.event.Event.{Event}
 use Rattle.gc_world.specs.declared.event.Event.TheVariants.{Send, UpDeliver, UpBytes, UpLose, UpRepeat, DownDeliver, DownBytes, DownLose, DownRepeat, Expire, RestartClient, RestartInstrument}
-use Rattle.gc_world.specs.Clients.{streamed}
+use Rattle.gc_world.specs.Clients.{ends, streamed_between}
 use Rattle.gc_world.specs.Streams.{Streams, up_lines, down_lines, cut, is_begun}
-use Rattle.gc_world.specs.World.{Numbered}
+use Rattle.gc_world.specs.World.{Ends, Numbered}
 
 -- no line is in flight: both queues are empty
 abbrev pub NoneInFlight : {A B : Type 0} → (up : List A) → (down : List B) → Type 0
@@ -34,7 +34,7 @@ IsNoRepeat k gone queue = (is_begun k gone ≡ true) ⊎ (length queue ≤ k)
 
 -- on these streams, with a window of this width, the event takes no memory: it is a refused send, a loss, an expiry, a delivery
 -- of strays, bytes that complete no line, or an event that isn't possible
-abbrev pub TakesNoMemory : ℕ → Streams (ById Call) State → Event → Type 0
+abbrev pub TakesNoMemory : {S : Type 0} → ℕ → Streams (ById Call) S → Event → Type 0
 TakesNoMemory width v (Send target call deadline) = length v.world.client.waiting ≡ width
 TakesNoMemory width v UpDeliver = v.world.wire.up ≡ []
 TakesNoMemory width v (UpBytes n) = (cut (up_lines v.world.wire) (v.up_gone + n)).lines ≡ 0
@@ -48,7 +48,11 @@ TakesNoMemory width v (Expire now) = ⊤
 TakesNoMemory width v RestartClient = SomeInFlight v.world.wire.up v.world.wire.down
 TakesNoMemory width v RestartInstrument = SomeInFlight v.world.wire.up v.world.wire.down
 
--- none of these events takes memory, on the streams that those before it leave
+-- between two ends, none of these events takes memory, on the streams that those before it leave
+abbrev pub NoneTakesMemoryBetween : {S : Type 0} → Ends S → ℕ → S → List Event → Type 0
+NoneTakesMemoryBetween any_ends width opening events =
+    (i : ℕ) (event : Event) → slice_get events i ≡ Some event → TakesNoMemory width (streamed_between any_ends width opening (take i events)) event
+
+-- on the simulated instrument, none of these events takes memory, on the streams that those before it leave
 abbrev pub NoneTakesMemory : ℕ → State → List Event → Type 0
-NoneTakesMemory width opening events =
-    (i : ℕ) (event : Event) → slice_get events i ≡ Some event → TakesNoMemory width (streamed width opening (take i events)) event
+NoneTakesMemory width opening events = NoneTakesMemoryBetween ends width opening events

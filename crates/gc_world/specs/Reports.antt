@@ -21,7 +21,7 @@ abbrev pub made_seen : Made → Numbered (List ℕ)
 made_seen m = record { number = m.number; line = m.line.items }
 
 -- the report has the instrument's state of this wire, and its lists and counts of what has happened, but not its queues
-pub record IsReport (r : Report) (w : Wire State) : Type 0 where
+pub record IsReport {S : Type 0} (r : Report S) (w : Wire S) : Type 0 where
   pub sent : map sent_seen r.sent ≡ w.sent
   pub executed : r.executed ≡ w.executed
   pub made : map made_seen r.made ≡ w.made
@@ -32,7 +32,7 @@ pub record IsReport (r : Report) (w : Wire State) : Type 0 where
   pub idle : r.idle_events ≡ w.idle
 
 -- no list of the report is longer than n
-pub record IsNoLongerThan (n : ℕ) (r : Report) : Type 0 where
+pub record IsNoLongerThan (n : ℕ) {S : Type 0} (r : Report S) : Type 0 where
   pub sent : length r.sent ≤ n
   pub executed : length r.executed ≤ n
   pub made : length r.made ≤ n
@@ -48,7 +48,7 @@ StandsForGone d width opening events kept = let v = streamed width opening event
 -- the report and the client are what playing these events gives. Both are those of the run by ids, and each of the two assemblers
 -- in the report stands for what has gone over of the front line of its direction. The report is faithful, by it each request acts
 -- at most once, and none of its lists is longer than the list of events
-pub record IsPlayOf (width : ℕ) (opening : State) (events : List Event) (r : Report) (c : Windowed Call) : Type 0 where
+pub record IsPlayOf (width : ℕ) (opening : State) (events : List Event) (r : Report State) (c : Windowed Call) : Type 0 where
   pub report : IsReport r (left_by_ids width opening events)
   pub client : c ≡ record { width = width; ids = (played width opening events).client }
   pub up : StandsForGone Up width opening events r.up

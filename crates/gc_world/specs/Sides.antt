@@ -15,7 +15,7 @@ use Rattle.gc_world.specs.Streams.{gone_of, is_begun, remaining}
 
 -- the text of the line at this place of a direction's list in the report, if the list is so long: `sent` upward, and `made`
 -- downward
-abbrev pub text_at : Direction → Report → ℕ → Option (List ℕ)
+abbrev pub text_at : {S : Type 0} → Direction → Report S → ℕ → Option (List ℕ)
 text_at Up r place = option_map (λ (q : Sent). q.line.items) (slice_get r.sent place)
 text_at Down r place = option_map (λ (m : Made). m.line.items) (slice_get r.made place)
 
@@ -32,16 +32,16 @@ pub record IsFlow (kept : Kept) (gone : ℕ) (texts : List (List ℕ)) : Type 0 
   pub plain : AllByRecursion IsPlain texts
 
 -- the queue of a side names these texts in the report, in order, and the side's assembler stands for what has gone of the first
-pub record Carries (d : Direction) (r : Report) (s : Side) (texts : List (List ℕ)) : Type 0 where
+pub record Carries {S : Type 0} (d : Direction) (r : Report S) (s : Side) (texts : List (List ℕ)) : Type 0 where
   pub names : map (text_at d r) s.queue ≡ map Some texts
   pub flow : IsFlow s.assembler s.gone texts
 
 -- the side carries some texts in this direction, and more than n bytes of their front line are still to go
-abbrev pub CarriesMoreThan : Direction → Report → Side → ℕ → Type 0
+abbrev pub CarriesMoreThan : {S : Type 0} → Direction → Report S → Side → ℕ → Type 0
 CarriesMoreThan d r s n = (texts : List (List ℕ)) × Carries d r s texts × (n < remaining s.gone (map with_end texts))
 
 -- whatever texts the side `old` carries in this direction, the assembler and the count of `new` are a flow of them
-abbrev pub KeepsFlow : Direction → Report → (old new : Side) → Type 0
+abbrev pub KeepsFlow : {S : Type 0} → Direction → Report S → (old new : Side) → Type 0
 KeepsFlow d r old new = (texts : List (List ℕ)) → Carries d r old texts → IsFlow new.assembler new.gone texts
 
 -- the assembler stands for the first `gone` bytes of this line with its CR LF

@@ -7,7 +7,6 @@ use crate::direction::Direction;
 use crate::entries::Entries;
 use gc_catalogue::Call;
 use gc_client::Settlement;
-use gc_instrument::Instrument;
 use gc_lines::{Assembler, Line};
 
 /// A request that was sent. Its number is its place among these, counted from 0.
@@ -32,7 +31,7 @@ pub struct Made {
 
 /// What a list of events led to.
 #[derive(Drop)]
-pub struct Report {
+pub struct Report<I> {
     /// The requests that were sent, refused ones not among them.
     pub sent: Entries<Sent>,
     /// The numbers of the requests that the instrument executed, in the order of execution.
@@ -44,7 +43,7 @@ pub struct Report {
     /// For each event that restarted the instrument, alone or with the client, how many requests it had executed until then.
     pub starts: Entries<usize>,
     /// The instrument, as the last event left it.
-    pub instrument: Instrument,
+    pub instrument: I,
     /// The assembler before the instrument, as the last event left it.
     pub up: Assembler,
     /// The assembler before the client, as the last event left it.
@@ -55,7 +54,7 @@ pub struct Report {
     pub idle_events: usize,
 }
 
-impl Report {
+impl<I> Report<I> {
     /// The line at this place of a direction's list, which is `sent` upward and `made` downward.
     #[inline(always)]
     pub(crate) fn line(&self, direction: Direction, place: usize) -> &Line

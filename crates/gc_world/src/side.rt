@@ -44,7 +44,7 @@ impl Side {
     }
 
     /// How many bytes of the front line are still to go, CR LF included: 0 where no line is in flight.
-    pub fn remaining(&self, direction: Direction, report: &Report) -> usize
+    pub fn remaining<I>(&self, direction: Direction, report: &Report<I>) -> usize
         requires { (texts : List (List ℕ)) × Carries direction report.now self.now texts }
         ensures { (texts : List (List ℕ)) → Carries direction report.now self.now texts → result ≡ remaining self.now.gone (map with_end texts) }
     {
@@ -56,7 +56,7 @@ impl Side {
 
     /// Feeds the next `n` bytes of the front line to the assembler: fewer than remain, so they don't complete the line. `cut` is
     /// left as it is (`feed_some`).
-    pub fn go_on(&mut self, direction: Direction, report: &Report, n: usize, cut: &mut Line)
+    pub fn go_on<I>(&mut self, direction: Direction, report: &Report<I>, n: usize, cut: &mut Line)
         requires { CarriesMoreThan direction report.now self.old n }
         ensures flow { KeepsFlow direction report.now self.old self.new }
         ensures gone { self.new.gone ≡ self.old.gone + n }

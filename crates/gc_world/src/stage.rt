@@ -1,13 +1,9 @@
 //! The stage: what the events so far leave, and what the next one does.
-//!
-//! In the stage of a scene (`scene_stage.rt`) `happen`, `deliver_bytes`, `deliver` and `go_on` stand again; its head says why.
-//! Who changes one of them changes the other.
 
-ghost use Rattle.std.specs.Prelude.{◌≡◌, ◌↔◌, ◌+◌, ◌<◌, ◌≤◌, ◌^◌, ◌∷◌, ◌++◌, [], OnOk, IsOk, IsTrue, length};
+ghost use Rattle.std.specs.Prelude.{◌≡◌, ◌↔◌, ◌+◌, ◌<◌, ◌≤◌, ◌^◌, ◌∷◌, ◌++◌, [], OnOk, IsOk, IsTrue, length, if◌then◌else◌};
 ghost use Rattle.gc_client.specs.Rule.{IsWidth};
-ghost use Rattle.gc_instrument.specs.State.{IsFittingState, restarted};
 ghost use Rattle.gc_world.specs.declared.event.Event.{Event};
-ghost use Rattle.gc_world.specs.Clients.{ends};
+ghost use Rattle.gc_world.specs.Behaviours.{ends_with};
 ghost use Rattle.gc_world.specs.Directions.{bytes, delivery};
 ghost use Rattle.gc_world.specs.Memory.{NoneInFlight, SomeInFlight};
 ghost use Rattle.gc_world.specs.Stages.{Shows, staging, IsOkWithoutMemory};
@@ -16,23 +12,23 @@ ghost use Rattle.gc_world.specs.Staging.{streams_at_start, ShowsSome, Follows, F
 use crate::direction::Direction;
 use crate::entries::Entries;
 use crate::event::Event;
+use crate::executing::Executes;
 use crate::feeding::Piece;
 use crate::parts::completes;
-use crate::report::{Made, Report, Sent};
+use crate::report::Report;
 use crate::side::Side;
 use arrayvec::ArrayVec;
 use gc_catalogue::Call;
 use gc_client::{Client, Hearing, Settlement, WINDOW, Window};
-use gc_instrument::Instrument;
 use gc_lines::{Assembler, Line};
 use std::alloc::{AllocError, Global};
 
 /// The state of a run after the events so far: the report, both directions of the line, and the client. The instrument is in
 /// the report.
 #[derive(Drop)]
-pub struct Stage<W: Window<Asked = Call>> {
+pub struct Stage<W: Window<Asked = Call>, I> {
     /// The report so far. Its assemblers are those of the two sides only once all is played.
-    pub report: Report,
+    pub report: Report<I>,
     /// The requests in flight.
     pub up: Side,
     /// The replies in flight.
@@ -48,19 +44,18 @@ pub struct Stage<W: Window<Asked = Call>> {
     pub settled: ArrayVec<Settlement<Call>, WINDOW>,
 }
 
-impl<W: Window<Asked = Call>> Stage<W> {
+impl<W: Window<Asked = Call>, I: Executes> Stage<W, I> {
     /// The stage before the first event: the instrument is restarted, and the client is new. The report has room for this many
     /// requests, and as many replies and settlements, where memory for it is granted.
     pub fn new(
         alloc: Global,
-        mut instrument: Instrument,
+        mut instrument: I,
         window: W,
         width: u8,
         requests: usize,
-    ) -> Stage<W>
+    ) -> Stage<W, I>
         requires { IsWidth width }
-        ensures shows { Shows width result (streams_at_start ends instrument) }
-        ensures fits { IsFittingState (restarted instrument) }
+        ensures { Shows width result (streams_at_start (ends_with I.acts) instrument) }
     {
         instrument.restart();
         Stage {
@@ -90,8 +85,8 @@ impl<W: Window<Asked = Call>> Stage<W> {
     pub fn happen(&mut self, event: &Event) -> Result<(), AllocError>
         requires refused { self.old.report.refused_sends + 1 < 2 ^ 64 }
         requires idle { self.old.report.idle_events + 1 < 2 ^ 64 }
-        requires shown { ShowsSome staging self.old }
-        ensures follows { OnOk result (Follows staging self.old event.now self.new) }
+        requires shown { ShowsSome (staging I.acts) self.old }
+        ensures follows { OnOk result (Follows (staging I.acts) self.old event.now self.new) }
         ensures spare { IsOkWithoutMemory self.old event.now result }
     {
         match *event {
@@ -113,7 +108,7 @@ impl<W: Window<Asked = Call>> Stage<W> {
 
     /// Takes the stage apart when all events are played: returns the report, with the assemblers of the two sides, and the client.
     #[inline(always)]
-    pub fn ended(self) -> (Report, Client<W>)
+    pub fn ended(self) -> (Report<I>, Client<W>)
         ensures report { result.0 ≡ record self.report { up = self.up.assembler; down = self.down.assembler } }
         ensures client { result.1 ≡ self.client }
     {
@@ -135,7 +130,7 @@ impl<W: Window<Asked = Call>> Stage<W> {
     // was refused.
     fn send(&mut self, target: u32, call: &Call, deadline: u64) -> Result<(), AllocError>
         requires { self.old.report.refused_sends + 1 < 2 ^ 64 }
-        ensures follows { OnOk result (Follows staging self.old (Event.Send target call.now deadline) self.new) }
+        ensures follows { OnOk result (Follows (staging I.acts) self.old (Event.Send target call.now deadline) self.new) }
         ensures spare { length self.old.client.ids.waiting ≡ self.old.client.width → IsOk result }
     {
         let Ok(()) = self.client.send_into(target, call, deadline, &mut self.cut) else {
@@ -151,8 +146,8 @@ impl<W: Window<Asked = Call>> Stage<W> {
     #[inline(always)]
     fn up_deliver(&mut self) -> Result<(), AllocError>
         requires idle { self.old.report.idle_events + 1 < 2 ^ 64 }
-        requires shown { ShowsSome staging self.old }
-        ensures follows { OnOk result (Follows staging self.old Event.UpDeliver self.new) }
+        requires shown { ShowsSome (staging I.acts) self.old }
+        ensures follows { OnOk result (Follows (staging I.acts) self.old Event.UpDeliver self.new) }
         ensures spare { self.old.up.queue ≡ [] → IsOk result }
     {
         let Some(number) = self.up.queue.take_front() else {
@@ -162,14 +157,10 @@ impl<W: Window<Asked = Call>> Stage<W> {
         let mut reply = Line::new();
         let line = self.report.sent.at(number).line.as_slice();
         let request = self.up.finish(line, &mut self.piece, &mut self.cut);
-        let kept = self.report.instrument.kept_id();
-        if self.report.instrument.reply_onto(request, &mut reply) {
-            let id = self.report.instrument.kept_id();
-            note_execution(&mut self.report.executed, number, kept, id)?;
-            self.down.queue.push(self.report.made.len())?;
-            self.report.made.push_made(number, &reply)?;
-        }
-        Ok(())
+        let is_executed = self.report.instrument.execute(request, &mut reply);
+        note_execution(&mut self.report.executed, number, is_executed)?;
+        self.down.queue.push(self.report.made.len())?;
+        self.report.made.push_made(number, &reply)
     }
 
     // Hands the front reply to the client, and appends what it settles to the report. If no reply is in flight, the event is only
@@ -177,8 +168,8 @@ impl<W: Window<Asked = Call>> Stage<W> {
     #[inline(always)]
     fn down_deliver(&mut self) -> Result<(), AllocError>
         requires idle { self.old.report.idle_events + 1 < 2 ^ 64 }
-        requires shown { ShowsSome staging self.old }
-        ensures follows { OnOk result (Follows staging self.old Event.DownDeliver self.new) }
+        requires shown { ShowsSome (staging I.acts) self.old }
+        ensures follows { OnOk result (Follows (staging I.acts) self.old Event.DownDeliver self.new) }
         ensures spare { IsOkWithoutMemory self.old Event.DownDeliver result }
     {
         let Some(place) = self.down.queue.take_front() else {
@@ -198,8 +189,8 @@ impl<W: Window<Asked = Call>> Stage<W> {
     #[inline(never)]
     fn deliver_bytes(&mut self, direction: Direction, n: usize) -> Result<(), AllocError>
         requires idle { self.old.report.idle_events + 1 < 2 ^ 64 }
-        requires shown { ShowsSome staging self.old }
-        ensures follows { OnOk result (Follows staging self.old (bytes direction n) self.new) }
+        requires shown { ShowsSome (staging I.acts) self.old }
+        ensures follows { OnOk result (Follows (staging I.acts) self.old (bytes direction n) self.new) }
         ensures spare { IsOkWithoutMemory self.old (bytes direction n) result }
     {
         let mut left = n;
@@ -224,8 +215,8 @@ impl<W: Window<Asked = Call>> Stage<W> {
     #[inline(always)]
     fn deliver(&mut self, direction: Direction) -> Result<(), AllocError>
         requires idle { self.old.report.idle_events + 1 < 2 ^ 64 }
-        requires shown { ShowsSome staging self.old }
-        ensures follows { OnOk result (Follows staging self.old (delivery direction) self.new) }
+        requires shown { ShowsSome (staging I.acts) self.old }
+        ensures follows { OnOk result (Follows (staging I.acts) self.old (delivery direction) self.new) }
         ensures spare { IsOkWithoutMemory self.old (delivery direction) result }
     {
         match direction {
@@ -236,8 +227,8 @@ impl<W: Window<Asked = Call>> Stage<W> {
 
     // How many bytes of the front line of a direction are still to go, CR LF included: 0 where no line is in flight.
     fn remaining(&self, direction: Direction) -> usize
-        requires { ShowsSome staging self.now }
-        ensures { HasLeft staging self.now direction result }
+        requires { ShowsSome (staging I.acts) self.now }
+        ensures { HasLeft (staging I.acts) self.now direction result }
     {
         match direction {
             Direction::Up => self.up.remaining(Direction::Up, &self.report),
@@ -248,9 +239,9 @@ impl<W: Window<Asked = Call>> Stage<W> {
     // Hands over the next `n` bytes of the front line of a direction, after those that have gone already. They don't
     // complete the line.
     fn go_on(&mut self, direction: Direction, n: usize)
-        requires shown { ShowsSome staging self.old }
-        requires some { HasMoreThan staging self.old direction n }
-        ensures { FollowsBytes staging self.old direction n self.new }
+        requires shown { ShowsSome (staging I.acts) self.old }
+        requires some { HasMoreThan (staging I.acts) self.old direction n }
+        ensures { FollowsBytes (staging I.acts) self.old direction n self.new }
     {
         match direction {
             Direction::Up => self.up.go_on(Direction::Up, &self.report, n, &mut self.cut),
@@ -265,7 +256,7 @@ impl<W: Window<Asked = Call>> Stage<W> {
     // Hands this moment to the client, which times out each outstanding request whose deadline is at most `now`. Nothing is
     // settled.
     fn expire(&mut self, now: u64)
-        ensures { Follows staging self.old (Event.Expire now) self.new }
+        ensures { Follows (staging I.acts) self.old (Event.Expire now) self.new }
     {
         self.client.expire(now);
     }
@@ -275,7 +266,7 @@ impl<W: Window<Asked = Call>> Stage<W> {
     // refused.
     fn restart_client(&mut self) -> Result<(), AllocError>
         requires { self.old.report.idle_events + 1 < 2 ^ 64 }
-        ensures follows { OnOk result (Follows staging self.old Event.RestartClient self.new) }
+        ensures follows { OnOk result (Follows (staging I.acts) self.old Event.RestartClient self.new) }
         ensures spare { SomeInFlight self.old.up.queue self.old.down.queue → IsOk result }
     {
         if !self.is_quiet() {
@@ -294,7 +285,7 @@ impl<W: Window<Asked = Call>> Stage<W> {
     // refused.
     fn restart_instrument(&mut self) -> Result<(), AllocError>
         requires { self.old.report.idle_events + 1 < 2 ^ 64 }
-        ensures follows { OnOk result (Follows staging self.old Event.RestartInstrument self.new) }
+        ensures follows { OnOk result (Follows (staging I.acts) self.old Event.RestartInstrument self.new) }
         ensures spare { SomeInFlight self.old.up.queue self.old.down.queue → IsOk result }
     {
         if self.is_quiet() {
@@ -314,19 +305,16 @@ impl<W: Window<Asked = Call>> Stage<W> {
     }
 }
 
-// Appends the request's number to those executed, if the instrument's kept id changed from `before` to `after`: an execution
-// changes that id, and a repeat leaves it. `Err`: memory was refused, and `executed` is as before.
+// Appends the request's number to those executed, if it was executed. `Err`: memory was refused, and `executed` is as before.
 #[inline(always)]
 fn note_execution(
     executed: &mut Entries<usize>,
     number: usize,
-    before: Option<u8>,
-    after: Option<u8>,
+    is_executed: bool,
 ) -> Result<(), AllocError>
-    ensures new { OnOk result ((before ≡ after → ⊥) → executed.new ≡ executed.old ++ number ∷ []) }
-    ensures same { OnOk result (before ≡ after → executed.new ≡ executed.old) }
+    ensures { OnOk result (executed.new ≡ (if is_executed then executed.old ++ number ∷ [] else executed.old)) }
 {
-    if before != after {
+    if is_executed {
         executed.push(number)?;
     }
     Ok(())

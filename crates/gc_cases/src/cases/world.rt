@@ -96,7 +96,7 @@ impl WorldRows {
         &self,
         window: W,
         events: &[Event],
-    ) -> Result<(Report, Client<W>), AllocError> {
+    ) -> Result<(Report<Instrument>, Client<W>), AllocError> {
         play_width(
             self.alloc,
             self.instrument(),
@@ -192,7 +192,7 @@ fn append_difference(told: &Told, way: &str, other: &Told, came: &mut Told) {
 }
 
 // Appends a part of a report.
-fn append_part(report: &Report, part: Part, came: &mut Told) {
+fn append_part(report: &Report<Instrument>, part: Part, came: &mut Told) {
     match part {
         Part::Executed => came.debug(&report.executed.as_slice()),
         Part::Starts => came.debug(&report.starts.as_slice()),
@@ -202,7 +202,7 @@ fn append_part(report: &Report, part: Part, came: &mut Told) {
 }
 
 // Appends whether each direction is at the start of a line.
-fn append_at_start(report: &Report, came: &mut Told) {
+fn append_at_start(report: &Report<Instrument>, came: &mut Told) {
     came.titled("at start: up ", &report.up.at_start());
     came.titled(", down ", &report.down.at_start());
 }
@@ -226,7 +226,7 @@ impl Rows for WorldRows {
 
 // Appends the settlements, each with its number, the counts of the report, how many requests the client has outstanding, and its
 // next id.
-fn append_report<W: Window<Asked = Call>>(report: &Report, client: &Client<W>, came: &mut Told) {
+fn append_report<W: Window<Asked = Call>>(report: &Report<Instrument>, client: &Client<W>, came: &mut Told) {
     append_settled(report.settled.as_slice(), came);
     append_made(report, came);
     append_refused(report, came);
@@ -257,7 +257,7 @@ fn append_outcome(outcome: &Outcome, came: &mut Told) {
 }
 
 // Appends how many requests were sent and executed, how many replies were made, and how many requests were settled.
-fn append_made(report: &Report, came: &mut Told) {
+fn append_made(report: &Report<Instrument>, came: &mut Told) {
     came.titled("sent ", &report.sent.len());
     came.titled(" executed ", &report.executed.len());
     came.titled(" made ", &report.made.len());
@@ -265,7 +265,7 @@ fn append_made(report: &Report, came: &mut Told) {
 }
 
 // Appends how many sends were refused, and how many events weren't possible.
-fn append_refused(report: &Report, came: &mut Told) {
+fn append_refused(report: &Report<Instrument>, came: &mut Told) {
     came.titled(" refused ", &report.refused_sends);
     came.titled(" idle ", &report.idle_events);
 }

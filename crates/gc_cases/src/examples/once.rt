@@ -162,7 +162,7 @@ fn compare_windows(alloc: Global, events: &[Event]) -> OnceOutcome {
 // What events lead to.
 #[derive(Drop)]
 struct Played {
-    report: Report,
+    report: Report<Instrument>,
     // How many requests the client has outstanding.
     waiting: usize,
     // The client's next id.
@@ -198,7 +198,7 @@ fn are_same(one: &Played, other: &Played) -> bool {
 
 // Whether the lists of two reports are the same: requests sent, requests executed, replies made, settlements, and restarts of the
 // instrument.
-fn have_same_lists(one: &Report, other: &Report) -> bool {
+fn have_same_lists(one: &Report<Instrument>, other: &Report<Instrument>) -> bool {
     one.sent.as_slice() == other.sent.as_slice()
         && one.executed.as_slice() == other.executed.as_slice()
         && one.made.as_slice() == other.made.as_slice()
@@ -208,7 +208,7 @@ fn have_same_lists(one: &Report, other: &Report) -> bool {
 
 // Whether two reports agree in how many sends were refused, how many events weren't possible, and whether each direction is at
 // the start of a line.
-fn have_same_counts(one: &Report, other: &Report) -> bool {
+fn have_same_counts(one: &Report<Instrument>, other: &Report<Instrument>) -> bool {
     one.refused_sends == other.refused_sends
         && one.idle_events == other.idle_events
         && one.up.at_start() == other.up.at_start()

@@ -1,6 +1,7 @@
 use Rattle.std.proofs.Common.{sym, ap, ◌∙◌, ◌++◌}
 use Rattle.gc_catalogue.specs.declared.fault.CallFault.TheVariants.{Unknown}
 use Rattle.gc_instrument.specs.Replying.{refusal_line}
+use Rattle.gc_scenes.proofs.Plain.{reply_id_below}
 use Rattle.gc_scenes.proofs.Playing.{gave_fault, gave_scripted, gave_refusal}
 use Rattle.gc_scenes.proofs.instrument.SceneInstrument.answer_raw.Goals as goal
 
@@ -15,4 +16,4 @@ returns-in-Some-scripted_reply-clause-gave g c =
 pub returns-in-None-scripted_reply-clause-gave : goal.returns-in-None-scripted_reply-clause-gave
 returns-in-None-scripted_reply-clause-gave g c =
     gave_refusal c.args.self.now _ c.args.rpc c.args.id _ _ (sym c.in-None.is ∙ c.fault_of.ensures) (sym c.in-None-scripted_reply.is ∙ c.scripted_reply.ensures) c.count.ensures
-    (c.push_reply.ensures.items ∙ ap (λ n. c.args.out.now.items ++ refusal_line n Unknown) c.unwrap_or.ensures)
+    (c.push_reply.ensures.items ∙ ap (λ n. c.args.out.now.items ++ refusal_line n Unknown) c.unwrap_or.ensures) (reply_id_below c.args.id c.requires.id)

@@ -1,6 +1,7 @@
 use Rattle.std.proofs.Common.{◌≡◌, sym, ap, ◌∙◌, subst, ℕ, None}
 use Rattle.std.specs.Option.{option_map}
-use Rattle.std.specs.Prelude.{unwrap_or}
+use Rattle.std.specs.Prelude.{unwrap_or, IfSome}
+use Rattle.gc_lines.specs.Lines.{IsPlain}
 use Rattle.gc_instrument.proofs.Keeping.{appended_bytes}
 use Rattle.gc_scenes.specs.Appending.{AppendsPlayed}
 use Rattle.gc_scenes.specs.SceneReplying.{resent_line, played_fresh, played_line, holding, kept_if_repeating}
@@ -12,6 +13,12 @@ pub returns-in-Some-clause-gave : goal.returns-in-Some-clause-gave
 returns-in-Some-clause-gave g c =
     let s = c.args.self.now in
     gave_again s c.args.id (played_fresh s c.args.rpc c.args.fresh.now) c.in-Some.line.now _ _ (sym c.resent_line.ensures.line ∙ ap (option_map (λ r. r.now)) c.in-Some.is) c.append.ensures
+    (subst (λ o. IfSome o (λ r. IsPlain r.now)) c.in-Some.is c.resent_line.ensures.plain)
+
+pub keep-requires-clause-plain : goal.keep-requires-clause-plain
+keep-requires-clause-plain g c =
+    let h = c.fresh_onto.ensures.played in
+    subst IsPlain (sym (appended_bytes c.args.out.now.items c.deref.result.now _ c.len-start.result (c.deref.ensures.0 ∙ h.appended) c.len-start.ensures.value)) h.plain
 
 pub returns-clause-gave : goal.returns-clause-gave
 returns-clause-gave g c =

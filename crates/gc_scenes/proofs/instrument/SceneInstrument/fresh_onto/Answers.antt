@@ -1,8 +1,10 @@
-use Rattle.std.proofs.Common.{Option, subst, ℕ}
+use Rattle.std.proofs.Common.{Option, subst, ℕ, lit<}
 use Rattle.gc_scenes.specs.Appending.{AppendsPlayed}
+use Rattle.gc_scenes.specs.Params.{scripted_params}
 use Rattle.gc_scenes.specs.Rules.{fault_of}
 use Rattle.gc_scenes.specs.SceneExecution.{unless_faulted}
 use Rattle.gc_scenes.specs.SceneState.{SceneState}
+use Rattle.gc_scenes.proofs.Plain.{line_plain, scripted_plain}
 use Rattle.gc_scenes.proofs.instrument.SceneInstrument.fresh_onto.Goals as goal
 
 pub returns-in-Call-clause-played : goal.returns-in-Call-clause-played
@@ -15,4 +17,5 @@ returns-in-Call-clause-played g c =
 pub returns-in-Raw-clause-played : goal.returns-in-Raw-clause-played
 returns-in-Raw-clause-played g c =
     let line = rw c.params.ensures.value at c.push_reply_with.ensures.line in
-    rw c.in-Raw.is (record { state = c.count-in-Raw.ensures; appended = line })
+    let reply = c.in-Raw.reply.now in
+    rw c.in-Raw.is (record { state = c.count-in-Raw.ensures; appended = line; plain = line_plain 0 c.args.id reply.rc (scripted_params reply.with) (lit< tt) c.requires.id reply.fits (scripted_plain reply.with) })

@@ -1,7 +1,8 @@
-use Rattle.std.proofs.Common.{subst}
+use Rattle.std.proofs.Common.{◌<◌, sym, subst}
 use Rattle.gc_lines.specs.Requests.{request_seen}
 use Rattle.gc_catalogue.specs.Calls.{IsRefusal}
 use Rattle.gc_catalogue.specs.declared.fault.CallFault.{CallFault}
+use Rattle.gc_scenes.proofs.Plain.{reply_id_below}
 use Rattle.gc_scenes.proofs.Playing.{call_reply, unread_reply}
 use Rattle.gc_scenes.proofs.replying.SceneInstrumentReplies.reply_to.Goals as goal
 
@@ -12,4 +13,4 @@ pub returns-in-Err-Parameters-clause-replies : goal.returns-in-Err-Parameters-cl
 returns-in-Err-Parameters-clause-replies g c =
     let q = request_seen c.args.request.now in
     unread_reply c.args.self.now q c.in-Err-Parameters.field-0-0 c.unwrap_or.result _ _
-    (subst (λ (f : CallFault). IsRefusal q.rpc q.params f) c.in-Err-Parameters.field-0-is c.in-Err-Parameters.ensures.fault) c.unwrap_or.ensures c.push_reply.ensures.items
+    (subst (λ (f : CallFault). IsRefusal q.rpc q.params f) c.in-Err-Parameters.field-0-is c.in-Err-Parameters.ensures.fault) c.unwrap_or.ensures c.push_reply.ensures.items (subst (λ n. n < 8) (sym c.unwrap_or.ensures) (reply_id_below q.id c.requires.id))

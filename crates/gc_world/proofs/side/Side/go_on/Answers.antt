@@ -4,32 +4,32 @@ use Rattle.gc_world.proofs.Streaming.{flow_more}
 use Rattle.gc_world.proofs.side.Side.go_on.Goals as goal
 
 pub line-requires : goal.line-requires
-line-requires c = front_written c.args.direction c.args.report.now c.args.self.now c.requires.0 c.requires.1 c.in-Some.place c.in-Some.ensures.0 c.in-Some.ensures.1
+line-requires g c = front_written c.args.direction c.args.report.now c.args.self.now c.requires.0 c.requires.1 c.in-Some.place c.in-Some.ensures.0 c.in-Some.ensures.1
 
 pub feed_some-requires-clause-plain : goal.feed_some-requires-clause-plain
-feed_some-requires-clause-plain c =
+feed_some-requires-clause-plain g c =
     (front_line c.args.direction c.args.report.now c.args.self.now c.requires.0 c.requires.1 c.in-Some.place c.in-Some.ensures.0 c.as_slice-line.result.now
     c.in-Some.ensures.1 (c.line.ensures ∙ ap Some (sym c.as_slice-line.ensures.value))).plain
 
 pub feed_some-requires-clause-some : goal.feed_some-requires-clause-some
-feed_some-requires-clause-some c =
+feed_some-requires-clause-some g c =
     let left = left_of c.args.direction c.args.report.now c.args.self.now c.requires.0 c.requires.1 c.in-Some.place c.in-Some.ensures.0
     c.as_slice-line.result.now c.in-Some.ensures.1 (c.line.ensures ∙ ap Some (sym c.as_slice-line.ensures.value)) in
     omega (arith, left, c.requires.2)
 
 pub feed_some-requires-clause-stands : goal.feed_some-requires-clause-stands
-feed_some-requires-clause-stands c =
+feed_some-requires-clause-stands g c =
     (front_line c.args.direction c.args.report.now c.args.self.now c.requires.0 c.requires.1 c.in-Some.place c.in-Some.ensures.0 c.as_slice-line.result.now
     c.in-Some.ensures.1 (c.line.ensures ∙ ap Some (sym c.as_slice-line.ensures.value))).stands
 
 pub overflow_add-self : goal.overflow_add-self
-overflow_add-self c =
+overflow_add-self g c =
     let left = left_of c.args.direction c.args.report.now c.args.self.now c.requires.0 c.requires.1 c.in-Some.place c.in-Some.ensures.0
     c.as_slice-line.result.now c.in-Some.ensures.1 (c.line.ensures ∙ ap Some (sym c.as_slice-line.ensures.value)) in
     omega (arith, left, c.requires.2, c.as_slice-line.ensures.fits)
 
 pub returns-clause-flow : goal.returns-clause-flow
-returns-clause-flow c =
+returns-clause-flow g c =
     let s = c.args.self.now in
     let line = c.as_slice-line.result.now in
     let found = c.line.ensures ∙ ap Some (sym c.as_slice-line.ensures.value) in

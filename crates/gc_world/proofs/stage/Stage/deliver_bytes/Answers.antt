@@ -2,8 +2,8 @@ use Rattle.std.proofs.Common.{◌<◌, inl, inr, sym, ◌∙◌, subst, arith}
 use Rattle.std.proofs.lemmas.Bool.{false≢true}
 use Rattle.gc_catalogue.specs.declared.call.Call.{Call}
 use Rattle.gc_client.specs.Rule.{ById}
-use Rattle.gc_instrument.specs.State.{State}
-use Rattle.gc_world.specs.Clients.{by_ids, ends}
+use Rattle.gc_world.specs.Behaviours.{ends_with}
+use Rattle.gc_world.specs.Clients.{by_ids}
 use Rattle.gc_world.specs.Directions.{delivery}
 use Rattle.gc_world.specs.Stages.{stage_parts, AreStreamsOf}
 use Rattle.gc_world.specs.Staging.{after_event}
@@ -18,14 +18,14 @@ returns-then-n-eq0-clause-follows g c =
     let s = stage_parts c.args.self.now in
     let left = c.remaining-remaining in
     elim c.then-n-eq0.branch [
-      | then-n-eq0-via-then-n-eq0 w ↦ λ width v h. streams_idle_bytes width s v h c.args.direction c.args.n left.result (left.ensures width v h) (inl w.if-n-eq0.true)
-      | then-n-eq0-via-else-n-eq0+then-remaining-eq0 w ↦ λ width v h. streams_idle_bytes width s v h c.args.direction c.args.n left.result (left.ensures width v h) (inr w.if-remaining-eq0.true)
+      | then-n-eq0-via-then-n-eq0 w ↦ λ width v h. streams_idle_bytes g.I.Executes.acts width s v h c.args.direction c.args.n left.result (left.ensures width v h) (inl w.if-n-eq0.true)
+      | then-n-eq0-via-else-n-eq0+then-remaining-eq0 w ↦ λ width v h. streams_idle_bytes g.I.Executes.acts width s v h c.args.direction c.args.n left.result (left.ensures width v h) (inr w.if-remaining-eq0.true)
     ]
 
 pub loop-left-init : goal.loop-left-init
 loop-left-init g c =
     record {
-      follows = λ width v h. reached_at_first width c.args.direction (stage_parts c.args.self.now) v c.args.n h;
+      follows = λ width v h. reached_at_first g.I.Executes.acts width c.args.direction (stage_parts c.args.self.now) v c.args.n h;
       remaining = c.remaining-remaining.ensures;
     }
 
@@ -46,13 +46,13 @@ returns-in_err-deliver-clause-spare g c =
     λ width v h none.
     let at = c.loop-left.invariant.follows width v h in
     absurd (false≢true (c.in_err-deliver.ensures.spare width at.now at.shows
-    (next_spares width c.args.direction t v c.args.n c.loop-left.left at c.loop-left.remaining
+    (next_spares g.I.Executes.acts width c.args.direction t v c.args.n c.loop-left.left at c.loop-left.remaining
     (c.loop-left.invariant.remaining width at.now at.shows) done.0 done.1 none)))
 
 pub remaining-remaining-requires-in-loop-left : goal.remaining-remaining-requires-in-loop-left
 remaining-remaining-requires-in-loop-left g c =
     let at = c.loop-left.invariant.follows c.requires.shown.0 c.requires.shown.1 c.requires.shown.2 in
-    (c.requires.shown.0, after_event ends c.requires.shown.0 at.now (delivery c.args.direction), c.in_ok-deliver.ensures.follows c.requires.shown.0 at.now at.shows)
+    (c.requires.shown.0, after_event (ends_with g.I.Executes.acts) c.requires.shown.0 at.now (delivery c.args.direction), c.in_ok-deliver.ensures.follows c.requires.shown.0 at.now at.shows)
 
 pub loop-left-smaller : goal.loop-left-smaller
 loop-left-smaller g c =
@@ -66,7 +66,7 @@ loop-left-preserved g c =
     record {
       follows = λ width v h.
           let at = c.loop-left.invariant.follows width v h in
-          reaches_next width c.args.direction t v c.args.n c.loop-left.left at (stage_parts c.deliver.new.self) c.loop-left.remaining
+          reaches_next g.I.Executes.acts width c.args.direction t v c.args.n c.loop-left.left at (stage_parts c.deliver.new.self) c.loop-left.remaining
           (c.loop-left.invariant.remaining width at.now at.shows) done.0 done.1 (c.in_ok-deliver.ensures.follows width at.now at.shows);
       remaining = c.remaining-remaining-in-loop-left.ensures;
     }
@@ -86,9 +86,9 @@ returns-then-left-remaining-clause-follows g c =
     let first = c.remaining-remaining in
     λ width v h.
     let at = c.loop-left.invariant.follows width v h in
-    subst (λ (x : Streams (ById Call) State). AreStreamsOf width u x) (sym (bytes_handed ends (by_ids width ends) c.args.direction v c.args.n first.result (first.ensures width v h) c.if-n-eq0.false
+    subst (λ (x : Streams (ById Call) g.row.I.Denot). AreStreamsOf width u x) (sym (bytes_handed (ends_with g.I.Executes.acts) (by_ids width (ends_with g.I.Executes.acts)) c.args.direction v c.args.n first.result (first.ensures width v h) c.if-n-eq0.false
     c.if-remaining-eq0.false))
-    (reaches_end width c.args.direction t v c.args.n c.loop-left.left at u (c.go_on.ensures width at.now at.shows))
+    (reaches_end g.I.Executes.acts width c.args.direction t v c.args.n c.loop-left.left at u (c.go_on.ensures width at.now at.shows))
 
 pub returns-else-left-remaining-clause-follows : goal.returns-else-left-remaining-clause-follows
 returns-else-left-remaining-clause-follows g c =
@@ -96,8 +96,8 @@ returns-else-left-remaining-clause-follows g c =
     let first = c.remaining-remaining in
     λ width v h.
     let at = c.loop-left.invariant.follows width v h in
-    subst (λ (x : Streams (ById Call) State). AreStreamsOf width t x) (sym (bytes_handed ends (by_ids width ends) c.args.direction v c.args.n first.result (first.ensures width v h) c.if-n-eq0.false
+    subst (λ (x : Streams (ById Call) g.row.I.Denot). AreStreamsOf width t x) (sym (bytes_handed (ends_with g.I.Executes.acts) (by_ids width (ends_with g.I.Executes.acts)) c.args.direction v c.args.n first.result (first.ensures width v h) c.if-n-eq0.false
     c.if-remaining-eq0.false))
-    (runs_dry width c.args.direction t v c.args.n c.loop-left.left at
+    (runs_dry g.I.Executes.acts width c.args.direction t v c.args.n c.loop-left.left at
     (sym (c.loop-left.invariant.remaining width at.now at.shows) ∙ none_left_if_incomplete c.completes.result c.loop-left.remaining c.loop-left.left c.completes.ensures
     c.loop-left-test.false (λ lt. omega (arith, lt, c.if-left-remaining.false))))

@@ -17,7 +17,7 @@ pub at-requires : goal.at-requires
 at-requires g c =
     let s = stage_parts c.args.self.now in
     let shown = c.requires.shown in
-    let front = front_reply shown.0 s shown.1 shown.2 c.in-Some.place c.take_front.new.self c.in-Some.ensures in
+    let front = front_reply g.I.Executes.acts shown.0 s shown.1 shown.2 c.in-Some.place c.take_front.new.self c.in-Some.ensures in
     slice_get_within s.report.made c.in-Some.place front.0 front.1
 
 pub finish-reply-requires-clause-flow : goal.finish-reply-requires-clause-flow
@@ -27,7 +27,7 @@ finish-reply-requires-clause-flow g c =
     let texts = down_texts shown.1.world.wire in
     let text : option_map (λ (m : Made). m.line.items) (slice_get s.report.made c.in-Some.place) ≡ Some c.as_slice-line.result.now =
     ap (option_map (λ (m : Made). m.line.items)) c.at.ensures ∙ ap Some (sym c.as_slice-line.ensures.value) in
-    front_flow Down s.report s.down texts (carries shown.0 s shown.1 shown.2 Down) c.in-Some.place c.take_front.new.self c.as_slice-line.result.now c.in-Some.ensures text
+    front_flow Down s.report s.down texts (carries g.I.Executes.acts shown.0 s shown.1 shown.2 Down) c.in-Some.place c.take_front.new.self c.as_slice-line.result.now c.in-Some.ensures text
 
 pub returns-in_err-append_all-clause-spare : goal.returns-in_err-append_all-clause-spare
 returns-in_err-append_all-clause-spare g c =
@@ -38,7 +38,7 @@ returns-in_err-append_all-clause-spare g c =
     let came : reply ≡ c.as_slice-line.result.now = c.finish-reply.ensures.line in
     let out : reply ≡ line.items = came ∙ c.as_slice-line.ensures.value in
     let fits : length reply ≤ 512 = subst (λ l. length l ≤ 512) (sym came) c.as_slice-line.ensures.fits in
-    λ width v h t. absurd (false≢true (sym (stray width s.report s.up.queue s.down.queue s.client v.world h.lines c.in-Some.place c.take_front.new.self
+    λ width v h t. absurd (false≢true (sym (stray g.I.Executes.acts width s.report s.up.queue s.down.queue s.client v.world h.lines c.in-Some.place c.take_front.new.self
     c.at.result.now reply c.in-Some.ensures c.at.ensures out t) ∙ c.in-Settled.ensures.heard fits))
 
 pub returns-in_ok-append_all-clause-follows : goal.returns-in_ok-append_all-clause-follows
@@ -50,7 +50,7 @@ returns-in_ok-append_all-clause-follows g c =
     let came : reply ≡ c.as_slice-line.result.now = c.finish-reply.ensures.line in
     let out : reply ≡ line.items = came ∙ c.as_slice-line.ensures.value in
     let fits : length reply ≤ 512 = subst (λ l. length l ≤ 512) (sym came) c.as_slice-line.ensures.fits in
-    λ width v h. streams_down_deliver width s v h c.finish-reply.new.self (record {
+    λ width v h. streams_down_deliver g.I.Executes.acts width s v h c.finish-reply.new.self (record {
       place = c.in-Some.place;
       reply = c.at.result.now;
       line = reply;
@@ -74,7 +74,7 @@ returns-in_default-hear-clause-follows g c =
     let came : reply ≡ c.as_slice-line.result.now = c.finish-reply.ensures.line in
     let out : reply ≡ line.items = came ∙ c.as_slice-line.ensures.value in
     let fits : length reply ≤ 512 = subst (λ l. length l ≤ 512) (sym came) c.as_slice-line.ensures.fits in
-    λ width v h. streams_down_deliver width s v h c.finish-reply.new.self (record {
+    λ width v h. streams_down_deliver g.I.Executes.acts width s v h c.finish-reply.new.self (record {
       place = c.in-Some.place;
       reply = c.at.result.now;
       line = reply;

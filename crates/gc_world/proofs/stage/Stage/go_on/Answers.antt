@@ -1,7 +1,7 @@
 use Rattle.std.proofs.Common.{◌<◌, sym, subst}
 use Rattle.gc_world.specs.declared.direction.Direction.{Direction}
 use Rattle.gc_world.specs.declared.direction.Direction.TheVariants.{Up, Down}
-use Rattle.gc_world.specs.Clients.{ends}
+use Rattle.gc_world.specs.Behaviours.{ends_with}
 use Rattle.gc_world.specs.Directions.{texts, to_go}
 use Rattle.gc_world.specs.Stages.{stage_parts, Shows}
 use Rattle.gc_world.specs.Staging.{after_bytes}
@@ -13,8 +13,8 @@ go_on-requires g c =
     let s = stage_parts c.args.self.now in
     let (width, v, h) = c.requires.shown in (
       texts Up v.world.wire,
-      carries width s v h Up,
-      more_left width s v h Up c.args.n
+      carries g.I.Executes.acts width s v h Up,
+      more_left g.I.Executes.acts width s v h Up c.args.n
           (subst (λ (d : Direction). c.args.n < to_go d v) c.in-Up.is (c.requires.some width v h)),
     )
 
@@ -23,8 +23,8 @@ go_on-requires-in-Down g c =
     let s = stage_parts c.args.self.now in
     let (width, v, h) = c.requires.shown in (
       texts Down v.world.wire,
-      carries width s v h Down,
-      more_left width s v h Down c.args.n
+      carries g.I.Executes.acts width s v h Down,
+      more_left g.I.Executes.acts width s v h Down c.args.n
           (subst (λ (d : Direction). c.args.n < to_go d v) c.in-Down.is (c.requires.some width v h)),
     )
 
@@ -33,15 +33,15 @@ returns-in-Up g c =
     let s = stage_parts c.args.self.now in
     let did = c.go_on.ensures in
     λ width v h.
-    subst (λ (d : Direction). Shows width (record c.args.self.now { up = c.go_on.new.self; cut = c.go_on.new.cut }) (after_bytes ends width d v c.args.n)) (sym c.in-Up.is)
-    (streams_begin width s v h Up c.args.n c.go_on.new.self (subst (λ (d : Direction). c.args.n < to_go d v) c.in-Up.is (c.requires.some width v h))
-    (did.flow (texts Up v.world.wire) (carries width s v h Up)) did.gone did.queue)
+    subst (λ (d : Direction). Shows width (record c.args.self.now { up = c.go_on.new.self; cut = c.go_on.new.cut }) (after_bytes (ends_with g.I.Executes.acts) width d v c.args.n)) (sym c.in-Up.is)
+    (streams_begin g.I.Executes.acts width s v h Up c.args.n c.go_on.new.self (subst (λ (d : Direction). c.args.n < to_go d v) c.in-Up.is (c.requires.some width v h))
+    (did.flow (texts Up v.world.wire) (carries g.I.Executes.acts width s v h Up)) did.gone did.queue)
 
 pub returns-in-Down : goal.returns-in-Down
 returns-in-Down g c =
     let s = stage_parts c.args.self.now in
     let did = c.go_on-in-Down.ensures in
     λ width v h.
-    subst (λ (d : Direction). Shows width (record c.args.self.now { down = c.go_on-in-Down.new.self; cut = c.go_on-in-Down.new.cut }) (after_bytes ends width d v c.args.n)) (sym c.in-Down.is)
-    (streams_begin width s v h Down c.args.n c.go_on-in-Down.new.self (subst (λ (d : Direction). c.args.n < to_go d v) c.in-Down.is (c.requires.some width v h))
-    (did.flow (texts Down v.world.wire) (carries width s v h Down)) did.gone did.queue)
+    subst (λ (d : Direction). Shows width (record c.args.self.now { down = c.go_on-in-Down.new.self; cut = c.go_on-in-Down.new.cut }) (after_bytes (ends_with g.I.Executes.acts) width d v c.args.n)) (sym c.in-Down.is)
+    (streams_begin g.I.Executes.acts width s v h Down c.args.n c.go_on-in-Down.new.self (subst (λ (d : Direction). c.args.n < to_go d v) c.in-Down.is (c.requires.some width v h))
+    (did.flow (texts Down v.world.wire) (carries g.I.Executes.acts width s v h Down)) did.gone did.queue)

@@ -10,7 +10,7 @@ returns-clause-follows g c =
     let s = c.args.self.now in
     let entry : Sent = record { target = c.args.target; call = c.args.call.now; line = c.send_into.new.line } in
     on_ok_weaker c.push_sent.result
-    (λ pushed width v h. streams_send width (stage_parts s) v h entry c.args.deadline (record {
+    (λ pushed width v h. streams_send g.I.Executes.acts width (stage_parts s) v h entry c.args.deadline (record {
       client = c.send_into.new.self;
       sent = c.push_sent.new.self;
       queue = c.push.new.self;
