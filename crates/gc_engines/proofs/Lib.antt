@@ -4,9 +4,9 @@ mod InThree
 mod LogVerdicts
 mod OneSchedule
 mod OneVerdict
+mod SceneWords
 mod Scenes
 mod Shown
 pub mod RuleForms
-mod TimedForms
-mod SceneTroubles
+mod SceneFields
 mod Percents

@@ -1,5 +1,7 @@
 pub mod Schedule
+pub mod SceneLines
 pub mod Scenes
+pub mod SceneParts
 pub mod Reports
 pub mod Drill
 pub mod SceneDrill
@@ -9,7 +11,4 @@ pub mod LogClients
 pub mod Remarks
 pub mod LogChecking
 pub mod Laws
-pub mod RuleScenes
-pub mod TimedScenes
-pub mod LateScenes
 pub mod SceneTroubles

@@ -1,8 +1,10 @@
 -- What is at fault in a faulty line of a scene: this project's own.
-use Rattle.std.specs.Prelude.{◌≡◌, ◌⊎◌, ℕ, ℤ, List, ◌++◌, codes}
+use Rattle.std.specs.Prelude.{◌≡◌, ◌⊎◌, ℕ, ℤ, List, ◌++◌, MatchResult, Result, codes}
 use Rattle.std.specs.Fmt.{decimal}
 use Rattle.gc_values.specs.Text as text
 use Rattle.gc_values.specs.Whole.{NamesWhole, FitsLong}
+use Rattle.gc_scenes.specs.declared.delay.Delay.{Delay}
+use Rattle.gc_scenes.specs.declared.rules.Scripted.{Scripted}
 use Rattle.gc_values.specs.declared.decimal.Decimal.{Decimal}
 use Rattle.gc_catalogue.specs.Raws.{IsRawRefusal}
 use Rattle.gc_catalogue.specs.declared.raw.RawFault.{RawFault}
@@ -11,9 +13,7 @@ use Rattle.gc_texts.specs.Cuts.{behind}
 use Rattle.gc_values.specs.Decimals.{SpellsDecimal}
 use Rattle.gc_texts.specs.Procedures.{IsNumber, IsRpc}
 use Rattle.gc_texts.specs.Words.{second_word, third_word, fourth_word, after_two_words, after_three_words, after_four_words}
-use Rattle.gc_engines.specs.LateScenes.{SaysLateReply}
-use Rattle.gc_engines.specs.RuleScenes.{Begins, GivesClock, code_max, rc_in_answer, params_in_answer, scene_target_max}
-use Rattle.gc_engines.specs.TimedScenes.{SaysRestart, delay_max}
+use Rattle.gc_engines.specs.SceneLines.{Begins, IsLateReplyLine, SaysRestart, Scripts, code_max, delay_max, params_in_answer, rc_in_answer, scene_target_max}
 use Rattle.gc_engines.specs.declared.scene_trouble.SceneTrouble.{SceneTrouble}
 use Rattle.gc_engines.specs.declared.scene_trouble.SceneTrouble.TheVariants as trouble
 use Rattle.gc_engines.specs.declared.scene_trouble.SceneWord.{SceneWord}
@@ -52,6 +52,14 @@ form_text word.Busy = codes "busy queue or busy drop"
 -- the line begins with this word
 abbrev pub BeginsWith : SceneWord → List ℕ → Type 0
 BeginsWith w line = Begins (word_text w) line
+
+-- the line gives the instrument a clock that runs
+abbrev pub GivesClock : List ℕ → Type 0
+GivesClock line = (line ≡ codes "behave clock") ⊎ (line ≡ codes "behave real")
+
+-- the line says that replies to a procedure come late
+abbrev pub SaysLateReply : List ℕ → Type 0
+SaysLateReply line = (d : Delay) × IsLateReplyLine line d
 
 -- the line needs a clock, which `serve` alone has: it gives the instrument one, or it begins with `delay` or `busy`
 abbrev pub NeedsClock : List ℕ → Type 0
@@ -106,6 +114,14 @@ IsSceneTrouble line trouble.Seed = BeginsWith word.Noise line × NoNumber (after
 IsSceneTrouble line trouble.Ms = BeginsWith word.Delay line × NoNumber (after_two_words line) delay_max
 IsSceneTrouble line (trouble.InTable n) = IsAnswerTrouble line (trouble.InTable n)
 IsSceneTrouble line trouble.Params = IsAnswerTrouble line trouble.Params
+
+-- a line was read as a value of which `Says` is true; or `Says` is true of none, and this is at fault in the line
+abbrev pub IsLineRead : {Value : Type 0} → (Says : Value → Type 0) → (line : List ℕ) → Result Value SceneTrouble → Type 0
+IsLineRead {Value} Says line read = MatchResult read Says (λ t. ((v : Value) → Says v → ⊥) × IsSceneTrouble line t)
+
+-- this reply was made of a procedure, a return code and parameters; or none can be, and this is at fault in them
+abbrev pub IsScriptRead : (rpc rc : ℕ) → (params : List ℕ) → Result Scripted SceneTrouble → Type 0
+IsScriptRead rpc rc params read = MatchResult read (Scripts rpc rc params) (λ t. ((a : Scripted) → Scripts rpc rc params a → ⊥) × IsReplyTrouble rpc params t)
 
 -- a trouble as it is printed
 abbrev pub scene_trouble_text : SceneTrouble → List ℕ

@@ -1,157 +1,253 @@
-//! The reading of one line of a scene. Besides `scene_trouble.rt`, the words of a scene are known here alone.
+//! The lines of scenes, of whatever kind: what each says, and which kinds of scenes may have it.
 
-ghost use Rattle.std.specs.Prelude.{◌≡◌, MatchOption, IsTrue, IsFalse};
-ghost use Rattle.gc_values.specs.Text.{IsText};
-ghost use Rattle.gc_values.specs.Whole.{NamesWhole, FitsLong};
-ghost use Rattle.gc_texts.specs.LineForms.{IsReadAs};
-ghost use Rattle.gc_engines.specs.Scenes.{AreOffsetWords, IsOffset, IsSerialLine, IsNameLine, IsTargetLine, IsSceneLine};
-ghost use Rattle.gc_engines.specs.declared.scene_line.SceneLine.{SceneLine};
+ghost use Rattle.std.specs.Prelude.{◌≡◌, IsFalse, IsTrue};
+ghost use Rattle.gc_engines.specs.SceneLines.{IsLineOf, need_of, takes, takes_all, way_need};
+ghost use Rattle.gc_engines.specs.declared.scene_line.SceneKind.{SceneKind};
 
+use crate::scene_reading::read_scene_line;
 use gc_instrument::Target;
-use gc_scenes::Offset;
-use gc_texts::{LineForm, after_prefix, before, behind, read_double};
-use gc_values::{Text, read_long};
+use gc_scenes::{Delay, Fault, Noise, Offset, Scripted, Way};
+use gc_texts::LineForm;
+use gc_values::Text;
 
-/// What a line of a scene says of the instrument.
+/// A line `blocked`: the target with this number is hidden in the looks from number `from` to number `to`. A look is a measurement or a
+/// search of the instrument, of whichever target; looks are counted from 1, and so are targets.
+#[derive(Clone, Copy)]
+pub struct Blocked {
+    pub target: u32,
+    pub from: u32,
+    pub to: u32,
+}
+
+/// A line `drift`: the target with this number, counted from 1, moves by an offset with each measurement of it.
+#[derive(Clone, Copy)]
+pub struct Drift {
+    pub target: u32,
+    pub by: Offset,
+}
+
+/// Which requests of its procedure a fault meets: not the first `after`, but the next `times`. Requests are counted up to
+/// 4294967295, so a fault whose `after` and `times` add up to more never ends. Therefore 4294967295 `times` stand for "without
+/// end"; but if `after` is 0, the fault ends after as many.
+#[derive(Clone, Copy)]
+pub struct Span {
+    pub after: u32,
+    pub times: u32,
+}
+
+/// What a line of a scene says.
 #[derive(Clone, Copy)]
 pub enum SceneLine {
-    /// Its serial number.
+    /// The instrument's serial number.
     Serial(i32),
     /// Its name.
     Name(Text),
     /// One more target.
     Target(Target),
+    /// A procedure that is answered with a return code.
+    Fault(Fault),
+    /// The reply to a procedure that isn't in the table.
+    Answer(Scripted),
+    /// A target that is hidden in some looks.
+    Blocked(Blocked),
+    /// A target that moves.
+    Drift(Drift),
+    /// The most by which measurements deviate.
+    Noise(Noise),
+    /// The instrument has a way of real instruments, or all of them.
+    Behave(Way),
+    /// The instrument keeps no reply, so it treats a repeated request as a new one.
+    NoRepeats,
+    /// The reply to a procedure goes out later, by a number of milliseconds.
+    Delay(Delay),
+    /// The instrument starts anew at some requests of a procedure. The return code of the fault isn't used.
+    Start(Fault),
+    /// Lines that come while the instrument is busy wait in order.
+    Queues,
+    /// Lines that come while the instrument is busy are discarded.
+    Drops,
+    /// Requests of a procedure are answered at once, busy, and the reply comes later, by a number of milliseconds.
+    Late(Delay),
 }
 
-/// A line of a scene, with rules or without them.
-pub(crate) trait AnySceneLine: Copy {
-    ghost use Rattle.std.specs.Prelude.{Option};
-    ghost use Rattle.std.specs.Option.{option_map};
-
-    /// The line as one of a scene without rules; none if it is a rule.
-    ghost plain: { Self → Option SceneLine };
-
-    /// The line as one of a scene without rules. `None`: it is a rule.
-    fn plain(&self) -> Option<&SceneLine>
-        ensures { option_map (λ line. line.now) result ≡ plain self.now };
+/// What a line of a scene needs.
+#[derive(Clone, Copy)]
+pub(crate) enum Need {
+    /// The execution table alone.
+    Table,
+    /// An instrument with rules.
+    Rules,
+    /// An instrument with rules whose clock runs.
+    Clock,
+    /// `serve`, which alone delays and discards lines, and restarts an instrument at a request.
+    Serve,
+    /// `rehearse`, which alone has late replies.
+    Rehearsal,
 }
 
-impl AnySceneLine for SceneLine {
-    ghost use Rattle.std.specs.Prelude.{Some};
+/// A kind of scene: which lines it may have.
+#[derive(Clone, Copy)]
+pub enum SceneKind {
+    /// A scene without rules.
+    Plain,
+    /// A scene with rules for an instrument without a clock.
+    Still,
+    /// A scene with rules.
+    Ruled,
+    /// A scene for `serve`.
+    Timed,
+    /// A scene for a rehearsal.
+    Late,
+}
 
-    ghost plain = { Some };
-
-    fn plain(&self) -> Option<&SceneLine> {
-        Some(self)
+impl SceneLine {
+    /// What the line needs.
+    pub(crate) fn need(&self) -> Need
+        ensures { result ≡ need_of self.now }
+    {
+        match *self {
+            SceneLine::Serial(_) | SceneLine::Name(_) | SceneLine::Target(_) => Need::Table,
+            SceneLine::Behave(way) => way_need(way),
+            SceneLine::Delay(_) | SceneLine::Start(_) | SceneLine::Queues | SceneLine::Drops => {
+                Need::Serve
+            }
+            SceneLine::Late(_) => Need::Rehearsal,
+            _ => Need::Rules,
+        }
     }
 }
 
-/// The form of a scene's lines.
-pub(crate) struct SceneForm;
+// What a way of real instruments needs.
+fn way_need(way: Way) -> Need
+    ensures { result ≡ way_need way }
+{
+    match way {
+        Way::Clock | Way::Real => Need::Clock,
+        _ => Need::Rules,
+    }
+}
 
-impl LineForm for SceneForm {
+impl SceneKind {
+    /// Whether a scene of this kind may have a line with this need.
+    pub(crate) fn takes(self, need: Need) -> bool
+        ensures { result ≡ takes self need }
+    {
+        match need {
+            Need::Table => true,
+            Need::Rules => !matches!(self, SceneKind::Plain),
+            Need::Clock => !matches!(self, SceneKind::Plain | SceneKind::Still),
+            Need::Serve => matches!(self, SceneKind::Timed),
+            Need::Rehearsal => matches!(self, SceneKind::Late),
+        }
+    }
+
+    /// Whether a scene of this kind may have all of these lines.
+    pub fn takes_all(self, lines: &[SceneLine]) -> bool
+        ensures { result ≡ takes_all self lines.now }
+    {
+        lines.iter().all(|line| self.takes(line.need()))
+    }
+
+    // Reads a line of a scene of this kind into `item`, and returns whether it is one. If it isn't, `item` stays.
+    #[tactic(auto, using(crate::proofs::SceneWords::not_taken))]
+    fn read(self, line: &[u8], item: &mut SceneLine) -> bool
+        ensures found { IsTrue result → IsLineOf self line.now item.new }
+        ensures none { IsFalse result → (other : SceneLine) → IsLineOf self line.now other → ⊥ }
+    {
+        match read_scene_line(line) {
+            Ok(said) => {
+                if !self.takes(said.need()) {
+                    return false;
+                }
+                *item = said;
+                true
+            }
+            Err(_) => false,
+        }
+    }
+}
+
+/// The form of the lines of a scene without rules.
+pub struct PlainForm;
+
+impl LineForm for PlainForm {
     type Item = SceneLine;
 
-    ghost form = { IsSceneLine };
+    ghost form = { IsLineOf SceneKind.Plain };
 
     fn blank() -> SceneLine {
-        SceneLine::Serial(0)
+        SceneLine::Queues
     }
 
     fn read(line: &[u8], says: &mut SceneLine) -> bool {
-        put_read(read_scene_line(line), says)
+        SceneKind::Plain.read(line, says)
     }
 }
 
-// Writes what was read over `item`, and returns whether anything was. If nothing was, `item` stays.
-pub(crate) fn put_read<T: Copy>(read: Option<T>, item: &mut T) -> bool
-    ensures { MatchOption read (IsFalse result × (item.new ≡ item.old)) (λ said. IsTrue result × (item.new ≡ said)) }
-{
-    match read {
-        Some(said) => {
-            *item = said;
-            true
-        }
-        None => false,
+/// The form of the lines of a scene with rules for an instrument without a clock.
+pub struct StillForm;
+
+impl LineForm for StillForm {
+    type Item = SceneLine;
+
+    ghost form = { IsLineOf SceneKind.Still };
+
+    fn blank() -> SceneLine {
+        SceneLine::Queues
+    }
+
+    fn read(line: &[u8], says: &mut SceneLine) -> bool {
+        SceneKind::Still.read(line, says)
     }
 }
 
-// Reads one line of a scene. `None`: it has the form of no such line.
-pub(crate) fn read_scene_line(line: &[u8]) -> Option<SceneLine>
-    ensures { IsReadAs (IsSceneLine line.now) result }
-{
-    if let Some(serial) = read_serial(line) {
-        return Some(SceneLine::Serial(serial));
+/// The form of the lines of a scene with rules.
+pub struct RuleForm;
+
+impl LineForm for RuleForm {
+    type Item = SceneLine;
+
+    ghost form = { IsLineOf SceneKind.Ruled };
+
+    fn blank() -> SceneLine {
+        SceneLine::Queues
     }
-    if let Some(name) = read_name(line) {
-        return Some(SceneLine::Name(name));
-    }
-    match read_target(line) {
-        Some(target) => Some(SceneLine::Target(target)),
-        None => None,
+
+    fn read(line: &[u8], says: &mut SceneLine) -> bool {
+        SceneKind::Ruled.read(line, says)
     }
 }
 
-// Reads `serial N`: a serial number, a whole number of 32 bits that may have a sign. `None`: the line has no such form.
-fn read_serial(line: &[u8]) -> Option<i32>
-    ensures { IsReadAs (IsSerialLine line.now) result }
-{
-    let digits = after_prefix(b"serial ", line)?;
-    long_of(digits)
+/// The form of the lines of a scene for `serve`.
+pub struct TimedForm;
+
+impl LineForm for TimedForm {
+    type Item = SceneLine;
+
+    ghost form = { IsLineOf SceneKind.Timed };
+
+    fn blank() -> SceneLine {
+        SceneLine::Queues
+    }
+
+    fn read(line: &[u8], says: &mut SceneLine) -> bool {
+        SceneKind::Timed.read(line, says)
+    }
 }
 
-// Reads a Long: a whole number of 32 bits, with or without a sign. `None`: the text writes none.
-fn long_of(digits: &[u8]) -> Option<i32>
-    ensures { IsReadAs (λ n. NamesWhole digits.now n × FitsLong n) result }
-{
-    read_long(digits).ok()
-}
+/// The form of the lines of a scene for a rehearsal.
+pub struct LateForm;
 
-// Reads `name TEXT`: an instrument's name, as `name_from` takes it. `None`: the line has no such form.
-fn read_name(line: &[u8]) -> Option<Text>
-    ensures { IsReadAs (IsNameLine line.now) result }
-{
-    let bytes = after_prefix(b"name ", line)?;
-    name_from(bytes)
-}
+impl LineForm for LateForm {
+    type Item = SceneLine;
 
-// The name that these bytes are. `None`: they are more than 64, or one of them is a double quote, a carriage return or a line feed.
-fn name_from(bytes: &[u8]) -> Option<Text>
-    ensures { IsReadAs (λ name. (name ≡ bytes.now) × IsText name) result }
-{
-    Text::new(bytes).ok()
-}
+    ghost form = { IsLineOf SceneKind.Late };
 
-// Reads `target HZ V DISTANCE`: a target's angles in radians and its slope distance in metres. `None`: the line has no such form,
-// or `read_offset` refuses a number.
-fn read_target(line: &[u8]) -> Option<Target>
-    ensures { IsReadAs (IsTargetLine line.now) result }
-{
-    let words = after_prefix(b"target ", line)?;
-    let offset = read_offset(words)?;
-    Some(Target {
-        hz: offset.hz,
-        v: offset.v,
-        distance: offset.distance,
-    })
-}
+    fn blank() -> SceneLine {
+        SceneLine::Queues
+    }
 
-// Reads these three words: two angles in radians and a distance in metres. `None`: `read_double` refuses one of them, as one further
-// than 10^13 from zero.
-pub(crate) fn offset_of(hz: &[u8], v: &[u8], distance: &[u8]) -> Option<Offset>
-    ensures { IsReadAs (AreOffsetWords hz.now v.now distance.now) result }
-{
-    let hz = read_double(hz)?;
-    let v = read_double(v)?;
-    let distance = read_double(distance)?;
-    Some(Offset { hz, v, distance })
-}
-
-// Reads `HZ V D`: two angles in radians and a distance in metres. `None`: the words have no such form, or `offset_of` refuses
-// one of them.
-pub(crate) fn read_offset(words: &[u8]) -> Option<Offset>
-    ensures { IsReadAs (IsOffset words.now) result }
-{
-    let rest = behind(b' ', words);
-    offset_of(before(b' ', words), before(b' ', rest), behind(b' ', rest))
+    fn read(line: &[u8], says: &mut SceneLine) -> bool {
+        SceneKind::Late.read(line, says)
+    }
 }

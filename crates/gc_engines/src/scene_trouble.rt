@@ -3,22 +3,15 @@
 ghost use Rattle.std.specs.Prelude.{◌≡◌, ◌++◌, IsTrue, codes};
 ghost use Rattle.gc_lines.specs.Ports.{WritesIfOk};
 ghost use Rattle.gc_texts.specs.Faults.{run_fault_text, fault_line};
-ghost use Rattle.gc_texts.specs.LineForms.{IsReadAs};
 ghost use Rattle.gc_texts.specs.declared.fault.RunFault.{RunFault};
-ghost use Rattle.gc_engines.specs.SceneTroubles.{BeginsWith, IsReplyTrouble, IsSceneTrouble, NeedsClock, NoDecimal, NoNumber, form_text, scene_trouble_text, scene_trouble_line, word_text};
-ghost use Rattle.gc_engines.specs.TimedScenes.{SaysRestart};
+ghost use Rattle.gc_engines.specs.SceneLines.{SaysRestart};
+ghost use Rattle.gc_engines.specs.SceneTroubles.{BeginsWith, IsSceneTrouble, NeedsClock, form_text, scene_trouble_line, scene_trouble_text};
 ghost use Rattle.gc_engines.specs.declared.scene_trouble.SceneWord.{SceneWord};
 
-use crate::late_line::says_late_reply;
-use crate::rule_line::{SCENE_TARGET_MAX, gives_clock};
-use crate::timed_line::DELAY_MAX;
-use gc_catalogue::{RawFault, raw_call};
-use gc_texts::{RunFault, before, behind, is_word, read_double, u16_of, u32_of};
-use gc_values::{Text, read_long};
+use crate::scene_line::SceneLine;
+use crate::scene_reading::{read_scene_line, says_restart, word_of};
+use gc_texts::{RunFault, before, is_word};
 use std::io::{self, Write};
-
-// The greatest number of a procedure, and the greatest return code.
-const CODE_MAX: u32 = 65535;
 
 /// A word that a line of a scene begins with.
 #[derive(Clone, Copy)]
@@ -201,12 +194,13 @@ pub fn scene_trouble_of(line: &[u8], has_clock: bool) -> SceneTrouble
     if !has_clock && is_start(line) {
         return SceneTrouble::Restart;
     }
-    if says_late_reply(line) {
-        return SceneTrouble::Late;
-    }
-    match word_of(before(b' ', line)) {
-        Some(word) => trouble_behind(word, line),
-        None => SceneTrouble::NoWord,
+    let Some(word) = word_of(before(b' ', line)) else {
+        return SceneTrouble::NoWord;
+    };
+    match read_scene_line(line) {
+        Err(trouble) => trouble,
+        Ok(SceneLine::Late(_)) => SceneTrouble::Late,
+        Ok(_) => SceneTrouble::Form(word),
     }
 }
 
@@ -215,7 +209,10 @@ fn needs_clock(line: &[u8]) -> bool
     ensures { IsTrue result → NeedsClock line.now }
 {
     let first = before(b' ', line);
-    gives_clock(line) || is_word(b"delay", first) || is_word(b"busy", first)
+    is_word(b"behave clock", line)
+        || is_word(b"behave real", line)
+        || is_word(b"delay", first)
+        || is_word(b"busy", first)
 }
 
 // Whether the first word of a line is `fault`, and its third one `restart`.
@@ -223,277 +220,4 @@ fn is_start(line: &[u8]) -> bool
     ensures { IsTrue result → BeginsWith SceneWord.Fault line.now × SaysRestart line.now }
 {
     is_word(b"fault", before(b' ', line)) && says_restart(line)
-}
-
-// Whether the third word of a line is `restart`.
-fn says_restart(line: &[u8]) -> bool
-    ensures { IsTrue result → SaysRestart line.now }
-{
-    is_word(b"restart", before(b' ', behind(b' ', behind(b' ', line))))
-}
-
-// The word of a scene that these bytes spell. `None`: no line of a scene begins with them.
-fn word_of(first: &[u8]) -> Option<SceneWord>
-    ensures { IsReadAs (λ word. first.now ≡ word_text word) result }
-{
-    if is_word(b"serial", first) {
-        return Some(SceneWord::Serial);
-    }
-    if is_word(b"name", first) {
-        return Some(SceneWord::Name);
-    }
-    if is_word(b"target", first) {
-        return Some(SceneWord::Target);
-    }
-    if is_word(b"fault", first) {
-        return Some(SceneWord::Fault);
-    }
-    if is_word(b"answer", first) {
-        return Some(SceneWord::Answer);
-    }
-    if is_word(b"blocked", first) {
-        return Some(SceneWord::Blocked);
-    }
-    if is_word(b"drift", first) {
-        return Some(SceneWord::Drift);
-    }
-    if is_word(b"noise", first) {
-        return Some(SceneWord::Noise);
-    }
-    if is_word(b"repeats", first) {
-        return Some(SceneWord::Repeats);
-    }
-    if is_word(b"behave", first) {
-        return Some(SceneWord::Behave);
-    }
-    if is_word(b"delay", first) {
-        return Some(SceneWord::Delay);
-    }
-    if is_word(b"busy", first) {
-        return Some(SceneWord::Busy);
-    }
-    None
-}
-
-// What is at fault in a line that begins with this word. A line `repeats`, `behave` or `busy` has no fields that could be named, so it has
-// `Form`.
-fn trouble_behind(word: SceneWord, line: &[u8]) -> SceneTrouble
-    requires { BeginsWith word line.now }
-    ensures { IsSceneTrouble line.now result }
-{
-    match word {
-        SceneWord::Serial => serial_trouble(line),
-        SceneWord::Name => name_trouble(line),
-        SceneWord::Target => target_trouble(line),
-        SceneWord::Fault => fault_trouble(line),
-        SceneWord::Answer => answer_trouble(line),
-        SceneWord::Blocked => blocked_trouble(line),
-        SceneWord::Drift => drift_trouble(line),
-        SceneWord::Noise => noise_trouble(line),
-        SceneWord::Delay => delay_trouble(line),
-        _ => SceneTrouble::Form(word),
-    }
-}
-
-// Whether these bytes are no decimal, as a scene writes angles and distances: whether `read_double` refuses them, also a number
-// further than 10^13 from zero.
-fn is_no_double(text: &[u8]) -> bool
-    ensures { IsTrue result → NoDecimal text.now }
-{
-    read_double(text).is_none()
-}
-
-// Whether these bytes are no whole number of at most `max`, written in digits alone.
-#[tactic(auto, unfolding(crate::specs::SceneTroubles::NoNumber))]
-fn is_no_number(text: &[u8], max: u32) -> bool
-    ensures { IsTrue result → NoNumber text.now max }
-{
-    u32_of(text, max).is_none()
-}
-
-// How many fields a line has after its first word: one for each space.
-fn fields_in(line: &[u8]) -> usize {
-    line.iter().filter(|byte| **byte == b' ').count()
-}
-
-// What is at fault in a line that begins with `serial`: if it has one field, `Serial` if that doesn't read; else `Form`.
-fn serial_trouble(line: &[u8]) -> SceneTrouble
-    requires { BeginsWith SceneWord.Serial line.now }
-    ensures { IsSceneTrouble line.now result }
-{
-    if fields_in(line) == 1 && read_long(behind(b' ', line)).is_err() {
-        return SceneTrouble::Serial;
-    }
-    SceneTrouble::Form(SceneWord::Serial)
-}
-
-// What is at fault in a line that begins with `name`: `Name` if its text doesn't read, else `Form`.
-fn name_trouble(line: &[u8]) -> SceneTrouble
-    requires { BeginsWith SceneWord.Name line.now }
-    ensures { IsSceneTrouble line.now result }
-{
-    if Text::new(behind(b' ', line)).is_err() {
-        return SceneTrouble::Name;
-    }
-    SceneTrouble::Form(SceneWord::Name)
-}
-
-// What is at fault in a line that begins with `target`: if it has three fields, the first of `Hz`, `V` and `Distance` that doesn't read;
-// else `Form`.
-fn target_trouble(line: &[u8]) -> SceneTrouble
-    requires { BeginsWith SceneWord.Target line.now }
-    ensures { IsSceneTrouble line.now result }
-{
-    let from_hz = behind(b' ', line);
-    let from_v = behind(b' ', from_hz);
-    if fields_in(line) == 3 {
-        if is_no_double(before(b' ', from_hz)) {
-            return SceneTrouble::Hz;
-        }
-        if is_no_double(before(b' ', from_v)) {
-            return SceneTrouble::V;
-        }
-        if is_no_double(behind(b' ', from_v)) {
-            return SceneTrouble::Distance;
-        }
-    }
-    SceneTrouble::Form(SceneWord::Target)
-}
-
-// What is at fault in a line that begins with `fault`: if it has two fields or more, the first of `Rpc` and `Rc` that doesn't read, where
-// the word `restart` reads in place of a return code; else `Form`.
-fn fault_trouble(line: &[u8]) -> SceneTrouble
-    requires { BeginsWith SceneWord.Fault line.now }
-    ensures { IsSceneTrouble line.now result }
-{
-    let from_rpc = behind(b' ', line);
-    if fields_in(line) >= 2 {
-        if is_no_number(before(b' ', from_rpc), CODE_MAX) {
-            return SceneTrouble::Rpc;
-        }
-        if !says_restart(line) && is_no_number(before(b' ', behind(b' ', from_rpc)), CODE_MAX) {
-            return SceneTrouble::Rc;
-        }
-    }
-    SceneTrouble::Form(SceneWord::Fault)
-}
-
-// What is at fault in a line that begins with `answer`: the first of `Rpc` and `Rc` that doesn't read, or else what `reply_trouble` gives.
-#[tactic(auto, unfolding(crate::specs::SceneTroubles::NoNumber))]
-fn answer_trouble(line: &[u8]) -> SceneTrouble
-    requires { BeginsWith SceneWord.Answer line.now }
-    ensures { IsSceneTrouble line.now result }
-{
-    let from_rpc = behind(b' ', line);
-    let Some(rpc) = u16_of(before(b' ', from_rpc)) else {
-        return SceneTrouble::Rpc;
-    };
-    let from_rc = behind(b' ', from_rpc);
-    if is_no_number(before(b',', from_rc), CODE_MAX) {
-        return SceneTrouble::Rc;
-    }
-    reply_trouble(rpc, behind(b',', from_rc))
-}
-
-// What is at fault in the parameters of a reply to the procedure with this number: `InTable` if the procedure is in the table; else
-// `Params` if no request of it can have these parameters; and else `Form`: a request can have them, but they may be too long for a reply.
-fn reply_trouble(rpc: u16, params: &[u8]) -> SceneTrouble
-    ensures { IsReplyTrouble rpc params.now result }
-{
-    match raw_call(rpc, params) {
-        Ok(_) => SceneTrouble::Form(SceneWord::Answer),
-        Err(RawFault::InTable) => SceneTrouble::InTable(rpc),
-        Err(_) => SceneTrouble::Params,
-    }
-}
-
-// What is at fault in a line that begins with `blocked`: if it has three fields, the first of `Target`, `From` and `To` that doesn't read;
-// else `Form`.
-fn blocked_trouble(line: &[u8]) -> SceneTrouble
-    requires { BeginsWith SceneWord.Blocked line.now }
-    ensures { IsSceneTrouble line.now result }
-{
-    let from_target = behind(b' ', line);
-    let from_looks = behind(b' ', from_target);
-    if fields_in(line) == 3 {
-        if is_no_number(before(b' ', from_target), SCENE_TARGET_MAX) {
-            return SceneTrouble::Target;
-        }
-        if is_no_number(before(b' ', from_looks), u32::MAX) {
-            return SceneTrouble::From;
-        }
-        if is_no_number(behind(b' ', from_looks), u32::MAX) {
-            return SceneTrouble::To;
-        }
-    }
-    SceneTrouble::Form(SceneWord::Blocked)
-}
-
-// What is at fault in a line that begins with `drift`: if it has four fields, the first of `Target`, `Hz`, `V` and `Distance` that doesn't
-// read; else `Form`.
-fn drift_trouble(line: &[u8]) -> SceneTrouble
-    requires { BeginsWith SceneWord.Drift line.now }
-    ensures { IsSceneTrouble line.now result }
-{
-    let from_target = behind(b' ', line);
-    let from_hz = behind(b' ', from_target);
-    let from_v = behind(b' ', from_hz);
-    if fields_in(line) == 4 {
-        if is_no_number(before(b' ', from_target), SCENE_TARGET_MAX) {
-            return SceneTrouble::Target;
-        }
-        if is_no_double(before(b' ', from_hz)) {
-            return SceneTrouble::Hz;
-        }
-        if is_no_double(before(b' ', from_v)) {
-            return SceneTrouble::V;
-        }
-        if is_no_double(behind(b' ', from_v)) {
-            return SceneTrouble::Distance;
-        }
-    }
-    SceneTrouble::Form(SceneWord::Drift)
-}
-
-// What is at fault in a line that begins with `noise`: if it has four fields, the first of `Hz`, `V`, `Distance` and `Seed` that doesn't
-// read; else `Form`.
-fn noise_trouble(line: &[u8]) -> SceneTrouble
-    requires { BeginsWith SceneWord.Noise line.now }
-    ensures { IsSceneTrouble line.now result }
-{
-    let from_hz = behind(b' ', line);
-    let from_v = behind(b' ', from_hz);
-    let from_distance = behind(b' ', from_v);
-    if fields_in(line) == 4 {
-        if is_no_double(before(b' ', from_hz)) {
-            return SceneTrouble::Hz;
-        }
-        if is_no_double(before(b' ', from_v)) {
-            return SceneTrouble::V;
-        }
-        if is_no_double(before(b' ', from_distance)) {
-            return SceneTrouble::Distance;
-        }
-        if is_no_number(behind(b' ', from_distance), u32::MAX) {
-            return SceneTrouble::Seed;
-        }
-    }
-    SceneTrouble::Form(SceneWord::Noise)
-}
-
-// What is at fault in a line that begins with `delay`: if it has two fields, the first of `Rpc` and `Ms` that doesn't read; else `Form`.
-fn delay_trouble(line: &[u8]) -> SceneTrouble
-    requires { BeginsWith SceneWord.Delay line.now }
-    ensures { IsSceneTrouble line.now result }
-{
-    let from_rpc = behind(b' ', line);
-    if fields_in(line) == 2 {
-        if is_no_number(before(b' ', from_rpc), CODE_MAX) {
-            return SceneTrouble::Rpc;
-        }
-        if is_no_number(behind(b' ', from_rpc), DELAY_MAX) {
-            return SceneTrouble::Ms;
-        }
-    }
-    SceneTrouble::Form(SceneWord::Delay)
 }

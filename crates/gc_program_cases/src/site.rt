@@ -1,6 +1,6 @@
 //! The instrument of a scene at the far end of a case, which keeps its state from request to request, as that of `serve` does.
 
-use gc_engines::read_timed_scene;
+use gc_engines::{TimedForm, read_scene};
 use gc_lines::{Line, with_end};
 use gc_probes::{Case, bytes_of};
 use gc_scenes::SlowInstrument;
@@ -55,5 +55,5 @@ fn instrument_of(alloc: Global, value: &str) -> Option<SlowInstrument> {
     let Ok(text) = bytes_of(alloc, value) else {
         return None;
     };
-    read_timed_scene(alloc, text.as_slice()).ok()
+    read_scene::<TimedForm, SlowInstrument>(alloc, text.as_slice()).ok()
 }

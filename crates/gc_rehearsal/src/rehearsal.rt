@@ -1,7 +1,7 @@
 //! A rehearsal: its texts are read, its nights are rehearsed, and how that ended is reported.
 
 ghost use Rattle.std.specs.Prelude.{[], ◌≡◌, ◌≤◌, ◌||◌, is_some, length};
-ghost use Rattle.gc_engines.specs.LateScenes.{is_late};
+ghost use Rattle.gc_engines.specs.Scenes.{is_late};
 ghost use Rattle.gc_rehearsal.specs.Rules.{frequency_of};
 ghost use Rattle.gc_rehearsal.specs.declared.rule.Word.TheVariants.{Alter};
 ghost use Rattle.gc_rehearsal.specs.Inside.{told};
@@ -18,7 +18,7 @@ use crate::rule::Word;
 use crate::rules::Rules;
 use crate::seeded::Seeded;
 use crate::summary::Summary;
-use gc_engines::{LateScene, read_late_scene, scene_trouble_of};
+use gc_engines::{LateForm, LateScene, read_scene, scene_trouble_of};
 use gc_lines::{FromReader, Sink, Source};
 use gc_measuring::{Labels, commands_per_cycle, read_task_text};
 use gc_messages::Streams;
@@ -133,10 +133,10 @@ fn rules_of<R: Files>(rt: &R, alloc: Global, line: Option<&str>) -> Result<Rules
 }
 
 // The scene in the file at this path; without a path that of the simulator. Fails as `read_file` and `scene_in` do, and without a path
-// with the fault of `read_late_scene` (`Fault`).
+// with the fault of `read_scene` (`Fault`).
 fn scene_of<R: Files>(rt: &R, alloc: Global, scene: Option<&str>) -> Result<LateScene, Halt> {
     let Some(path) = scene else {
-        return read_late_scene(alloc, SIMULATOR).map_err(Halt::Fault);
+        return read_scene::<LateForm, LateScene>(alloc, SIMULATOR).map_err(Halt::Fault);
     };
     let text = read_file(rt, alloc, path, FileOption::Scene)?;
     scene_in(alloc, text.as_slice())
@@ -145,7 +145,7 @@ fn scene_of<R: Files>(rt: &R, alloc: Global, scene: Option<&str>) -> Result<Late
 // The scene of this text. It fails with `Scene` at the first faulty line, such as one with `delay` or `busy`, because `serve` alone
 // delays replies so; and with `File` for a fault that isn't one line's.
 fn scene_in(alloc: Global, text: &[u8]) -> Result<LateScene, Halt> {
-    match read_late_scene(alloc, text) {
+    match read_scene::<LateForm, LateScene>(alloc, text) {
         Ok(scene) => Ok(scene),
         Err(RunFault::Schedule { line }) => Err(Halt::Scene(
             line,

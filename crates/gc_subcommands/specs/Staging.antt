@@ -1,9 +1,10 @@
 -- The instrument that a scene sets up, with rules or without them: this project's own.
-use Rattle.std.specs.Prelude.{◌⊎◌, ℕ, List, Option}
+use Rattle.std.specs.Prelude.{◌⊎◌, ℕ, IsTrue, List, Option}
 use Rattle.std.specs.Io.KnownBytes.{Consumes, IsAtEnd}
-use Rattle.gc_engines.specs.Scenes.{IsScene, SceneFault}
-use Rattle.gc_engines.specs.RuleScenes.{IsRuleScene, IsStillLine, RuleSceneFault}
-use Rattle.gc_engines.specs.TimedScenes.{IsTimedScene, TimedFault}
+use Rattle.gc_engines.specs.SceneLines.{IsLineOf, takes_all}
+use Rattle.gc_engines.specs.Scenes.{OpensPlain, OpensRuled, OpensTimed, SceneFault, SetsUp}
+use Rattle.gc_engines.specs.declared.scene_line.SceneKind.TheVariants as kind
+use Rattle.gc_engines.specs.declared.scene_line.SceneLine.{SceneLine}
 use Rattle.gc_texts.specs.Texts.{IsReadFault}
 use Rattle.gc_texts.specs.declared.fault.RunFault.{RunFault}
 use Rattle.gc_subcommands.specs.Refusing.{refusal_fault}
@@ -13,26 +14,32 @@ use Rattle.gc_subcommands.specs.declared.scene.Staged.TheVariants.{Plain, Ruled}
 use Rattle.gc_subcommands.specs.declared.scene.Timed.{Timed}
 use Rattle.gc_subcommands.specs.declared.scene.Timed.TheVariants.{Still, Slow}
 
--- the text is a scene, and this is the opening state of its instrument
+-- this is the opening state of the instrument that the lines set up, which has rules unless they are those of a scene without rules
+abbrev pub OpensStaged : List SceneLine → Staged → Type 0
+OpensStaged lines (Plain state) = IsTrue (takes_all kind.Plain lines) × OpensPlain lines state
+OpensStaged lines (Ruled state) = OpensRuled lines state
+
+-- this is the opening state of the instrument that the lines set up for `serve`, which needs the clock unless no line needs it
+abbrev pub OpensTimedStage : List SceneLine → Timed → Type 0
+OpensTimedStage lines (Still staged) = IsTrue (takes_all kind.Still lines) × OpensStaged lines staged
+OpensTimedStage lines (Slow state) = OpensTimed lines state
+
+-- the text is a scene that needs no clock, and this is the opening state of its instrument
 abbrev pub IsStaged : List ℕ → Staged → Type 0
-IsStaged text (Plain state) = IsScene text state
-IsStaged text (Ruled state) = IsRuleScene IsStillLine text state
+IsStaged text staged = SetsUp (IsLineOf kind.Still) OpensStaged text staged
 
 -- the text is a scene, maybe one that needs a clock, as with delays, and this is the opening state of its instrument for `serve`,
 -- which has a clock
 abbrev pub IsTimed : List ℕ → Timed → Type 0
-IsTimed text (Still staged) = IsStaged text staged
-IsTimed text (Slow state) = IsTimedScene text state
+IsTimed text timed = SetsUp (IsLineOf kind.Timed) OpensTimedStage text timed
 
--- a text sets up no instrument, for this fault: it has the fault as a scene without rules, or as a scene with rules that needs no
--- clock
+-- a text sets up no instrument, for this fault that it has as a scene that needs no clock
 abbrev pub StagedFault : List ℕ → RunFault → Type 0
-StagedFault text fault = SceneFault text fault ⊎ RuleSceneFault IsStillLine text fault
+StagedFault text fault = SceneFault (IsLineOf kind.Still) text fault
 
--- a text sets up no instrument for `serve`, which has a clock, for this fault: it has the fault as a scene that needs no clock
--- (`StagedFault`), or as a scene that may need one
+-- a text sets up no instrument for `serve`, which has a clock, for this fault that it has as a scene that may need one
 abbrev pub TimedStagedFault : List ℕ → RunFault → Type 0
-TimedStagedFault text fault = StagedFault text fault ⊎ TimedFault text fault
+TimedStagedFault text fault = SceneFault (IsLineOf kind.Timed) text fault
 
 -- Of a source: `old` and `new` are the bytes that were still to come before it was read and are still to come now, where they are
 -- known.

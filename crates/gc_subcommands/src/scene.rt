@@ -1,14 +1,11 @@
-//! The instrument of a subcommand: that of a scene's file, or the simulator where none is named. A text is read as a scene
-//! without rules; where a line of it is faulty as that, as one with rules; and for `serve`, where a line is still faulty, as one
-//! for an instrument with a clock.
+//! The instrument of a subcommand: that of a scene's file, or the simulator where none is named. Which instrument a scene sets up
+//! depends on what its lines need: the execution table alone, rules, or, for `serve`, a clock.
 
 ghost use Rattle.std.specs.Prelude.{◌≡◌, None, Ok, IfErr, IfOk};
-ghost use Rattle.gc_engines.specs.RuleScenes.{IsStillLine, RuleSceneFault};
-ghost use Rattle.gc_engines.specs.TimedScenes.{TimedFault};
-ghost use Rattle.gc_subcommands.specs.Staging.{GivesInstrument, GivesNoInstrument, IsStaged, IsTimed};
+ghost use Rattle.gc_subcommands.specs.Staging.{GivesInstrument, GivesNoInstrument};
 
 use crate::refusal::Refusal;
-use gc_engines::{StillForm, read_rule_scene, read_scene, read_timed_scene};
+use gc_engines::{FromScene, SceneKind, SceneLine, StillForm, TimedForm, read_scene};
 use gc_instrument::Instrument;
 use gc_lines::{FromReader, Source};
 use gc_scenes::{SceneInstrument, SlowInstrument};
@@ -81,23 +78,25 @@ impl SetUp for Staged {
         false
     }
 
-    // Without rules, where each line is one of a scene without rules; else with rules.
     fn of_text(alloc: Global, text: &[u8]) -> Result<Staged, RunFault> {
-        match read_scene(alloc, text) {
-            Ok(instrument) => Ok(Staged::Plain(instrument)),
-            Err(RunFault::Schedule { .. }) => ruled_of_text(alloc, text),
-            Err(fault) => Err(fault),
-        }
+        read_scene::<StillForm, Staged>(alloc, text)
     }
 }
 
-// The instrument of the text of a scene with rules. The faults are those of `read_rule_scene`.
-fn ruled_of_text(alloc: Global, text: &[u8]) -> Result<Staged, RunFault>
-    ensures found { IfOk result (λ staged. IsStaged text.now staged) }
-    ensures fault { IfErr result (λ e. RuleSceneFault IsStillLine text.now e) }
-{
-    let instrument = read_rule_scene::<StillForm>(alloc, text)?;
-    Ok(Staged::Ruled(instrument))
+impl FromScene for Staged {
+    ghost use Rattle.gc_subcommands.specs.Staging.{OpensStaged};
+
+    ghost opens = { OpensStaged };
+
+    // Without rules if no line is a rule, else with rules.
+    fn from_lines(lines: &[SceneLine]) -> Option<Staged> {
+        if SceneKind::Plain.takes_all(lines) {
+            let instrument = Instrument::from_lines(lines)?;
+            return Some(Staged::Plain(instrument));
+        }
+        let instrument = SceneInstrument::from_lines(lines)?;
+        Some(Staged::Ruled(instrument))
+    }
 }
 
 impl SetUp for Timed {
@@ -120,23 +119,25 @@ impl SetUp for Timed {
         true
     }
 
-    // One that needs no clock, where each line is one of a scene for such an instrument; else one that needs the clock.
     fn of_text(alloc: Global, text: &[u8]) -> Result<Timed, RunFault> {
-        match Staged::of_text(alloc, text) {
-            Ok(staged) => Ok(Timed::Still(staged)),
-            Err(RunFault::Schedule { .. }) => slow_of_text(alloc, text),
-            Err(fault) => Err(fault),
-        }
+        read_scene::<TimedForm, Timed>(alloc, text)
     }
 }
 
-// The instrument of the text of a scene that needs the clock. The faults are those of `read_timed_scene`.
-fn slow_of_text(alloc: Global, text: &[u8]) -> Result<Timed, RunFault>
-    ensures found { IfOk result (λ timed. IsTimed text.now timed) }
-    ensures fault { IfErr result (λ e. TimedFault text.now e) }
-{
-    let slow = read_timed_scene(alloc, text)?;
-    Ok(Timed::Slow(slow))
+impl FromScene for Timed {
+    ghost use Rattle.gc_subcommands.specs.Staging.{OpensTimedStage};
+
+    ghost opens = { OpensTimedStage };
+
+    // One that needs no clock if no line needs one, else one that needs the clock.
+    fn from_lines(lines: &[SceneLine]) -> Option<Timed> {
+        if SceneKind::Still.takes_all(lines) {
+            let staged = Staged::from_lines(lines)?;
+            return Some(Timed::Still(staged));
+        }
+        let slow = SlowInstrument::from_lines(lines)?;
+        Some(Timed::Slow(slow))
+    }
 }
 
 /// The instrument of the scene in a file, or the simulator if no file is named. The file is read to its end, or until it is found

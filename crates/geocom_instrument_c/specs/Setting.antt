@@ -1,7 +1,9 @@
 -- What sets an instrument up and what restarts it: this project's own.
 use Rattle.std.specs.Prelude.{◌≡◌, ℕ, List, [], Option, Some, None}
 use Rattle.gc_lines.specs.Assembler.{StandsFor}
-use Rattle.gc_engines.specs.TimedScenes.{IsTimedScene, TimedFault}
+use Rattle.gc_engines.specs.SceneLines.{IsLineOf}
+use Rattle.gc_engines.specs.Scenes.{IsTimedScene, SceneFault}
+use Rattle.gc_engines.specs.declared.scene_line.SceneKind.TheVariants as kind
 use Rattle.gc_scenes.specs.Slow.{slow_restarted}
 use Rattle.gc_texts.specs.Faults.{run_fault_number}
 use Rattle.gc_texts.specs.declared.fault.RunFault.{RunFault}
@@ -26,8 +28,8 @@ faulty_line (Schedule line) = line
 faulty_line other = 0
 
 -- the scene of this text was set up: the fault and the line are 0, and the instrument is in its opening state, at the start of a
--- stream. Or the scene was refused, for a fault of its text or because memory was refused (`TimedFault`), the result has the
+-- stream. Or the scene was refused, for a fault of its text or because memory was refused (`SceneFault`), the result has the
 -- number of that fault and the line that it names, and there is no instrument
 pub record IsSetUp (text : List ℕ) (after : Option BenchState) (r : GeocomMade) : Type 0 where
   pub present : (b : BenchState) → after ≡ Some b → (r.fault ≡ 0) × (r.line ≡ 0) × IsTimedScene text b.slow × StandsFor b.incomplete []
-  pub absent : after ≡ None → (e : RunFault) × TimedFault text e × (r.fault ≡ run_fault_number e) × (r.line ≡ faulty_line e)
+  pub absent : after ≡ None → (e : RunFault) × SceneFault (IsLineOf kind.Timed) text e × (r.fault ≡ run_fault_number e) × (r.line ≡ faulty_line e)

@@ -5,7 +5,8 @@ ghost use Rattle.geocom_instrument_c.specs.Setting.{IsSetUp, faulty_line};
 
 use crate::bench::{Bench, GeocomInstrument};
 use crate::replied::GeocomMade;
-use gc_engines::read_timed_scene;
+use gc_engines::{TimedForm, read_scene};
+use gc_scenes::SlowInstrument;
 use gc_texts::RunFault;
 use std::alloc::Global;
 
@@ -16,7 +17,7 @@ impl GeocomInstrument {
     pub(crate) fn set_up(&mut self, alloc: Global, scene: &[u8]) -> GeocomMade
         ensures { IsSetUp scene.now self.new result }
     {
-        match read_timed_scene(alloc, scene) {
+        match read_scene::<TimedForm, SlowInstrument>(alloc, scene) {
             Ok(slow) => {
                 self.bench = Some(Bench::new(slow));
                 GeocomMade { fault: 0, line: 0 }

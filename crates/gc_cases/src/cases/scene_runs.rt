@@ -3,8 +3,8 @@
 use crate::cases::outcome::Returned;
 use crate::cases::setup::Setup;
 use crate::cases::sink::Taking;
-use gc_engines::{RuleForm, read_rule_scene, read_scene, read_timed_scene};
-use gc_instrument::serve;
+use gc_engines::{PlainForm, RuleForm, TimedForm, read_scene};
+use gc_instrument::{Instrument, serve};
 use gc_lines::{Line, Served, write_line, write_whole};
 use gc_probes::PieceSource;
 use gc_scenes::{SceneInstrument, SlowInstrument, serve_scene};
@@ -29,7 +29,7 @@ impl Setup {
     // Has the instrument of the scene, which has no rules, answer the requests of `source`. Returns the fault of the scene if it
     // can't be read.
     pub(crate) fn serve(&self, source: &mut PieceSource<'_>, output: &mut Taking) -> Returned {
-        match read_scene(self.alloc, self.scene.as_slice()) {
+        match read_scene::<PlainForm, Instrument>(self.alloc, self.scene.as_slice()) {
             Ok(mut instrument) => {
                 Returned::Served(serve(&mut instrument, source, output, self.allowed))
             }
@@ -44,7 +44,7 @@ impl Setup {
         source: &mut PieceSource<'_>,
         output: &mut Taking,
     ) -> Returned {
-        match read_rule_scene::<RuleForm>(self.alloc, self.scene.as_slice()) {
+        match read_scene::<RuleForm, SceneInstrument>(self.alloc, self.scene.as_slice()) {
             Ok(mut instrument) if self.moments.is_empty() => {
                 Returned::Served(serve_scene(&mut instrument, source, output, self.allowed))
             }
@@ -72,7 +72,7 @@ impl Setup {
     // Gives the lines of the input to the scene's instrument, whose replies take time, as `serve_row` does. The run ends well,
     // also where the output fails, or with the fault of the scene if it can't be read.
     pub(crate) fn serve_slow(&self, output: &mut Taking) -> Returned {
-        match read_timed_scene(self.alloc, self.scene.as_slice()) {
+        match read_scene::<TimedForm, SlowInstrument>(self.alloc, self.scene.as_slice()) {
             Ok(mut slow) => {
                 for row in self.input.split(|byte| *byte == b'\n') {
                     serve_row(&mut slow, row, output);

@@ -8,10 +8,12 @@ use crate::cases::scene_runs::reading_alone;
 use crate::cases::sink::Taking;
 use gc_ask::{Duplex, run_ask, run_loop_on};
 use gc_engines::{
-    Playable, RuleForm, StillForm, read_rule_scene, read_scene, read_timed_scene, run_check,
-    run_check_log, run_drill_on, run_exec,
+    PlainForm, Playable, RuleForm, StillForm, TimedForm, read_scene, run_check, run_check_log,
+    run_drill_on, run_exec,
 };
+use gc_instrument::Instrument;
 use gc_probes::{Case, PieceSource, Pipe, input_of, push_bytes_of};
+use gc_scenes::{SceneInstrument, SlowInstrument};
 use gc_texts::RunFault;
 use std::alloc::{AllocError, Global};
 
@@ -317,17 +319,23 @@ impl Setup {
             Engine::DrillRules => Returned::Run(self.drill_rules(source, output)),
             Engine::Ask => Returned::Run(self.ask(source, &mut came.link, output)),
             Engine::Loop => Returned::Run(self.ask_in_a_loop(source, output)),
-            Engine::Scene => reading_alone(read_scene(self.alloc, text)),
-            Engine::RuleScene => reading_alone(read_rule_scene::<RuleForm>(self.alloc, text)),
-            Engine::TimedScene => reading_alone(read_timed_scene(self.alloc, text)),
-            Engine::StillScene => reading_alone(read_rule_scene::<StillForm>(self.alloc, text)),
+            Engine::Scene => reading_alone(read_scene::<PlainForm, Instrument>(self.alloc, text)),
+            Engine::RuleScene => reading_alone(read_scene::<RuleForm, SceneInstrument>(
+                self.alloc, text,
+            )),
+            Engine::TimedScene => reading_alone(read_scene::<TimedForm, SlowInstrument>(
+                self.alloc, text,
+            )),
+            Engine::StillScene => reading_alone(read_scene::<StillForm, SceneInstrument>(
+                self.alloc, text,
+            )),
             Engine::None => Returned::NoEngine,
         }
     }
 
     // Drills the input on the instrument of the scene, which has no rules. `Err`: the fault of the scene, or of the drill.
     fn drill(&self, source: &mut PieceSource<'_>, output: &mut Taking) -> Result<(), RunFault> {
-        let instrument = read_scene(self.alloc, self.scene.as_slice())?;
+        let instrument = read_scene::<PlainForm, Instrument>(self.alloc, self.scene.as_slice())?;
         self.drill_on(instrument, source, output)
     }
 
@@ -337,7 +345,10 @@ impl Setup {
         source: &mut PieceSource<'_>,
         output: &mut Taking,
     ) -> Result<(), RunFault> {
-        let instrument = read_rule_scene::<StillForm>(self.alloc, self.scene.as_slice())?;
+        let instrument = read_scene::<StillForm, SceneInstrument>(
+            self.alloc,
+            self.scene.as_slice(),
+        )?;
         self.drill_on(instrument, source, output)
     }
 
@@ -411,7 +422,7 @@ impl Setup {
         };
         run_loop_on(
             self.alloc,
-            read_scene(self.alloc, self.scene.as_slice())?,
+            read_scene::<PlainForm, Instrument>(self.alloc, self.scene.as_slice())?,
             source,
             &mut client,
             &mut instrument_end,

@@ -8,8 +8,7 @@ use crate::examples::outcome::OnceOutcome;
 use gc_catalogue::Call;
 use gc_client::{Ring, Slots, Window};
 use gc_engines::{
-    RuleForm, StillForm, read_rule_scene, read_schedule, run_check, run_drill, run_drill_on,
-    run_exec,
+    RuleForm, StillForm, read_scene, read_schedule, run_check, run_drill, run_drill_on, run_exec,
 };
 use gc_instrument::Instrument;
 use gc_lines::ToWriter;
@@ -102,7 +101,10 @@ fn answer_input(example: &Example, scene: Option<SceneInstrument>) -> OnceOutcom
 // Answers the example's input on the instrument of its scene: `NoMemory` if memory ran out for the scene, `Other` if the scene
 // can't be read, and else the outcome of `answer_input`.
 fn answer_on_scene(example: &Example) -> OnceOutcome {
-    match read_rule_scene::<RuleForm>(example.setup.alloc, example.setup.scene.as_slice()) {
+    match read_scene::<RuleForm, SceneInstrument>(
+        example.setup.alloc,
+        example.setup.scene.as_slice(),
+    ) {
         Ok(instrument) => answer_input(example, Some(instrument)),
         Err(fault) => OnceOutcome::of_unread(fault),
     }
@@ -131,7 +133,10 @@ fn drill_input(example: &Example, scene: Option<SceneInstrument>) -> OnceOutcome
 // Drills the example's schedule on the instrument of its scene: `NoMemory` if memory ran out for the scene, `Other` if the scene
 // can't be read, and else the outcome of `drill_input`.
 fn drill_on_scene(example: &Example) -> OnceOutcome {
-    match read_rule_scene::<StillForm>(example.setup.alloc, example.setup.scene.as_slice()) {
+    match read_scene::<StillForm, SceneInstrument>(
+        example.setup.alloc,
+        example.setup.scene.as_slice(),
+    ) {
         Ok(instrument) => drill_input(example, Some(instrument)),
         Err(fault) => OnceOutcome::of_unread(fault),
     }
