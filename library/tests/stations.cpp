@@ -187,13 +187,13 @@ void chains() {
     f.line.warned = 2107;
     all = f.station.measure(7, {{2107, "1"}, {2167, ""}});
     SEE(all.size() == 1 && all[0].reading == geocom::reading::refused && all[0].code == 1284);
-    all = f.station.measure(7, {{2107, "1"}, {2167, ""}}, 0, {1284});
+    all = f.station.measure(7, {{2107, "1"}, {2167, ""}}, std::nullopt, {1284});
     SEE(all.size() == 2 && all[0].reading == geocom::reading::value && all[0].code == 1284 && all[0].items[1] == "0.5");
     f.line.warned = 9027; // which has no values: nothing can be read, or all
-    all = f.station.measure(7, {{9027, "1,1,0,1,0"}, {2107, "1"}}, 0, {1283, 1284});
+    all = f.station.measure(7, {{9027, "1,1,0,1,0"}, {2107, "1"}}, std::nullopt, {1283, 1284});
     SEE(all.size() == 2 && all[1].items[0] == "1.5");
     f.line.warned = 2108; // whose values are missing
-    all = f.station.measure(7, {{2108, "5000,1"}, {2107, "1"}}, 0, {1284});
+    all = f.station.measure(7, {{2108, "5000,1"}, {2107, "1"}}, std::nullopt, {1284});
     SEE(all.size() == 1 && all[0].reading == geocom::reading::refused);
 }
 

@@ -259,9 +259,7 @@ module _ {State : Type 0} (ends : Ends State) (Good : State → Type 0) (kept : 
       none : (e : End) (line : List ℕ) → went_out e ≡ false → line_of e ≡ Some line → ⊥
       none (end.Answered quality said l) line out answered = cc
       none (end.Unreadable l fault) line out answered = cc
-      none (end.OffTarget l) line out answered = cc
-      none (end.Disagree l) line out answered = cc
-      none (end.Unexpected l) line out answered = cc
+      none (end.Judged judgement l) line out answered = cc
       none end.Late line out answered = cc
       none end.Lost line out answered = cc
       none end.Skipped line out answered = cc

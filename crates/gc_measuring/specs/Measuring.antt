@@ -178,7 +178,7 @@ other_counts_text t = codes "lost " ++ decimal t.lost ++ codes " skipped " ++ de
 -- what follows then: how many commands were missed, off target, unexpected and in disagreement
 abbrev pub judged_counts_text : Tally → List ℕ
 judged_counts_text t =
-    codes "missed " ++ decimal t.missed ++ codes " off_target " ++ decimal t.off_target ++ codes " unexpected " ++ decimal t.unexpected ++ codes " disagree " ++ decimal t.disagree
+    codes "missed " ++ decimal t.missed ++ codes " off_target " ++ decimal t.judged.off_target ++ codes " unexpected " ++ decimal t.judged.unexpected ++ codes " disagree " ++ decimal t.judged.disagree
 
 -- the end of the line of the counts: how many times a chain was sent again
 abbrev pub repeats_text : Tally → List ℕ

@@ -11,7 +11,7 @@ use crate::angles::{write_agree, write_place, write_turned};
 use crate::bound::{outline_bound, report_tight_deadlines};
 use crate::codes::report_accepted_busy;
 use crate::counts::report_end_of_run;
-use crate::describing::{outline_descriptions, outline_parameters, report_descriptions};
+use crate::describing::{outline_descriptions, outline_parameters, report_descriptions, text_of};
 use crate::expecting::{outline_expectation, report_expected_counts};
 use crate::plan::plan_of;
 use crate::sendings::{repeats_before, report_disagreeing, report_long_chains};
@@ -24,7 +24,7 @@ use gc_messages::{
     report_unwatched,
 };
 use gc_station::Plan;
-use gc_texts::{Again, Agree, RunFault, Task, Tasks, Twice};
+use gc_texts::{Again, Agree, JUDGEMENTS, RunFault, Task, Tasks, Twice};
 use gc_words::{Choice, Unit};
 use std::alloc::Global;
 use std::io::{self, Write};
@@ -316,7 +316,7 @@ fn end_chain<W: Write>(
 }
 
 // Writes after which answers, by their return codes, and after which outcomes a chain is sent again, each after a space. An answer that
-// is `off_target` counts by that word alone, as does one that is `unexpected`, or `disagree`.
+// is judged counts by its judgement alone.
 fn outline_rule<W: Write>(rule: &Again, outline: &mut W) -> io::Result<()> {
     if rule.codes.codes[0] != 0 {
         write!(outline, " answered")?;
@@ -327,19 +327,23 @@ fn outline_rule<W: Write>(rule: &Again, outline: &mut W) -> io::Result<()> {
             write!(outline, " {code}")?;
         }
     }
-    let outcomes = [
-        ("unreadable", rule.unreadable),
-        ("off_target", rule.off_target),
-        ("unexpected", rule.unexpected),
-        ("disagree", rule.disagree),
-        ("late", rule.late),
-        ("lost", rule.lost),
-        ("skipped", rule.skipped),
-    ];
-    for (outcome, named) in outcomes {
-        if named {
-            write!(outline, " {outcome}")?;
-        }
+    outline_outcome("unreadable", rule.unreadable, outline)?;
+    for judgement in JUDGEMENTS {
+        outline_outcome(
+            text_of(judgement.word()),
+            rule.judged.has(judgement),
+            outline,
+        )?;
     }
-    Ok(())
+    outline_outcome("late", rule.late, outline)?;
+    outline_outcome("lost", rule.lost, outline)?;
+    outline_outcome("skipped", rule.skipped, outline)
+}
+
+// Writes this outcome after a space, if it is named.
+fn outline_outcome<W: Write>(outcome: &str, named: bool, outline: &mut W) -> io::Result<()> {
+    if !named {
+        return Ok(());
+    }
+    write!(outline, " {outcome}")
 }

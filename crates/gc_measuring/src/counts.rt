@@ -9,6 +9,7 @@ ghost use Rattle.gc_messages.specs.Statuses.{IsStatusUpTo};
 
 use crate::stop::Stop;
 use gc_station::Tally;
+use gc_texts::JudgementCounts;
 use std::io::{self, Write};
 use std::process::ExitCode;
 
@@ -82,13 +83,12 @@ pub fn write_other_counts<E: Write>(tally: Tally, messages: &mut E) -> io::Resul
 pub fn write_judged_counts<E: Write>(tally: Tally, messages: &mut E) -> io::Result<()>
     ensures { WritesIfOk E.contents messages.old messages.new result (judged_counts_text tally) }
 {
-    let Tally {
-        missed,
+    let missed = tally.missed;
+    let JudgementCounts {
         off_target,
         unexpected,
         disagree,
-        ..
-    } = tally;
+    } = tally.judged;
     write!(
         messages,
         "missed {missed} off_target {off_target} unexpected {unexpected} disagree {disagree}"

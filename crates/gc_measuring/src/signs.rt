@@ -4,13 +4,14 @@ ghost use Rattle.std.specs.Prelude.{◌≡◌};
 ghost use Rattle.gc_station.specs.Tallies.{counted};
 ghost use Rattle.gc_texts.specs.Endings.{ending_seen};
 
+use crate::describing::text_of;
 use crate::odd::tell_odd;
 use crate::unwell::{Missed, SECOND, Unwell};
 use crate::wanted::{Wanted, has_lasted};
 use gc_links::Moment;
 use gc_messages::{MINUTE, Noticed, Oddities, RateLimit, ShortText};
 use gc_station::{LinkHealth, Tally, is_well};
-use gc_texts::{Ending, Name, Stamp, Wish, stamp_text};
+use gc_texts::{Ending, JUDGEMENTS, Name, Stamp, Wish, stamp_text};
 use gc_values::no_values;
 use gc_words::Watch;
 use std::io::{self, Write};
@@ -498,11 +499,11 @@ fn show_others<E: Write>(counts: Tally, row: &mut E) -> io::Result<()> {
         ("skipped", counts.skipped),
         ("unreadable", counts.unreadable),
         ("missed", counts.missed),
-        ("off_target", counts.off_target),
-        ("unexpected", counts.unexpected),
-        ("disagree", counts.disagree),
     ] {
         show_count(name, count, row)?;
+    }
+    for judgement in JUDGEMENTS {
+        show_count(text_of(judgement.word()), counts.judged.of(judgement), row)?;
     }
     Ok(())
 }

@@ -4,7 +4,7 @@ use crate::checking::write_target;
 use crate::describing::text_of;
 use gc_catalogue::Asked;
 use gc_lines::{Line, read_reply};
-use gc_texts::{Ending, Name, Quality, Stamp, Wish, name_text};
+use gc_texts::{Ending, Judgement, Name, Quality, Stamp, Wish, name_text};
 use gc_values::split;
 use std::io::{self, Write};
 
@@ -21,12 +21,8 @@ enum Why {
     Code(u16),
     /// Its values don't read.
     Unreadable,
-    /// It was measured off target.
-    OffTarget,
-    /// Its values aren't those that its line `expect` says.
-    Unexpected,
-    /// Its values don't agree with those of the chain's first sending.
-    Disagree,
+    /// A rule of the text set it aside.
+    Judged(Judgement),
     /// A value that it takes of a file wasn't there, so it wasn't sent.
     NoValue,
 }
@@ -38,9 +34,7 @@ impl Why {
         match ending {
             Ending::Answered(Quality::Refused, _, line) => Some(Why::of_refusal(line)),
             Ending::Unreadable(..) => Some(Why::Unreadable),
-            Ending::OffTarget(_) => Some(Why::OffTarget),
-            Ending::Unexpected(_) => Some(Why::Unexpected),
-            Ending::Disagree(_) => Some(Why::Disagree),
+            Ending::Judged(judgement, _) => Some(Why::Judged(judgement)),
             Ending::NoValue => Some(Why::NoValue),
             Ending::Answered(..) => None,
             Ending::Late | Ending::Lost | Ending::Skipped | Ending::Missed => None,
@@ -63,9 +57,7 @@ impl Why {
             Why::Communication(code) => writeln!(messages, "refused, rc_com {code}"),
             Why::Code(code) => writeln!(messages, "refused {code}"),
             Why::Unreadable => writeln!(messages, "unreadable"),
-            Why::OffTarget => writeln!(messages, "off_target"),
-            Why::Unexpected => writeln!(messages, "unexpected"),
-            Why::Disagree => writeln!(messages, "disagree"),
+            Why::Judged(judgement) => writeln!(messages, "{}", text_of(judgement.word())),
             Why::NoValue => {
                 write!(messages, "no value of ")?;
                 write_files(asked, messages)?;

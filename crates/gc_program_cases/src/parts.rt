@@ -6,7 +6,7 @@
 //!     counts 2 TEXT    the messages have this text as often as the number says
 //!     begins TEXT      the messages begin with this text
 //!     ends TEXT        the messages end with this text
-//!     length 4096      the messages have this many bytes
+//!     length 4096      the messages, as they are compared, have this many bytes
 //!
 //! A case has at most sixteen lines of each of the first three, and one of each other.
 

@@ -2,12 +2,14 @@
 //! what was `heard` there, how often a connection was tried (`opened`), the milliseconds that `elapsed`, and the `files` that
 //! were to be opened. A `status` of `any` takes each exit status, and an `output` of `any` whatever came. If a case has `has`,
 //! its output isn't compared whole, and if it has `tells`, `begins`, `ends` or `counts`, its messages aren't. Of a far end only
-//! what the case has is compared.
+//! what the case has is compared. A line of the messages with the counts of all judgements, in their order, is compared without those
+//! that are 0.
 
 use crate::far_end::Seen;
 use crate::parts::{asks_for_parts, tell_parts};
 use crate::room::Room;
 use gc_probes::{Case, Told, text_of};
+use gc_texts::JUDGEMENTS;
 use std::alloc::Global;
 use std::process::ExitCode;
 
@@ -70,7 +72,12 @@ impl Said {
     // Appends the messages to `told`: of a case without a far end with `PORT` for the port; of one with a far end without the
     // lines that end in `WAITS`, or, if it has a terminal, as they are. Messages that aren't UTF-8 are `no text`.
     fn append_messages(&self, case: &Case<'_>, port: &str, told: &mut Told) {
-        let messages = text_of(self.messages.as_slice());
+        let mut shown = Told::new(told.alloc);
+        append_counted(text_of(self.messages.as_slice()), &mut shown);
+        if shown.is_lacking() {
+            told.lack();
+        }
+        let messages = text_of(shown.as_bytes());
         if !case.has("far") {
             append_with_port(messages, port, told);
         } else if case.is("terminal", "yes") {
@@ -100,6 +107,66 @@ fn status_digit(status: ExitCode) -> &'static str {
         return "1";
     }
     "2"
+}
+
+// Appends messages to `told`, their lines as `append_line` does.
+fn append_counted(messages: &str, told: &mut Told) {
+    let mut rest = messages;
+    // There are no more lines than bytes.
+    for _ in 0..messages.len() {
+        let Some((line, behind)) = rest.split_once('\n') else {
+            break;
+        };
+        append_line(line, told);
+        told.text("\n");
+        rest = behind;
+    }
+    append_line(rest, told);
+}
+
+// Appends a line to `told`; of one that has the counts of all judgements, in their order, without those that are 0.
+fn append_line(line: &str, told: &mut Told) {
+    let mut shown = Told::new(told.alloc);
+    let mut rest = line;
+    let mut are_all = true;
+    for judgement in JUDGEMENTS {
+        match cut_count(rest, text_of(judgement.word())) {
+            Some((front, count, behind)) => {
+                shown.text(front);
+                append_count(text_of(judgement.word()), count, &mut shown);
+                rest = behind;
+            }
+            None => are_all = false,
+        }
+    }
+    if are_all && !shown.is_lacking() {
+        told.text(text_of(shown.as_bytes()));
+        told.text(rest);
+    } else {
+        told.text(line);
+    }
+}
+
+// What a line has before this word and its count, the count, and what is behind it. `None`: it doesn't have the word between spaces.
+fn cut_count<'a>(line: &'a str, word: &str) -> Option<(&'a str, &'a str, &'a str)> {
+    let (front, behind) = line.split_once(word)?;
+    let front = front.strip_suffix(' ')?;
+    let (count, _) = behind
+        .strip_prefix(' ')?
+        .split_once(' ')
+        .unwrap_or((behind.strip_prefix(' ')?, ""));
+    let rest = behind.strip_prefix(' ')?.strip_prefix(count)?;
+    Some((front, count, rest))
+}
+
+// Appends a word and its count to `told`, each after a space, unless it is 0.
+fn append_count(word: &str, count: &str, told: &mut Told) {
+    if count != "0" {
+        told.text(" ");
+        told.text(word);
+        told.text(" ");
+        told.text(count);
+    }
 }
 
 // Appends messages to `told`, with `PORT` wherever they have the digits of the port. If memory runs out, `told` notes that it

@@ -1,12 +1,12 @@
 -- The rows that are left of a run that goes on or was killed, at one of its moments: what its acts settle, and the laws on files of rows, put
 -- together.
-use Rattle.std.proofs.Common.{◌≡◌, ℕ, ◌≤◌, Bool, true, false, List, [], ◌∷◌, ◌++◌, take, sym, ◌∙◌, ap, subst, append_assoc, append-nil}
+use Rattle.std.proofs.Common.{◌≡◌, ℕ, ◌≤◌, Bool, true, false, List, [], ◌∷◌, ◌++◌, take, sym, ◌∙◌, ap, subst, append_assoc}
 use Rattle.std.proofs.lemmas.Bool.{not-true}
 use Rattle.std.specs.Prelude.{not, if◌then◌else◌}
 use Rattle.gc_files.specs.Failing.{Sides, RunEnd, MayEnd, sides_ended, doubt_ended, Event, Ran, feeds, settled, same_sides, doubt_after, ArePossibleEvents, runs_of, IsFound, IsTrusted}
 use Rattle.gc_files.specs.Files.{Step, Life, content, MayBeLeft}
 use Rattle.gc_files.specs.Rows.{whole, opened_table, OpensFile, cuts_none, appended}
-use Rattle.gc_files.specs.Runs.{synced, Run, row_lines, IsRun, rows_of, AreRowCounts, HasRows}
+use Rattle.gc_files.specs.Runs.{synced, Run, row_lines, IsRun, HasRows}
 use Rattle.gc_files.specs.Sinks.{steps_in, taken_in}
 use Rattle.gc_files.proofs.Adding.{appended_two}
 use Rattle.gc_files.proofs.Failing.{tables_outlast_failures}

@@ -1,5 +1,5 @@
 -- The runs of a rehearsal's nights are faithful, by the law on stations in a row.
-use Rattle.std.proofs.Common.{List, []}
+use Rattle.std.proofs.Common.{List}
 use Rattle.gc_links.specs.Acts.{Act}
 use Rattle.gc_station.proofs.Lists.{all_on}
 use Rattle.gc_texts.specs.declared.tasks.Task.{Task}

@@ -12,10 +12,13 @@ use Rattle.gc_catalogue.specs.declared.answer.Reading.{Reading}
 use Rattle.gc_catalogue.specs.declared.answer.Reading.TheVariants as reading
 use Rattle.gc_catalogue.specs.declared.asked.Asked.{Asked}
 use Rattle.gc_catalogue.specs.declared.asked.Asked.TheVariants.{Table, Raw}
-use Rattle.gc_texts.specs.Endings.{End, Answered, Unreadable, OffTarget, Disagree, Unexpected, Late, Lost, Skipped, NoValue, Missed, word_of, fault_of, line_of, quality_of, quality_text}
+use Rattle.gc_texts.specs.Endings.{End, Answered, Unreadable, Judged, Late, Lost, Skipped, NoValue, Missed, word_of, fault_of, line_of, quality_of, quality_text}
 use Rattle.gc_texts.specs.ColumnNames.{is_named}
 use Rattle.gc_texts.specs.Descriptions.{DescriptionSeen}
+use Rattle.gc_texts.specs.Fields.{is_name_byte}
+use Rattle.gc_texts.specs.Judgements.{judgement_word}
 use Rattle.gc_texts.specs.Logs.{escaped}
+use Rattle.gc_texts.proofs.Judgements.{of_each}
 use Rattle.gc_texts.specs.declared.form.Form.{Form}
 use Rattle.gc_catalogue.specs.declared.raw.RawCall.{RawCall}
 use Rattle.gc_texts.specs.declared.quality.Quality.{Quality}
@@ -40,6 +43,7 @@ use Rattle.gc_station.proofs.Lists.{all_at}
 use Rattle.gc_measuring.specs.Measuring.{Survey}
 use Rattle.gc_promise.specs.Fields.{IsAdded, IsOutside, IsPlain, IsQuantity, description_of, quantity_in, shown_as, under}
 use Rattle.gc_promise.proofs.Judged.{no_value_if_none, value_if_some}
+use Rattle.gc_promise.proofs.SoundLabels.{bytes_stay}
 use Rattle.gc_promise.proofs.Written.{HasItsTexts, entry_of}
 
 -- Texts.
@@ -63,9 +67,7 @@ fault_shown (Some fault) shown is = is
 word_plain : (end : End) → escaped (word_of end) ≡ word_of end
 word_plain (Answered quality answer line) = refl
 word_plain (Unreadable line fault) = refl
-word_plain (OffTarget line) = refl
-word_plain (Disagree line) = refl
-word_plain (Unexpected line) = refl
+word_plain (Judged judgement line) = bytes_stay (judgement_word judgement) (of_each (λ j. list_all is_name_byte (judgement_word j)) refl judgement)
 word_plain Late = refl
 word_plain Lost = refl
 word_plain Skipped = refl
@@ -136,9 +138,7 @@ module _ (asked : Asked) (described : Option DescriptionSeen) (form : Option For
 no_cells : (asked : Asked) (described : Option DescriptionSeen) (end : End) → (word_of end ≡ codes "answered" → ⊥) → end_cells asked described end ≡ []
 no_cells asked described (Answered q values line) other = absurd (other refl)
 no_cells asked described (Unreadable line fault) other = refl
-no_cells asked described (OffTarget line) other = refl
-no_cells asked described (Disagree line) other = refl
-no_cells asked described (Unexpected line) other = refl
+no_cells asked described (Judged judgement line) other = refl
 no_cells asked described Late other = refl
 no_cells asked described Lost other = refl
 no_cells asked described Skipped other = refl
@@ -149,9 +149,7 @@ no_cells asked described Missed other = refl
 none_counts : (end : End) → (word_of end ≡ codes "answered" → ⊥) → counted_answer end ≡ None
 none_counts (Answered q values line) other = absurd (other refl)
 none_counts (Unreadable line fault) other = refl
-none_counts (OffTarget line) other = refl
-none_counts (Disagree line) other = refl
-none_counts (Unexpected line) other = refl
+none_counts (Judged judgement line) other = refl
 none_counts Late other = refl
 none_counts Lost other = refl
 none_counts Skipped other = refl

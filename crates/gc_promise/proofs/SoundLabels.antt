@@ -113,7 +113,7 @@ byte_plain b is = elim (cases_Bool (is_small_letter b)) [
 ]
 
 -- escaping leaves such bytes
-bytes_stay : (bytes : List ℕ) → list_all is_name_byte bytes ≡ true → escaped bytes ≡ bytes
+pub bytes_stay : (bytes : List ℕ) → list_all is_name_byte bytes ≡ true → escaped bytes ≡ bytes
 bytes_stay [] are = refl
 bytes_stay (b ∷ bytes) are =
     let parts = and_parts (is_name_byte b) (list_all is_name_byte bytes) are in

@@ -16,6 +16,8 @@ use Rattle.gc_catalogue.specs.declared.asked.Asked.TheVariants.{Table}
 use Rattle.gc_catalogue.specs.declared.call.Call.TheVariants.{InstrumentNo, NullProc}
 use Rattle.gc_client.specs.declared.window.TheConstants.{WINDOW}
 use Rattle.gc_texts.specs.Endings as end
+use Rattle.gc_texts.specs.Judgements.{judged_one_more, none_judged}
+use Rattle.gc_texts.specs.declared.judgement.Judgement.TheVariants.{OffTarget}
 use Rattle.gc_texts.specs.Endings.{End}
 use Rattle.gc_texts.specs.declared.near.Near.{Near}
 use Rattle.gc_texts.specs.declared.quality.Quality.TheVariants.{Fine}
@@ -429,7 +431,7 @@ chained_record = ended_record (Some 410) 435 3 1 7 reads_all (end.Answered Fine 
 
 -- the record of command 2 in the third cycle: off target
 abbrev pub off_target_record : Record
-off_target_record = ended_record (Some 410) 435 3 2 8 reads_all (end.OffTarget off_target_reply)
+off_target_record = ended_record (Some 410) 435 3 2 8 reads_all (end.Judged OffTarget off_target_reply)
 
 -- the record of command 3 in the third cycle: answered, with a number
 abbrev pub number_record : Record
@@ -467,7 +469,7 @@ records =
 
 -- how many commands ended in each of the seven ways; no chain is sent again
 abbrev pub tally : Tally
-tally = record { answered = 3; refused = 0; late = 2; lost = 6; skipped = 1; unreadable = 1; missed = 7; off_target = 1; unexpected = 0; disagree = 0; retried = 0 }
+tally = record { answered = 3; refused = 0; late = 2; lost = 6; skipped = 1; unreadable = 1; missed = 7; judged = judged_one_more OffTarget none_judged; retried = 0 }
 
 -- What the run shows.
 

@@ -11,6 +11,8 @@ use Rattle.gc_catalogue.specs.declared.asked.Asked.{Asked}
 use Rattle.gc_catalogue.specs.declared.asked.Asked.TheVariants.{Table, Raw}
 use Rattle.gc_catalogue.specs.declared.call.Call.TheVariants.{SetDate}
 use Rattle.gc_catalogue.specs.declared.answer.Answer.{Answer}
+use Rattle.gc_texts.specs.Judgements.{IsJudgement}
+use Rattle.gc_texts.specs.declared.judgement.Judgement.{Judgement}
 use Rattle.gc_texts.specs.Codes.{lists_code}
 use Rattle.gc_texts.specs.ColumnNames.{is_named}
 use Rattle.gc_texts.specs.Descriptions.{DescriptionSeen, described_as, description_seen}
@@ -86,7 +88,7 @@ pub record IsSetTo (at : List ℕ → List ℕ) (r : Record) : Type 0 where
 
 -- the outcome, as it is written in a row, is that of a command that a reply in time has ended
 abbrev pub IsOutcomeOfReply : List ℕ → Type 0
-IsOutcomeOfReply outcome = (outcome ≡ codes "answered") ⊎ (outcome ≡ codes "unreadable") ⊎ (outcome ≡ codes "off_target") ⊎ (outcome ≡ codes "disagree") ⊎ (outcome ≡ codes "unexpected")
+IsOutcomeOfReply outcome = (outcome ≡ codes "answered") ⊎ (outcome ≡ codes "unreadable") ⊎ ((judgement : Judgement) × IsJudgement outcome judgement)
 
 -- the name is that of a quantity's column
 abbrev pub IsQuantity : List ℕ → Type 0

@@ -2,6 +2,7 @@
 -- scene at its end; nothing is assumed of which lines it loses, repeats and holds.
 use Rattle.std.specs.Prelude.{◌≡◌, ℕ, ◌≤◌, List, [], ◌∷◌, ◌++◌, length}
 use Rattle.std.specs.List.{AllByRecursion}
+use Rattle.gc_links.specs.Acts.{Act}
 use Rattle.gc_scenes.specs.SceneState.{SceneState}
 use Rattle.gc_station.specs.Model.{Runs, opening}
 use Rattle.gc_station.specs.Runs.{state_after}

@@ -9,7 +9,8 @@ use Rattle.gc_rehearsal.specs.declared.halt.FalseRow.{FalseRow}
 use Rattle.gc_rehearsal.specs.declared.halt.Halt.{Halt}
 use Rattle.gc_rehearsal.specs.declared.halt.Halt.TheVariants.{Fault, Untrue}
 use Rattle.gc_rehearsal.specs.declared.truth.Truth.{Truth}
-use Rattle.gc_texts.specs.Endings.{End, Answered, Unreadable, OffTarget, Disagree, Unexpected, Late}
+use Rattle.gc_texts.specs.Endings.{End, Answered, Unreadable, Judged, Late}
+use Rattle.gc_texts.specs.Judgements.{leaves_doubt}
 use Rattle.gc_texts.specs.declared.fault.RunFault.TheVariants.{Memory}
 use Rattle.gc_texts.specs.declared.quality.Quality.TheVariants.{Unconfirmed}
 use Rattle.gc_texts.specs.declared.wish.Wish.{Wish}
@@ -18,18 +19,15 @@ use Rattle.gc_texts.specs.declared.wish.Wish.{Wish}
 abbrev pub speaks_of_reply : End → Bool
 speaks_of_reply (Answered quality answer line) = true
 speaks_of_reply (Unreadable line fault) = true
-speaks_of_reply (OffTarget line) = true
-speaks_of_reply (Disagree line) = true
-speaks_of_reply (Unexpected line) = true
+speaks_of_reply (Judged judgement line) = true
 speaks_of_reply Late = true
 speaks_of_reply _ = false
 
 -- whether the values of a row with this ending don't count, by what the row says itself: it is of a first sending, which is unconfirmed,
--- or of a second one that disagrees with it, or its answer isn't as expected
+-- or judged in a way that leaves doubt of them
 abbrev pub is_in_doubt : End → Bool
 is_in_doubt (Answered Unconfirmed answer line) = true
-is_in_doubt (Disagree line) = true
-is_in_doubt (Unexpected line) = true
+is_in_doubt (Judged judgement line) = leaves_doubt judgement
 is_in_doubt _ = false
 
 -- how many requests were sent once this command was too, before which `requests` ones were sent: null procedures aren't counted

@@ -96,19 +96,20 @@ fn speaks_of_reply(ending: Ending<'_>) -> bool
 {
     match ending {
         Ending::Answered(..) | Ending::Unreadable(..) => true,
-        Ending::OffTarget(_) | Ending::Unexpected(_) | Ending::Disagree(_) => true,
+        Ending::Judged(..) => true,
         Ending::Late => true,
         Ending::Lost | Ending::Skipped | Ending::NoValue | Ending::Missed => false,
     }
 }
 
-// Whether the values of a row with this ending don't count, by what the row says itself: it is unconfirmed, unexpected, or disagrees.
+// Whether the values of a row with this ending don't count, by what the row says itself: it is unconfirmed, or judged in a
+// way that leaves doubt of them.
 fn is_in_doubt(ending: Ending<'_>) -> bool
     ensures { result ≡ is_in_doubt (ending_seen ending.entry) }
 {
     match ending {
         Ending::Answered(Quality::Unconfirmed, ..) => true,
-        Ending::Unexpected(_) | Ending::Disagree(_) => true,
+        Ending::Judged(judgement, _) => judgement.leaves_doubt(),
         _ => false,
     }
 }

@@ -23,7 +23,9 @@ use Rattle.gc_lines.specs.Numbers.{IsSmallNumber}
 use Rattle.gc_values.proofs.ItemLaws.{item_is_value}
 use Rattle.gc_texts.specs.Cuts.{before, behind}
 use Rattle.gc_texts.specs.Descriptions.{DescriptionSeen}
-use Rattle.gc_texts.specs.Endings.{End, Answered, Unreadable, OffTarget, Disagree, Unexpected, Late, Lost, Skipped, NoValue, Missed, word_of, fault_of, line_of, quality_of, quality_text}
+use Rattle.gc_texts.specs.Judgements.{judgement_word}
+use Rattle.gc_texts.proofs.Judgements.{of_each}
+use Rattle.gc_texts.specs.Endings.{End, Answered, Unreadable, Judged, Late, Lost, Skipped, NoValue, Missed, word_of, fault_of, line_of, quality_of, quality_text}
 use Rattle.gc_texts.specs.Fields.{FieldSeen}
 use Rattle.gc_texts.specs.KindLists.{KindsSeen}
 use Rattle.gc_texts.specs.Logs.{AreBytes}
@@ -127,9 +129,7 @@ word_fit word plain = bytes_by_places word (plain_bytes word plain)
 outcome_plain : (end : End) → is_plain_name (word_of end) ≡ true
 outcome_plain (Answered quality answer line) = refl
 outcome_plain (Unreadable line fault) = refl
-outcome_plain (OffTarget line) = refl
-outcome_plain (Disagree line) = refl
-outcome_plain (Unexpected line) = refl
+outcome_plain (Judged judgement line) = of_each (λ j. is_plain_name (judgement_word j)) refl judgement
 outcome_plain Late = refl
 outcome_plain Lost = refl
 outcome_plain Skipped = refl

@@ -12,7 +12,8 @@ use Rattle.gc_catalogue.specs.declared.asked.Asked.{Asked}
 use Rattle.gc_client.specs.Rule
 use Rattle.gc_client.specs.Rule.{heard, hears, restarts}
 use Rattle.gc_values.specs.declared.decimal.Decimal.{Decimal}
-use Rattle.gc_texts.specs.Endings.{End, Answered, OffTarget, Disagree, Unreadable}
+use Rattle.gc_texts.specs.Endings.{End, Answered, Judged, Unreadable}
+use Rattle.gc_texts.specs.declared.judgement.Judgement.TheVariants.{OffTarget, Disagree}
 use Rattle.gc_texts.specs.Nears.{is_off_target}
 use Rattle.gc_texts.specs.declared.agree.Twice.TheVariants as twice
 use Rattle.gc_texts.specs.declared.near.Expected.{Expected}
@@ -353,10 +354,10 @@ module _ (plan : Plan) (commands : List Task) (scope : Scope) where
     (
       ap (λ (k : Expected). k.turn) placed,
       (λ t near quality answer line at has e. absurd (no_end_of_sent p (Answered quality (Some answer) line) refl e)),
-      (λ t line at e. absurd (no_end_of_sent p (OffTarget line) refl e)),
+      (λ t line at e. absurd (no_end_of_sent p (Judged OffTarget line) refl e)),
       (λ quality said line e. absurd (no_end_of_sent p (Answered quality said line) refl e)),
       (λ t quality answer line at first e good. absurd (no_end_of_sent p (Answered quality answer line) refl e)),
-      (λ t line at e. absurd (no_end_of_sent p (Disagree line) refl e)),
+      (λ t line at e. absurd (no_end_of_sent p (Judged Disagree line) refl e)),
       (λ line why e. absurd (no_end_of_sent p (Unreadable line why) refl e)),
       (λ line why its says. absurd (no_line_unsent p line its)),
     ),

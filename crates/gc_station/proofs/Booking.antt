@@ -129,7 +129,7 @@ records_more reads (Some mark ∷ ms) more (s ∷ ss) le = ap (λ rs. record_of 
 -- a command whose request was settled was sent, however it ended
 pub ended_sent : (reads : Reads) (expected : Expected) (call : Asked) (o : Outcome) → went_out (end_of reads expected call o) ≡ true
 ended_sent reads expected call (Answered line) =
-    answer_along (λ (end : End). went_out end ≡ true) expected (reads expected.form call line) (reads expected.form call (as_zero line)) line (λ quality answer. refl) refl refl refl (λ fault. refl)
+    answer_along (λ (end : End). went_out end ≡ true) expected (reads expected.form call line) (reads expected.form call (as_zero line)) line (λ quality answer. refl) (λ judgement. refl) (λ fault. refl)
 ended_sent reads expected call Late = refl
 ended_sent reads expected call Lost = refl
 

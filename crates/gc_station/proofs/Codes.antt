@@ -2,7 +2,7 @@
 -- unless it was measured elsewhere than where its target is. `line` is the reply line of a command with this call, and `r` its
 -- fields; `reads` gives what each line says for a call (`AreReadings`), and `expected` what the command expects: the return
 -- codes that it accepts, and the place of its target.
-use Rattle.std.proofs.Common.{◌≡◌, ◌==◌, ◌&&◌, ◌||◌, ◌⊎◌, inl, inr, ℕ, zero, suc, replicate, Bool, true, false, not, List, Option, Some, None, if◌then◌else◌, refl, sym, ap, ◌∙◌}
+use Rattle.std.proofs.Common.{◌≡◌, ◌==◌, ◌&&◌, ◌||◌, ◌⊎◌, inl, inr, ℕ, zero, suc, replicate, Bool, true, false, not, List, Option, Some, None, refl, sym, ap, ◌∙◌}
 use Rattle.std.specs.List.{list_any}
 use Rattle.std.proofs.lemmas.Bool.Decides.{eqb_tells}
 use Rattle.std.proofs.lemmas.Bool.{both_ways}
@@ -13,9 +13,9 @@ use Rattle.gc_catalogue.specs.declared.answer.Reading.TheVariants as reading
 use Rattle.gc_catalogue.specs.declared.asked.Asked.{Asked}
 use Rattle.gc_catalogue.specs.declared.asked.Asked.TheVariants.{Table, Raw}
 use Rattle.gc_client.specs.Rule.{Answered}
+use Rattle.std.specs.Option.{is_none}
 use Rattle.gc_texts.specs.Codes.{lists_code, no_codes}
 use Rattle.gc_texts.specs.Endings as ends
-use Rattle.gc_texts.specs.Expectations.{meets}
 use Rattle.gc_texts.specs.Nears.{is_off_target}
 use Rattle.gc_texts.specs.Qualities.{is_good}
 use Rattle.gc_texts.specs.Zeroed.{as_zero}
@@ -23,14 +23,16 @@ use Rattle.gc_texts.specs.declared.codes.Codes.{Codes}
 use Rattle.gc_texts.specs.declared.agree.Twice.{Twice}
 use Rattle.gc_texts.specs.declared.agree.Twice.TheVariants as twice
 use Rattle.gc_texts.specs.declared.form.Form.{Form}
+use Rattle.gc_texts.specs.declared.judgement.Judgement.{Judgement}
 use Rattle.gc_texts.specs.declared.near.Expected.{Expected}
 use Rattle.gc_texts.specs.declared.quality.Quality.{Quality}
 use Rattle.gc_texts.specs.declared.quality.Quality.TheVariants as quality
 use Rattle.gc_station.specs.Codes.{WellIsAnAcceptedCode}
 use Rattle.gc_station.specs.Qualities.{GoodIsAnAnswer}
-use Rattle.gc_station.specs.Marks.{agrees_in, quality_in, agreed_as, answered_as, value_as, warned_as, refused_as, answer_as, end_of, is_well}
+use Rattle.gc_station.specs.Marks.{quality_in, judged_by, unless_judged, passes_rules, answered_as, warned_as, refused_as, answer_as, end_of, is_well}
 use Rattle.gc_station.specs.Saying.{IsSaid}
 use Rattle.gc_station.specs.Scopes.{AreReadings, Reads}
+use Rattle.gc_station.proofs.Judging.{unjudged_passes}
 use Rattle.gc_station.proofs.Saying.{zero_said}
 
 -- a reply with a communication code other than 0 says that fault, whatever was asked, by a form or without one
@@ -51,30 +53,15 @@ good_in twice.Once q good = good
 good_in twice.First q good = refl
 good_in (twice.Second agree nth) q good = good
 
--- a command whose reply is as expected, and has these values, or none, and a good quality is answered well exactly if they agree with those
--- of the first sending, if it is of a second one
-agreed_well : (expected : Expected) (q : Quality) → is_good q ≡ true → (said : Option Answer) (line : List ℕ)
-    → is_well (agreed_as expected q said line) ≡ agrees_in expected.twice expected.first said
-agreed_well expected q good said line = by_test (agrees_in expected.twice expected.first said) where
-  -- the lemma above, by whether they agree
-  by_test : (b : Bool) → is_well (if b then ends.Answered (quality_in expected.twice q) said line else ends.Disagree line) ≡ b
-  by_test true = good_in expected.twice q good
-  by_test false = refl
-
--- a command whose reply has these values, or none, and a good quality is answered well exactly if the line is as expected, and they agree so
-answered_well : (expected : Expected) (q : Quality) → is_good q ≡ true → (said : Option Answer) (line : List ℕ)
-    → is_well (answered_as expected q said line) ≡ (meets expected.expects expected.before line && agrees_in expected.twice expected.first said)
-answered_well expected q good said line = by_test (meets expected.expects expected.before line) where
-  -- the lemma above, by whether the line is as expected
-  by_test : (b : Bool) → is_well (if b then agreed_as expected q said line else ends.Unexpected line) ≡ (b && agrees_in expected.twice expected.first said)
-  by_test true = agreed_well expected q good said line
-  by_test false = refl
-
--- a command whose reply is an answer of a good quality is answered well exactly if it wasn't measured off target, and is as expected, and agrees
-value_well : (expected : Expected) (q : Quality) → is_good q ≡ true → (said : Answer) (line : List ℕ) (away : Bool)
-    → is_well (value_as expected q away said line) ≡ (not away && meets expected.expects expected.before line && agrees_in expected.twice expected.first (Some said))
-value_well expected q good said line true = refl
-value_well expected q good said line false = answered_well expected q good (Some said) line
+-- a command whose reply has these values, or none, and a good quality is answered well exactly if no rule sets it aside
+answered_well : (expected : Expected) (q : Quality) → is_good q ≡ true → (away : Bool) (said : Option Answer) (line : List ℕ)
+    → is_well (answered_as expected q away said line) ≡ passes_rules expected away said line
+answered_well expected q good away said line =
+    by_judgement (judged_by expected away said line) ∙ unjudged_passes expected away said line where
+      -- the lemma above, by the judgement
+      by_judgement : (o : Option Judgement) → is_well (unless_judged o (ends.Answered (quality_in expected.twice q) said line) line) ≡ is_none o
+      by_judgement None = good_in expected.twice q good
+      by_judgement (Some judgement) = refl
 
 -- a code other than 0 isn't among places that all have 0
 not_among_zeros : (n code : ℕ) → (code ≡ 0 → ⊥) → list_any (λ c. c == code) (replicate n 0) ≡ true → ⊥
@@ -147,10 +134,9 @@ module _ (reads : Reads) (expected : Expected) (call : Asked) (line : List ℕ) 
   unread_unwell (reading.ComFault code) e none unlisted = ap is_well (ended (reading.ComFault code) e)
   unread_unwell (reading.Unreadable fault) e none unlisted = ap is_well (ended (reading.Unreadable fault) e)
 
-  -- a reply with both codes 0 and an answer ends a command as answered with the quality `Fine`, or as off target where its
-  -- direction isn't near the target's place
+  -- a reply with both codes 0 and an answer ends a command as answered with the quality `Fine`, unless a rule sets it aside
   value_ends : (answer : Answer) → IsSaid expected.form call r (reading.Value answer)
-      → end_of reads expected call (Answered line) ≡ value_as expected quality.Fine (is_off_target expected.near answer) answer line
+      → end_of reads expected call (Answered line) ≡ answered_as expected quality.Fine (is_off_target expected.near answer) (Some answer) line
   value_ends answer has = ended (reading.Value answer) (says (reading.Value answer) has)
 
   -- a reply with an accepted return code other than 0 ends a command as `warned_as` says, by what its line says with return
@@ -181,13 +167,13 @@ accepted_codes = record {
         (first, without_codes expected.accepted r.rc none (rc_zero reads expected call line r are is first well));
     unread = λ said reading none unlisted. unread_unwell reads expected call line r are is said (says reads expected call line r are is said reading) none unlisted;
     found = λ answer has.
-        ap is_well (value_ends reads expected call line r are is answer has) ∙ value_well expected quality.Fine refl answer line (is_off_target expected.near answer);
-    away = λ answer has off_target. value_ends reads expected call line r are is answer has ∙ ap (λ b. value_as expected quality.Fine b answer line) off_target;
+        ap is_well (value_ends reads expected call line r are is answer has) ∙ answered_well expected quality.Fine refl (is_off_target expected.near answer) (Some answer) line;
+    away = λ answer has off_target. value_ends reads expected call line r are is answer has ∙ ap (λ b. answered_as expected quality.Fine b (Some answer) line) off_target;
     warned = λ answer none some accepted has.
         ap is_well (warned_ends reads expected call line r are is (reading.Value answer) none some accepted has)
-        ∙ value_well expected quality.Warning refl answer line (is_off_target expected.near answer);
+        ∙ answered_well expected quality.Warning refl (is_off_target expected.near answer) (Some answer) line;
     warned_away = λ answer none some accepted has off_target.
-        warned_ends reads expected call line r are is (reading.Value answer) none some accepted has ∙ ap (λ b. value_as expected quality.Warning b answer line) off_target;
+        warned_ends reads expected call line r are is (reading.Value answer) none some accepted has ∙ ap (λ b. answered_as expected quality.Warning b (Some answer) line) off_target;
     warned_without = λ fault none some accepted unreadable.
         warned_ends reads expected call line r are is (reading.Unreadable fault) none some accepted unreadable;
   };

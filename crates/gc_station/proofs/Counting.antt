@@ -1,11 +1,15 @@
 -- A tally counts the records of the last attempts. `count` is one of its counts, and `so` says which endings it counts; no count
 -- exceeds 2^64 - 1 (`capped`).
 use Rattle.std.proofs.Common.{◌||◌, ◌&&◌, not, nat_eq, nat_lt, ◌≡◌, ℕ, suc, ◌+◌, Bool, true, false, List, [], ◌∷◌, if◌then◌else◌, refl, sym, ap, ◌∙◌, arith}
-use Rattle.gc_texts.specs.Endings.{End, Answered, Unreadable, OffTarget, Disagree, Unexpected, Late, Lost, Skipped, NoValue, Missed}
+use Rattle.gc_texts.specs.Endings.{End, Answered, Unreadable, Judged, Late, Lost, Skipped, NoValue, Missed}
 use Rattle.gc_texts.specs.declared.quality.Quality.TheVariants.{Fine, Warning, Unconfirmed, Refused}
-use Rattle.gc_station.specs.Counting.{is_followed, last_attempts, further_attempts, how_many, ended_answered, ended_refused, ended_unreadable, ended_off_target, ended_disagree, ended_unexpected, ended_late, ended_lost, ended_skipped, ended_missed, TalliesCountRecords}
+use Rattle.gc_station.specs.Counting.{is_followed, last_attempts, further_attempts, how_many, ended_answered, ended_refused, ended_unreadable, ended_judged, ended_late, ended_lost, ended_skipped, ended_missed, TalliesCountRecords}
 use Rattle.gc_station.specs.Records.{Record}
-use Rattle.gc_station.specs.Tallies.{empty_tally, capped, one_more, counted, sum, empty_counts, tallied, total, tally_of}
+use Rattle.gc_station.specs.Tallies.{empty_tally, counted, sum, empty_counts, tallied, total, tally_of}
+use Rattle.gc_texts.specs.Judgements.{capped, one_more, judged_count, judged_one_more}
+use Rattle.gc_texts.proofs.Judgements.{counted_by_judgement, count_of_none, count_of_sum}
+use Rattle.gc_texts.specs.declared.judgement.Judgement.{Judgement}
+use Rattle.gc_texts.specs.declared.judgement.JudgementCounts.{JudgementCounts}
 use Rattle.gc_station.specs.declared.tally.Counts.{Counts}
 use Rattle.gc_station.specs.declared.tally.Tally.{Tally}
 
@@ -42,6 +46,22 @@ counted_in_front : (so : End → Bool) (q : Bool) (r : Record) (rs : List Record
 counted_in_front so true r rs = refl
 counted_in_front so false r rs = refl
 
+-- the counts of judgements with one more where a judgement is this ending
+abbrev with_judged : End → JudgementCounts → JudgementCounts
+with_judged (Judged judgement line) c = judged_one_more judgement c
+with_judged _ c = c
+
+-- the count of a judgement grows by one for each command that it ended, and stays for any other
+judged_step : (j : Judgement) (end : End) (c : JudgementCounts) → judged_count j (with_judged end c) ≡ (if ended_judged j end then one_more (judged_count j c) else judged_count j c)
+judged_step j (Judged k line) c = counted_by_judgement j k c
+judged_step j (Answered quality answer line) c = refl
+judged_step j (Unreadable line fault) c = refl
+judged_step j Late c = refl
+judged_step j Lost c = refl
+judged_step j Skipped c = refl
+judged_step j NoValue c = refl
+judged_step j Missed c = refl
+
 -- the tally `t` with one more in the count that counts this ending
 abbrev with_counted : End → Tally → Tally
 with_counted end t = record {
@@ -52,9 +72,7 @@ with_counted end t = record {
   skipped = if ended_skipped end then one_more t.skipped else t.skipped;
   unreadable = if ended_unreadable end then one_more t.unreadable else t.unreadable;
   missed = if ended_missed end then one_more t.missed else t.missed;
-  off_target = if ended_off_target end then one_more t.off_target else t.off_target;
-  disagree = if ended_disagree end then one_more t.disagree else t.disagree;
-  unexpected = if ended_unexpected end then one_more t.unexpected else t.unexpected;
+  judged = with_judged end t.judged;
   retried = t.retried;
 }
 
@@ -65,9 +83,7 @@ counted_by_ending (Answered Warning answer line) t = refl
 counted_by_ending (Answered Unconfirmed answer line) t = refl
 counted_by_ending (Answered Refused answer line) t = refl
 counted_by_ending (Unreadable line fault) t = refl
-counted_by_ending (OffTarget line) t = refl
-counted_by_ending (Disagree line) t = refl
-counted_by_ending (Unexpected line) t = refl
+counted_by_ending (Judged judgement line) t = refl
 counted_by_ending Late t = refl
 counted_by_ending Lost t = refl
 counted_by_ending Skipped t = refl
@@ -147,8 +163,7 @@ count_records = record {
   lost = counts_all (λ (t : Tally). t.lost) ended_lost (λ end t. refl) (λ a b. refl) refl (λ t n. refl);
   skipped = counts_all (λ (t : Tally). t.skipped) ended_skipped (λ end t. refl) (λ a b. refl) refl (λ t n. refl);
   missed = counts_all (λ (t : Tally). t.missed) ended_missed (λ end t. refl) (λ a b. refl) refl (λ t n. refl);
-  off_target = counts_all (λ (t : Tally). t.off_target) ended_off_target (λ end t. refl) (λ a b. refl) refl (λ t n. refl);
-  disagree = counts_all (λ (t : Tally). t.disagree) ended_disagree (λ end t. refl) (λ a b. refl) refl (λ t n. refl);
-  unexpected = counts_all (λ (t : Tally). t.unexpected) ended_unexpected (λ end t. refl) (λ a b. refl) refl (λ t n. refl);
+  judged = λ j.
+      counts_all (λ (t : Tally). judged_count j t.judged) (ended_judged j) (λ end t. judged_step j end t.judged) (λ a b. count_of_sum j a.judged b.judged) (count_of_none j) (λ t n. refl);
   retried = λ records. retried_counts empty_counts records refl ∙ omega arith;
 }

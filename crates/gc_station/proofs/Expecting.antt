@@ -6,7 +6,8 @@ use Rattle.std.proofs.lemmas.List.{append_cancel_left}
 use Rattle.gc_catalogue.specs.declared.asked.Asked.{Asked}
 use Rattle.gc_client.specs.declared.pending.Pending.{Pending}
 use Rattle.gc_client.specs.Rule.{lost}
-use Rattle.gc_texts.specs.Endings.{End, Unexpected}
+use Rattle.gc_texts.specs.Endings.{End, Judged}
+use Rattle.gc_texts.specs.declared.judgement.Judgement.TheVariants.{Unexpected}
 use Rattle.gc_texts.specs.declared.tasks.Task.{Task}
 use Rattle.gc_session.specs.Lines.{calls_for_renewal}
 use Rattle.gc_links.specs.Acts.{Act, Told, Gave}
@@ -45,11 +46,11 @@ stays_unexpected [] = refl
 stays_unexpected (r ∷ rs) = ap (λ (b : Bool). any_unexpected b rs) (by_end r.end) ∙ stays_unexpected rs where
   -- so it does with the first record, by how that ended
   by_end : (end : End) → unexpected_noted end true ≡ true
-  by_end (Unexpected line) = refl
+  by_end (Judged Unexpected line) = refl
   by_end end = refl
 
 -- if a record among others ended as unexpected, it is noted that one did
-one_unexpected : (b : Bool) (earlier : List Record) (r : Record) (later : List Record) (line : List ℕ) → r.end ≡ Unexpected line → any_unexpected b (earlier ++ r ∷ later) ≡ true
+one_unexpected : (b : Bool) (earlier : List Record) (r : Record) (later : List Record) (line : List ℕ) → r.end ≡ Judged Unexpected line → any_unexpected b (earlier ++ r ∷ later) ≡ true
 one_unexpected b [] r later line e = ap (λ (end : End). any_unexpected (unexpected_noted end b) later) e ∙ stays_unexpected later
 one_unexpected b (x ∷ earlier) r later line e = one_unexpected (unexpected_noted x.end b) earlier r later line e
 

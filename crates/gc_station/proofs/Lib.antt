@@ -80,6 +80,7 @@ mod Dues
 mod Grouped
 mod Unsent
 mod Pauses
+mod Judging
 mod Qualified
 pub mod Nearly
 pub mod Behind

@@ -9,7 +9,7 @@ use Rattle.gc_catalogue.specs.declared.answer.Reading.{Reading}
 use Rattle.gc_catalogue.specs.declared.asked.Asked.{Asked}
 use Rattle.gc_client.specs.Rule
 use Rattle.gc_texts.specs.Again.{repeats_after, has_code}
-use Rattle.gc_texts.specs.Endings.{End, Answered, Unreadable, OffTarget, Disagree, Unexpected, Late, Lost, Skipped, NoValue, Missed, line_of}
+use Rattle.gc_texts.specs.Endings.{End, Answered, Unreadable, Judged, Late, Lost, Skipped, NoValue, Missed, line_of}
 use Rattle.gc_texts.specs.Zeroed.{as_zero}
 use Rattle.gc_texts.specs.declared.again.Again.{Again}
 use Rattle.gc_texts.specs.declared.near.Expected.{Expected}
@@ -46,9 +46,7 @@ pub named_by : (reads : Reads) (again : Again) (call : Asked) (code : Option ℕ
     → repeats_after again code end ≡ repeats_after again (code_of_end reads call end) end
 named_by reads again call code (Answered q said l) is = ap (has_code again.codes) (is q said l refl)
 named_by reads again call code (Unreadable line fault) is = refl
-named_by reads again call code (OffTarget line) is = refl
-named_by reads again call code (Disagree line) is = refl
-named_by reads again call code (Unexpected line) is = refl
+named_by reads again call code (Judged judgement line) is = refl
 named_by reads again call code Late is = refl
 named_by reads again call code Lost is = refl
 named_by reads again call code Skipped is = refl

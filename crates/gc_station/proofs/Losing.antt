@@ -8,7 +8,8 @@ use Rattle.gc_catalogue.specs.declared.asked.Asked.{Asked}
 use Rattle.gc_client.specs.declared.pending.Pending.{Pending}
 use Rattle.gc_client.specs.Ids.{id_of}
 use Rattle.gc_client.specs.Rule.{ById, Settlement, Answered, Late, Lost, lost}
-use Rattle.gc_texts.specs.Endings.{Unexpected}
+use Rattle.gc_texts.specs.Endings.{Judged}
+use Rattle.gc_texts.specs.declared.judgement.Judgement.TheVariants.{Unexpected}
 use Rattle.gc_texts.specs.declared.tasks.Task.{Task}
 use Rattle.gc_station.specs.declared.cause.Cause.{Cause}
 use Rattle.gc_station.specs.declared.cause.Cause.TheVariants as cause
@@ -204,7 +205,7 @@ module _ (plan : Plan) (commands : List Task) (scope : Scope) (acts : List Act) 
     ended = it.2.ended ∙ ap (end_of it.2.reads it.0.expected it.1.call) outcome
 
     -- and not as unexpected
-    not_unexpected : (line : List ℕ) → end_of it.2.reads it.0.expected it.1.call Lost ≡ Unexpected line → ⊥
+    not_unexpected : (line : List ℕ) → end_of it.2.reads it.0.expected it.1.call Lost ≡ Judged Unexpected line → ⊥
     not_unexpected line e = cc
 
     -- a request that is lost isn't answered

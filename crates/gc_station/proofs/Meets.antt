@@ -224,7 +224,7 @@ made_then plan commands scope acts S number at id p mark r x of_it asks s =
 
 -- the ending by a reply in time has the reply's line, whatever it says
 pub answer_line : (expected : Expected) (x y : Reading) (line : List ℕ) → line_of (answer_as expected x y line) ≡ Some line
-answer_line expected x y line = answer_along (λ (end : End). line_of end ≡ Some line) expected x y line (λ quality answer. refl) refl refl refl (λ fault. refl)
+answer_line expected x y line = answer_along (λ (end : End). line_of end ≡ Some line) expected x y line (λ quality answer. refl) (λ judgement. refl) (λ fault. refl)
 
 -- an ending without a line isn't that by a reply in time
 unanswered : (expected : Expected) (x y : Reading) (line : List ℕ) (end : End) → line_of end ≡ None → answer_as expected x y line ≡ end → ⊥

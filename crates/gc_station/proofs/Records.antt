@@ -19,8 +19,8 @@ use Rattle.gc_client.specs.Rule
 use Rattle.gc_client.specs.Settlements.{settlement_seen}
 use Rattle.gc_station.specs.declared.mark.Mark.{Mark}
 use Rattle.gc_texts.specs.Codes.{lists_code}
-use Rattle.gc_texts.specs.Endings.{End, Answered, Unreadable, OffTarget, Disagree, Unexpected}
-use Rattle.gc_texts.specs.Expectations.{meets}
+use Rattle.gc_texts.specs.Endings.{End, Answered, Unreadable, Judged}
+use Rattle.gc_texts.specs.declared.judgement.Judgement.{Judgement}
 use Rattle.gc_texts.specs.Nears.{is_off_target}
 use Rattle.gc_texts.specs.declared.near.Expected.{Expected}
 use Rattle.gc_texts.specs.declared.quality.Quality.{Quality}
@@ -29,7 +29,7 @@ use Rattle.gc_station.specs.Firsts.{first_noted, firsts_after}
 use Rattle.gc_station.specs.declared.firsts.FirstAnswer.{FirstAnswer}
 use Rattle.gc_station.specs.Attempts.{code_of, listed_after, listed_after_settlements}
 use Rattle.gc_station.specs.Counters.{counts_after_settlement, counts_after_settlements}
-use Rattle.gc_station.specs.Marks.{commands_in, first_mark, agrees_in, quality_in, agreed_as, answered_as, value_as, warned_as, refused_as, answer_as, end_of, command_of, record_with, record_of, records_of, is_well, last_well, unexpected_noted, any_unexpected}
+use Rattle.gc_station.specs.Marks.{commands_in, first_mark, quality_in, judged_by, unless_judged, answered_as, warned_as, refused_as, answer_as, end_of, command_of, record_with, record_of, records_of, is_well, last_well, unexpected_noted, any_unexpected}
 use Rattle.gc_station.specs.Watching.{renewed_by, fresh_after}
 use Rattle.gc_station.specs.declared.watching.Watch.{Watch}
 use Rattle.gc_station.specs.Records.{Record, Grew, texts_of, WritesPart}
@@ -70,57 +70,40 @@ commands_more marks i b below e =
 
 -- Endings.
 
--- a fact of endings holds of the ending by a line that is as expected, with an answer, or without one, whether that agrees with that of a
--- first sending or not, if it holds of each answer by this line, and of the ending as disagreeing by it
-agreed_along : (P : End → Type 0) (expected : Expected) (q : Quality) (said : Option Answer) (line : List ℕ)
-    → ((quality : Quality) (answer : Option Answer) → P (Answered quality answer line)) → P (Disagree line) → P (agreed_as expected q said line)
-agreed_along P expected q said line answered disagree = by_test (agrees_in expected.twice expected.first said) where
-  -- the lemma above, by whether it agrees
-  by_test : (b : Bool) → P (if b then Answered (quality_in expected.twice q) said line else Disagree line)
-  by_test true = answered (quality_in expected.twice q) said
-  by_test false = disagree
-
--- so it does of the ending by a line that is as expected or not, if it holds of the ending as unexpected by this line, too
-answered_along : (P : End → Type 0) (expected : Expected) (q : Quality) (said : Option Answer) (line : List ℕ)
-    → ((quality : Quality) (answer : Option Answer) → P (Answered quality answer line)) → P (Disagree line) → P (Unexpected line) → P (answered_as expected q said line)
-answered_along P expected q said line answered disagree unexpected = by_test (meets expected.expects expected.before line) where
-  -- the lemma above, by whether it is as expected
-  by_test : (b : Bool) → P (if b then agreed_as expected q said line else Unexpected line)
-  by_test true = agreed_along P expected q said line answered disagree
-  by_test false = unexpected
-
--- a fact of endings holds of the ending by an answer, whether that is off target or not, if it holds of each answer by this line,
--- and of the endings as off target, as disagreeing and as unexpected by it
-value_along : (P : End → Type 0) (expected : Expected) (q : Quality) (away : Bool) (said : Answer) (line : List ℕ)
-    → ((quality : Quality) (answer : Option Answer) → P (Answered quality answer line)) → P (OffTarget line) → P (Disagree line) → P (Unexpected line) → P (value_as expected q away said line)
-value_along P expected q true said line answered off_target disagree unexpected = off_target
-value_along P expected q false said line answered off_target disagree unexpected = answered_along P expected q (Some said) line answered disagree unexpected
+-- a fact of endings holds of the ending by a line with an answer, or without one, judged or not, if it holds of each answer by this line, and
+-- of each judgement on it
+answered_along : (P : End → Type 0) (expected : Expected) (q : Quality) (away : Bool) (said : Option Answer) (line : List ℕ)
+    → ((quality : Quality) (answer : Option Answer) → P (Answered quality answer line)) → ((judgement : Judgement) → P (Judged judgement line)) → P (answered_as expected q away said line)
+answered_along P expected q away said line answered judged = by_judgement (judged_by expected away said line) where
+  -- the lemma above, by the judgement
+  by_judgement : (o : Option Judgement) → P (unless_judged o (Answered (quality_in expected.twice q) said line) line)
+  by_judgement None = answered (quality_in expected.twice q) said
+  by_judgement (Some judgement) = judged judgement
 
 -- so it does of the ending by a reply with an accepted code, whatever the line says with return code 0 (`zeroed`)
 warned_along : (P : End → Type 0) (expected : Expected) (zeroed : Reading) (line : List ℕ)
-    → ((quality : Quality) (answer : Option Answer) → P (Answered quality answer line)) → P (OffTarget line) → P (Disagree line) → P (Unexpected line) → P (warned_as expected zeroed line)
-warned_along P expected (reading.Value said) line answered off_target disagree unexpected =
-    value_along P expected Warning (is_off_target expected.near said) said line answered off_target disagree unexpected
-warned_along P expected (reading.Refused code) line answered off_target disagree unexpected = answered_along P expected Warning None line answered disagree unexpected
-warned_along P expected (reading.ComFault code) line answered off_target disagree unexpected = answered_along P expected Warning None line answered disagree unexpected
-warned_along P expected (reading.Unreadable fault) line answered off_target disagree unexpected = answered_along P expected Warning None line answered disagree unexpected
+    → ((quality : Quality) (answer : Option Answer) → P (Answered quality answer line)) → ((judgement : Judgement) → P (Judged judgement line)) → P (warned_as expected zeroed line)
+warned_along P expected (reading.Value said) line answered judged = answered_along P expected Warning (is_off_target expected.near said) (Some said) line answered judged
+warned_along P expected (reading.Refused code) line answered judged = answered_along P expected Warning false None line answered judged
+warned_along P expected (reading.ComFault code) line answered judged = answered_along P expected Warning false None line answered judged
+warned_along P expected (reading.Unreadable fault) line answered judged = answered_along P expected Warning false None line answered judged
 
 -- so it does of the ending by a refused reply, whether its code is accepted or not
 refused_along : (P : End → Type 0) (accepted : Bool) (expected : Expected) (zeroed : Reading) (line : List ℕ)
-    → ((quality : Quality) (answer : Option Answer) → P (Answered quality answer line)) → P (OffTarget line) → P (Disagree line) → P (Unexpected line) → P (refused_as accepted expected zeroed line)
-refused_along P true expected zeroed line answered off_target disagree unexpected = warned_along P expected zeroed line answered off_target disagree unexpected
-refused_along P false expected zeroed line answered off_target disagree unexpected = answered Refused None
+    → ((quality : Quality) (answer : Option Answer) → P (Answered quality answer line)) → ((judgement : Judgement) → P (Judged judgement line)) → P (refused_as accepted expected zeroed line)
+refused_along P true expected zeroed line answered judged = warned_along P expected zeroed line answered judged
+refused_along P false expected zeroed line answered judged = answered Refused None
 
 -- so it does of the ending by any reply in time, if it holds of each ending as unreadable by this line, too
 pub answer_along : (P : End → Type 0) (expected : Expected) (said zeroed : Reading) (line : List ℕ)
-    → ((quality : Quality) (answer : Option Answer) → P (Answered quality answer line)) → P (OffTarget line) → P (Disagree line) → P (Unexpected line) → ((fault : ValueFault) → P (Unreadable line fault))
+    → ((quality : Quality) (answer : Option Answer) → P (Answered quality answer line)) → ((judgement : Judgement) → P (Judged judgement line)) → ((fault : ValueFault) → P (Unreadable line fault))
     → P (answer_as expected said zeroed line)
-answer_along P expected (reading.Value said) zeroed line answered off_target disagree unexpected unreadable =
-    value_along P expected Fine (is_off_target expected.near said) said line answered off_target disagree unexpected
-answer_along P expected (reading.Refused code) zeroed line answered off_target disagree unexpected unreadable =
-    refused_along P (lists_code expected.accepted code) expected zeroed line answered off_target disagree unexpected
-answer_along P expected (reading.ComFault code) zeroed line answered off_target disagree unexpected unreadable = answered Refused None
-answer_along P expected (reading.Unreadable fault) zeroed line answered off_target disagree unexpected unreadable = unreadable fault
+answer_along P expected (reading.Value said) zeroed line answered judged unreadable =
+    answered_along P expected Fine (is_off_target expected.near said) (Some said) line answered judged
+answer_along P expected (reading.Refused code) zeroed line answered judged unreadable =
+    refused_along P (lists_code expected.accepted code) expected zeroed line answered judged
+answer_along P expected (reading.ComFault code) zeroed line answered judged unreadable = answered Refused None
+answer_along P expected (reading.Unreadable fault) zeroed line answered judged unreadable = unreadable fault
 
 -- Records.
 

@@ -7,7 +7,7 @@ use Rattle.gc_lines.specs.Lines.{with_end}
 use Rattle.gc_catalogue.specs.Asked.{asked_line}
 use Rattle.gc_client.specs.declared.window.TheConstants.{IDS}
 use Rattle.gc_links.specs.Acts.{Act, Gave}
-use Rattle.gc_texts.specs.Endings.{End, Answered, Unreadable, OffTarget, Disagree, Unexpected, Late, Lost, Skipped, NoValue, Missed, line_of}
+use Rattle.gc_texts.specs.Endings.{End, Answered, Unreadable, Judged, Late, Lost, Skipped, NoValue, Missed, line_of}
 use Rattle.gc_texts.specs.declared.tasks.Task.{Task}
 use Rattle.gc_station.specs.ActKinds.{Puts}
 use Rattle.gc_station.specs.Answers.{AnswerIsJustified, IsRecordedBy}
@@ -40,9 +40,7 @@ module _ (plan : Plan) (commands : List Task) (scope : Scope) (acts : List Act) 
       → (end : End) → r.end ≡ end → went_out end ≡ true → Recorded
   recorded_sent answered late lost (Answered quality answer line) is out = by_line answered line (ap line_of is)
   recorded_sent answered late lost (Unreadable line fault) is out = by_line answered line (ap line_of is)
-  recorded_sent answered late lost (OffTarget line) is out = by_line answered line (ap line_of is)
-  recorded_sent answered late lost (Disagree line) is out = by_line answered line (ap line_of is)
-  recorded_sent answered late lost (Unexpected line) is out = by_line answered line (ap line_of is)
+  recorded_sent answered late lost (Judged judgement line) is out = by_line answered line (ap line_of is)
   recorded_sent answered late lost Late is out = let came = late is in (Gave came.reply.piece came.reply.moment, came.reply.its)
   recorded_sent answered late lost Lost is out = let it = lost is in (it.act, it.its)
   recorded_sent answered late lost Skipped is out = cc

@@ -1,54 +1,37 @@
 -- A command that a reply ends in time ends as unreadable exactly if the values of the reply's line don't read, for the same fault.
-use Rattle.std.proofs.Common.{◌≡◌, ℕ, Bool, true, false, List, Option, Some, None, if◌then◌else◌, ap, ◌∙◌, subst}
+use Rattle.std.proofs.Common.{◌≡◌, ℕ, Bool, true, false, List, Option, Some, None, ap, ◌∙◌, subst}
 use Rattle.gc_catalogue.specs.declared.answer.Answer.{Answer}
 use Rattle.gc_catalogue.specs.declared.answer.Reading.{Reading}
 use Rattle.gc_catalogue.specs.declared.answer.Reading.TheVariants as reading
 use Rattle.gc_catalogue.specs.declared.asked.Asked.{Asked}
 use Rattle.gc_client.specs.Rule as client
 use Rattle.gc_texts.specs.Codes.{lists_code}
-use Rattle.gc_texts.specs.Endings.{End, Answered, Disagree, Unexpected, Unreadable, line_of}
-use Rattle.gc_texts.specs.Expectations.{meets}
+use Rattle.gc_texts.specs.Endings.{End, Unreadable, line_of}
 use Rattle.gc_texts.specs.Nears.{is_off_target}
 use Rattle.gc_texts.specs.Zeroed.{as_zero}
 use Rattle.gc_texts.specs.declared.near.Expected.{Expected}
 use Rattle.gc_texts.specs.declared.quality.Quality.{Quality}
 use Rattle.gc_texts.specs.declared.quality.Quality.TheVariants as quality
 use Rattle.gc_values.specs.declared.fault.ValueFault.{ValueFault}
-use Rattle.gc_station.specs.Marks.{agrees_in, agreed_as, answer_as, answered_as, end_of, refused_as, quality_in, value_as, warned_as}
+use Rattle.gc_station.specs.Marks.{answer_as, answered_as, end_of, judged_by, refused_as, quality_in, warned_as}
 use Rattle.gc_station.specs.Model.{end_unsent}
 use Rattle.gc_station.specs.Scopes.{Reads}
 use Rattle.gc_station.specs.declared.progress.Progress.{Progress}
+use Rattle.gc_station.proofs.Judging.{judged_reads}
 use Rattle.gc_station.proofs.Meets.{settled_answered}
 use Rattle.gc_station.proofs.Walk.{unsent_along}
 
 module _ (expected : Expected) (l line : List ℕ) (why : ValueFault) where
-  -- `agreed_as` never ends a command as unreadable
-  agreed_reads : (q : Quality) (given : Option Answer) → agreed_as expected q given l ≡ Unreadable line why → ⊥
-  agreed_reads q given e = by_test (agrees_in expected.twice expected.first given) e where
-    -- the lemma above, by whether the values agree
-    by_test : (b : Bool) → (if b then Answered (quality_in expected.twice q) given l else Disagree l) ≡ Unreadable line why → ⊥
-    by_test true e = cc
-    by_test false e = cc
-
-  -- nor does `answered_as`
-  answered_reads : (q : Quality) (given : Option Answer) → answered_as expected q given l ≡ Unreadable line why → ⊥
-  answered_reads q given e = by_test (meets expected.expects expected.before l) e where
-    -- the lemma above, by whether the line is as expected
-    by_test : (b : Bool) → (if b then agreed_as expected q given l else Unexpected l) ≡ Unreadable line why → ⊥
-    by_test true e = agreed_reads q given e
-    by_test false e = cc
-
-  -- nor does an answer
-  value_reads : (q : Quality) (away : Bool) (a : Answer) → value_as expected q away a l ≡ Unreadable line why → ⊥
-  value_reads q true a e = cc
-  value_reads q false a e = answered_reads q (Some a) e
+  -- `answered_as` never ends a command as unreadable
+  answered_reads : (q : Quality) (away : Bool) (given : Option Answer) → answered_as expected q away given l ≡ Unreadable line why → ⊥
+  answered_reads q away given e = judged_reads (quality_in expected.twice q) given l (judged_by expected away given l) line why e
 
   -- nor a reply with an accepted code
   warned_reads : (z : Reading) → warned_as expected z l ≡ Unreadable line why → ⊥
-  warned_reads (reading.Value a) e = value_reads quality.Warning (is_off_target expected.near a) a e
-  warned_reads (reading.Refused code) e = answered_reads quality.Warning None e
-  warned_reads (reading.ComFault code) e = answered_reads quality.Warning None e
-  warned_reads (reading.Unreadable fault) e = answered_reads quality.Warning None e
+  warned_reads (reading.Value a) e = answered_reads quality.Warning (is_off_target expected.near a) (Some a) e
+  warned_reads (reading.Refused code) e = answered_reads quality.Warning false None e
+  warned_reads (reading.ComFault code) e = answered_reads quality.Warning false None e
+  warned_reads (reading.Unreadable fault) e = answered_reads quality.Warning false None e
 
   -- nor any other refusal
   refused_reads : (b : Bool) (z : Reading) → refused_as b expected z l ≡ Unreadable line why → ⊥
@@ -57,7 +40,7 @@ module _ (expected : Expected) (l line : List ℕ) (why : ValueFault) where
 
   -- a reply ends its command as unreadable only if its values don't read, for the same fault
   ended_unreadable : (said z : Reading) → answer_as expected said z l ≡ Unreadable line why → (said ≡ reading.Unreadable why) × (l ≡ line)
-  ended_unreadable (reading.Value a) z e = absurd (value_reads quality.Fine (is_off_target expected.near a) a e)
+  ended_unreadable (reading.Value a) z e = absurd (answered_reads quality.Fine (is_off_target expected.near a) (Some a) e)
   ended_unreadable (reading.Refused code) z e = absurd (refused_reads (lists_code expected.accepted code) z e)
   ended_unreadable (reading.ComFault code) z e = cc
   ended_unreadable (reading.Unreadable fault) z e = let same : fault ≡ why = cc in let own : l ≡ line = cc in (ap reading.Unreadable same, own)

@@ -3,10 +3,11 @@
 use Rattle.std.specs.Prelude.{◌≡◌, ℕ, ◌+◌, true, List, ◌∷◌, ◌++◌, Option, Some, slice_get}
 use Rattle.gc_catalogue.specs.declared.answer.Answer.{Answer}
 use Rattle.gc_texts.specs.Agrees.{agrees}
-use Rattle.gc_texts.specs.Endings.{Answered, Disagree}
+use Rattle.gc_texts.specs.Endings.{Answered, Judged}
 use Rattle.gc_texts.specs.Qualities.{is_good}
 use Rattle.gc_texts.specs.declared.agree.Agree.{Agree}
 use Rattle.gc_texts.specs.declared.agree.Twice.TheVariants as twice
+use Rattle.gc_texts.specs.declared.judgement.Judgement.TheVariants.{Disagree}
 use Rattle.gc_texts.specs.declared.quality.Quality.{Quality}
 use Rattle.gc_texts.specs.declared.quality.Quality.TheVariants.{Unconfirmed}
 use Rattle.gc_texts.specs.declared.tasks.Task.{Task}
@@ -59,7 +60,7 @@ IsComparedInFull commands r =
 -- if the record `r` ended as disagreeing, it is of a second sending
 abbrev pub DisagreesInSecond : List Task → Record → Type 0
 DisagreesInSecond commands r =
-    (task : Task) (line : List ℕ) → slice_get commands r.place ≡ Some task → r.end ≡ Disagree line
+    (task : Task) (line : List ℕ) → slice_get commands r.place ≡ Some task → r.end ≡ Judged Disagree line
     → (agree : Agree) × (nth : ℕ) × (task.twice ≡ twice.Second agree nth)
 
 -- what the records of a chain that is sent twice say of each other

@@ -1,5 +1,5 @@
 -- Whether a command was answered well, in the codes of its reply's line: this project's own.
-use Rattle.std.specs.Prelude.{◌≡◌, ◌≢◌, ◌⊎◌, ◌&&◌, ℕ, true, false, not, List, Some, None}
+use Rattle.std.specs.Prelude.{◌≡◌, ◌≢◌, ◌⊎◌, ℕ, true, false, List, Some, None}
 use Rattle.gc_lines.specs.Replies.{ReplyFields, IsReply}
 use Rattle.gc_catalogue.specs.declared.answer.Answer.{Answer}
 use Rattle.gc_catalogue.specs.declared.answer.Reading.{Reading}
@@ -8,12 +8,12 @@ use Rattle.gc_catalogue.specs.declared.asked.Asked.{Asked}
 use Rattle.gc_client.specs.Rule.{Answered, Late, Lost}
 use Rattle.gc_texts.specs.Codes.{lists_code, no_codes}
 use Rattle.gc_texts.specs.Endings as end
-use Rattle.gc_texts.specs.Expectations.{meets}
 use Rattle.gc_texts.specs.Nears.{is_off_target}
 use Rattle.gc_texts.specs.declared.near.Expected.{Expected}
 use Rattle.gc_texts.specs.declared.quality.Quality.TheVariants as quality
 use Rattle.gc_values.specs.declared.fault.ValueFault.{ValueFault}
-use Rattle.gc_station.specs.Marks.{agrees_in, answered_as, end_of, is_well}
+use Rattle.gc_texts.specs.declared.judgement.Judgement.TheVariants.{OffTarget}
+use Rattle.gc_station.specs.Marks.{answered_as, end_of, is_well, passes_rules}
 use Rattle.gc_station.specs.Saying.{IsSaid}
 use Rattle.gc_station.specs.Scopes.{AreReadings, Reads}
 
@@ -34,24 +34,24 @@ pub record EndsByItsCodes (expected : Expected) (call : Asked) (line : List ℕ)
   -- it wasn't answered well if the reply says neither an answer nor a refusal with an accepted code
   pub unread : (said : Reading) → IsSaid expected.form call r said → ((answer : Answer) → said ≡ reading.Value answer → ⊥)
       → ((code : ℕ) → said ≡ reading.Refused code → lists_code expected.accepted code ≡ false) → is_well ended ≡ false
-  -- if both codes are 0, and the parameters are an answer to what was asked, it was answered well, unless the answer was measured
-  -- elsewhere than the target is, or isn't as the text expects it, or, in a second sending, doesn't agree with that of the first
+  -- if both codes are 0, and the parameters are an answer to what was asked, it was answered well, unless a rule of the text sets that
+  -- aside
   pub found : (answer : Answer) → IsSaid expected.form call r (reading.Value answer)
-      → is_well ended ≡ (not (is_off_target expected.near answer) && meets expected.expects expected.before line && agrees_in expected.twice expected.first (Some answer))
+      → is_well ended ≡ passes_rules expected (is_off_target expected.near answer) (Some answer) line
   -- and where the answer was measured off target, it ended as off target
   pub away : (answer : Answer) → IsSaid expected.form call r (reading.Value answer) → is_off_target expected.near answer ≡ true
-      → ended ≡ end.OffTarget line
+      → ended ≡ end.Judged OffTarget line
   -- as `found`, with an accepted return code other than 0
   pub warned : (answer : Answer)
       → IfAccepted expected call r (reading.Value answer)
-      (is_well ended ≡ (not (is_off_target expected.near answer) && meets expected.expects expected.before line && agrees_in expected.twice expected.first (Some answer)))
+      (is_well ended ≡ passes_rules expected (is_off_target expected.near answer) (Some answer) line)
   -- as `away`, with an accepted return code other than 0
   pub warned_away : (answer : Answer)
-      → IfAccepted expected call r (reading.Value answer) (is_off_target expected.near answer ≡ true → ended ≡ end.OffTarget line)
+      → IfAccepted expected call r (reading.Value answer) (is_off_target expected.near answer ≡ true → ended ≡ end.Judged OffTarget line)
   -- with an accepted return code other than 0, and parameters that don't read, it is answered with a warning, and without values, if the
   -- line is as the text expects it; in a chain that is sent twice as its sending has it (`answered_as`)
   pub warned_without : (fault : ValueFault)
-      → IfAccepted expected call r (reading.Unreadable fault) (ended ≡ answered_as expected quality.Warning None line)
+      → IfAccepted expected call r (reading.Unreadable fault) (ended ≡ answered_as expected quality.Warning false None line)
 
 -- which commands are answered well
 pub record WellIsAnAcceptedCode : Type 0 where

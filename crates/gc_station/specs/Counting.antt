@@ -1,9 +1,11 @@
 -- A tally counts the records of the last attempts: this project's own.
 use Rattle.std.specs.Prelude.{◌≡◌, ℕ, suc, Bool, true, false, List, [], ◌∷◌, if◌then◌else◌, ◌||◌, ◌&&◌, not, nat_eq, nat_lt}
 use Rattle.gc_texts.specs.Qualities.{is_good}
-use Rattle.gc_texts.specs.Endings.{End, Answered, Unreadable, OffTarget, Disagree, Unexpected, Late, Lost, Skipped, NoValue, Missed}
+use Rattle.gc_texts.specs.Endings.{End, Answered, Unreadable, Judged, Late, Lost, Skipped, NoValue, Missed}
 use Rattle.gc_station.specs.Records.{Record}
-use Rattle.gc_station.specs.Tallies.{capped, tally_of}
+use Rattle.gc_texts.specs.declared.judgement.Judgement.{Judgement}
+use Rattle.gc_texts.specs.Judgements.{capped, is_same, judged_count}
+use Rattle.gc_station.specs.Tallies.{tally_of}
 use Rattle.gc_station.specs.declared.tally.Tally.{Tally}
 
 -- how many of these records have an ending for which `holds` is true
@@ -26,20 +28,10 @@ abbrev pub ended_unreadable : End → Bool
 ended_unreadable (Unreadable line fault) = true
 ended_unreadable _ = false
 
--- whether an ending is `OffTarget`
-abbrev pub ended_off_target : End → Bool
-ended_off_target (OffTarget line) = true
-ended_off_target _ = false
-
--- whether an ending is `Disagree`
-abbrev pub ended_disagree : End → Bool
-ended_disagree (Disagree line) = true
-ended_disagree _ = false
-
--- whether an ending is `Unexpected`
-abbrev pub ended_unexpected : End → Bool
-ended_unexpected (Unexpected line) = true
-ended_unexpected _ = false
+-- whether an ending is `Judged`, by this judgement
+abbrev pub ended_judged : Judgement → End → Bool
+ended_judged judgement (Judged own line) = is_same judgement own
+ended_judged judgement _ = false
 
 -- whether an ending is `Late`
 abbrev pub ended_late : End → Bool
@@ -94,7 +86,5 @@ pub record TalliesCountRecords : Type 0 where
   pub lost : CountsEndings (λ t. t.lost) ended_lost
   pub skipped : CountsEndings (λ t. t.skipped) ended_skipped
   pub missed : CountsEndings (λ t. t.missed) ended_missed
-  pub off_target : CountsEndings (λ t. t.off_target) ended_off_target
-  pub disagree : CountsEndings (λ t. t.disagree) ended_disagree
-  pub unexpected : CountsEndings (λ t. t.unexpected) ended_unexpected
+  pub judged : (judgement : Judgement) → CountsEndings (λ t. judged_count judgement t.judged) (ended_judged judgement)
   pub retried : (records : List Record) → (tally_of records).retried ≡ capped (further_attempts records)

@@ -2,8 +2,9 @@
 -- that isn't as expected shows that the instrument isn't as the text takes it to be. So the setup is sent anew. An act is one call on the
 -- link, with its result.
 use Rattle.std.specs.Prelude.{◌≡◌, ℕ, ◌<◌, Bool, true, false, List, [], ◌∷◌, ◌++◌, Some}
-use Rattle.gc_texts.specs.Endings.{Unexpected, line_of}
+use Rattle.gc_texts.specs.Endings.{Judged, line_of}
 use Rattle.gc_texts.specs.Expectations.{meets}
+use Rattle.gc_texts.specs.declared.judgement.Judgement.TheVariants.{Unexpected}
 use Rattle.gc_texts.specs.declared.tasks.Task.{Task}
 use Rattle.gc_links.specs.Acts.{Act}
 use Rattle.gc_station.specs.declared.plan.Plan.{Plan}
@@ -37,7 +38,7 @@ IsAsExpected plan commands scope acts r = is_well r.end ≡ true → IsCompared 
 
 -- if the record `r` ended as unexpected, they aren't
 abbrev pub IsNotAsExpected : Plan → List Task → Scope → List Act → Record → Type 0
-IsNotAsExpected plan commands scope acts r = (line : List ℕ) → r.end ≡ Unexpected line → IsCompared plan commands scope acts r false
+IsNotAsExpected plan commands scope acts r = (line : List ℕ) → r.end ≡ Judged Unexpected line → IsCompared plan commands scope acts r false
 
 -- the record `r` is as the text expects it, if it was answered well, and isn't, if it ended as unexpected
 abbrev pub IsByExpectation : Plan → List Task → Scope → List Act → Record → Type 0
@@ -73,7 +74,7 @@ pub record BringsUnexpected (plan : Plan) (commands : List Task) (scope : Scope)
   pub answer : Record
   pub line : List ℕ
   pub written : IsWrittenAt plan commands scope acts act answer
-  pub unexpected : answer.end ≡ Unexpected line
+  pub unexpected : answer.end ≡ Judged Unexpected line
 
 -- `Holds` is true of each act of a run that brings an unexpected answer, of the acts before it, and of those behind it
 abbrev pub OfEachUnexpected : (Plan → List Task → Scope → (earlier : List Act) → Act → (behind : List Act) → Type 0) → Type 0

@@ -1,6 +1,6 @@
 -- Marks, this project's own: for each outstanding request, which command of which cycle it is; a null procedure of the
 -- station's own has none.
-use Rattle.std.specs.Prelude.{ℕ, suc, Bool, true, false, List, [], ◌∷◌, map, Option, Some, None, if◌then◌else◌, slice_get, unwrap_or}
+use Rattle.std.specs.Prelude.{ℕ, suc, Bool, true, false, List, [], ◌∷◌, map, Option, Some, None, ◌&&◌, not, slice_get, unwrap_or}
 use Rattle.gc_catalogue.specs.declared.answer.Answer.{Answer}
 use Rattle.gc_catalogue.specs.declared.answer.Reading.{Reading}
 use Rattle.gc_catalogue.specs.declared.answer.Reading.TheVariants as reading
@@ -14,6 +14,8 @@ use Rattle.gc_texts.specs.Expectations.{meets}
 use Rattle.gc_texts.specs.Nears.{is_off_target}
 use Rattle.gc_texts.specs.Qualities.{is_good, is_confirmed}
 use Rattle.gc_texts.specs.Zeroed.{as_zero}
+use Rattle.gc_texts.specs.declared.judgement.Judgement.{Judgement}
+use Rattle.gc_texts.specs.declared.judgement.Judgement.TheVariants.{OffTarget, Unexpected, Disagree}
 use Rattle.gc_texts.specs.declared.near.Expected.{Expected}
 use Rattle.gc_texts.specs.declared.occasion.Occasion.{Occasion}
 use Rattle.gc_texts.specs.declared.agree.Twice.{Twice}
@@ -67,30 +69,41 @@ abbrev pub quality_in : Twice → Quality → Quality
 quality_in twice.First q = quality.Unconfirmed
 quality_in _ q = q
 
--- how a command ends whose reply, `line`, is as the text expects it, and has this answer, or none, and this quality: as answered, unless
--- it is of a second sending and doesn't agree with that of the first; then as disagreeing
-abbrev pub agreed_as : Expected → Quality → (answer : Option Answer) → (line : List ℕ) → End
-agreed_as expected quality answer line =
-    if agrees_in expected.twice expected.first answer then end.Answered (quality_in expected.twice quality) answer line else end.Disagree line
+-- the judgement of the rules of a command's text, in their order, on an answer: it was measured elsewhere than the target is (`away`), its
+-- values are as the text expects them (`met`), and, in a second sending, it agrees with that of the first (`agreed`). `None`: no rule sets it
+-- aside
+abbrev pub judgement_of : (away met agreed : Bool) → Option Judgement
+judgement_of true met agreed = Some OffTarget
+judgement_of false false agreed = Some Unexpected
+judgement_of false true false = Some Disagree
+judgement_of false true true = None
 
--- how a command ends whose reply, `line`, has this answer, or none, and this quality: as `agreed_as` says, unless the values of the line
--- aren't as the text expects them; then as unexpected
-abbrev pub answered_as : Expected → Quality → (answer : Option Answer) → (line : List ℕ) → End
-answered_as expected quality answer line =
-    if meets expected.expects expected.before line then agreed_as expected quality answer line else end.Unexpected line
+-- the judgement on a reply, `line`, that has this answer, or none
+abbrev pub judged_by : Expected → (away : Bool) → (answer : Option Answer) → (line : List ℕ) → Option Judgement
+judged_by expected away answer line =
+    judgement_of away (meets expected.expects expected.before line) (agrees_in expected.twice expected.first answer)
 
--- how a command ends whose reply, `line`, has this answer. If the answer was measured elsewhere than the command's target is
--- (`away`): as off target. Otherwise as `answered_as` says, with this quality
-abbrev pub value_as : Expected → Quality → (away : Bool) → Answer → (line : List ℕ) → End
-value_as expected quality true answer line = end.OffTarget line
-value_as expected quality false answer line = answered_as expected quality (Some answer) line
+-- whether no rule sets that reply aside
+abbrev pub passes_rules : Expected → (away : Bool) → (answer : Option Answer) → (line : List ℕ) → Bool
+passes_rules expected away answer line =
+    not away && meets expected.expects expected.before line && agrees_in expected.twice expected.first answer
+
+-- how a command ends whose reply, `line`, would end it so: as judged, if there is a judgement
+abbrev pub unless_judged : Option Judgement → End → (line : List ℕ) → End
+unless_judged None so line = so
+unless_judged (Some judgement) so line = end.Judged judgement line
+
+-- how a command ends whose reply, `line`, has this answer, or none, and this quality: as answered, unless a rule sets it aside
+abbrev pub answered_as : Expected → Quality → (away : Bool) → (answer : Option Answer) → (line : List ℕ) → End
+answered_as expected quality away answer line =
+    unless_judged (judged_by expected away answer line) (end.Answered (quality_in expected.twice quality) answer line) line
 
 -- how a command ends whose reply, `line`, has a return code that is accepted. The reading is what the line would say with
--- return code 0. If that is an answer, the command ends with a warning and the answer, or as off target if the answer
--- was measured away from its target; otherwise with a warning and no answer
+-- return code 0. If that is an answer, the command ends with a warning and the answer, and otherwise with a warning and no answer, unless
+-- a rule sets it aside
 abbrev pub warned_as : Expected → Reading → List ℕ → End
-warned_as expected (reading.Value answer) line = value_as expected quality.Warning (is_off_target expected.near answer) answer line
-warned_as expected _ line = answered_as expected quality.Warning None line
+warned_as expected (reading.Value answer) line = answered_as expected quality.Warning (is_off_target expected.near answer) (Some answer) line
+warned_as expected _ line = answered_as expected quality.Warning false None line
 
 -- how a command ends whose reply, `line`, has a return code other than 0, which is accepted or not. The line would say `zeroed`
 -- with return code 0. `expected` says where the command's target is, if the text says so, which values are expected, and with which answer
@@ -101,11 +114,11 @@ refused_as false expected zeroed line = end.Answered quality.Refused None line
 
 -- how a command ends whose reply, `line`, came in time. The line says `said`, and would say `zeroed` with return code 0;
 -- `expected` says where the target is, if the text says so, which return codes are accepted, which values are expected, and with which
--- answer of a first sending the answer is compared. An answer ends it as `value_as` says, and a return code as `refused_as` does. It is
+-- answer of a first sending the answer is compared. An answer ends it as `answered_as` says, and a return code as `refused_as` does. It is
 -- unreadable if its values don't read, and refused with a communication code
 abbrev pub answer_as : Expected → (said zeroed : Reading) → (line : List ℕ) → End
 answer_as expected (reading.Unreadable fault) zeroed line = end.Unreadable line fault
-answer_as expected (reading.Value answer) zeroed line = value_as expected quality.Fine (is_off_target expected.near answer) answer line
+answer_as expected (reading.Value answer) zeroed line = answered_as expected quality.Fine (is_off_target expected.near answer) (Some answer) line
 answer_as expected (reading.Refused code) zeroed line = refused_as (lists_code expected.accepted code) expected zeroed line
 answer_as expected (reading.ComFault code) zeroed line = end.Answered quality.Refused None line
 
@@ -155,7 +168,7 @@ ended_confirmed _ = false
 
 -- whether a command that ended as unexpected was recorded, once one more command with this ending was; `was`: whether one had before
 abbrev pub unexpected_noted : End → (was : Bool) → Bool
-unexpected_noted (end.Unexpected line) was = true
+unexpected_noted (end.Judged Unexpected line) was = true
 unexpected_noted _ was = was
 
 -- whether one of these records is of a command that ended as unexpected; true if `was` is

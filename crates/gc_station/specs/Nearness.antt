@@ -6,10 +6,11 @@ use Rattle.gc_catalogue.specs.declared.answer.Answer.{Answer}
 use Rattle.gc_catalogue.specs.declared.answer.Reading.TheVariants.{Value, Refused}
 use Rattle.gc_catalogue.specs.declared.asked.Asked.{Asked}
 use Rattle.gc_texts.specs.Codes.{lists_code}
-use Rattle.gc_texts.specs.Endings.{Answered, OffTarget}
+use Rattle.gc_texts.specs.Endings.{Answered, Judged}
 use Rattle.gc_texts.specs.Nears.{IsThere, IsAway}
 use Rattle.gc_texts.specs.Zeroed.{as_zero}
 use Rattle.gc_texts.specs.declared.codes.Codes.{Codes}
+use Rattle.gc_texts.specs.declared.judgement.Judgement.TheVariants.{OffTarget}
 use Rattle.gc_texts.specs.declared.near.Near.{Near}
 use Rattle.gc_texts.specs.declared.quality.Quality.{Quality}
 use Rattle.gc_texts.specs.declared.tasks.Task.{Task}
@@ -45,7 +46,7 @@ pub record WasMeasuredOffTarget (reads : Reads) (task : Task) (call : Asked) (li
 -- if the record `r` ended as off target, its answer was measured elsewhere than the target of its command is
 abbrev pub OffTargetIsJustified : Reads → List Task → Record → Type 0
 OffTargetIsJustified reads commands r =
-    (task : Task) (line : List ℕ) → slice_get commands r.place ≡ Some task → r.end ≡ OffTarget line
+    (task : Task) (line : List ℕ) → slice_get commands r.place ≡ Some task → r.end ≡ Judged OffTarget line
     → WasMeasuredOffTarget reads task r.command.call line
 
 -- after any acts, `IsAtItsTarget` and `OffTargetIsJustified` hold of each record

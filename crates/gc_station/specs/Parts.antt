@@ -10,7 +10,7 @@ use Rattle.gc_client.specs.OneForOne.{Wanted, Step, Send, Hear, Expire}
 use Rattle.gc_texts.specs.declared.near.Expected.{Expected}
 use Rattle.gc_texts.specs.declared.occasion.Occasion.{Occasion}
 use Rattle.gc_texts.specs.declared.tasks.Task.{Task}
-use Rattle.gc_texts.specs.Endings.{End, Answered, Unreadable, OffTarget, Disagree, Unexpected, Late, Lost, Skipped, NoValue, Missed}
+use Rattle.gc_texts.specs.Endings.{End, Answered, Unreadable, Judged, Late, Lost, Skipped, NoValue, Missed}
 use Rattle.gc_station.specs.declared.plan.Plan.{Plan}
 use Rattle.gc_station.specs.declared.mark.Mark.{Mark}
 use Rattle.gc_station.specs.declared.station.sending.Outgoing.{Outgoing}
@@ -138,9 +138,7 @@ MarksAsk commands marks asked = AllZip (MarkAsks commands) marks asked
 abbrev pub went_out : End → Bool
 went_out (Answered quality answer line) = true
 went_out (Unreadable line fault) = true
-went_out (OffTarget line) = true
-went_out (Disagree line) = true
-went_out (Unexpected line) = true
+went_out (Judged judgement line) = true
 went_out Late = true
 went_out Lost = true
 went_out Skipped = false

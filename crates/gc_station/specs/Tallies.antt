@@ -1,7 +1,8 @@
 -- How many commands ended how, this project's own: the counts are those of the last attempt of each chain. Commands of the setup
 -- aren't counted.
-use Rattle.std.specs.Prelude.{ℕ, ◌+◌, min, List, [], ◌∷◌, if◌then◌else◌, nat_eq, nat_lt}
-use Rattle.gc_texts.specs.Endings.{End, Answered, Unreadable, OffTarget, Disagree, Unexpected, Late, Lost, Skipped, NoValue, Missed}
+use Rattle.std.specs.Prelude.{ℕ, ◌+◌, List, [], ◌∷◌, if◌then◌else◌, nat_eq, nat_lt}
+use Rattle.gc_texts.specs.Endings.{End, Answered, Unreadable, Judged, Late, Lost, Skipped, NoValue, Missed}
+use Rattle.gc_texts.specs.Judgements.{capped, one_more, none_judged, judged_one_more, judged_sum}
 use Rattle.gc_texts.specs.Qualities.{is_good}
 use Rattle.gc_texts.specs.declared.quality.Quality.{Quality}
 use Rattle.gc_texts.specs.declared.turn.Turn.{Turn}
@@ -11,15 +12,7 @@ use Rattle.gc_station.specs.declared.tally.Tally.{Tally}
 
 -- the tally in which no command is counted
 abbrev pub empty_tally : Tally
-empty_tally = record { answered = 0; refused = 0; late = 0; lost = 0; skipped = 0; unreadable = 0; missed = 0; off_target = 0; disagree = 0; unexpected = 0; retried = 0 }
-
--- `n`, or 2^64 - 1 if `n` is greater: a count of a tally holds no greater number
-abbrev pub capped : ℕ → ℕ
-capped n = min n 18446744073709551615
-
--- the count `n` and one more, up to 2^64 - 1
-abbrev pub one_more : ℕ → ℕ
-one_more n = capped (n + 1)
+empty_tally = record { answered = 0; refused = 0; late = 0; lost = 0; skipped = 0; unreadable = 0; missed = 0; judged = none_judged; retried = 0 }
 
 -- the tally `t` after one more command that was answered, with this quality: a refusal counts as answered, and as refused besides
 abbrev pub counted_answered : Quality → Tally → Tally
@@ -33,9 +26,7 @@ counted Lost t = record t { lost = one_more t.lost }
 counted Skipped t = record t { skipped = one_more t.skipped }
 counted NoValue t = record t { skipped = one_more t.skipped }
 counted (Unreadable line fault) t = record t { unreadable = one_more t.unreadable }
-counted (OffTarget line) t = record t { off_target = one_more t.off_target }
-counted (Disagree line) t = record t { disagree = one_more t.disagree }
-counted (Unexpected line) t = record t { unexpected = one_more t.unexpected }
+counted (Judged judgement line) t = record t { judged = judged_one_more judgement t.judged }
 counted Missed t = record t { missed = one_more t.missed }
 
 -- the sum of the tallies `a` and `b`, count by count, each up to 2^64 - 1
@@ -48,9 +39,7 @@ sum a b = record {
   skipped = capped (a.skipped + b.skipped);
   unreadable = capped (a.unreadable + b.unreadable);
   missed = capped (a.missed + b.missed);
-  off_target = capped (a.off_target + b.off_target);
-  disagree = capped (a.disagree + b.disagree);
-  unexpected = capped (a.unexpected + b.unexpected);
+  judged = judged_sum a.judged b.judged;
   retried = capped (a.retried + b.retried);
 }
 

@@ -4,12 +4,12 @@ ghost use Rattle.std.specs.Prelude.{◌≡◌};
 ghost use Rattle.gc_station.specs.Tallies.{empty_tally, counted, counted_answered, sum, empty_counts, started, turned_to, counted_in, total};
 ghost use Rattle.gc_texts.specs.Endings.{ending_seen};
 
-use gc_texts::{Ending, Quality, Turn};
+use gc_texts::{Ending, JudgementCounts, Quality, Turn};
 
 /// How many commands ended how, of the last attempt of each chain. A count stops at 2^64 - 1.
 #[derive(Clone, Copy)]
 pub struct Tally {
-    /// A reply came in time, and it is none of `unreadable`, `off_target`, `disagree` and `unexpected`. In a chain that is sent twice the commands of
+    /// A reply came in time, and it is neither `unreadable` nor one of `judged`. In a chain that is sent twice the commands of
     /// both sendings are counted.
     pub answered: u64,
     /// How many of `answered` were refused: the reply's communication code isn't 0, or its return code is neither 0 nor an accepted
@@ -26,13 +26,8 @@ pub struct Tally {
     pub unreadable: u64,
     /// The command wasn't sent: its cycle couldn't begin before the next was due.
     pub missed: u64,
-    /// A reply came in time, with both codes 0 or an accepted return code, whose direction isn't near where its target is.
-    pub off_target: u64,
-    /// A reply came in time, with both codes 0 or an accepted return code, in the second sending of its chain, and its values don't
-    /// agree with those of the first.
-    pub disagree: u64,
-    /// A reply came in time, with both codes 0 or an accepted return code, whose values aren't as the text expects them.
-    pub unexpected: u64,
+    /// A reply came in time, with both codes 0 or an accepted return code, and a rule of the text set it aside.
+    pub judged: JudgementCounts,
     /// How many times a chain was sent again.
     pub retried: u64,
 }
@@ -50,9 +45,7 @@ impl Tally {
             skipped: 0,
             unreadable: 0,
             missed: 0,
-            off_target: 0,
-            disagree: 0,
-            unexpected: 0,
+            judged: JudgementCounts::none(),
             retried: 0,
         }
     }
@@ -64,9 +57,7 @@ impl Tally {
         match ending {
             Ending::Answered(quality, ..) => self.count_answered(quality),
             Ending::Unreadable(_, _) => self.unreadable = self.unreadable.saturating_add(1),
-            Ending::OffTarget(_) => self.off_target = self.off_target.saturating_add(1),
-            Ending::Disagree(_) => self.disagree = self.disagree.saturating_add(1),
-            Ending::Unexpected(_) => self.unexpected = self.unexpected.saturating_add(1),
+            Ending::Judged(judgement, _) => self.judged = self.judged.one_more(judgement),
             Ending::Late => self.late = self.late.saturating_add(1),
             Ending::Lost => self.lost = self.lost.saturating_add(1),
             Ending::Skipped | Ending::NoValue => self.skipped = self.skipped.saturating_add(1),
@@ -98,9 +89,7 @@ impl Tally {
             skipped: self.skipped.saturating_add(other.skipped),
             unreadable: self.unreadable.saturating_add(other.unreadable),
             missed: self.missed.saturating_add(other.missed),
-            off_target: self.off_target.saturating_add(other.off_target),
-            disagree: self.disagree.saturating_add(other.disagree),
-            unexpected: self.unexpected.saturating_add(other.unexpected),
+            judged: self.judged.sum(other.judged),
             retried: self.retried.saturating_add(other.retried),
         }
     }

@@ -1,12 +1,12 @@
 //! Writing settlements into a book, and counting them.
 
-ghost use Rattle.std.specs.Prelude.{◌≡◌, [], ◌∷◌, length, drop, option_map, unwrap_or, OnOk};
+ghost use Rattle.std.specs.Prelude.{◌≡◌, [], ◌∷◌, length, drop, option_map, Some, unwrap_or, OnOk};
 ghost use Rattle.gc_catalogue.specs.declared.asked.Asked.{Asked};
 ghost use Rattle.gc_catalogue.specs.Asked.{IsAskedReading};
 ghost use Rattle.gc_client.specs.Settlements.{outcome_seen, IsReadBy, AreReadBy, ReadsBy};
 ghost use Rattle.gc_lines.specs.Replies.{ReplyFields, IsReply};
 ghost use Rattle.gc_station.specs.Attempts.{code_in, code_of, listed_after};
-ghost use Rattle.gc_station.specs.Marks.{first_mark, agrees_in, quality_in, agreed_as, answer_as, answered_as, value_as, refused_as, end_of, is_well, ended_confirmed, unexpected_noted};
+ghost use Rattle.gc_station.specs.Marks.{first_mark, agrees_in, quality_in, judgement_of, judged_by, answer_as, answered_as, refused_as, end_of, is_well, ended_confirmed, unexpected_noted};
 ghost use Rattle.gc_station.specs.Zeros.{IsByForm, IsZeroOf};
 ghost use Rattle.gc_station.specs.Saying.{IsSaid};
 ghost use Rattle.gc_station.specs.Scopes.{AreReadings, Reads};
@@ -27,7 +27,7 @@ use gc_client::{Outcome, Settlement, WINDOW};
 use gc_lines::{Line, PortFailed};
 use gc_links::Moment;
 use gc_texts::{
-    Ending, Expected, Form, Quality, Stamp, Twice, Wish, agrees, is_off_target, meets,
+    Ending, Expected, Form, Judgement, Quality, Stamp, Twice, Wish, agrees, is_off_target, meets,
     reading_as_zero,
 };
 
@@ -65,61 +65,69 @@ fn quality_in(twice: &Twice, quality: Quality) -> Quality
     }
 }
 
-// The ending of a command whose reply, this line, is as the text expects it, and has this answer, or none, and this quality: answered,
-// unless it is of a second sending and the answer doesn't agree with that of the first.
-fn agreed_ending<'a>(
-    expected: &Expected,
-    quality: Quality,
-    answer: Option<&'a Answer>,
-    line: &'a Line,
-) -> Ending<'a>
-    ensures { ending_seen result ≡ agreed_as expected.now quality (option_map (λ a. a.now) answer.entry) line.now.items }
+// The judgement on an answer that was measured elsewhere than the target is (`away`), whose values are as the text expects them (`met`),
+// and that, in a second sending, agrees with that of the first (`agreed`). `None`: no rule sets it aside.
+fn judgement_of(away: bool, met: bool, agreed: bool) -> Option<Judgement>
+    ensures { result ≡ judgement_of away met agreed }
 {
-    if agrees_in(expected, answer) {
-        Ending::Answered(quality_in(&expected.twice, quality), answer, line)
-    } else {
-        Ending::Disagree(line)
+    if away {
+        return Some(Judgement::OffTarget);
     }
+    if !met {
+        return Some(Judgement::Unexpected);
+    }
+    if !agreed {
+        return Some(Judgement::Disagree);
+    }
+    None
 }
 
-// The ending of a command whose reply, this line, has this answer, or none, and this quality: unexpected if the values of the line aren't
-// as the text expects them, else as `agreed_ending` says.
+// The judgement on a reply, this line, with this answer, or none.
+fn judged_by(
+    expected: &Expected,
+    away: bool,
+    answer: Option<&Answer>,
+    line: &Line,
+) -> Option<Judgement>
+    ensures { result ≡ judged_by expected.now away (option_map (λ a. a.now) answer.entry) line.now.items }
+{
+    let met = meets(&expected.expects, &expected.before, line);
+    judgement_of(away, met, agrees_in(expected, answer))
+}
+
+// The ending of a command whose reply, this line, has this answer, or none, and this quality: answered, unless a rule of the text sets it
+// aside.
 fn answered_ending<'a>(
     expected: &Expected,
     quality: Quality,
+    away: bool,
     answer: Option<&'a Answer>,
     line: &'a Line,
 ) -> Ending<'a>
-    ensures { ending_seen result ≡ answered_as expected.now quality (option_map (λ a. a.now) answer.entry) line.now.items }
+    ensures { ending_seen result ≡ answered_as expected.now quality away (option_map (λ a. a.now) answer.entry) line.now.items }
 {
-    if meets(&expected.expects, &expected.before, line) {
-        agreed_ending(expected, quality, answer, line)
-    } else {
-        Ending::Unexpected(line)
+    match judged_by(expected, away, answer, line) {
+        Some(judgement) => Ending::Judged(judgement, line),
+        None => Ending::Answered(quality_in(&expected.twice, quality), answer, line),
     }
 }
 
-// The ending of a command whose reply, this line, has this answer: off target if the answer was measured away from where the target
-// is (`is_off_target`), else as `answered_ending` says, with this quality. If the text doesn't say where the target is, no answer is
-// off target.
+// The ending of a command whose reply, this line, has this answer, and this quality: as `answered_ending` says. If the text doesn't say
+// where the target is, the answer wasn't measured elsewhere.
 fn value_ending<'a>(
     expected: &Expected,
     quality: Quality,
     answer: &'a Answer,
     line: &'a Line,
 ) -> Ending<'a>
-    ensures { ending_seen result ≡ value_as expected.now quality (is_off_target expected.now.near answer.now) answer.now line.now.items }
+    ensures { ending_seen result ≡ answered_as expected.now quality (is_off_target expected.now.near answer.now) (Some answer.now) line.now.items }
 {
-    if is_off_target(expected.near, answer) {
-        Ending::OffTarget(line)
-    } else {
-        answered_ending(expected, quality, Some(answer), line)
-    }
+    let away = is_off_target(expected.near, answer);
+    answered_ending(expected, quality, away, Some(answer), line)
 }
 
 // The ending of a command whose reply, this line, has this return code, which isn't 0, and would say `zero` with return code 0.
-// With an accepted code: off target if the values would read and were measured off target, else with a warning as `answered_ending`
-// says, and with the values if they would read. With another code: answered and refused, without values.
+// With an accepted code: with a warning as `answered_ending` says, and with the values if they would read. With another code: answered and refused, without values.
 fn refused_ending<'a>(
     expected: &Expected,
     code: u16,
@@ -134,7 +142,7 @@ fn refused_ending<'a>(
     match zero {
         Reading::Value(answer) => value_ending(expected, Quality::Warning, answer, line),
         Reading::Refused(_) | Reading::ComFault(_) | Reading::Unreadable(_) => {
-            answered_ending(expected, Quality::Warning, None, line)
+            answered_ending(expected, Quality::Warning, false, None, line)
         }
     }
 }
@@ -220,7 +228,7 @@ fn ending_of<'a>(
 }
 
 /// Whether a command with this ending was answered well: its reply has both codes 0 and values that read, or an accepted return
-/// code; and in either case it is neither off target nor unexpected nor, in the second sending of its chain, apart from the first.
+/// code; and in either case no rule of the text set it aside.
 pub fn is_well(ending: Ending<'_>) -> bool
     ensures { result ≡ is_well (ending_seen ending.entry) }
 {
@@ -245,7 +253,7 @@ pub(crate) fn is_unexpected_after(was: bool, ending: Ending<'_>) -> bool
     ensures { result ≡ unexpected_noted (ending_seen ending.entry) was }
 {
     match ending {
-        Ending::Unexpected(_) => true,
+        Ending::Judged(Judgement::Unexpected, _) => true,
         _ => was,
     }
 }

@@ -40,6 +40,7 @@ pub mod Placing
 mod Directed
 mod Doubles
 mod ClockForms
+pub mod Judgements
 mod ReasonForms
 mod SentAs
 mod SameRules

@@ -1,10 +1,12 @@
 -- Which texts are the words of a line `retry`, and what they name. A word is a return code, a number from 1 to 65535, or an
 -- outcome, and words have one space (byte 32) between two. While they are read, `left` is what is unread of the text (`None`
 -- at its end), `read` the words so far, and `rest` what is left after the next word.
-use Rattle.std.proofs.Common.{◌≡◌, ◌<◌, ◌≤◌, inl, inr, ℕ, Bool, true, false, ne_eqb, ◌==◌, List, [], ◌∷◌, ◌++◌, get_or, Option, Some, None, arith, refl, ap, subst, sym, ◌∙◌, append-nil, codes, if◌then◌else◌}
-use Rattle.std.proofs.lemmas.Bool.{ltb-true, ltb-false}
+use Rattle.std.proofs.Common.{◌≡◌, ◌<◌, ◌≤◌, inl, inr, ℕ, Bool, true, false, ◌==◌, is_some, List, [], ◌∷◌, ◌++◌, get_or, Option, Some, None, arith, refl, ap, subst, sym, ◌∙◌, append-nil, codes, if◌then◌else◌}
+use Rattle.std.specs.Prelude.{nat_le}
+use Rattle.std.proofs.lemmas.Bool.{eqb-true, le-leb, ltb-true, ltb-false}
 use Rattle.gc_texts.specs.Again.{no_again}
 use Rattle.gc_texts.specs.Cuts.{Cuts, Lacks, behind}
+use Rattle.gc_texts.specs.Judgements.{judgements, judgement_word}
 use Rattle.gc_texts.specs.Retries.{IsReason, NamesRule, IsRetryRule, allows_word, count_with, again_with, count_with_words, again_with_words}
 use Rattle.gc_texts.specs.TaskLines.{SetsRetry}
 use Rattle.gc_texts.specs.Words.{AreWords, first_word}
@@ -15,80 +17,63 @@ use Rattle.gc_texts.specs.declared.retry.Retry.{Retry}
 use Rattle.gc_values.specs.Digits.{AreDigits}
 use Rattle.gc_texts.specs.LineForms.{IsReadAs}
 use Rattle.gc_texts.proofs.Cutting.{read_alike, holds_of_rest, lacks_by_test, digits_lack_spaces}
+use Rattle.gc_texts.proofs.Judgements.{of_each, named_among, one_judgement, judgement_lacks_space}
 use Rattle.gc_texts.proofs.Procedures.{one_number}
 use Rattle.gc_texts.proofs.WordForms.{IsWordForm, one_word_list, AreLeft, ReadsWords, all_words_read, next_item_of, one_more_read}
 
--- the second byte of digits, or 0 where there is none, is at most 57, that of 9
-second_digit_low : (word : List ℕ) → AreDigits word → get_or word 1 0 ≤ 57
-second_digit_low [] are = omega arith
-second_digit_low (a ∷ []) are = omega arith
-second_digit_low (a ∷ b ∷ bs) are = are.1.0.1
+-- the first byte of digits, or 0 where there is none, is at most 57, that of 9
+first_digit_low : (word : List ℕ) → AreDigits word → get_or word 0 0 ≤ 57
+first_digit_low [] are = omega arith
+first_digit_low (a ∷ rest) are = are.0.1
 
--- the kinds of words, distinguished by the second byte: 0 a code, and 1 to 6 the outcomes, of which `unreadable` and `unexpected` begin
--- alike
+-- the kinds of words: 0 a code, 2 a judgement, and the others the other outcomes
 abbrev reason_kind : Reason → ℕ
 reason_kind (reason.Code code) = 0
 reason_kind reason.Unreadable = 1
-reason_kind reason.OffTarget = 2
+reason_kind (reason.Judged judgement) = 2
 reason_kind reason.Late = 3
 reason_kind reason.Lost = 4
 reason_kind reason.Skipped = 5
-reason_kind reason.Disagree = 6
-reason_kind reason.Unexpected = 1
 
--- the kind of a word with this second byte: 110 is n, 102 f, 97 a, 111 o, 107 k and 105 i; any other is a code's
+-- the kind of an outcome's word that is no judgement's, by its second byte: 110 is n, 97 a, 111 o, and that of any other is a k
 abbrev kind_by_second_byte : ℕ → ℕ
-kind_by_second_byte b = if b == 110 then 1 else if b == 102 then 2 else if b == 97 then 3 else if b == 111 then 4 else if b == 107 then 5 else if b == 105 then 6 else 0
+kind_by_second_byte b = if b == 110 then 1 else if b == 97 then 3 else if b == 111 then 4 else 5
 
--- a byte up to that of 9 is of the kind of a code
-low_byte_is_of_code : (b : ℕ) → b ≤ 57 → kind_by_second_byte b ≡ 0
-low_byte_is_of_code b low =
-    let other : (n : ℕ) → 57 < n → (b == n) ≡ false = λ n high. ne_eqb b n (λ e. omega (arith, e, low, high)) in
-    rw (other 110 (omega arith), other 102 (omega arith), other 97 (omega arith), other 111 (omega arith), other 107 (omega arith), other 105 (omega arith)) refl
+-- the kind of a word: that of a code has a first byte up to that of 9
+abbrev word_kind : List ℕ → ℕ
+word_kind word = if nat_le (get_or word 0 0) 57 then 0 else if is_some (named_among judgements word) then 2 else kind_by_second_byte (get_or word 1 0)
 
--- the second byte of a word, or 0 where it has none, shows its kind
-second_byte_shows_kind : (word : List ℕ) (r : Reason) → IsReason word r → kind_by_second_byte (get_or word 1 0) ≡ reason_kind r
-second_byte_shows_kind word (reason.Code code) is = low_byte_is_of_code (get_or word 1 0) (second_digit_low word is.number.names.digits)
-second_byte_shows_kind word reason.Unreadable is = ap (λ bs. kind_by_second_byte (get_or bs 1 0)) is
-second_byte_shows_kind word reason.OffTarget is = ap (λ bs. kind_by_second_byte (get_or bs 1 0)) is
-second_byte_shows_kind word reason.Late is = ap (λ bs. kind_by_second_byte (get_or bs 1 0)) is
-second_byte_shows_kind word reason.Lost is = ap (λ bs. kind_by_second_byte (get_or bs 1 0)) is
-second_byte_shows_kind word reason.Skipped is = ap (λ bs. kind_by_second_byte (get_or bs 1 0)) is
-second_byte_shows_kind word reason.Disagree is = ap (λ bs. kind_by_second_byte (get_or bs 1 0)) is
-second_byte_shows_kind word reason.Unexpected is = ap (λ bs. kind_by_second_byte (get_or bs 1 0)) is
-
--- no word is both `unreadable` and `unexpected`
-unreadable_is_no_unexpected : (word : List ℕ) → word ≡ codes "unreadable" → word ≡ codes "unexpected" → ⊥
-unreadable_is_no_unexpected word e f = let third : ◌≡◌ {A = ℕ} 114 101 = ap (λ bs. get_or bs 2 0) (sym e ∙ f) in omega (arith, third)
+-- a word shows its kind
+word_shows_kind : (word : List ℕ) (r : Reason) → IsReason word r → word_kind word ≡ reason_kind r
+word_shows_kind word (reason.Code code) is = rw (le-leb (get_or word 0 0) 57 (first_digit_low word is.number.names.digits)) refl
+word_shows_kind word reason.Unreadable is = ap word_kind is
+word_shows_kind word (reason.Judged judgement) is = ap word_kind is ∙ eqb-true (word_kind (judgement_word judgement)) 2 (of_each (λ j. word_kind (judgement_word j) == 2) refl judgement)
+word_shows_kind word reason.Late is = ap word_kind is
+word_shows_kind word reason.Lost is = ap word_kind is
+word_shows_kind word reason.Skipped is = ap word_kind is
 
 -- where a word is `a` and is `b`, and both are of one kind, they are the same
 same_reason : (word : List ℕ) (a b : Reason) → IsReason word a → IsReason word b → reason_kind a ≡ reason_kind b → a ≡ b
 same_reason word (reason.Code m) (reason.Code n) x y h = ap reason.Code (one_number word m n 65535 x.number y.number)
 same_reason word reason.Unreadable reason.Unreadable x y h = refl
-same_reason word reason.OffTarget reason.OffTarget x y h = refl
+same_reason word (reason.Judged j) (reason.Judged k) x y h = ap reason.Judged (one_judgement word j k x y)
 same_reason word reason.Late reason.Late x y h = refl
 same_reason word reason.Lost reason.Lost x y h = refl
 same_reason word reason.Skipped reason.Skipped x y h = refl
-same_reason word reason.Disagree reason.Disagree x y h = refl
-same_reason word reason.Unexpected reason.Unexpected x y h = refl
-same_reason word reason.Unreadable reason.Unexpected x y h = absurd (unreadable_is_no_unexpected word x y)
-same_reason word reason.Unexpected reason.Unreadable x y h = absurd (unreadable_is_no_unexpected word y x)
 same_reason word a b x y h = absurd (omega (arith, h))
 
 -- a word is one code or outcome at most
 one_reason : (word : List ℕ) (a b : Reason) → IsReason word a → IsReason word b → a ≡ b
-one_reason word a b x y = same_reason word a b x y (sym (second_byte_shows_kind word a x) ∙ second_byte_shows_kind word b y)
+one_reason word a b x y = same_reason word a b x y (sym (word_shows_kind word a x) ∙ word_shows_kind word b y)
 
 -- a code or an outcome has no space
 reason_lacks_space : (word : List ℕ) (r : Reason) → IsReason word r → Lacks 32 word
 reason_lacks_space word (reason.Code code) is = digits_lack_spaces word is.number.names.digits
 reason_lacks_space word reason.Unreadable is = subst (Lacks 32) (sym is) (lacks_by_test 32 (codes "unreadable") refl)
-reason_lacks_space word reason.OffTarget is = subst (Lacks 32) (sym is) (lacks_by_test 32 (codes "off_target") refl)
+reason_lacks_space word (reason.Judged judgement) is = subst (Lacks 32) (sym is) (judgement_lacks_space judgement)
 reason_lacks_space word reason.Late is = subst (Lacks 32) (sym is) (lacks_by_test 32 (codes "late") refl)
 reason_lacks_space word reason.Lost is = subst (Lacks 32) (sym is) (lacks_by_test 32 (codes "lost") refl)
 reason_lacks_space word reason.Skipped is = subst (Lacks 32) (sym is) (lacks_by_test 32 (codes "skipped") refl)
-reason_lacks_space word reason.Disagree is = subst (Lacks 32) (sym is) (lacks_by_test 32 (codes "disagree") refl)
-reason_lacks_space word reason.Unexpected is = subst (Lacks 32) (sym is) (lacks_by_test 32 (codes "unexpected") refl)
 
 -- a word of a line `retry` has no space, and is one code or outcome at most
 reason_form : IsWordForm IsReason
@@ -150,12 +135,10 @@ rule_of_one_more again count (x ∷ read) r = rule_of_one_more (again_with again
 count_grows_by_word : (count : ℕ) (r : Reason) → count ≤ count_with count r
 count_grows_by_word count (reason.Code code) = omega arith
 count_grows_by_word count reason.Unreadable = omega arith
-count_grows_by_word count reason.OffTarget = omega arith
+count_grows_by_word count (reason.Judged judgement) = omega arith
 count_grows_by_word count reason.Late = omega arith
 count_grows_by_word count reason.Lost = omega arith
 count_grows_by_word count reason.Skipped = omega arith
-count_grows_by_word count reason.Disagree = omega arith
-count_grows_by_word count reason.Unexpected = omega arith
 
 -- with more words there are no fewer codes
 codes_grow : (count : ℕ) (later : List Reason) → count ≤ count_with_words count later
@@ -174,23 +157,19 @@ codes_of_all count (x ∷ read) later = codes_of_all (count_with count x) read l
 no_room_exceeds_16 : (count : ℕ) (r : Reason) → allows_word count r ≡ false → 16 < count_with count r
 no_room_exceeds_16 count (reason.Code code) e = let full : 16 ≤ count = ltb-false count 16 e in omega (arith, full)
 no_room_exceeds_16 count reason.Unreadable e = cc
-no_room_exceeds_16 count reason.OffTarget e = cc
+no_room_exceeds_16 count (reason.Judged judgement) e = cc
 no_room_exceeds_16 count reason.Late e = cc
 no_room_exceeds_16 count reason.Lost e = cc
 no_room_exceeds_16 count reason.Skipped e = cc
-no_room_exceeds_16 count reason.Disagree e = cc
-no_room_exceeds_16 count reason.Unexpected e = cc
 
 -- where there is room for a word, there are at most 16 codes with it
 room_keeps_to_16 : (count : ℕ) (r : Reason) → count ≤ 16 → allows_word count r ≡ true → count_with count r ≤ 16
 room_keeps_to_16 count (reason.Code code) few e = let more : count < 16 = ltb-true count 16 e in omega (arith, more)
 room_keeps_to_16 count reason.Unreadable few e = few
-room_keeps_to_16 count reason.OffTarget few e = few
+room_keeps_to_16 count (reason.Judged judgement) few e = few
 room_keeps_to_16 count reason.Late few e = few
 room_keeps_to_16 count reason.Lost few e = few
 room_keeps_to_16 count reason.Skipped few e = few
-room_keeps_to_16 count reason.Disagree few e = few
-room_keeps_to_16 count reason.Unexpected few e = few
 
 -- the text `now` is left, and `word` is its next word
 module _

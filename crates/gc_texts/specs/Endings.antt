@@ -2,7 +2,9 @@
 use Rattle.std.specs.Prelude.{ℕ, List, [], Option, Some, None, option_map, codes}
 use Rattle.gc_catalogue.specs.declared.answer.Answer.{Answer}
 use Rattle.gc_values.specs.declared.fault.ValueFault.{ValueFault}
+use Rattle.gc_texts.specs.Judgements.{judgement_word}
 use Rattle.gc_texts.specs.Qualities.{quality_word}
+use Rattle.gc_texts.specs.declared.judgement.Judgement.{Judgement}
 use Rattle.gc_texts.specs.declared.quality.Quality.{Quality}
 use Rattle.gc_texts.specs.declared.ending.Ending.{Ending}
 use Rattle.gc_texts.specs.declared.ending.Ending.TheVariants as ending
@@ -14,14 +16,8 @@ pub data End : Type 0 where
   Answered : (quality : Quality) (answer : Option Answer) (line : List ℕ) → End
   -- its reply came in time, with this line, whose codes are 0, and whose values have this fault
   Unreadable : (line : List ℕ) (fault : ValueFault) → End
-  -- its reply came in time, with this line, whose values read, with return code 0 or with an accepted one taken for 0, and were
-  -- measured away from where its target is
-  OffTarget : (line : List ℕ) → End
-  -- its reply came in time, with this line, in the second sending of its chain, and is an answer that isn't refused; but it doesn't agree with
-  -- that of the same command in the first sending
-  Disagree : (line : List ℕ) → End
-  -- its reply came in time, with this line, and is an answer that isn't refused; but its values aren't those that its line `expect` expects
-  Unexpected : (line : List ℕ) → End
+  -- its reply came in time, with this line, and is an answer that isn't refused; but a rule of the text set it aside so
+  Judged : (judgement : Judgement) (line : List ℕ) → End
   -- a reply to it came after it had timed out
   Late : End
   -- no reply came, and one that still comes will be ignored
@@ -38,9 +34,7 @@ pub data End : Type 0 where
 abbrev pub ending_seen : Ending → End
 ending_seen (ending.Answered quality answer line) = Answered quality (option_map (λ a. a.now) answer) line.now.items
 ending_seen (ending.Unreadable line fault) = Unreadable line.now.items fault
-ending_seen (ending.OffTarget line) = OffTarget line.now.items
-ending_seen (ending.Disagree line) = Disagree line.now.items
-ending_seen (ending.Unexpected line) = Unexpected line.now.items
+ending_seen (ending.Judged judgement line) = Judged judgement line.now.items
 ending_seen ending.Late = Late
 ending_seen ending.Lost = Lost
 ending_seen ending.Skipped = Skipped
@@ -51,9 +45,7 @@ ending_seen ending.Missed = Missed
 abbrev pub word_of : End → List ℕ
 word_of (Answered quality answer line) = codes "answered"
 word_of (Unreadable line fault) = codes "unreadable"
-word_of (OffTarget line) = codes "off_target"
-word_of (Disagree line) = codes "disagree"
-word_of (Unexpected line) = codes "unexpected"
+word_of (Judged judgement line) = judgement_word judgement
 word_of Late = codes "late"
 word_of Lost = codes "lost"
 word_of Skipped = codes "skipped"
@@ -69,9 +61,7 @@ fault_of _ = None
 abbrev pub line_of : End → Option (List ℕ)
 line_of (Answered quality answer line) = Some line
 line_of (Unreadable line fault) = Some line
-line_of (OffTarget line) = Some line
-line_of (Disagree line) = Some line
-line_of (Unexpected line) = Some line
+line_of (Judged judgement line) = Some line
 line_of _ = None
 
 -- the quality of the command's answer, if the ending is `Answered`

@@ -29,6 +29,7 @@ pub mod FaultNumbers
 pub mod Stamps
 pub mod Strays
 pub mod SignOns
+pub mod Judgements
 pub mod Endings
 pub mod Again
 pub mod Retries

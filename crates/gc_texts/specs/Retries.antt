@@ -4,11 +4,12 @@ use Rattle.std.specs.Prelude.{◌≡◌, ℕ, ◌+◌, ◌≤◌, Bool, true, na
 use Rattle.gc_texts.specs.Again.{no_again}
 use Rattle.gc_texts.specs.Codes.{IsCode}
 use Rattle.gc_texts.specs.Cuts.{behind}
+use Rattle.gc_texts.specs.Judgements.{IsJudgement, with_judgement}
 use Rattle.gc_texts.specs.Procedures.{IsNumber}
 use Rattle.gc_texts.specs.Words.{AreWords, first_word}
 use Rattle.gc_texts.specs.declared.again.Again.{Again}
 use Rattle.gc_texts.specs.declared.retry.Reason.{Reason}
-use Rattle.gc_texts.specs.declared.retry.Reason.TheVariants.{Code, Unreadable, OffTarget, Disagree, Unexpected, Late, Lost, Skipped}
+use Rattle.gc_texts.specs.declared.retry.Reason.TheVariants.{Code, Unreadable, Judged, Late, Lost, Skipped}
 use Rattle.gc_texts.specs.declared.retry.Retry.{Retry}
 
 -- the retry of a chain that isn't repeated
@@ -19,9 +20,7 @@ no_retry = record { times = 0; again = no_again }
 abbrev pub IsReason : List ℕ → Reason → Type 0
 IsReason word (Code code) = IsCode word code
 IsReason word Unreadable = word ≡ codes "unreadable"
-IsReason word OffTarget = word ≡ codes "off_target"
-IsReason word Disagree = word ≡ codes "disagree"
-IsReason word Unexpected = word ≡ codes "unexpected"
+IsReason word (Judged judgement) = IsJudgement word judgement
 IsReason word Late = word ≡ codes "late"
 IsReason word Lost = word ≡ codes "lost"
 IsReason word Skipped = word ≡ codes "skipped"
@@ -41,9 +40,7 @@ count_with count _ = count
 abbrev pub again_with : Again → (count : ℕ) → Reason → Again
 again_with again count (Code code) = record again { codes = record { codes = slice_set again.codes.codes count code } }
 again_with again count Unreadable = record again { unreadable = true }
-again_with again count OffTarget = record again { off_target = true }
-again_with again count Disagree = record again { disagree = true }
-again_with again count Unexpected = record again { unexpected = true }
+again_with again count (Judged judgement) = record again { judged = with_judgement again.judged judgement }
 again_with again count Late = record again { late = true }
 again_with again count Lost = record again { lost = true }
 again_with again count Skipped = record again { skipped = true }

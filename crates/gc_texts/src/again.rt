@@ -6,6 +6,7 @@ ghost use Rattle.gc_texts.specs.Endings.{ending_seen};
 
 use crate::codes::Codes;
 use crate::ending::Ending;
+use crate::judgement::JudgementSet;
 
 /// The return codes and outcomes after which a chain is repeated.
 #[derive(Clone, Copy)]
@@ -14,12 +15,8 @@ pub struct Again {
     pub codes: Codes,
     /// Whether the chain is repeated after a reply whose codes are 0, and whose values don't read.
     pub unreadable: bool,
-    /// Whether the chain is repeated after a measurement that was made away from its target.
-    pub off_target: bool,
-    /// Whether the chain is repeated after an answer that doesn't agree with that of the first sending.
-    pub disagree: bool,
-    /// Whether the chain is repeated after an answer whose values aren't those that are expected.
-    pub unexpected: bool,
+    /// After which judgements of an answer the chain is repeated.
+    pub judged: JudgementSet,
     /// Whether the chain is repeated after a late reply.
     pub late: bool,
     /// Whether the chain is repeated after a command that was sent and got no reply.
@@ -36,9 +33,7 @@ impl Again {
         Again {
             codes: Codes::none(),
             unreadable: false,
-            off_target: false,
-            disagree: false,
-            unexpected: false,
+            judged: JudgementSet::none(),
             late: false,
             lost: false,
             skipped: false,
@@ -65,9 +60,7 @@ impl Again {
         match ending {
             Ending::Answered(..) => self.has_code(code),
             Ending::Unreadable(..) => self.unreadable,
-            Ending::OffTarget(_) => self.off_target,
-            Ending::Disagree(_) => self.disagree,
-            Ending::Unexpected(_) => self.unexpected,
+            Ending::Judged(judgement, _) => self.judged.has(judgement),
             Ending::Late => self.late,
             Ending::Lost => self.lost,
             Ending::Skipped | Ending::NoValue => self.skipped,

@@ -3,6 +3,7 @@
 ghost use Rattle.std.specs.Prelude.{◌≡◌, ◌≤◌, length, option_map};
 ghost use Rattle.gc_texts.specs.Endings.{ending_seen, word_of, fault_of, line_of, quality_of, quality_text};
 
+use crate::judgement::Judgement;
 use crate::quality::Quality;
 use gc_catalogue::Answer;
 use gc_lines::Line;
@@ -17,15 +18,9 @@ pub enum Ending<'a> {
     Answered(Quality, Option<&'a Answer>, &'a Line),
     /// Its reply came in time, with this line, whose codes are 0, and whose values don't read.
     Unreadable(&'a Line, ValueFault),
-    /// Its reply came in time, with this line, whose codes are 0, or whose return code is an accepted one; its values read,
-    /// and were measured away from where its target is.
-    OffTarget(&'a Line),
-    /// Its reply came in time, with this line, in the second sending of its chain, and has no code or value at fault; but it doesn't agree
-    /// with the answer of the same command in the first.
-    Disagree(&'a Line),
-    /// Its reply came in time, with this line, and has no code or value at fault; but its values aren't those that the command's line
-    /// `expect` expects.
-    Unexpected(&'a Line),
+    /// Its reply came in time, with this line, whose codes are 0, or whose return code is an accepted one; but a rule of the text set it
+    /// aside so.
+    Judged(Judgement, &'a Line),
     /// A reply to it came after it had timed out.
     Late,
     /// No reply came, and one that still comes will be ignored.
@@ -48,9 +43,7 @@ impl<'a> Ending<'a> {
         match self {
             Ending::Answered(..) => b"answered",
             Ending::Unreadable(..) => b"unreadable",
-            Ending::OffTarget(_) => b"off_target",
-            Ending::Disagree(_) => b"disagree",
-            Ending::Unexpected(_) => b"unexpected",
+            Ending::Judged(judgement, _) => judgement.word(),
             Ending::Late => b"late",
             Ending::Lost => b"lost",
             Ending::Skipped => b"skipped",
@@ -96,10 +89,8 @@ impl<'a> Ending<'a> {
     {
         match self {
             Ending::Answered(_, _, line) | Ending::Unreadable(line, _) => Some(line),
-            // The codes and values of a reply that was measured off target, that disagrees, or that is unexpected, are in the row, too.
-            Ending::OffTarget(line) | Ending::Disagree(line) | Ending::Unexpected(line) => {
-                Some(line)
-            }
+            // The codes and values of a reply that was set aside are in the row, too.
+            Ending::Judged(_, line) => Some(line),
             Ending::Late | Ending::Lost | Ending::Skipped | Ending::NoValue | Ending::Missed =>
                 None,
         }

@@ -7,6 +7,7 @@ ghost use Rattle.gc_texts.specs.Retries.{IsReason, NamesRule, IsRetryRule, again
 use crate::again::Again;
 use crate::codes::{CODES_MAX, read_code};
 use crate::cuts::{before, behind, cut_at, is_word};
+use crate::judgement::Judgement;
 use crate::procedure::number_of;
 
 // The greatest number of repetitions that a line `retry` may name.
@@ -38,9 +39,7 @@ impl Retry {
 enum Reason {
     Code(u16),
     Unreadable,
-    OffTarget,
-    Disagree,
-    Unexpected,
+    Judged(Judgement),
     Late,
     Lost,
     Skipped,
@@ -53,15 +52,6 @@ fn reason_of(word: &[u8]) -> Option<Reason>
     if is_word(b"unreadable", word) {
         return Some(Reason::Unreadable);
     }
-    if is_word(b"off_target", word) {
-        return Some(Reason::OffTarget);
-    }
-    if is_word(b"disagree", word) {
-        return Some(Reason::Disagree);
-    }
-    if is_word(b"unexpected", word) {
-        return Some(Reason::Unexpected);
-    }
     if is_word(b"late", word) {
         return Some(Reason::Late);
     }
@@ -71,9 +61,12 @@ fn reason_of(word: &[u8]) -> Option<Reason>
     if is_word(b"skipped", word) {
         return Some(Reason::Skipped);
     }
-    match read_code(word) {
-        Some(code) => Some(Reason::Code(code)),
-        None => None,
+    match Judgement::named(word) {
+        Some(judgement) => Some(Reason::Judged(judgement)),
+        None => match read_code(word) {
+            Some(code) => Some(Reason::Code(code)),
+            None => None,
+        },
     }
 }
 
@@ -112,16 +105,8 @@ fn again_with(again: Again, count: usize, reason: Reason) -> Again
             unreadable: true,
             ..again
         },
-        Reason::OffTarget => Again {
-            off_target: true,
-            ..again
-        },
-        Reason::Disagree => Again {
-            disagree: true,
-            ..again
-        },
-        Reason::Unexpected => Again {
-            unexpected: true,
+        Reason::Judged(judgement) => Again {
+            judged: again.judged.with(judgement),
             ..again
         },
         Reason::Late => Again {

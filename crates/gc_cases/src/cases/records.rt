@@ -9,7 +9,8 @@ use gc_lines::{Line, ToWriter, read_reply};
 use gc_probes::{Case, Player, Told, bytes_of};
 use gc_rows::{EndedCommand, Form, When, write_head, write_record};
 use gc_texts::{
-    Ending, FieldName, Quality, Stamp, Tasks, Turn, Wish, described_as, read_tasks, reading_as_zero,
+    Ending, FieldName, Judgement, Quality, Stamp, Tasks, Turn, Wish, described_as, read_tasks,
+    reading_as_zero,
 };
 use gc_values::ValueFault;
 use std::io;
@@ -185,15 +186,13 @@ fn ending_of<'a>(
         "no_value" => Ending::NoValue,
         "missed" => Ending::Missed,
         "spelling" => Ending::Unreadable(line, ValueFault::Spelling),
-        "off_target" => Ending::OffTarget(line),
-        "disagree" => Ending::Disagree(line),
-        "unexpected" => Ending::Unexpected(line),
         "unconfirmed" => Ending::Answered(Quality::Unconfirmed, answer_in(reading), line),
         "unread" => Ending::Answered(quality_of(reading), None, line),
         "accepted" => Ending::Answered(Quality::Warning, answer_in(zeroed), line),
-        _ => match reading {
-            Reading::Unreadable(fault) => Ending::Unreadable(line, *fault),
-            _ => Ending::Answered(quality_of(reading), answer_in(reading), line),
+        _ => match (Judgement::named(word.as_bytes()), reading) {
+            (Some(judgement), _) => Ending::Judged(judgement, line),
+            (None, Reading::Unreadable(fault)) => Ending::Unreadable(line, *fault),
+            (None, _) => Ending::Answered(quality_of(reading), answer_in(reading), line),
         },
     }
 }

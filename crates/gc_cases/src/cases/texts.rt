@@ -8,9 +8,9 @@ use gc_lines::ToWriter;
 use gc_links::place_of;
 use gc_probes::{Case, Player, Told, bytes_of, text_of};
 use gc_texts::{
-    Codes, Command, LogBytes, LogLine, LogMark, Occasion, RunFault, Task, Tasks, Trouble, Twice,
-    command_trouble_of, count_in, has_date, is_dated_path, line_at, meets, path_at, read_commands,
-    read_double, read_log_line, read_tasks, trouble_of, write_log_line,
+    Codes, Command, JUDGEMENTS, LogBytes, LogLine, LogMark, Occasion, RunFault, Task, Tasks,
+    Trouble, Twice, command_trouble_of, count_in, has_date, is_dated_path, line_at, meets, path_at,
+    read_commands, read_double, read_log_line, read_tasks, trouble_of, write_log_line,
 };
 use gc_values::{FILE_VALUES, filled_up};
 use gc_world::Event;
@@ -221,9 +221,12 @@ fn append_sending(task: &Task, came: &mut Told) {
 // Appends the outcomes, other than return codes, after which a task is asked again.
 fn append_outcomes(task: &Task, came: &mut Told) {
     came.text_if(task.again.unreadable, " unreadable");
-    came.text_if(task.again.off_target, " off_target");
-    came.text_if(task.again.disagree, " disagree");
-    came.text_if(task.again.unexpected, " unexpected");
+    for judgement in JUDGEMENTS {
+        if task.again.judged.has(judgement) {
+            came.text(" ");
+            came.bytes(judgement.word());
+        }
+    }
     came.text_if(task.again.late, " late");
     came.text_if(task.again.lost, " lost");
     came.text_if(task.again.skipped, " skipped");

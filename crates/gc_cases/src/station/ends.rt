@@ -6,7 +6,7 @@ use arrayvec::ArrayVec;
 use gc_lines::{PortFailed, read_reply};
 use gc_links::Moment;
 use gc_station::{Book, LinkHealth, Watch};
-use gc_texts::{Ending, Quality, Stamp, Wish};
+use gc_texts::{Ending, Judgement, Quality, Stamp, Wish};
 
 /// A book that stores a word for each record: the last digits of its cycle and its place, a letter for its ending, and after the
 /// letter the codes of a reply, unless both are 0, and its values; if a case is stamped, last the moment at which the request was
@@ -109,9 +109,7 @@ impl Book for WordBook {
             Ending::Answered(Quality::Unconfirmed, _, line) => self.note_reply(b"f", line),
             Ending::Answered(_, _, line) => self.note_reply(b"a", line),
             Ending::Unreadable(line, _) => self.note_reply(b"u", line),
-            Ending::OffTarget(line) => self.note_reply(b"e", line),
-            Ending::Disagree(line) => self.note_reply(b"d", line),
-            Ending::Unexpected(line) => self.note_reply(b"n", line),
+            Ending::Judged(judgement, line) => self.note_reply(judged_letter(judgement), line),
             Ending::Late => note(&mut self.text, b"l"),
             Ending::Lost => note(&mut self.text, b"x"),
             Ending::Skipped => note(&mut self.text, b"s"),
@@ -152,5 +150,14 @@ impl Book for WordBook {
     fn overran(&mut self, cycle: u64) {
         self.note_digit(cycle);
         note(&mut self.text, b"! ");
+    }
+}
+
+// The letter of a judgement.
+fn judged_letter(judgement: Judgement) -> &'static [u8] {
+    match judgement {
+        Judgement::OffTarget => b"e",
+        Judgement::Unexpected => b"n",
+        Judgement::Disagree => b"d",
     }
 }

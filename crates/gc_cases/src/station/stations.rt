@@ -10,7 +10,7 @@
 //!                                 was cut; where `with` says `timed`, `@` and the milliseconds since the start come after each,
 //!                                 and of a request there is the id alone, as `#1@15`
 //!     ends 10a 11w[0:1283]2.25    the last digits of cycle and place and a letter for each record: answered, a warning,
-//!                                 answered in a first sending and unconfirmed (f), unreadable, off target, disagree and unexpected (n;
+//!                                 answered in a first sending and unconfirmed (f), unreadable, and judged (`judged_letter`;
 //!                                 each with what its reply says after it: the communication code and the return code in brackets,
 //!                                 unless both are 0, and the values), late, lost (x), skipped, without a value of a file (v) or
 //!                                 missed; where `with` says `stamped`, `@` and the moment at which its request was sent, in
