@@ -83,7 +83,7 @@ for node in ast.walk(dict(assigned("errors"))["_FAULTS"]):
         raised |= set(range(*(argument.value for argument in node.args)))
 raised |= {key.value for key in dict(assigned("errors"))["_SCENE_FAULTS"].keys}
 same("the faults in errors.py", faults, raised)
-version = re.findall(r'^pub const VERSION: &str = "(.*)";', read("crates/gc_words/src/version.rt"), re.M)
+version = re.findall(r'^pub const VERSION: &str = "(.*)";', read("crates/gc_options/src/version.rt"), re.M)
 same("_version.py", version, re.findall(r'^__version__ = "(.*)"', read(package / "_version.py"), re.M))
 
 for line in told:

@@ -1,6 +1,6 @@
 -- A beginning, this project's own: null procedures, one after the other, whose ids are those of a fixed list, the word. Once all
 -- are answered, no line from before is to be in flight. It uses ids alone, and no clock. The theorem about this, with its
--- premises, is in `gc_field`.
+-- premises, is in `gc_theorems`.
 use Rattle.std.specs.Prelude.{◌≡◌, ◌⊎◌, ℕ, Bool, true, false, List, [], ◌∷◌, Option, Some, None, nat_eq}
 use Rattle.gc_catalogue.specs.declared.call.Call.TheVariants.{NullProc}
 use Rattle.gc_catalogue.specs.Texts.{request_line}

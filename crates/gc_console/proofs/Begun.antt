@@ -2,10 +2,10 @@
 use Rattle.std.proofs.Common.{◌≡◌, ◌≤◌, ℕ, Bool, List, Option, Some, None, Result, Ok, Err, IfOk, subst}
 use Rattle.gc_client.specs.declared.window.TheConstants.{WINDOW}
 use Rattle.gc_lines.specs.Answering.{Ports}
-use Rattle.gc_subcommands.specs.Drills.{PlaysScene, ReadsWholeSource, TellsDrill}
-use Rattle.gc_subcommands.specs.Refusing.{EndSeen, end_seen}
-use Rattle.gc_subcommands.specs.Serves.{FailsByPorts, IsDoneAtEnd, TellsChecking, TellsExec}
-use Rattle.gc_subcommands.specs.declared.drill.Drilling.{Drilling}
+use Rattle.gc_console.specs.Drills.{PlaysScene, ReadsWholeSource, TellsDrill}
+use Rattle.gc_console.specs.Refusing.{EndSeen, end_seen}
+use Rattle.gc_console.specs.Serves.{FailsByPorts, IsDoneAtEnd, TellsChecking, TellsExec}
+use Rattle.gc_console.specs.declared.drill.Drilling.{Drilling}
 use Rattle.gc_console.specs.declared.traces.Traces.{Traces}
 use Rattle.gc_console.specs.Subcommands.{DoesCheck, DoesDrill, DoesExec, EndsFrom, opening, opening_ports}
 

@@ -1,5 +1,10 @@
 mod Begun
 mod Ends
+mod JobLemmas
 mod Left
+mod Missing
+mod Played
+mod ProgramLemmas
+mod Started
 mod Unasked
 mod Unshown

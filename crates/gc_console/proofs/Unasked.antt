@@ -2,7 +2,7 @@
 use Rattle.std.proofs.Common.{◌≡◌, ℕ, Bool, true, List, Option, Some, Result, Ok, Err, IfOk, subst}
 use Rattle.std.specs.List.{list_any}
 use Rattle.clap.specs.Takes.{takes}
-use Rattle.gc_subcommands.specs.Program.{program}
+use Rattle.gc_console.specs.Program.{program}
 use Rattle.gc_console.specs.Programs.{HasNoJob, IsAnswered, LacksMemory, asks_for_text}
 use Rattle.gc_console.specs.Stations.{HasNoRun}
 use Rattle.gc_console.specs.Subcommands.{Opening}

@@ -10,10 +10,10 @@ use Rattle.gc_lines.specs.Answering.{Ports, Taken}
 use Rattle.gc_lines.specs.declared.ports.Sink.{Ghosts as Sink}
 use Rattle.gc_lines.specs.declared.ports.Source.{Ghosts as Source}
 use Rattle.gc_links.specs.declared.place.Place.{Place}
-use Rattle.gc_messages.specs.declared.heard.Heard.{Heard}
-use Rattle.gc_messages.specs.declared.told.Told.{Told}
-use Rattle.gc_subcommands.specs.Asked.{TellsAskAt, TellsLoop}
-use Rattle.gc_subcommands.specs.Refusing.{end_seen}
+use Rattle.gc_logs.specs.declared.heard.Heard.{Heard}
+use Rattle.gc_logs.specs.declared.told.Told.{Told}
+use Rattle.gc_console.specs.Asked.{TellsAskAt, TellsLoop}
+use Rattle.gc_console.specs.Refusing.{end_seen}
 use Rattle.gc_texts.specs.WholeTexts.{Input}
 use Rattle.gc_texts.specs.declared.commands.Command.{Command}
 use Rattle.gc_texts.specs.declared.fault.RunFault.{RunFault}

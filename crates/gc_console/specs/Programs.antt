@@ -7,12 +7,12 @@ use Rattle.std.specs.declared.io.ErrorKind.TheVariants.{OutOfMemory}
 use Rattle.std.specs.List.{list_any}
 use Rattle.std.specs.Str.{bytes_eq}
 use Rattle.clap.specs.Takes.{takes}
-use Rattle.gc_messages.specs.Refusals.{Refuses, at_line, date_line, place_line, range_line, refusal_line, stale_line, unit_line}
-use Rattle.gc_messages.specs.declared.standard.Standard.{Standard}
-use Rattle.gc_subcommands.specs.Program.{IsJobOfWords, program}
-use Rattle.gc_subcommands.specs.declared.words.Job.{Job}
-use Rattle.gc_subcommands.specs.declared.words.Job.TheVariants as asked
-use Rattle.gc_words.specs.Limits.{limit_refusal}
+use Rattle.gc_logs.specs.Refusals.{Refuses, at_line, date_line, place_line, range_line, refusal_line, stale_line, unit_line}
+use Rattle.gc_logs.specs.declared.standard.Standard.{Standard}
+use Rattle.gc_console.specs.Program.{IsJobOfWords, program}
+use Rattle.gc_console.specs.declared.words.Job.{Job}
+use Rattle.gc_console.specs.declared.words.Job.TheVariants as asked
+use Rattle.gc_options.specs.Limits.{limit_refusal}
 use Rattle.gc_console.specs.Stations.{DoesOver, HasNoRun, Seeing}
 use Rattle.gc_console.specs.Subcommands.{DoesCheck, DoesDrill, DoesExec, DoesServe, EndsFrom, Opening}
 use Rattle.gc_console.specs.declared.traces.Traces.{Traces}

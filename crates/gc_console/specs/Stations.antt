@@ -16,20 +16,20 @@ use Rattle.gc_measuring.specs.Recording.{IsBegunAt}
 use Rattle.gc_measuring.specs.TaskTexts.{IsCheckable}
 use Rattle.gc_measuring.specs.Telling.{AppendingRun, Stage, Views, acts_noted, began_noted, stage, views_by}
 use Rattle.gc_measuring.specs.Texts.{ReadsAndAppends, ReadsAndMeasures}
-use Rattle.gc_messages.specs.Following.{path_of}
-use Rattle.gc_messages.specs.Streams.{are_open, ReportsClosed}
-use Rattle.gc_messages.specs.Transcripts.{hearing_of}
-use Rattle.gc_messages.specs.declared.following.Followed.{Followed}
-use Rattle.gc_messages.specs.declared.heard.Heard.{Heard}
-use Rattle.gc_messages.specs.declared.standard.Standard.{Standard}
-use Rattle.gc_messages.specs.declared.streams.Streams.{Streams}
-use Rattle.gc_subcommands.specs.declared.words.ClientJob.{ClientJob}
-use Rattle.gc_subcommands.specs.declared.words.ClientJob.TheVariants as client
-use Rattle.gc_subcommands.specs.Refusing.{EndSeen, end_seen}
-use Rattle.gc_words.specs.Stations.{with_status_line}
-use Rattle.gc_words.specs.declared.settings.Settings.{Settings}
-use Rattle.gc_words.specs.declared.site.Recording.{Recording}
-use Rattle.gc_words.specs.declared.site.Site.{Site}
+use Rattle.gc_logs.specs.Following.{path_of}
+use Rattle.gc_logs.specs.Streams.{are_open, ReportsClosed}
+use Rattle.gc_logs.specs.Transcripts.{hearing_of}
+use Rattle.gc_logs.specs.declared.following.Followed.{Followed}
+use Rattle.gc_logs.specs.declared.heard.Heard.{Heard}
+use Rattle.gc_logs.specs.declared.standard.Standard.{Standard}
+use Rattle.gc_logs.specs.declared.streams.Streams.{Streams}
+use Rattle.gc_console.specs.declared.words.ClientJob.{ClientJob}
+use Rattle.gc_console.specs.declared.words.ClientJob.TheVariants as client
+use Rattle.gc_console.specs.Refusing.{EndSeen, end_seen}
+use Rattle.gc_options.specs.Stations.{with_status_line}
+use Rattle.gc_options.specs.declared.settings.Settings.{Settings}
+use Rattle.gc_options.specs.declared.site.Recording.{Recording}
+use Rattle.gc_options.specs.declared.site.Site.{Site}
 use Rattle.gc_console.specs.Subcommands.{DoesAsk, DoesLoop, Opening}
 use Rattle.gc_console.specs.declared.traces.Acted.{Acted}
 use Rattle.gc_console.specs.declared.traces.Traces.{Traces}

@@ -5,14 +5,14 @@ use Rattle.gc_ask.specs.Showing.{unless_shown}
 use Rattle.gc_client.specs.declared.window.TheConstants.{WINDOW}
 use Rattle.gc_lines.specs.Answering.{Ports}
 use Rattle.gc_links.specs.declared.place.Place.{Place}
-use Rattle.gc_messages.specs.declared.standard.Standard.{Standard}
-use Rattle.gc_subcommands.specs.Asked.{TellsAskAt, TellsLoop}
-use Rattle.gc_subcommands.specs.Drills.{PlaysScene, ReadsWholeSource, TellsDrill}
-use Rattle.gc_subcommands.specs.Refusing.{EndSeen, end_seen}
-use Rattle.gc_subcommands.specs.Served.{TellsServe}
-use Rattle.gc_subcommands.specs.Serves.{FailsByPorts, IsDoneAtEnd, TellsChecking, TellsExec}
-use Rattle.gc_subcommands.specs.declared.drill.Drilling.{Drilling}
-use Rattle.gc_subcommands.specs.declared.serve.Serving.{Serving}
+use Rattle.gc_logs.specs.declared.standard.Standard.{Standard}
+use Rattle.gc_console.specs.Asked.{TellsAskAt, TellsLoop}
+use Rattle.gc_console.specs.Drills.{PlaysScene, ReadsWholeSource, TellsDrill}
+use Rattle.gc_console.specs.Refusing.{EndSeen, end_seen}
+use Rattle.gc_console.specs.Served.{TellsServe}
+use Rattle.gc_console.specs.Serves.{FailsByPorts, IsDoneAtEnd, TellsChecking, TellsExec}
+use Rattle.gc_console.specs.declared.drill.Drilling.{Drilling}
+use Rattle.gc_console.specs.declared.serve.Serving.{Serving}
 use Rattle.gc_console.specs.declared.traces.Traces.{Traces}
 
 -- the standard streams before a program reads and writes: the bytes that its input gives, and those that its messages have taken, where

@@ -10,30 +10,30 @@ ghost use Rattle.std.specs.String.{string_bytes};
 ghost use Rattle.std.specs.Vec.Iter.{into_iter_items};
 ghost use Rattle.gc_console.specs.Programs.{AreReadFrom, DoesAsked, DoesProgram, DoesWords, IsAnswered, IsUnread, LacksMemory, RefusesUnread, ShowsText, asks_for_text};
 ghost use Rattle.gc_console.specs.Stations.{DoesOver, HasNoRun, seeing_by};
-ghost use Rattle.gc_messages.specs.Refusals.{Refuses, refusal_line};
-ghost use Rattle.gc_messages.specs.Statuses.{IsStatusUpTo};
-ghost use Rattle.gc_words.specs.Limits.{limit_refusal};
+ghost use Rattle.gc_logs.specs.Refusals.{Refuses, refusal_line};
+ghost use Rattle.gc_logs.specs.Statuses.{IsStatusUpTo};
+ghost use Rattle.gc_options.specs.Limits.{limit_refusal};
 ghost use Rattle.gc_lines.specs.Answering.{ports_of};
 ghost use Rattle.gc_console.specs.Subcommands.{DoesCheck, DoesDrill, DoesExec, DoesServe, EndsFrom, opening, opening_ports};
 
+use crate::check::check;
+use crate::drill::{Drilling, drill_scene};
+use crate::exec::exec_scene;
 use crate::said::Said;
+use crate::serve::{Serving, serve_with_places_filled};
 use crate::system::System;
 use crate::traces::{Acted, Traces};
+use crate::words::{ClientJob, Job, Subcommand, job_of};
 use clap::Error;
 use clap::error::ErrorKind;
 use gc_lines::{Durable, FromReader, ReadAhead, Sink, Source, ToWriter};
-use gc_messages::{
+use gc_logs::{
     Followed, Heard, Lossy, Noting, Standard, Streams, Told, refuse, refuse_at, refuse_date,
     refuse_numbers, refuse_place, refuse_stale, refuse_unit, report_end,
 };
+use gc_options::{Limit, Rehearsal};
 use gc_rehearsal::rehearse;
-use gc_subcommands::check::check;
-use gc_subcommands::drill::{Drilling, drill_scene};
-use gc_subcommands::exec::exec_scene;
-use gc_subcommands::serve::{Serving, serve_with_places_filled};
-use gc_subcommands::{ClientJob, Job, Subcommand, job_of};
 use gc_texts::RunFault;
-use gc_words::{Limit, Rehearsal};
 use std::alloc::Global;
 use std::env::Args;
 use std::fs::File;

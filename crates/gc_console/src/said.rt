@@ -3,7 +3,7 @@
 
 ghost use Rattle.std.specs.Prelude.{◌≡◌, []};
 
-use gc_messages::{Piece, Transcript};
+use gc_logs::{Piece, Transcript};
 use std::io::{self, Write};
 
 /// A place for messages that notes which bytes the place inside took.

@@ -1,6 +1,6 @@
 //! What the program runs over besides its streams.
 
-use gc_messages::Standard;
+use gc_logs::Standard;
 use std::alloc::Global;
 
 /// What the program runs over besides its streams: the net, the clock and the files of `rt`, its memory, and which of the

@@ -5,7 +5,7 @@ ghost use Rattle.gc_console.specs.Stations.{HasNoRun};
 
 use gc_files::Past;
 use gc_links::LinkRecord;
-use gc_messages::Transcript;
+use gc_logs::Transcript;
 use gc_station::Kept;
 
 /// What was noted of a station's run: what is left of its link, if there was one, what was seen at each of its acts, and what was

@@ -1,4 +1,6 @@
+pub mod Leaving
 mod LogCuts
 mod LogLines
 mod OnDisk
+mod ServedEnds
 mod Ways

@@ -3,6 +3,8 @@
 ghost use Rattle.gc_logs.specs.Logging.{LogKeepsAll};
 ghost use Rattle.gc_logs.specs.Files.{LogsKeepTheNewest};
 ghost use Rattle.gc_logs.specs.Ways.{MarksTellTheWay};
+ghost use Rattle.gc_logs.specs.Following.{EarlierFilesLast};
+ghost use Rattle.gc_logs.specs.declared.following.Followed.{Followed};
 
 /// The log has all bytes of each direction, unless its sink fails: those in its lines, followed by the pending bytes, which
 /// aren't written yet, are all bytes sent, or all received, in order.
@@ -19,4 +21,11 @@ pub fn marks_tell_the_way()
 /// order, and none is missing between them. The lines before them were in files that others have taken the place of, or at other paths.
 pub fn logs_keep_the_newest()
     ensures { LogsKeepTheNewest }
+{}
+
+/// What was appended to each file that took rows before the present one is whole rows: no row is in two files. If the files sync,
+/// then whatever a kill or a crash of the machine leaves of such a file, the next opening makes of it the table that was there before, rows
+/// of earlier runs, and each row that was appended to it.
+pub fn earlier_files_last<R>()
+    ensures { (followed : Followed R) → EarlierFilesLast followed }
 {}

@@ -9,10 +9,10 @@ use Rattle.gc_links.specs.declared.watched.Watched.{Watched}
 use Rattle.gc_measuring.specs.Appending.{AppendsToFile, appending_run}
 use Rattle.gc_measuring.specs.Telling.{AppendingRun, AppendsAll, MeasuresAllAtLink, ReportsAppending, ReportsAtSite, Stage, Views, acts_of, began_of, stage}
 use Rattle.gc_measuring.specs.declared.recording.Appended.{Appended}
-use Rattle.gc_messages.specs.declared.following.Followed.{Followed}
-use Rattle.gc_messages.specs.declared.streams.Streams.{Streams}
+use Rattle.gc_logs.specs.declared.following.Followed.{Followed}
+use Rattle.gc_logs.specs.declared.streams.Streams.{Streams}
 use Rattle.gc_station.specs.Keeping.{Snapshot}
-use Rattle.gc_words.specs.declared.settings.Settings.{Settings}
+use Rattle.gc_options.specs.declared.settings.Settings.{Settings}
 
 -- what is known of a run's link, of which the moment `run` is known at which it was made, and of the status, is known of the link that is
 -- handed back, which was made at that moment

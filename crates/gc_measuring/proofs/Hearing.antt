@@ -2,7 +2,7 @@
 use Rattle.std.proofs.Common.{ℕ, List, inl, inr, subst, sym}
 use Rattle.gc_measuring.specs.TaskTexts.{HasNoTasks, HearsNoTasks, RefusesTasks}
 use Rattle.gc_measuring.specs.declared.stop.Stop.{Stop}
-use Rattle.gc_messages.specs.Transcripts.{Hearing, HearsText}
+use Rattle.gc_logs.specs.Transcripts.{Hearing, HearsText}
 use Rattle.gc_texts.specs.WholeTexts.{Input, WasRead}
 
 -- a text that was read whole, and gives no tasks, is refused

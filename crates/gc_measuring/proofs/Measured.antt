@@ -1,7 +1,7 @@
 -- Status 0 is reported only of a run that is done, or whose end was asked for.
 use Rattle.std.proofs.Common.{◌≡◌, ℕ, List, Option, Result, Ok, Err, inl, inr, arith}
 use Rattle.gc_measuring.specs.Measuring.{PortsSeen, MeasuresGiven, IsMeasured, ReportsEndOfRun}
-use Rattle.gc_words.specs.declared.settings.Settings.{Settings}
+use Rattle.gc_options.specs.declared.settings.Settings.{Settings}
 use Rattle.gc_measuring.specs.declared.stop.Stop.{Stop}
 use Rattle.gc_measuring.specs.declared.stop.Stop.TheVariants.{Run}
 use Rattle.gc_station.specs.declared.tally.Tally.{Tally}

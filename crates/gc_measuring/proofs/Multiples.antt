@@ -3,7 +3,7 @@ use Rattle.std.proofs.Common.{◌≡◌, ◌+◌, ◌-◌, ◌*◌, ◌/◌, ◌
 use Rattle.std.proofs.Math.Nat.{div-add-mod', mod-lt, suc-mul}
 use Rattle.gc_measuring.specs.Choices.{IsTimeToMultiple, plan_of, time_to_multiple}
 use Rattle.gc_texts.specs.declared.tasks.Task.{Task}
-use Rattle.gc_words.specs.declared.choice.Choice.{Choice}
+use Rattle.gc_options.specs.declared.choice.Choice.{Choice}
 
 -- a moment that is `past` after the whole multiple `m`, and no later after it than the wanted one
 earlier : (m past wanted run : ℕ) → m + past ≡ run → past ≤ wanted → run + (wanted - past) ≡ m + wanted

@@ -13,8 +13,8 @@ use Rattle.gc_catalogue.specs.declared.call.Call.TheVariants.{Position}
 use Rattle.gc_texts.specs.declared.agree.Agree.{Agree}
 use Rattle.gc_texts.specs.declared.near.Near.{Near}
 use Rattle.gc_texts.specs.declared.near.Range.{Range}
-use Rattle.gc_words.specs.declared.unit.Unit.{Unit}
-use Rattle.gc_words.specs.declared.unit.Unit.TheVariants.{Gon, Degree}
+use Rattle.gc_options.specs.declared.unit.Unit.{Unit}
+use Rattle.gc_options.specs.declared.unit.Unit.TheVariants.{Gon, Degree}
 
 -- half a turn in units of 10^-24 radians, the last place that a decimal may have
 abbrev pub half : ℕ

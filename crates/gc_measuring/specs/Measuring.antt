@@ -8,8 +8,8 @@ use Rattle.gc_measuring.specs.Choices.{plan_of}
 use Rattle.gc_measuring.specs.Labels.{LabelsSeen, labels_of}
 use Rattle.gc_measuring.specs.Stops.{stop_text, end_of_run}
 use Rattle.gc_measuring.specs.TaskTexts.{GivesTasks, RefusesTasks}
-use Rattle.gc_words.specs.declared.layout.Layout.{Layout}
-use Rattle.gc_words.specs.declared.settings.Settings.{Settings}
+use Rattle.gc_options.specs.declared.layout.Layout.{Layout}
+use Rattle.gc_options.specs.declared.settings.Settings.{Settings}
 use Rattle.gc_measuring.specs.declared.stop.Stop.{Stop}
 use Rattle.gc_measuring.specs.declared.stop.Stop.TheVariants.{Run}
 use Rattle.gc_lines.specs.Ports.{TakesFront}

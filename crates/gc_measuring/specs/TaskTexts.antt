@@ -1,9 +1,9 @@
 -- A station's text that is read whole: this project's own.
 use Rattle.std.specs.Prelude.{◌≡◌, ℕ, ◌<◌, ◌≤◌, ◌⊎◌, Bool, List, length}
-use Rattle.gc_words.specs.declared.choice.Choice.{Choice}
+use Rattle.gc_options.specs.declared.choice.Choice.{Choice}
 use Rattle.gc_measuring.specs.declared.stop.Stop.{Stop}
 use Rattle.gc_measuring.specs.declared.stop.Stop.TheVariants.{Text, Empty, Line}
-use Rattle.gc_messages.specs.Transcripts.{Hearing, HeardBytes}
+use Rattle.gc_logs.specs.Transcripts.{Hearing, HeardBytes}
 use Rattle.gc_texts.specs.LineForms.{line_at}
 use Rattle.gc_texts.specs.Tasks.{TasksSeen, IsTasks, TaskFault, tasks_seen}
 use Rattle.gc_texts.specs.Troubles.{IsTrouble}

@@ -6,11 +6,11 @@ use Rattle.gc_measuring.specs.Logging.{ReportsLoss}
 use Rattle.gc_measuring.specs.Measuring.{PortsSeen, MeasuresGiven, IsMeasured, AllLast, ReportsEndOfRun}
 use Rattle.gc_measuring.specs.Recording.{unfit_text}
 use Rattle.gc_measuring.specs.Stops.{IsFaultWithoutLink, with_fault}
-use Rattle.gc_words.specs.Stations.{begun_at, for_file}
-use Rattle.gc_words.specs.declared.settings.Settings.{Settings}
+use Rattle.gc_options.specs.Stations.{begun_at, for_file}
+use Rattle.gc_options.specs.declared.settings.Settings.{Settings}
 use Rattle.gc_measuring.specs.declared.stop.Stop.{Stop}
 use Rattle.gc_measuring.specs.declared.stop.Stop.TheVariants.{Run}
-use Rattle.gc_messages.specs.declared.streams.Streams.{Streams}
+use Rattle.gc_logs.specs.declared.streams.Streams.{Streams}
 use Rattle.gc_files.specs.declared.system.Unfit.{Unfit}
 use Rattle.gc_lines.specs.declared.ports.Source.{Ghosts as Source}
 use Rattle.gc_lines.specs.declared.ports.Sink.{Ghosts as Sink}

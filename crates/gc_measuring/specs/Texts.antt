@@ -10,13 +10,13 @@ use Rattle.gc_measuring.specs.Stops.{stop_text}
 use Rattle.gc_measuring.specs.TaskTexts.{GivesTasks, HearsNoTasks}
 use Rattle.gc_measuring.specs.Telling.{AppendingRun, MeasuresAllAtLink, ReportsAtSite, Stage, Views, stage}
 use Rattle.gc_measuring.specs.declared.stop.Stop.{Stop}
-use Rattle.gc_messages.specs.Transcripts.{Hearing, hearing_of}
-use Rattle.gc_messages.specs.declared.heard.Heard.{Heard}
-use Rattle.gc_messages.specs.declared.streams.Streams.{Streams}
+use Rattle.gc_logs.specs.Transcripts.{Hearing, hearing_of}
+use Rattle.gc_logs.specs.declared.heard.Heard.{Heard}
+use Rattle.gc_logs.specs.declared.streams.Streams.{Streams}
 use Rattle.gc_texts.specs.Tasks.{TasksSeen}
 use Rattle.gc_texts.specs.WholeTexts.{ReadsFew}
-use Rattle.gc_words.specs.declared.choice.Choice.{Choice}
-use Rattle.gc_words.specs.declared.settings.Settings.{Settings}
+use Rattle.gc_options.specs.declared.choice.Choice.{Choice}
+use Rattle.gc_options.specs.declared.settings.Settings.{Settings}
 
 -- the reads of an input, which took it from `old` to `new`, gave exactly this text, to its end; and a station with this choice finds
 -- commands of a cycle in it (`all` are its tasks), and these columns beside those of the table's quantities

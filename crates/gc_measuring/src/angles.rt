@@ -7,9 +7,9 @@ ghost use Rattle.gc_measuring.specs.Angles.{agree_end_text, agree_text, angle_in
 ghost use Rattle.gc_values.specs.Nearest.{half_up};
 
 use gc_catalogue::{Asked, Call};
+use gc_options::Unit;
 use gc_texts::{Agree, Near, Range};
 use gc_values::Decimal;
-use gc_words::Unit;
 use std::io::{self, Write};
 
 // Half a turn, pi to 24 places, in units of 10^-24 radians.

@@ -4,8 +4,8 @@
 ghost use Rattle.std.specs.Prelude.{◌≡◌, IfOk};
 ghost use Rattle.std.specs.Process.{exit_status};
 ghost use Rattle.gc_measuring.specs.TaskTexts.{IsCheckable};
-ghost use Rattle.gc_messages.specs.Statuses.{IsStatusUpTo};
-ghost use Rattle.gc_messages.specs.Transcripts.{hearing_of};
+ghost use Rattle.gc_logs.specs.Statuses.{IsStatusUpTo};
+ghost use Rattle.gc_logs.specs.Transcripts.{hearing_of};
 
 use crate::angles::{write_agree, write_place, write_turned};
 use crate::bound::{outline_bound, report_tight_deadlines};
@@ -19,13 +19,13 @@ use crate::stop::Stop;
 use crate::task_text::hear_task_text;
 use crate::values::report_braces;
 use gc_lines::{Sink, Source, write_whole};
-use gc_messages::{
+use gc_logs::{
     Heard, Streams, report_blanks, report_odd_angles, report_unasked, report_unused_names,
     report_unwatched,
 };
+use gc_options::{Choice, Unit};
 use gc_station::Plan;
 use gc_texts::{Again, Agree, JUDGEMENTS, RunFault, Task, Tasks, Twice};
-use gc_words::{Choice, Unit};
 use std::alloc::Global;
 use std::io::{self, Write};
 use std::process::ExitCode;

@@ -5,7 +5,7 @@ ghost use Rattle.std.specs.Prelude.{IfOk};
 ghost use Rattle.std.specs.Process.{exit_status};
 ghost use Rattle.gc_lines.specs.Ports.{WritesIfOk};
 ghost use Rattle.gc_measuring.specs.Measuring.{ReportsEndOfRun, main_counts_text, other_counts_text, judged_counts_text, repeats_text, tally_line};
-ghost use Rattle.gc_messages.specs.Statuses.{IsStatusUpTo};
+ghost use Rattle.gc_logs.specs.Statuses.{IsStatusUpTo};
 
 use crate::stop::Stop;
 use gc_station::Tally;

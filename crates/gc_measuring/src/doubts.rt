@@ -2,7 +2,7 @@
 //! checked then, and what is reported of it.
 
 use gc_links::Moment;
-use gc_messages::{MINUTE, RateLimit};
+use gc_logs::{MINUTE, RateLimit};
 use gc_texts::{Stamp, stamp_text};
 use std::io::{self, Write};
 

@@ -8,8 +8,8 @@ ghost use Rattle.gc_measuring.specs.Wanted.{WantCountsOverConnections};
 ghost use Rattle.gc_values.specs.Directions.{half_turn};
 ghost use Rattle.gc_values.specs.Nearest.{RoundsHalfUp};
 ghost use Rattle.gc_texts.specs.declared.tasks.Task.{Task};
-ghost use Rattle.gc_words.specs.declared.choice.Choice.{Choice};
-ghost use Rattle.gc_words.specs.declared.unit.Unit.{Unit};
+ghost use Rattle.gc_options.specs.declared.choice.Choice.{Choice};
+ghost use Rattle.gc_options.specs.declared.unit.Unit.{Unit};
 
 /// If the cycle has had no answer yet, and as long as none comes and no command has no value of a file, the moment since which an answer is
 /// wanted stays the same, whatever becomes of connections and cycles meanwhile.

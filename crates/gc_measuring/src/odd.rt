@@ -1,6 +1,6 @@
 //! The messages on what is odd about a line: it sends requests back, or changes the ends of lines.
 
-use gc_messages::Oddities;
+use gc_logs::Oddities;
 use std::io::{self, Write};
 
 /// Writes a line for each thing that is odd about the line (`odd`) and wasn't told yet (`told`). `Err`: the messages couldn't be written.

@@ -4,9 +4,9 @@
 ghost use Rattle.std.specs.Prelude.{◌≡◌};
 ghost use Rattle.gc_measuring.specs.Choices.{first_of, longest_deadline, plan_of, time_to_multiple};
 
+use gc_options::Choice;
 use gc_station::Plan;
 use gc_texts::{Task, Tasks};
-use gc_words::Choice;
 
 /// The plan of a choice for a run that began at the moment `run`, in milliseconds since 1970, with these tasks, of which the first `setup`
 /// are the setup. Its deadline is the longest in use: the greatest of the choice's own and those of the tasks.

@@ -15,8 +15,8 @@ ghost use Rattle.gc_measuring.specs.Telling.{AppendsAll, ReportsAppending, acts_
 ghost use Rattle.gc_measuring.specs.Texts.{ReadsAndAppends};
 ghost use Rattle.gc_files.specs.Rows.{appended};
 ghost use Rattle.gc_files.specs.Sinks.{asks_sync};
-ghost use Rattle.gc_messages.specs.Following.{bytes_in, path_of};
-ghost use Rattle.gc_messages.specs.Statuses.{IsStatusUpTo};
+ghost use Rattle.gc_logs.specs.Following.{bytes_in, path_of};
+ghost use Rattle.gc_logs.specs.Statuses.{IsStatusUpTo};
 
 use crate::counts::report_end_of_run;
 use crate::spot::Spot;
@@ -26,11 +26,11 @@ use crate::task_text::ReadText;
 use gc_files::{Past, RowsOptions, Unfit};
 use gc_lines::{Durable, FromReader, Sink, Source};
 use gc_links::{LinkRecord, ValueFiles, Watched};
-use gc_messages::{Followed, Heard, Streams, report_copied, report_torn};
+use gc_logs::{Followed, Heard, Streams, report_copied, report_torn};
+use gc_options::{Recording, Settings};
 use gc_rows::{head, sign};
 use gc_station::Kept;
 use gc_texts::{FieldName, RunFault};
-use gc_words::{Recording, Settings};
 use std::alloc::Global;
 use std::fs::File;
 use std::io::{self, ErrorKind, Write};

@@ -12,10 +12,10 @@ use crate::signs::Signs;
 use crate::starts::{Starts, tell_starts};
 use crate::unanswered::Unanswered;
 use gc_links::{Moment, Place};
-use gc_messages::{FilesSeen, FilesTold, Noticed};
+use gc_logs::{FilesSeen, FilesTold, Noticed};
+use gc_options::Watch;
 use gc_station::LinkHealth;
 use gc_texts::{Ending, Name, Stamp, Wish};
-use gc_words::Watch;
 use std::io::{self, Write};
 
 /// The messages of a station, with what was seen of the station and reported so far.

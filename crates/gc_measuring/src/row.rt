@@ -11,9 +11,9 @@ ghost use Rattle.gc_texts.specs.Descriptions.{described_as, description_seen};
 
 use crate::labels::Labels;
 use gc_lines::{PortFailed, Sink};
+use gc_options::Layout;
 use gc_rows::{EndedCommand, When, write_record};
 use gc_texts::{Description, Ending, Stamp, Wish, described_as, name_text};
-use gc_words::Layout;
 
 // The description of the procedure that a command asks for, if it is among these.
 fn description_of<'a>(command: &Wish, described: &'a [Description]) -> Option<&'a Description>

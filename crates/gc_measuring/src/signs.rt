@@ -9,11 +9,11 @@ use crate::odd::tell_odd;
 use crate::unwell::{Missed, SECOND, Unwell};
 use crate::wanted::{Wanted, has_lasted};
 use gc_links::Moment;
-use gc_messages::{MINUTE, Noticed, Oddities, RateLimit, ShortText};
+use gc_logs::{MINUTE, Noticed, Oddities, RateLimit, ShortText};
+use gc_options::Watch;
 use gc_station::{LinkHealth, Tally, is_well};
 use gc_texts::{Ending, JUDGEMENTS, Name, Stamp, Wish, stamp_text};
 use gc_values::no_values;
-use gc_words::Watch;
 use std::io::{self, Write};
 
 // How long a line that isn't quiet, or an answer that doesn't come, has to last before it is reported, in milliseconds. A station

@@ -1,8 +1,8 @@
 //! Where a station works and by which settings, with what is noticed there while it does.
 
-use gc_messages::{Noticed, tell_place};
+use gc_logs::{Noticed, tell_place};
+use gc_options::{Settings, Site};
 use gc_texts::RunFault;
-use gc_words::{Settings, Site};
 use std::cell::Cell;
 use std::io::{self, Write};
 

@@ -1,6 +1,6 @@
 //! Starts of the instrument: how often it signed on, reported at most once a minute.
 
-use gc_messages::{MINUTE, RateLimit};
+use gc_logs::{MINUTE, RateLimit};
 use std::io::{self, Write};
 
 /// What was reported of the instrument's sign-ons.

@@ -2,7 +2,7 @@
 
 ghost use Rattle.std.specs.Prelude.{◌≡◌, ◌+◌, ◌≤◌, IfOk, IfErr, length};
 ghost use Rattle.gc_measuring.specs.TaskTexts.{HasNoTasks, HasTasks, HearsNoTasks, HearsTasks, IsStopFor, ReadsNoTasks, ReadsTasks};
-ghost use Rattle.gc_messages.specs.Transcripts.{hearing_of};
+ghost use Rattle.gc_logs.specs.Transcripts.{hearing_of};
 ghost use Rattle.gc_station.specs.Watching.{places_of, watched_of};
 ghost use Rattle.gc_texts.specs.Tasks.{tasks_seen};
 ghost use Rattle.gc_texts.specs.WholeTexts.{input_of};
@@ -11,10 +11,10 @@ ghost use Rattle.gc_texts.specs.declared.text.TheConstants.{TEXT_LIMIT};
 use crate::stop::Stop;
 use gc_lines::Source;
 use gc_links::ValueFiles;
-use gc_messages::{Heard, hear_text};
+use gc_logs::{Heard, hear_text};
+use gc_options::Choice;
 use gc_station::Watches;
 use gc_texts::{FieldName, RunFault, Tasks, line_at, read_tasks, read_text, trouble_of};
-use gc_words::Choice;
 use std::alloc::{AllocError, Global};
 
 /// A station's text that was read whole and can be measured.

@@ -1,6 +1,6 @@
 //! The instrument of a scene at the far end of a case, which keeps its state from request to request, as that of `serve` does.
 
-use gc_engines::{TimedForm, read_scene};
+use gc_filters::{TimedForm, read_scene};
 use gc_lines::{Line, with_end};
 use gc_probes::{Case, bytes_of};
 use gc_scenes::SlowInstrument;

@@ -13,9 +13,9 @@ use crate::summary::Summary;
 use gc_lines::{PortFailed, Sink, line_from};
 use gc_links::Moment;
 use gc_measuring::{Labels, write_station_row};
+use gc_options::Layout;
 use gc_station::{Book, LinkHealth, Watch};
 use gc_texts::{Ending, Quality, Stamp, Wish};
-use gc_words::Layout;
 use std::alloc::Global;
 
 // The number of the null procedure.

@@ -6,7 +6,7 @@ ghost use Rattle.gc_rehearsal.specs.Claims.{false_row_of};
 
 use crate::claim::Claim;
 use crate::reading::Refusal;
-use gc_engines::SceneTrouble;
+use gc_filters::SceneTrouble;
 use gc_measuring::Stop;
 use gc_texts::{RunFault, Stamp, stamp_text};
 use std::io::{self, Write};

@@ -17,9 +17,9 @@ use crate::rehearsed::Rehearsed;
 use crate::seeded::Seeded;
 use gc_lines::Sink;
 use gc_measuring::plan_of;
+use gc_options::{Choice, DAY};
 use gc_station::{Kept, Plan, Watches, run_station};
 use gc_texts::{RunFault, Task};
-use gc_words::{Choice, DAY};
 use std::alloc::Global;
 
 // After how many milliseconds a station that gave up begins again.
@@ -81,7 +81,7 @@ pub(crate) struct Rehearsing<K> {
 impl<K: Sink> Rehearsing<K> {
     /// Rehearses all nights over a link that is new. However they end, the acts that the link recorded are those of a station, run after
     /// run, and of a line that keeps order, whatever it lost, repeated, held or closed. So each answer that these runs recorded was made
-    /// on executing its own request (`gc_promise::laws::nights_are_faithful`). Nothing of this is said of a line that alters bytes, or
+    /// on executing its own request (`gc_program_theorems::laws::nights_are_faithful`). Nothing of this is said of a line that alters bytes, or
     /// whose instrument sends replies late. Runs that end before they are done are counted in the book's summary, but not a run at which
     /// the rehearsal fails.
     ///

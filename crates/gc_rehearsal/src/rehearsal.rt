@@ -1,11 +1,11 @@
 //! A rehearsal: its texts are read, its nights are rehearsed, and how that ended is reported.
 
 ghost use Rattle.std.specs.Prelude.{[], ◌≡◌, ◌≤◌, ◌||◌, is_some, length};
-ghost use Rattle.gc_engines.specs.Scenes.{is_late};
+ghost use Rattle.gc_filters.specs.Scenes.{is_late};
 ghost use Rattle.gc_rehearsal.specs.Rules.{frequency_of};
 ghost use Rattle.gc_rehearsal.specs.declared.rule.Word.TheVariants.{Alter};
 ghost use Rattle.gc_rehearsal.specs.Inside.{told};
-ghost use Rattle.gc_messages.specs.Statuses.{IsStatusUpTo};
+ghost use Rattle.gc_logs.specs.Statuses.{IsStatusUpTo};
 
 use crate::book::{RunBook, Seen};
 use crate::deadlines::Deadlines;
@@ -18,13 +18,13 @@ use crate::rule::Word;
 use crate::rules::Rules;
 use crate::seeded::Seeded;
 use crate::summary::Summary;
-use gc_engines::{LateForm, LateScene, read_scene, scene_trouble_of};
+use gc_filters::{LateForm, LateScene, read_scene, scene_trouble_of};
 use gc_lines::{FromReader, Sink, Source};
+use gc_logs::Streams;
 use gc_measuring::{Labels, commands_per_cycle, read_task_text};
-use gc_messages::Streams;
+use gc_options::{Layout, Rehearsal};
 use gc_rows::write_head;
 use gc_texts::{RunFault, Task, Tasks, line_at, read_text};
-use gc_words::{Layout, Rehearsal};
 use std::alloc::{AllocError, Global};
 use std::fs::{File, Files};
 use std::io::{self, Write};

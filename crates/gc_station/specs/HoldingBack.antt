@@ -1,7 +1,7 @@
 -- Holding back, this project's own. A damaged line may end several requests, and a client that then sends as many at once as its window
 -- allows may take the replies that are still in flight for those of later requests with the same ids. So no request is sent unless the
 -- outstanding ones, and those that the last line ended that ended any, are together fewer than seven. That is what the laws on damaged
--- lines ask of a client (`gc_damage`). A part reaches from one synchronization to the next (`Parts`).
+-- lines ask of a client (`gc_theorems`). A part reaches from one synchronization to the next (`Parts`).
 use Rattle.std.specs.Prelude.{◌≡◌, ℕ, ◌+◌, ◌<◌, List, ◌∷◌, ◌++◌, length, Some, slice_get}
 use Rattle.gc_catalogue.specs.declared.asked.Asked.{Asked}
 use Rattle.gc_client.specs.OneForOne.{Step, Send}

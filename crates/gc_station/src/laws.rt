@@ -255,7 +255,7 @@ pub fn each_request_has_room()
 
 /// The station holds back: whenever a request is sent, null procedures of its own too, the outstanding requests, and those that the last
 /// line ended that ended any since the synchronization, are together fewer than seven. That is what the laws on damaged lines ask of a client
-/// (`gc_damage`).
+/// (`gc_theorems`).
 pub fn requests_are_held_back()
     ensures { RequestsAreHeldBack }
 {}

@@ -17,8 +17,8 @@ use Rattle.gc_client.specs.Rule.{ById, Settled, expires, fresh, heard, hears, se
 use Rattle.gc_client.proofs.OneForOne.{accounts_for_sends}
 use Rattle.gc_station.proofs.Words.{left_none}
 use Rattle.gc_session.specs.Events.{ClientEvent, Came, Stepped, AreInTurn, left_among, steps_among}
-use Rattle.gc_field.specs.ClientRuns.{ask_events}
-use Rattle.gc_field.proofs.BeginWords.{cons_not_nil}
+use Rattle.gc_theorems.specs.ClientRuns.{ask_events}
+use Rattle.gc_theorems.proofs.BeginWords.{cons_not_nil}
 use Rattle.geocom_c.specs.Beginning.{left_by_restart, given, left_by_bytes, unanswered_after}
 use Rattle.geocom_c.specs.Following.{CallsReach, CallStage, first_stage, hearing_lines, left_by_call, stage_after}
 use Rattle.geocom_c.specs.Laws.{CallsAreEvents}

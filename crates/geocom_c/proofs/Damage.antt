@@ -5,24 +5,24 @@ use Rattle.gc_client.specs.OneForOne.{Course, begun, course}
 use Rattle.gc_instrument.specs.State.{KeptReply}
 use Rattle.gc_session.specs.Events.{Stepped, steps_among}
 use Rattle.gc_world.specs.Worlds.{of_sent}
-use Rattle.gc_field.specs.World.{Ends}
-use Rattle.gc_field.specs.Begin.{begins}
-use Rattle.gc_field.specs.Begun.{nulls, nulls_settled}
-use Rattle.gc_field.specs.Field as field
-use Rattle.gc_field.specs.Instrument.{AnyState, IsAnInstrument}
-use Rattle.gc_field.proofs.BegunFaithful.{begun_prefixed, prefixed_all}
-use Rattle.gc_field.proofs.Parting.{steps_in_front}
-use Rattle.gc_harm.specs.Harm.{Harm, Does, Damages, Strikes, harmed, harms}
-use Rattle.gc_harm.specs.HoldingBack.{Holding, AllMayHarmApart, MayHarmApart, holding_begun, holding_harms}
-use Rattle.gc_harm.specs.Sessions.{harm_events}
-use Rattle.gc_harm.specs.Stretch.{left_by_sync}
-use Rattle.gc_harm.specs.Stretches.{IsPossibleHarm, seen_at, seen_harms}
-use Rattle.gc_harm.specs.Synchronizing.{WasStruck}
-use Rattle.gc_harm.proofs.HoldingBack.{fresh_if_held_back}
-use Rattle.gc_harm.proofs.Own.{own_or_broken}
-use Rattle.gc_harm.proofs.SeenHarms.{Same, after_nulls, course_append, same_harm}
-use Rattle.gc_harm.proofs.Sessions.{none_of_harms}
-use Rattle.gc_harm.proofs.Stretch.{left_clean}
+use Rattle.gc_theorems.specs.World.{Ends}
+use Rattle.gc_theorems.specs.Begin.{begins}
+use Rattle.gc_theorems.specs.Begun.{nulls, nulls_settled}
+use Rattle.gc_theorems.specs.Field as field
+use Rattle.gc_theorems.specs.Instrument.{AnyState, IsAnInstrument}
+use Rattle.gc_theorems.proofs.BegunFaithful.{begun_prefixed, prefixed_all}
+use Rattle.gc_theorems.proofs.Parting.{steps_in_front}
+use Rattle.gc_theorems.specs.Harm.{Harm, Does, Damages, Strikes, harmed, harms}
+use Rattle.gc_theorems.specs.DamagedHoldingBack.{Holding, AllMayHarmApart, MayHarmApart, holding_begun, holding_harms}
+use Rattle.gc_theorems.specs.DamagedSessions.{harm_events}
+use Rattle.gc_theorems.specs.Stretch.{left_by_sync}
+use Rattle.gc_theorems.specs.Stretches.{IsPossibleHarm, seen_at, seen_harms}
+use Rattle.gc_theorems.specs.DamagedSynchronizing.{WasStruck}
+use Rattle.gc_theorems.proofs.HoldingBack.{fresh_if_held_back}
+use Rattle.gc_theorems.proofs.Own.{own_or_broken}
+use Rattle.gc_theorems.proofs.SeenHarms.{Same, after_nulls, course_append, same_harm}
+use Rattle.gc_theorems.proofs.DamagedSessions.{none_of_harms}
+use Rattle.gc_theorems.proofs.Stretch.{left_clean}
 use Rattle.geocom_c.specs.Damage.{AreCallsOver, AreHeldBack, HarmedCalls, HeldBackAnswersAreOwnOrDamaged, begun_over}
 use Rattle.geocom_c.specs.Following.{CallsReach, CallStage, first_stage}
 use Rattle.geocom_c.specs.declared.following.StateCall.{StateCall}

@@ -10,13 +10,13 @@ use Rattle.gc_catalogue.specs.declared.call.Call.TheVariants.{InstrumentNo}
 use Rattle.gc_instrument.specs.Execution.{exec}
 use Rattle.gc_instrument.specs.Replying.{handed}
 use Rattle.gc_instrument.specs.State.{IsFittingState, simulator_opening}
-use Rattle.gc_field.specs.Simulator.{simulator_ends}
-use Rattle.gc_field.specs.CountingChain.{counting, kept_by}
-use Rattle.gc_field.specs.Instrument.{AnyState, TreatsRawsAlike}
-use Rattle.gc_field.specs.Laws.{kept_of}
-use Rattle.gc_field.proofs.CountingChain.{counted_in_field}
-use Rattle.gc_field.proofs.Instruments.{simulator_is_an_instrument}
-use Rattle.gc_field.proofs.Witness.{opening_fits, units}
+use Rattle.gc_theorems.specs.Simulator.{simulator_ends}
+use Rattle.gc_theorems.specs.CountingChain.{counting, kept_by}
+use Rattle.gc_theorems.specs.Instrument.{AnyState, TreatsRawsAlike}
+use Rattle.gc_theorems.specs.Laws.{kept_of}
+use Rattle.gc_theorems.proofs.CountingChain.{counted_in_field}
+use Rattle.gc_theorems.proofs.Instruments.{simulator_is_an_instrument}
+use Rattle.gc_theorems.proofs.Witness.{opening_fits, units}
 use Rattle.geocom_c.specs.FieldWitness.{AreInField, SomeCallsAreInField, counting_exchange, moves, simulator_exchange}
 
 -- procedure 5003 without parameters is a call

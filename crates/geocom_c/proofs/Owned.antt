@@ -7,12 +7,12 @@ use Rattle.gc_client.specs.OneForOne.{Course, begun, course}
 use Rattle.gc_instrument.specs.State.{KeptReply}
 use Rattle.gc_session.specs.Events.{AreInTurn, left_among, steps_among}
 use Rattle.gc_station.proofs.Lists.{all_on}
-use Rattle.gc_field.specs.World.{Ends}
-use Rattle.gc_field.specs.ClientRuns.{events_over, placed_runs}
-use Rattle.gc_field.specs.Instrument.{IsAnInstrument}
-use Rattle.gc_field.specs.Owned.{IsOwn, IsOwnUnlessLost}
-use Rattle.gc_field.proofs.Owning.{all_own_if_safe}
-use Rattle.gc_field.proofs.Parting.{each_is_own_if_safe}
+use Rattle.gc_theorems.specs.World.{Ends}
+use Rattle.gc_theorems.specs.ClientRuns.{events_over, placed_runs}
+use Rattle.gc_theorems.specs.Instrument.{IsAnInstrument}
+use Rattle.gc_theorems.specs.Owned.{IsOwn, IsOwnUnlessLost}
+use Rattle.gc_theorems.proofs.Owning.{all_own_if_safe}
+use Rattle.gc_theorems.proofs.Parting.{each_is_own_if_safe}
 use Rattle.geocom_c.specs.Laws.{EachAnswerIsOwn}
 use Rattle.geocom_c.proofs.Courses.{over_events}
 

@@ -11,9 +11,9 @@ use Rattle.gc_lines.proofs.Lists.{all_append}
 use Rattle.gc_lines.specs.Frames.{rest_behind}
 use Rattle.gc_session.specs.Events.{ClientEvent, Came, Stepped}
 use Rattle.gc_session.proofs.InTable.{AreInTable, IsInTable}
-use Rattle.gc_field.specs.ClientRuns.{ask_events, events_over}
-use Rattle.gc_field.specs.World.{Ends}
-use Rattle.gc_field.proofs.InTable.{table_safe}
+use Rattle.gc_theorems.specs.ClientRuns.{ask_events, events_over}
+use Rattle.gc_theorems.specs.World.{Ends}
+use Rattle.gc_theorems.proofs.InTable.{table_safe}
 use Rattle.geocom_c.specs.Beginning.{left_by_restart, given, left_by_bytes}
 use Rattle.geocom_c.specs.Laws.{AreOfTheTable, TableCallsAreSafe}
 use Rattle.geocom_c.specs.Rest.{lines_completed}

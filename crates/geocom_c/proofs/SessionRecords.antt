@@ -6,9 +6,9 @@ use Rattle.gc_client.specs.Rule as rule
 use Rattle.gc_client.specs.Rule.{Settlement}
 use Rattle.gc_client.specs.declared.window.TheConstants.{WINDOW}
 use Rattle.gc_instrument.specs.State.{KeptReply}
-use Rattle.gc_field.specs.ClientRuns.{PlacedRun, placed_runs}
-use Rattle.gc_field.specs.Sessions.{EachSessionIsOwn, IsOwnIfCallers}
-use Rattle.gc_field.specs.World.{Ends}
+use Rattle.gc_theorems.specs.ClientRuns.{PlacedRun, placed_runs}
+use Rattle.gc_theorems.specs.Sessions.{EachSessionIsOwn, IsOwnIfCallers}
+use Rattle.gc_theorems.specs.World.{Ends}
 use Rattle.geocom_c.specs.SessionCalls.{AreSideBySide, Handed, IsHanded, handed_all}
 use Rattle.geocom_c.specs.SessionLaws.{EachRecordIsOwn, IsOwnHanded}
 use Rattle.geocom_c.specs.Settled.{HasOutcome}

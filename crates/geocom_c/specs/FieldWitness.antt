@@ -17,20 +17,20 @@ use Rattle.gc_client.specs.OneForOne.{begun, course}
 use Rattle.gc_client.specs.Rule.{IsWidth, Answered}
 use Rattle.gc_instrument.specs.State.{KeptReply, IsFittingState, simulator_opening}
 use Rattle.gc_session.specs.Events.{ClientEvent, steps_among}
-use Rattle.gc_field.specs.Simulator.{simulator_ends}
-use Rattle.gc_field.specs.World.{Ends, Up_deliver}
-use Rattle.gc_field.specs.Begin.{IsWellFormed, LacksTheWord, SyncTurn, Asks, Comes, UnderWay, begins, leaves, turned}
-use Rattle.gc_field.specs.Beginnings.{Run}
-use Rattle.gc_field.specs.Begun.{WasMadeOn}
-use Rattle.gc_field.specs.ClientRuns.{ArePossibleRuns, events_over, placed_runs}
-use Rattle.gc_field.specs.CountingChain as chain
-use Rattle.gc_field.specs.CountingChain.{counting, kept_by}
-use Rattle.gc_field.specs.Field.{Move, Sends, Tells, OnLine}
-use Rattle.gc_field.specs.Field as field
-use Rattle.gc_field.specs.Instrument.{IsAnInstrument, AnyState}
-use Rattle.gc_field.specs.Laws.{kept_of}
-use Rattle.gc_field.specs.Owned.{IsSafeRun}
-use Rattle.gc_field.specs.Witness.{eight_answered, replies}
+use Rattle.gc_theorems.specs.Simulator.{simulator_ends}
+use Rattle.gc_theorems.specs.World.{Ends, Up_deliver}
+use Rattle.gc_theorems.specs.Begin.{IsWellFormed, LacksTheWord, SyncTurn, Asks, Comes, UnderWay, begins, leaves, turned}
+use Rattle.gc_theorems.specs.Beginnings.{Run}
+use Rattle.gc_theorems.specs.Begun.{WasMadeOn}
+use Rattle.gc_theorems.specs.ClientRuns.{ArePossibleRuns, events_over, placed_runs}
+use Rattle.gc_theorems.specs.CountingChain as chain
+use Rattle.gc_theorems.specs.CountingChain.{counting, kept_by}
+use Rattle.gc_theorems.specs.Field.{Move, Sends, Tells, OnLine}
+use Rattle.gc_theorems.specs.Field as field
+use Rattle.gc_theorems.specs.Instrument.{IsAnInstrument, AnyState}
+use Rattle.gc_theorems.specs.Laws.{kept_of}
+use Rattle.gc_theorems.specs.Owned.{IsSafeRun}
+use Rattle.gc_theorems.specs.Witness.{eight_answered, replies}
 use Rattle.geocom_c.specs.Following.{CallsReach, CallStage, first_stage}
 use Rattle.geocom_c.specs.Steps.{AreEvents}
 use Rattle.geocom_c.specs.declared.following.StateCall.{StateCall}

@@ -8,14 +8,14 @@ use Rattle.std.specs.List.{AllByRecursion}
 use Rattle.gc_client.specs.Beginning.{the_word}
 use Rattle.gc_client.specs.Rule.{IsWidth}
 use Rattle.gc_instrument.specs.State.{KeptReply, IsFittingState}
-use Rattle.gc_field.specs.Simulator.{simulator_ends}
-use Rattle.gc_field.specs.World.{Ends}
-use Rattle.gc_field.specs.Begin.{IsWellFormed, LacksTheWord, UnderWay}
-use Rattle.gc_field.specs.Beginnings.{Run}
-use Rattle.gc_field.specs.ClientRuns.{PlacedRun, ArePossibleRuns, events_over, placed_runs}
-use Rattle.gc_field.specs.Instrument.{AnyState, OfAnyInstrument, TreatsRawsAlike}
-use Rattle.gc_field.specs.Laws.{kept_of}
-use Rattle.gc_field.specs.Owned.{AreOfRuns, IsOwn, IsSafeRun}
+use Rattle.gc_theorems.specs.Simulator.{simulator_ends}
+use Rattle.gc_theorems.specs.World.{Ends}
+use Rattle.gc_theorems.specs.Begin.{IsWellFormed, LacksTheWord, UnderWay}
+use Rattle.gc_theorems.specs.Beginnings.{Run}
+use Rattle.gc_theorems.specs.ClientRuns.{PlacedRun, ArePossibleRuns, events_over, placed_runs}
+use Rattle.gc_theorems.specs.Instrument.{AnyState, OfAnyInstrument, TreatsRawsAlike}
+use Rattle.gc_theorems.specs.Laws.{kept_of}
+use Rattle.gc_theorems.specs.Owned.{AreOfRuns, IsOwn, IsSafeRun}
 use Rattle.geocom_c.specs.Following.{CallsReach, CallStage, first_stage}
 use Rattle.geocom_c.specs.Steps.{AreEvents, IsOverEvents}
 use Rattle.geocom_c.specs.declared.following.StateCall.{StateCall}

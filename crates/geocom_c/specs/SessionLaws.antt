@@ -9,12 +9,12 @@ use Rattle.gc_instrument.specs.State.{KeptReply}
 use Rattle.gc_session.specs.Calls.{settled_all}
 use Rattle.gc_session.specs.Sessions.{opening}
 use Rattle.gc_session.specs.declared.session.TheConstants.{OWN}
-use Rattle.gc_field.specs.Begin.{IsWellFormed, LacksTheWord, UnderWay}
-use Rattle.gc_field.specs.ClientRuns.{PlacedRun, placed_runs}
-use Rattle.gc_field.specs.Instrument.{OfAnyInstrument}
-use Rattle.gc_field.specs.Owned.{HasExecution, IsItsOwn}
-use Rattle.gc_field.specs.Sessions.{IsSessionOver, SessionRun}
-use Rattle.gc_field.specs.World.{Ends}
+use Rattle.gc_theorems.specs.Begin.{IsWellFormed, LacksTheWord, UnderWay}
+use Rattle.gc_theorems.specs.ClientRuns.{PlacedRun, placed_runs}
+use Rattle.gc_theorems.specs.Instrument.{OfAnyInstrument}
+use Rattle.gc_theorems.specs.Owned.{HasExecution, IsItsOwn}
+use Rattle.gc_theorems.specs.Sessions.{IsSessionOver, SessionRun}
+use Rattle.gc_theorems.specs.World.{Ends}
 use Rattle.geocom_c.specs.SessionCalls.{AreMade, ArePart, AreSideBySide, Handed, IsHanded, KeepsSession, SessionCall, handed_all}
 use Rattle.geocom_c.specs.SessionState.{StandsForSession}
 use Rattle.geocom_c.specs.declared.header.TheConstants.{ANSWERED, LATE}

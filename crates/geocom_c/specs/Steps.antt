@@ -6,7 +6,7 @@ use Rattle.gc_client.specs.Beginning.{the_word}
 use Rattle.gc_client.specs.OneForOne.{begun, course}
 use Rattle.gc_client.specs.OneForOne as one
 use Rattle.gc_session.specs.Events.{ClientEvent, Came, Stepped, AreInTurn, left_among, steps_among}
-use Rattle.gc_field.specs.ClientRuns.{ask_events}
+use Rattle.gc_theorems.specs.ClientRuns.{ask_events}
 use Rattle.geocom_c.specs.Beginning.{given, left_by_bytes}
 use Rattle.geocom_c.specs.Following.{CallMakes, CallStage, left_by_call, rest_by_call}
 use Rattle.geocom_c.specs.Rest.{lines_completed}

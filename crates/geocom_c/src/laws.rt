@@ -2,7 +2,7 @@
 
 ghost use Rattle.geocom_c.specs.Damage.{HeldBackAnswersAreOwnOrDamaged};
 ghost use Rattle.geocom_c.specs.FieldWitness.{SomeCallsAreInField};
-ghost use Rattle.gc_field.specs.Owned.{FewKilledMayBegin};
+ghost use Rattle.gc_theorems.specs.Owned.{FewKilledMayBegin};
 ghost use Rattle.geocom_c.specs.Laws.{AnswersAreTheirOwn, CallsAreEvents, CallsAreSafe, SimulatorsAnswersAreTheirOwn, SimulatorsCallsAreSafe};
 ghost use Rattle.geocom_c.specs.SessionCalls.{SessionCallsAreCalls};
 ghost use Rattle.geocom_c.specs.SessionLaws.{RecordsAreTheirOwn};
@@ -55,12 +55,12 @@ pub fn session_calls_are_calls()
 
 /// The records of answers that the functions `geocom_session_` hand out on the state of a new session: for any instrument, the line of each was
 /// made by the instrument on executing that very request, unless that is a null procedure of the session's own; and the instrument executed
-/// each request that is late. The records are those of the session's settlements, in order. The premises are those of gc_field's
+/// each request that is late. The records are those of the session's settlements, in order. The premises are those of gc_theorems's
 /// `sessions_answers_are_their_own`, on the calls that `session_calls_are_calls` is about.
 pub fn session_records_are_their_own<State>()
     ensures { RecordsAreTheirOwn State }
 {
-    gc_field::laws::sessions_answers_are_their_own::<State>();
+    gc_theorems::laws::sessions_answers_are_their_own::<State>();
 }
 
 /// Over a line that damages, each answer is its own request's, or its line is damaged, if the caller holds back. This is of any

@@ -1,9 +1,9 @@
 -- What sets an instrument up and what restarts it: this project's own.
 use Rattle.std.specs.Prelude.{◌≡◌, ℕ, List, [], Option, Some, None}
 use Rattle.gc_lines.specs.Assembler.{StandsFor}
-use Rattle.gc_engines.specs.SceneLines.{IsLineOf}
-use Rattle.gc_engines.specs.Scenes.{IsTimedScene, SceneFault}
-use Rattle.gc_engines.specs.declared.scene_line.SceneKind.TheVariants as kind
+use Rattle.gc_filters.specs.SceneLines.{IsLineOf}
+use Rattle.gc_filters.specs.Scenes.{IsTimedScene, SceneFault}
+use Rattle.gc_filters.specs.declared.scene_line.SceneKind.TheVariants as kind
 use Rattle.gc_scenes.specs.Slow.{slow_restarted}
 use Rattle.gc_texts.specs.Faults.{run_fault_number}
 use Rattle.gc_texts.specs.declared.fault.RunFault.{RunFault}

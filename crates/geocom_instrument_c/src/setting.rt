@@ -5,7 +5,7 @@ ghost use Rattle.geocom_instrument_c.specs.Setting.{IsSetUp, faulty_line};
 
 use crate::bench::{Bench, GeocomInstrument};
 use crate::replied::GeocomMade;
-use gc_engines::{TimedForm, read_scene};
+use gc_filters::{TimedForm, read_scene};
 use gc_scenes::SlowInstrument;
 use gc_texts::RunFault;
 use std::alloc::Global;

@@ -3,7 +3,7 @@
 use crate::cases::outcome::Returned;
 use crate::cases::setup::Setup;
 use crate::cases::sink::Taking;
-use gc_engines::{PlainForm, RuleForm, TimedForm, read_scene};
+use gc_filters::{PlainForm, RuleForm, TimedForm, read_scene};
 use gc_instrument::{Instrument, serve};
 use gc_lines::{Line, Served, write_line, write_whole};
 use gc_probes::PieceSource;

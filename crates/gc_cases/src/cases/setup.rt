@@ -7,7 +7,7 @@ use crate::cases::outcome::{Returned, RunOutcome};
 use crate::cases::scene_runs::reading_alone;
 use crate::cases::sink::Taking;
 use gc_ask::{Duplex, run_ask, run_loop_on};
-use gc_engines::{
+use gc_filters::{
     PlainForm, Playable, RuleForm, StillForm, TimedForm, read_scene, run_check, run_check_log,
     run_drill_on, run_exec,
 };

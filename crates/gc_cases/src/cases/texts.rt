@@ -3,7 +3,7 @@
 //! it to `came`.
 
 use gc_catalogue::Asked;
-use gc_engines::read_schedule;
+use gc_filters::read_schedule;
 use gc_lines::ToWriter;
 use gc_links::place_of;
 use gc_probes::{Case, Player, Told, bytes_of, text_of};

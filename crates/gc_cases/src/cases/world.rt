@@ -6,7 +6,7 @@ use crate::cases::setup::width_of;
 use crate::cases::single_bytes::in_single_bytes;
 use gc_catalogue::Call;
 use gc_client::{Client, Outcome, Ring, Settlement, Slots, Window};
-use gc_engines::read_schedule;
+use gc_filters::read_schedule;
 use gc_instrument::Instrument;
 use gc_probes::{Case, Player, Row, Rows, Told, play_rows};
 use gc_world::{Event, Report, play_width};
@@ -226,7 +226,11 @@ impl Rows for WorldRows {
 
 // Appends the settlements, each with its number, the counts of the report, how many requests the client has outstanding, and its
 // next id.
-fn append_report<W: Window<Asked = Call>>(report: &Report<Instrument>, client: &Client<W>, came: &mut Told) {
+fn append_report<W: Window<Asked = Call>>(
+    report: &Report<Instrument>,
+    client: &Client<W>,
+    came: &mut Told,
+) {
     append_settled(report.settled.as_slice(), came);
     append_made(report, came);
     append_refused(report, came);

@@ -7,7 +7,7 @@ use crate::examples::links::{ask, loop_commands};
 use crate::examples::outcome::OnceOutcome;
 use gc_catalogue::Call;
 use gc_client::{Ring, Slots, Window};
-use gc_engines::{
+use gc_filters::{
     RuleForm, StillForm, read_scene, read_schedule, run_check, run_drill, run_drill_on, run_exec,
 };
 use gc_instrument::Instrument;

@@ -1,5 +1,5 @@
-use Rattle.gc_field.specs.Instrument.{AnyState}
-use Rattle.gc_field.proofs.BegunRuns.{next_may_begin}
+use Rattle.gc_theorems.specs.Instrument.{AnyState}
+use Rattle.gc_theorems.proofs.BegunRuns.{next_may_begin}
 use Rattle.geocom_c.proofs.laws.few_killed_may_begin.Goals as goal
 
 pub returns : goal.returns

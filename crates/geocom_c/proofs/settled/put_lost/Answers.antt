@@ -10,7 +10,7 @@ use Rattle.gc_client.specs.Settlements.{settlement_seen}
 use Rattle.geocom_c.specs.FirstAre.{FirstAre}
 use Rattle.geocom_c.specs.Settled.{HasOutcome, IsRecord}
 use Rattle.geocom_c.proofs.Places.{first_written}
-use Rattle.gc_field.proofs.Among.{lost_at}
+use Rattle.gc_theorems.proofs.Among.{lost_at}
 use Rattle.geocom_c.proofs.settled.put_lost.Goals as goal
 
 pub loop-k-preserved : goal.loop-k-preserved

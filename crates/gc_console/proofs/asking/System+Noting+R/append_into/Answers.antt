@@ -4,7 +4,7 @@ use Rattle.gc_links.specs.Placed.{place_seen}
 use Rattle.gc_links.specs.Seeing.{signals_at}
 use Rattle.gc_files.specs.Sinks.{asks_sync}
 use Rattle.gc_measuring.specs.Appending.{file_of}
-use Rattle.gc_messages.specs.Following.{path_of}
+use Rattle.gc_logs.specs.Following.{path_of}
 use Rattle.gc_console.proofs.Left.{of_file}
 use Rattle.gc_console.proofs.asking.System+Noting+R.append_into.Goals as goal
 

@@ -8,7 +8,7 @@ use Rattle.clap.specs.Takes.{takes}
 use Rattle.gc_console.proofs.Unasked.{no_job}
 use Rattle.gc_console.specs.Programs.{asks_for_text}
 use Rattle.gc_console.specs.Subcommands.{opening}
-use Rattle.gc_subcommands.specs.Program.{program}
+use Rattle.gc_console.specs.Program.{program}
 use Rattle.gc_console.proofs.system.System.run_words.Goals as goal
 
 pub returns-clause-done : goal.returns-clause-done

@@ -1,0 +1,10 @@
+use Rattle.std.proofs.Common.{Err, inr}
+use Rattle.std.proofs.lemmas.Result.{IfOk-weaker}
+use Rattle.gc_texts.specs.declared.fault.RunFault.TheVariants.{StreamClosed}
+use Rattle.gc_console.proofs.serve.serve_with_places_filled.Goals as goal
+
+pub returns-in_default-clause-port : goal.returns-in_default-clause-port
+returns-in_default-clause-port g c at plain once shown =
+    IfOk-weaker c.report_unfilled.result _ _
+    (λ status closed. inr (Err StreamClosed, (closed.is, closed.told shown)))
+    (c.report_unfilled.ensures.port at)

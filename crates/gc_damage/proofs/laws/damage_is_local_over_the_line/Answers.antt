@@ -1,5 +1,0 @@
-use Rattle.gc_damage.proofs.Line.{line_is_local}
-use Rattle.gc_damage.proofs.laws.damage_is_local_over_the_line.Goals as goal
-
-pub returns : goal.returns
-returns g c = line_is_local

@@ -1,5 +1,0 @@
-use Rattle.gc_damage.proofs.Slack.{local_with_slack}
-use Rattle.gc_damage.proofs.laws.damage_is_local_with_slack.Goals as goal
-
-pub returns : goal.returns
-returns g c = local_with_slack

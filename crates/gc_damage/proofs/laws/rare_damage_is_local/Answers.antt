@@ -1,5 +1,0 @@
-use Rattle.gc_damage.proofs.Rare.{rare_is_local}
-use Rattle.gc_damage.proofs.laws.rare_damage_is_local.Goals as goal
-
-pub returns : goal.returns
-returns g c = rare_is_local

@@ -1,9 +1,0 @@
-pub mod Damage
-pub mod OneQueue
-pub mod Slack
-pub mod Strays
-pub mod HoldingBack
-pub mod TwoQueues
-pub mod Synchronizing
-pub mod Spreading
-pub mod PremisesMet

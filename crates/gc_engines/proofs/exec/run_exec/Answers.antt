@@ -1,4 +1,0 @@
-use Rattle.gc_engines.proofs.exec.run_exec.Goals as goal
-
-pub returns : goal.returns
-returns g c = (c.answer_all.new.self, rw c.simulator.ensures.state at c.answer_all.ensures.serves)

@@ -1,6 +1,0 @@
-use Rattle.gc_engines.specs.declared.scene_trouble.SceneWord.TheVariants as word
-use Rattle.gc_engines.proofs.SceneWords.{says_nothing}
-use Rattle.gc_engines.proofs.scene_reading.read_behave.Goals as goal
-
-pub returns-in-None : goal.returns-in-None
-returns-in-None c = (says_nothing c.args.line.now word.Behave c.requires (c.in_default.ensures, c.in-None.ensures), c.requires)

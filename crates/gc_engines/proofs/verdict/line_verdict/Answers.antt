@@ -1,6 +1,0 @@
-use Rattle.std.proofs.Common.{refl}
-use Rattle.gc_engines.specs.Verdicts.{reply}
-use Rattle.gc_engines.proofs.verdict.line_verdict.Goals as goal
-
-pub returns-in-Ok : goal.returns-in-Ok
-returns-in-Ok c = reply _ c.in-Ok.ensures.found refl

@@ -1,4 +1,0 @@
-use Rattle.gc_engines.proofs.verdict.verdict_of.Goals as goal
-
-pub returns-in-Line : goal.returns-in-Line
-returns-in-Line c = rw c.in-Line.is c.line_verdict.ensures

@@ -1,6 +1,0 @@
-use Rattle.gc_field.specs.Instrument.{AnyState}
-use Rattle.gc_field.proofs.BegunFaithful.{faithful}
-use Rattle.gc_field.proofs.beginning.answers_are_their_own_once_begun.Goals as goal
-
-pub returns : goal.returns
-returns g c = λ ends kept is width narrow u clean ms possible. faithful ends AnyState kept is width narrow u clean ms possible

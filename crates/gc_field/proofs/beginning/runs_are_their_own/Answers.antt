@@ -1,6 +1,0 @@
-use Rattle.gc_field.specs.Instrument.{AnyState}
-use Rattle.gc_field.proofs.BegunRuns.{runs_are_their_own}
-use Rattle.gc_field.proofs.beginning.runs_are_their_own.Goals as goal
-
-pub returns : goal.returns
-returns g c = λ ends kept is width narrow u lines row rs runs few. runs_are_their_own ends AnyState kept is width narrow u lines row rs runs few

@@ -1,9 +1,0 @@
-use Rattle.gc_instrument.specs.State.{IsFittingState}
-use Rattle.gc_field.specs.Simulator.{simulator_ends}
-use Rattle.gc_field.specs.Laws.{kept_of}
-use Rattle.gc_field.proofs.BegunRuns.{runs_are_their_own}
-use Rattle.gc_field.proofs.Instruments.{simulator_is_an_instrument}
-use Rattle.gc_field.proofs.beginning.simulators_runs_are_their_own.Goals as goal
-
-pub returns : goal.returns
-returns c = λ width narrow u lines row rs runs few. runs_are_their_own simulator_ends IsFittingState kept_of simulator_is_an_instrument.instrument width narrow u lines row rs runs few

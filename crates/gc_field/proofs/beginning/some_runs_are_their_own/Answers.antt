@@ -1,5 +1,0 @@
-use Rattle.gc_field.proofs.BeginWitness.{some_runs}
-use Rattle.gc_field.proofs.beginning.some_runs_are_their_own.Goals as goal
-
-pub returns : goal.returns
-returns c = some_runs

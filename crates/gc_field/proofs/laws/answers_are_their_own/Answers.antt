@@ -1,6 +1,0 @@
-use Rattle.gc_field.proofs.Faithful.{faithful}
-use Rattle.gc_field.specs.Instrument.{AnyState}
-use Rattle.gc_field.proofs.laws.answers_are_their_own.Goals as goal
-
-pub returns : goal.returns
-returns g c = λ ends kept is width narrow state good ms field. faithful ends AnyState kept is width narrow state good ms field.possible field.table field.alone

@@ -1,6 +1,0 @@
-use Rattle.gc_field.specs.Instrument.{AnyState}
-use Rattle.gc_field.proofs.Parting.{each_is_own_if_safe}
-use Rattle.gc_field.proofs.laws.clients_answers_are_their_own.Goals as goal
-
-pub returns : goal.returns
-returns g c = λ ends kept is. each_is_own_if_safe ends AnyState kept is

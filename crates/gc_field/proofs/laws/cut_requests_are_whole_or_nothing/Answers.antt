@@ -1,5 +1,0 @@
-use Rattle.gc_field.proofs.Fronts.{whole_or_nothing}
-use Rattle.gc_field.proofs.laws.cut_requests_are_whole_or_nothing.Goals as goal
-
-pub returns : goal.returns
-returns c = whole_or_nothing

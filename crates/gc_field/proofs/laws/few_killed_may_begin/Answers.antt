@@ -1,6 +1,0 @@
-use Rattle.gc_field.specs.Instrument.{AnyState}
-use Rattle.gc_field.proofs.BegunRuns.{next_may_begin}
-use Rattle.gc_field.proofs.laws.few_killed_may_begin.Goals as goal
-
-pub returns : goal.returns
-returns g c = λ ends kept is. next_may_begin ends AnyState kept is

@@ -1,6 +1,0 @@
-use Rattle.gc_field.specs.Instrument.{AnyState}
-use Rattle.gc_field.proofs.Joining.{run_faithful}
-use Rattle.gc_field.proofs.laws.runs_are_faithful.Goals as goal
-
-pub returns : goal.returns
-returns g c = λ ends kept is u x field. run_faithful ends AnyState kept is u x field

@@ -1,5 +1,0 @@
-use Rattle.gc_field.proofs.Pointed.{has_effect}
-use Rattle.gc_field.proofs.laws.simulator_has_its_effect.Goals as goal
-
-pub returns : goal.returns
-returns c = has_effect

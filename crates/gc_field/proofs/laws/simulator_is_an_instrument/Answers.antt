@@ -1,5 +1,0 @@
-use Rattle.gc_field.proofs.Instruments.{simulator_is_an_instrument}
-use Rattle.gc_field.proofs.laws.simulator_is_an_instrument.Goals as goal
-
-pub returns : goal.returns
-returns c = simulator_is_an_instrument

@@ -1,9 +1,0 @@
-use Rattle.gc_instrument.specs.State.{IsFittingState}
-use Rattle.gc_field.specs.Laws.{kept_of}
-use Rattle.gc_field.specs.Simulator.{simulator_ends}
-use Rattle.gc_field.proofs.Instruments.{simulator_is_an_instrument}
-use Rattle.gc_field.proofs.Parting.{each_is_own_if_safe}
-use Rattle.gc_field.proofs.laws.simulators_clients_answers_are_their_own.Goals as goal
-
-pub returns : goal.returns
-returns c = each_is_own_if_safe simulator_ends IsFittingState kept_of simulator_is_an_instrument.instrument

@@ -1,5 +1,0 @@
-use Rattle.gc_field.proofs.ChainWitness.{pointed_in_field}
-use Rattle.gc_field.proofs.laws.some_chain_is_in_the_field.Goals as goal
-
-pub returns : goal.returns
-returns c = pointed_in_field

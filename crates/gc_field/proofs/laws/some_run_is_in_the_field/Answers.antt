@@ -1,5 +1,0 @@
-use Rattle.gc_field.proofs.Witness.{answered_in_field}
-use Rattle.gc_field.proofs.laws.some_run_is_in_the_field.Goals as goal
-
-pub returns : goal.returns
-returns c = answered_in_field

@@ -1,5 +1,0 @@
-use Rattle.gc_field.proofs.Drifting.{answered}
-use Rattle.gc_field.proofs.laws.some_run_is_over_a_drifting_instrument.Goals as goal
-
-pub returns : goal.returns
-returns c = answered

@@ -1,5 +1,0 @@
-use Rattle.gc_field.proofs.BeginsAnew.{answered_anew}
-use Rattle.gc_field.proofs.laws.some_run_resynchronizes.Goals as goal
-
-pub returns : goal.returns
-returns c = answered_anew

@@ -1,6 +1,0 @@
-use Rattle.gc_field.specs.Instrument.{AnyState}
-use Rattle.gc_field.proofs.InARow.{in_a_row}
-use Rattle.gc_field.proofs.laws.stations_in_a_row_are_faithful.Goals as goal
-
-pub returns : goal.returns
-returns g c = λ ends kept is u lines row xs h. in_a_row ends AnyState kept is u lines row xs h

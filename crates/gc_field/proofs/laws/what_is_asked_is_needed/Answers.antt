@@ -1,5 +1,0 @@
-use Rattle.gc_field.proofs.Needed.{all_needed}
-use Rattle.gc_field.proofs.laws.what_is_asked_is_needed.Goals as goal
-
-pub returns : goal.returns
-returns c = all_needed

@@ -1,5 +1,0 @@
-use Rattle.gc_field.proofs.SceneField.{scene_is_an_instrument}
-use Rattle.gc_field.proofs.scenes.scene_is_an_instrument.Goals as goal
-
-pub returns : goal.returns
-returns c = scene_is_an_instrument

@@ -1,6 +1,0 @@
-use Rattle.gc_field.specs.Instrument.{AnyState}
-use Rattle.gc_harm.proofs.Agreed.{agreed_own}
-use Rattle.gc_harm.proofs.laws.agreed_rows_have_an_own_answer.Goals as goal
-
-pub returns : goal.returns
-returns g c = λ ends kept is u x field. agreed_own ends AnyState kept is u x field

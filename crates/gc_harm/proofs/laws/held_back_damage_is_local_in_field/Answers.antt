@@ -1,6 +1,0 @@
-use Rattle.gc_field.specs.Instrument.{AnyState}
-use Rattle.gc_harm.proofs.HoldingBack.{held_back_is_local_in_field}
-use Rattle.gc_harm.proofs.laws.held_back_damage_is_local_in_field.Goals as goal
-
-pub returns : goal.returns
-returns g c = λ ends kept is width narrow u clean ms p. held_back_is_local_in_field width narrow ends AnyState kept is u clean ms p

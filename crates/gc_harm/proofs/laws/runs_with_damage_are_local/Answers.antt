@@ -1,6 +1,0 @@
-use Rattle.gc_field.specs.Instrument.{AnyState}
-use Rattle.gc_harm.proofs.Runs.{run_local}
-use Rattle.gc_harm.proofs.laws.runs_with_damage_are_local.Goals as goal
-
-pub returns : goal.returns
-returns g c = λ ends kept is u x field. run_local ends AnyState kept is u x field

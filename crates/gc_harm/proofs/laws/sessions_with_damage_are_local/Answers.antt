@@ -1,7 +1,0 @@
-use Rattle.gc_session.proofs.Lawful.{held_back, theirs}
-use Rattle.gc_field.specs.Instrument.{AnyState}
-use Rattle.gc_harm.proofs.Sessions.{session_local}
-use Rattle.gc_harm.proofs.laws.sessions_with_damage_are_local.Goals as goal
-
-pub returns : goal.returns
-returns g c = λ ends kept is. session_local ends AnyState kept is theirs held_back

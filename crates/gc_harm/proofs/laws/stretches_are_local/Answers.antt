@@ -1,6 +1,0 @@
-use Rattle.gc_field.specs.Instrument.{AnyState}
-use Rattle.gc_harm.proofs.Stretch.{stretch_is_local}
-use Rattle.gc_harm.proofs.laws.stretches_are_local.Goals as goal
-
-pub returns : goal.returns
-returns g c = λ ends kept is width narrow u ts ms well p o q. stretch_is_local width narrow ends AnyState kept is u ts ms well p o q

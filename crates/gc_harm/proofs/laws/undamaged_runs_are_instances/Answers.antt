@@ -1,6 +1,0 @@
-use Rattle.gc_field.specs.Instrument.{AnyState}
-use Rattle.gc_harm.proofs.UndamagedRuns.{is_instance}
-use Rattle.gc_harm.proofs.laws.undamaged_runs_are_instances.Goals as goal
-
-pub returns : goal.returns
-returns g c = λ ends kept is u x field own. is_instance ends AnyState kept is u x field own

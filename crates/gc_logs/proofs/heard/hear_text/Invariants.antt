@@ -1,0 +1,18 @@
+use Rattle.std.proofs.Common.{◌≡◌, ◌≤◌, ◌+◌, ◌-◌, ◌++◌, length}
+use Rattle.std.specs.Io.KnownBytes.{Consumes}
+use Rattle.gc_logs.proofs.heard.hear_text.Given as goal
+
+-- the text so far is what the source gave and noted, in at most one read for each byte, and is within the limit; the source has
+-- failed only if it had before
+abbrev pub invariant-loop-text : goal.invariant-loop-text
+invariant-loop-text g l =
+    Consumes (g.S.Source.remaining l.initial.source.source) (g.S.Source.remaining l.source.source) l.text.items
+    × (l.source.heard.bytes ≡ l.initial.source.heard.bytes ++ l.text.items)
+    × (g.S.Source.failed l.source.source ≡ g.S.Source.failed l.initial.source.source)
+    × (length l.text.items ≤ 65536) × (length l.buf ≡ 4096)
+    × (g.S.Source.reads l.initial.source.source ≤ g.S.Source.reads l.source.source)
+    × (g.S.Source.reads l.source.source ≤ g.S.Source.reads l.initial.source.source + length l.text.items)
+
+-- each read that gives bytes leaves less room for the text
+abbrev pub decreases-loop-text : goal.decreases-loop-text
+decreases-loop-text g l = 65536 - length l.text.items

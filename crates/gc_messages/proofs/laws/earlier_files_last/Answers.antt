@@ -1,5 +1,0 @@
-use Rattle.gc_messages.proofs.Leaving.{earlier_files_last}
-use Rattle.gc_messages.proofs.laws.earlier_files_last.Goals as goal
-
-pub returns : goal.returns
-returns g c = earlier_files_last

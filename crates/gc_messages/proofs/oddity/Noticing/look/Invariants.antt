@@ -1,8 +1,0 @@
-use Rattle.std.proofs.Common.{◌≡◌}
-use Rattle.gc_messages.proofs.oddity.Noticing.look.Given as goal
-
--- the link inside is the one that it was at the call
-abbrev pub invariant-loop-b : goal.invariant-loop-b
-invariant-loop-b g l = record {
-  same : l.self.link ≡ l.fn.self.link;
-}

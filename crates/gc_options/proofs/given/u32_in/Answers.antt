@@ -1,0 +1,9 @@
+use Rattle.std.specs.Str.Parse.{ExplainsUnsignedError, HasUnsignedDigitsIfOk, ParsesUnsigned}
+use Rattle.clap.specs.Matches.{found_of}
+use Rattle.gc_options.proofs.Getters.{ReadsBits, narrow, number_read}
+use Rattle.gc_options.proofs.given.u32_in.Goals as goal
+
+pub returns : goal.returns
+returns c =
+    number_read _ 32 (found_of c.args.words.now) c.args.name.now c.get_one.result c.get_one.ensures.none
+    (λ text is. narrow (λ t x. ParsesUnsigned 32 10 t x × ExplainsUnsignedError 10 t x × HasUnsignedDigitsIfOk t x) (ReadsBits 32) text c.get_one.result (c.get_one.ensures.value text is) (λ x gives. gives.0))

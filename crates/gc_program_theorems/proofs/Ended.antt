@@ -1,0 +1,51 @@
+-- The text of each record ends in a line feed.
+use Rattle.std.proofs.Common.{◌≡◌, ℕ, true, false, List, [], ◌∷◌, ◌++◌, refl, ◌∙◌, ap, codes}
+use Rattle.std.specs.Fmt.{decimal}
+use Rattle.gc_files.specs.Rows.{has_feed, whole}
+use Rattle.gc_files.proofs.Whole.{feed_behind, whole_behind}
+use Rattle.gc_texts.specs.Stamps.{stamp_text}
+use Rattle.gc_rows.specs.Columns.{Entry, members_after_run, row_fields}
+use Rattle.gc_rows.specs.JsonLines.{string_text, members_text}
+use Rattle.gc_rows.specs.Records.{record_text, ending_text}
+use Rattle.gc_rows.specs.Rows.{row_of, field_text, fields_behind_commas}
+use Rattle.gc_rows.specs.declared.record.Form.{Form}
+use Rattle.gc_rows.specs.declared.record.Form.TheVariants.{Lines, Csv, Columns, Json}
+use Rattle.gc_station.specs.Records.{Record}
+use Rattle.gc_options.specs.declared.layout.Layout.{Layout}
+use Rattle.gc_measuring.specs.Labels.{LabelsSeen}
+use Rattle.gc_measuring.specs.Measuring.{entry_in, text_in}
+
+-- bytes that end in a line feed
+record EndsInLineFeed (xs : List ℕ) : Type 0 where
+  some : has_feed xs ≡ true
+  is : whole xs ≡ xs
+
+-- bytes that end in a line feed still do so whatever comes before them
+ends_behind : (xs ys : List ℕ) → EndsInLineFeed ys → EndsInLineFeed (xs ++ ys)
+ends_behind xs ys ends = record { some = feed_behind xs ys ends.some; is = whole_behind xs ys ends.some ∙ ap (λ (l : List ℕ). xs ++ l) ends.is }
+
+-- a line feed alone ends in a line feed
+feed_ends : EndsInLineFeed (codes "\n")
+feed_ends = record { some = refl; is = refl }
+
+-- a closing brace and a line feed after it end in a line feed
+brace_ends : EndsInLineFeed (codes "}\n")
+brace_ends = record { some = refl; is = refl }
+
+-- a row ends in a line feed
+row_ends : (fields : List (List ℕ)) → EndsInLineFeed (row_of fields)
+row_ends [] = feed_ends
+row_ends (first ∷ others) = ends_behind (field_text first ++ fields_behind_commas others) (codes "\n") feed_ends
+
+-- the text of a record ends in a line feed, in each form
+record_ends : (form : Form) (r : Entry) → EndsInLineFeed (record_text form r)
+record_ends Lines r =
+    let stamp = r.when.stamp in
+    ends_behind (stamp_text stamp.utc ++ codes " " ++ decimal stamp.turn.place ++ codes " " ++ decimal r.command.target ++ ending_text r.end) (codes "\n") feed_ends
+record_ends Csv r = row_ends (row_fields false r)
+record_ends Columns r = row_ends (row_fields true r)
+record_ends Json r = ends_behind (codes "{\"run\":" ++ string_text (stamp_text r.when.run) ++ members_text (members_after_run r)) (codes "}\n") brace_ends
+
+-- the text of a record ends in a line feed
+pub text_whole : (layout : Layout) (labels : LabelsSeen) (r : Record) → whole (text_in layout labels r) ≡ text_in layout labels r
+text_whole layout labels r = (record_ends layout.form (entry_in layout labels r)).is

@@ -1,0 +1,5 @@
+use Rattle.gc_program_theorems.proofs.Lasting.{rows_outlast_failures}
+use Rattle.gc_program_theorems.proofs.laws.rows_outlast_failures.Goals as goal
+
+pub returns : goal.returns
+returns g c = rows_outlast_failures

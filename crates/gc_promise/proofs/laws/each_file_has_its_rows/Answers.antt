@@ -1,5 +1,0 @@
-use Rattle.gc_promise.proofs.Lasting.{each_file_has_its_rows}
-use Rattle.gc_promise.proofs.laws.each_file_has_its_rows.Goals as goal
-
-pub returns : goal.returns
-returns g c = each_file_has_its_rows

@@ -1,5 +1,0 @@
-use Rattle.gc_promise.proofs.Rehearsed.{rehearsed_runs_are_faithful}
-use Rattle.gc_promise.proofs.laws.rehearsals_are_faithful.Goals as goal
-
-pub returns : goal.returns
-returns c = rehearsed_runs_are_faithful

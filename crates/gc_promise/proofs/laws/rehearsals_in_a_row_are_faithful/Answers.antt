@@ -1,5 +1,0 @@
-use Rattle.gc_promise.proofs.InARow.{stations_are_faithful}
-use Rattle.gc_promise.proofs.laws.rehearsals_in_a_row_are_faithful.Goals as goal
-
-pub returns : goal.returns
-returns c = stations_are_faithful

@@ -1,5 +1,0 @@
-use Rattle.gc_promise.proofs.Lasting.{rows_outlast_failures}
-use Rattle.gc_promise.proofs.laws.rows_outlast_failures.Goals as goal
-
-pub returns : goal.returns
-returns g c = rows_outlast_failures

@@ -1,5 +1,0 @@
-use Rattle.gc_promise.proofs.Damaged.{runs_are_instances}
-use Rattle.gc_promise.proofs.laws.runs_in_the_field_are_instances.Goals as goal
-
-pub returns : goal.returns
-returns g c = runs_are_instances

@@ -1,5 +1,0 @@
-mod JobLemmas
-mod Played
-mod ProgramLemmas
-mod Started
-mod Missing

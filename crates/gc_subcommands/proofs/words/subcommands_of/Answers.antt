@@ -1,8 +1,0 @@
-use Rattle.gc_subcommands.proofs.ProgramLemmas.{are_next}
-use Rattle.gc_subcommands.specs.Jobs.{subcommands}
-use Rattle.gc_subcommands.proofs.words.subcommands_of.Goals as goal
-
-pub loop-subcommand-preserved : goal.loop-subcommand-preserved
-loop-subcommand-preserved c =
-    are_next subcommands c.loop-subcommand.subcommand-index _ c.loop-subcommand-test.true c.loop-subcommand.subcommands.items c.in_ok-command.field-0
-    c.loop-subcommand.invariant c.in_ok-command.ensures c.push.new.self.items c.in_ok-push.ensures.items

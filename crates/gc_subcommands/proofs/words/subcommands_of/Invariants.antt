@@ -1,8 +1,0 @@
-use Rattle.std.proofs.Common.{take}
-use Rattle.gc_subcommands.specs.Jobs.{subcommands}
-use Rattle.gc_subcommands.specs.Program.{AreSubcommands}
-use Rattle.gc_subcommands.proofs.words.subcommands_of.Given as goal
-
--- the subcommands so far
-abbrev pub invariant-loop-subcommand : goal.invariant-loop-subcommand
-invariant-loop-subcommand l = AreSubcommands (take l.subcommand-index subcommands) l.subcommands.items

@@ -1,0 +1,7 @@
+use Rattle.gc_session.proofs.Lawful.{near, theirs}
+use Rattle.gc_theorems.specs.Instrument.{AnyState}
+use Rattle.gc_theorems.proofs.Sessions.{in_a_row_own}
+use Rattle.gc_theorems.proofs.laws.sessions_in_a_row_are_their_own.Goals as goal
+
+pub returns : goal.returns
+returns g c = λ ends kept is. in_a_row_own ends AnyState kept is theirs near
