@@ -1,27 +1,7 @@
 -- What was asked so far, command after command. Throughout, `done` are the commands asked so far, s says where the run is, `more`
 -- are the bytes that come next, and `new` is what is seen of both ends of the link and of the sink after one more command.
-use Rattle.std.proofs.Common.{◌≡◌, ℕ, ◌+◌, ◌<◌, Bool, true, ltb, List, [], ◌∷◌, ◌++◌, length, take, map, Option, Some, None, refl, sym, ap, ◌∙◌, subst, arith, append_assoc, append-nil}
-use Rattle.std.specs.Io.KnownBytes.{Appends}
-use Rattle.std.proofs.lemmas.Bool.{ltb-true}
-use Rattle.std.proofs.lemmas.List.{length_push}
-use Rattle.std.proofs.KnownBytes.{Appends-trans, Appends-nil}
-use Rattle.gc_lines.specs.Answering.{all_of}
-use Rattle.gc_lines.specs.Assembler.{Kept, StandsFor}
-use Rattle.gc_lines.specs.Frames.{lines, rest_of, rest_behind}
-use Rattle.gc_lines.specs.Passing.{lines_completed}
-use Rattle.gc_lines.proofs.Cutting.{rest-append}
+use Rattle.gc_ask.proofs.Common.{◌≡◌, ℕ, ◌+◌, ◌<◌, Bool, true, ltb, List, [], ◌∷◌, ◌++◌, length, take, map, Option, Some, None, refl, sym, ap, ◌∙◌, subst, arith, append_assoc, append-nil, Appends, ltb-true, length_push, Appends-trans, Appends-nil, all_of, Kept, StandsFor, lines, rest_of, rest_behind, lines_completed, rest-append, Appends-is, Call, ById, Settlement, heard, fits, hears, hears_line, settled_by_line, place_in, settlement_seen, awaited, ready_for, waiting_for, FirstReply, first_reply, settled_by, asked_from, asked, written_request, written_requests, lost_of, LinkResult, IsNext, AsksAll, ReachesCommand, IsCutAt, LosesOne, StopsAt, WritesPart, Command, settlement_line, settlement_lines, settlement_lines_from, WrotePartOfSettlements, SeenAtBoth, written_at_both, ClientHeard, Settles, lines_of_one_more}
 use Rattle.gc_lines.proofs.InOrder.{all_of-append}
-use Rattle.gc_lines.proofs.Known.{Appends-is}
-use Rattle.gc_catalogue.specs.declared.call.Call.{Call}
-use Rattle.gc_client.specs.Rule.{ById, Settlement, heard, fits, hears, hears_line, settled_by_line, place_in}
-use Rattle.gc_client.specs.Settlements.{settlement_seen}
-use Rattle.gc_ask.specs.Asking.{awaited, ready_for, waiting_for, FirstReply, first_reply, settled_by, asked_from, asked, written_request, written_requests, lost_of}
-use Rattle.gc_ask.specs.Asking.{LinkResult, IsNext, AsksAll, ReachesCommand, IsCutAt, LosesOne, StopsAt, WritesPart}
-use Rattle.gc_texts.specs.declared.commands.Command.{Command}
-use Rattle.gc_texts.specs.Settlements.{settlement_line, settlement_lines, settlement_lines_from, WrotePartOfSettlements}
-use Rattle.gc_ask.specs.Looping.{SeenAtBoth, written_at_both}
-use Rattle.gc_ask.specs.Listening.{ClientHeard, Settles}
-use Rattle.gc_texts.proofs.SettlementLines.{lines_of_one_more}
 use Rattle.gc_ask.proofs.FirstReplies.{lines_completed-append, first_reply-at}
 
 -- One request that waits.

@@ -1,12 +1,7 @@
 -- A request that waits alone is settled by its id.
-use Rattle.std.proofs.Common.{◌≡◌, ℕ, ◌+◌, ◌-◌, ◌%◌, true, false, cond, List, [], ◌∷◌, ◌++◌, Option, Some, None, refl, ap, ◌∙◌, arith}
-use Rattle.gc_catalogue.specs.declared.call.Call.{Call}
-use Rattle.gc_client.specs.Ids.{IsWithinLimits, Waits}
-use Rattle.gc_client.specs.Rule.{heard, fits, Settlement}
+use Rattle.gc_ask.proofs.Common.{◌≡◌, ℕ, ◌+◌, ◌-◌, ◌%◌, true, false, cond, List, [], ◌∷◌, ◌++◌, Option, Some, None, refl, ap, ◌∙◌, arith, Call, IsWithinLimits, Waits, heard, fits, Settlement, waiting_for, first_reply, settled_by, asked_from, Command}
 use Rattle.gc_client.proofs.Digits.{fits_where_it_waits, heard_digit}
-use Rattle.gc_ask.specs.Asking.{waiting_for, first_reply, settled_by, asked_from}
 use Rattle.gc_ask.specs.Laws.{HasNoReply, AsksById}
-use Rattle.gc_texts.specs.declared.commands.Command.{Command}
 use Rattle.gc_ask.proofs.Asked.{hears_one}
 use Rattle.gc_ask.proofs.FirstReplies.{first_reply-at}
 

@@ -1,17 +1,6 @@
 -- The ports of a link's two ends, after one step (a call, or several in a row, that uses the link), and after all steps of a run.
 -- An end is sound (`Sound`) while no read was the end of its input and neither of its ports failed.
-use Rattle.std.proofs.Common.{◌≡◌, ℕ, ◌<◌, ◌≤◌, Bool, true, false, List, [], Option, Ok, Err, inl, inr, refl, sym, ap, ◌∙◌, subst, arith}
-use Rattle.std.specs.Io.KnownBytes.{Consumes}
-use Rattle.std.proofs.lemmas.Bool.{cases_lt}
-use Rattle.std.proofs.KnownBytes.{Consumes-nil}
-use Rattle.gc_lines.specs.Answering.{Ports, Taken}
-use Rattle.gc_ask.specs.AskRuns.{SeenAtClient}
-use Rattle.gc_ask.specs.Asking.{AskingEnds, LinkResult, NoneEnded, UseEnds}
-use Rattle.gc_ask.specs.Links.{BothStep, CountsReplies, ReadEnds, SeenStep, Sends, StaysOpen, StepEnds, no_ports}
-use Rattle.gc_ask.specs.Looping.{BothEnd, SeenAtBoth, seen_at_both}
-use Rattle.gc_texts.specs.declared.fault.RunFault.{RunFault}
-use Rattle.gc_texts.specs.declared.fault.RunFault.TheVariants.{Read, Write, TooManyReads, LinkClosed, Output}
-use Rattle.gc_texts.specs.WholeTexts.{Input, source_of}
+use Rattle.gc_ask.proofs.Common.{◌≡◌, ℕ, ◌<◌, ◌≤◌, Bool, true, false, List, [], Option, Ok, Err, inl, inr, refl, sym, ap, ◌∙◌, subst, arith, Consumes, cases_lt, Consumes-nil, Ports, Taken, SeenAtClient, AskingEnds, LinkResult, NoneEnded, UseEnds, BothStep, CountsReplies, ReadEnds, SeenStep, Sends, StaysOpen, StepEnds, no_ports, BothEnd, SeenAtBoth, seen_at_both, RunFault, Read, Write, TooManyReads, LinkClosed, Output, Input, source_of}
 
 -- Ports, a step later.
 

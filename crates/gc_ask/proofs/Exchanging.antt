@@ -2,29 +2,11 @@
 -- and after, `old` and `new` what was seen of the link's ends and of the sink before and after, `h` what the client's end has
 -- heard, `e` a fault, and `r` a result. After a fault the client is restarted: `to` is the client then, and `now` are the
 -- settlements that are written.
-use Rattle.std.proofs.Common.{◌≡◌, ℕ, ◌<◌, Bool, true, false, List, [], ◌∷◌, ◌++◌, length, take, map, Option, Ok, Err, inl, inr, refl, sym, ap, ◌∙◌, subst, arith}
-use Rattle.std.specs.Io.KnownBytes.{Appends}
-use Rattle.std.proofs.lemmas.Bool.{false≢true}
-use Rattle.std.proofs.lemmas.List.{take_all}
-use Rattle.gc_lines.specs.Ports.{FailsWith}
-use Rattle.gc_lines.proofs.Known.{Appends-is}
-use Rattle.gc_catalogue.specs.declared.call.Call.{Call}
+use Rattle.gc_ask.proofs.Common.{◌≡◌, ℕ, ◌<◌, Bool, true, false, List, [], ◌∷◌, ◌++◌, length, take, map, Option, Ok, Err, inl, inr, refl, sym, ap, ◌∙◌, subst, arith, Appends, false≢true, take_all, FailsWith, Taken, Appends-is, Call, ById, settled_by_line, restarts, AreSettlements, settlement_seen, Asks, awaited, waiting_for, written_request, lost_of, AskingEnds, LinkResult, UseEnds, CountsReplies, ReadEnds, SeenStep, Sends, TakesRequest, AsksOne, Exchanges, ClientHeard, HearsReply, Settles, BothEnd, SeenAtBoth, written_at_both, Command, RunFault, Read, Write, TooManyReads, LinkClosed, Output, settlement_lines_from, WroteSettlements, WrotePartOfSettlements, Input}
 use Rattle.gc_client.specs.declared.settlement.Settlement.{Settlement}
-use Rattle.gc_client.specs.Rule.{ById, settled_by_line, restarts}
-use Rattle.gc_client.specs.Rule
-use Rattle.gc_client.specs.Settlements.{AreSettlements, settlement_seen}
-use Rattle.gc_lines.specs.Answering.{Taken}
-use Rattle.gc_ask.specs.Asking.{Asks, awaited, waiting_for, written_request, lost_of, AskingEnds, LinkResult, UseEnds}
-use Rattle.gc_ask.specs.Links.{CountsReplies, ReadEnds, SeenStep, Sends, TakesRequest}
-use Rattle.gc_ask.specs.Listening.{AsksOne, Exchanges, ClientHeard, HearsReply, Settles}
-use Rattle.gc_ask.specs.Looping.{BothEnd, SeenAtBoth, written_at_both}
 use Rattle.gc_ask.proofs.Asked.{AtNext, Course, RunState, heard_after, run_state_after, course_more, course_stops, course_cut, course_sink_failed, settled_is, asked_with_reply}
 use Rattle.gc_ask.proofs.Ends.{BothSound, both_end, seen_step_not_output}
-use Rattle.gc_texts.specs.declared.commands.Command.{Command}
-use Rattle.gc_texts.specs.declared.fault.RunFault.{RunFault}
-use Rattle.gc_texts.specs.declared.fault.RunFault.TheVariants.{Read, Write, TooManyReads, LinkClosed, Output}
-use Rattle.gc_texts.specs.Settlements.{settlement_lines_from, WroteSettlements, WrotePartOfSettlements}
-use Rattle.gc_texts.specs.WholeTexts.{Input}
+use Rattle.gc_client.specs.Rule
 
 -- What a link took of a request.
 

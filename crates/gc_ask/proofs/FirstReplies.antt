@@ -1,23 +1,9 @@
 -- The first line that settles a request, over the bytes that a link gives piece by piece. `rest` is the first part of a line
 -- whose end hasn't come. `from` is the client at first; `a`, `b` and `c` are the client before, between and after two pieces.
-use Rattle.std.proofs.Common.{◌≡◌, ℕ, ◌+◌, true, false, cond, List, [], ◌∷◌, ◌++◌, take, drop, map, Option, Some, None, refl, sym, ap, ◌∙◌, subst, append_assoc, append-nil}
-use Rattle.std.specs.List.{position, filter_map}
+use Rattle.gc_ask.proofs.Common.{◌≡◌, ℕ, ◌+◌, true, false, cond, List, [], ◌∷◌, ◌++◌, take, drop, map, Option, Some, None, refl, sym, ap, ◌∙◌, subst, append_assoc, append-nil, position, filter_map, map-append, Kept, StandsFor, is_line_feed, frame_of, line_in, pieces_behind, rest_behind, completed, frames_behind, lines_completed, Frame, Line, Cleared, Overlong, More, cut_some, pieces-append, rest-append, Takes, Call, ById, heard, fits, hears_line, AreSettlements, first_reply, SettlesNothing, TakesFrame, IsQuiet, ClientHeard, Settles}
 use Rattle.std.specs.Option.{option_to_list}
-use Rattle.std.proofs.lemmas.List.{map-append}
 use Rattle.std.proofs.lemmas.List.Elements.{filter_map-append}
-use Rattle.gc_lines.specs.Assembler.{Kept, StandsFor}
-use Rattle.gc_lines.specs.Frames.{is_line_feed, frame_of, line_in, pieces_behind, rest_behind}
-use Rattle.gc_lines.specs.Passing.{completed, frames_behind, lines_completed}
-use Rattle.gc_lines.specs.declared.frame.Frame.{Frame}
-use Rattle.gc_lines.specs.declared.frame.Frame.TheVariants.{Line, Cleared, Overlong, More}
-use Rattle.gc_lines.proofs.Cutting.{cut_some, pieces-append, rest-append}
-use Rattle.gc_lines.proofs.Passing.{Takes}
-use Rattle.gc_catalogue.specs.declared.call.Call.{Call}
 use Rattle.gc_client.specs.declared.settlement.Settlement.{Settlement}
-use Rattle.gc_client.specs.Rule.{ById, heard, fits, hears_line}
-use Rattle.gc_client.specs.Settlements.{AreSettlements}
-use Rattle.gc_ask.specs.Asking.{first_reply}
-use Rattle.gc_ask.specs.Listening.{SettlesNothing, TakesFrame, IsQuiet, ClientHeard, Settles}
 
 -- the lines among pieces of a stream that was cut at its line feeds
 abbrev lines_among : List (List ℕ) → List (List ℕ)

@@ -1,15 +1,10 @@
 -- Callers who are served one after the other, and what is written of them. `ServesCallers` says how many callers were served, which ends
 -- their connections had, and that the messages grew by the lines of these.
-use Rattle.std.proofs.Common.{◌≡◌, ℕ, suc, ◌+◌, Bool, true, List, [], ◌∷◌, ◌++◌, length, Option, Some, None, refl, sym, ap, ◌∙◌, subst, arith, append_assoc, length-append, codes}
+use Rattle.gc_ask.proofs.Common.{◌≡◌, ℕ, suc, ◌+◌, Bool, true, List, [], ◌∷◌, ◌++◌, length, Option, Some, None, refl, sym, ap, ◌∙◌, subst, arith, append_assoc, length-append, codes, Appends, Appends-trans, Appends-nil, run_fault_number, Appends-is, ConnectionEnd, AddsEnds, KeepsCallers, ServesCallers, ServesTurns, caller_line, end_line, end_lines}
 use Rattle.std.proofs.lemmas.List.{append-nil}
 use Rattle.std.specs.Fmt.{decimal}
-use Rattle.std.specs.Io.KnownBytes.{Appends}
-use Rattle.std.proofs.KnownBytes.{Appends-trans, Appends-nil}
-use Rattle.gc_texts.specs.Faults.{run_fault_number}
-use Rattle.gc_texts.specs.declared.fault.RunFault.TheVariants as fault
-use Rattle.gc_lines.proofs.Known.{Appends-is}
-use Rattle.gc_ask.specs.Keeping.{ConnectionEnd, AddsEnds, KeepsCallers, ServesCallers, ServesTurns, caller_line, end_line, end_lines}
 use Rattle.gc_ask.specs.declared.callers.CallerFault.TheVariants.{Socket}
+use Rattle.gc_texts.specs.declared.fault.RunFault.TheVariants as fault
 
 -- where the ends that are known grew by some, and then by others, they grew by both in this order
 pub adds_more : (a b c : Option (List ConnectionEnd)) (xs ys : List ConnectionEnd) → AddsEnds a b xs → AddsEnds b c ys → AddsEnds a c (xs ++ ys)

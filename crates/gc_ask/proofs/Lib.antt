@@ -1,3 +1,4 @@
+mod Common
 mod FirstReplies
 mod Asked
 mod Ends

@@ -1,12 +1,6 @@
 -- What a run over any link is, where the link is remote (somebody other than this program answers at its other end).
-use Rattle.std.proofs.Common.{◌≡◌, ℕ, Bool, true, List, Ok, Err, inl, inr, refl, ap, subst, arith}
-use Rattle.gc_ask.specs.AskRuns.{AskRuns, AsksAtClient, SeenAtClient, written_at_client}
-use Rattle.gc_ask.specs.Asking.{Asks, LinkResult, UseEnds, WritesPart, Written}
-use Rattle.gc_ask.specs.Looping.{AsksAtBoth, BothEnd, RunsAtBoth, SeenAtBoth, at_client, written_at_both}
+use Rattle.gc_ask.proofs.Common.{◌≡◌, ℕ, Bool, true, List, Ok, Err, inl, inr, refl, ap, subst, arith, AskRuns, AsksAtClient, SeenAtClient, written_at_client, Asks, LinkResult, UseEnds, WritesPart, Written, AsksAtBoth, BothEnd, RunsAtBoth, SeenAtBoth, at_client, written_at_both, Command, Read, Write, TooManyReads, LinkClosed, Output, Memory, Input}
 use Rattle.gc_ask.proofs.Ends.{at_remote, remote_end, asking_ends_weaker}
-use Rattle.gc_texts.specs.declared.commands.Command.{Command}
-use Rattle.gc_texts.specs.declared.fault.RunFault.TheVariants.{Read, Write, TooManyReads, LinkClosed, Output, Memory}
-use Rattle.gc_texts.specs.WholeTexts.{Input}
 
 -- `WritesPart` with a condition `over` on the link's end holds with any weaker condition `other`
 writes_part_weaker : (commands : List Command) (given : List ℕ) (w : Written) (over other : LinkResult → Type 0) → ((r : LinkResult) → over r → other r)

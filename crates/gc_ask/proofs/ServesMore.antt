@@ -1,14 +1,7 @@
 -- Connections that are served one after the other.
-use Rattle.std.proofs.Common.{◌≡◌, ℕ, ◌+◌, ◌<◌, List, [], ◌∷◌, ◌++◌, length, Result, Ok, Err, refl, sym, ap, ◌∙◌, subst, arith, length-append}
-use Rattle.std.specs.List.{AllByRecursion}
-use Rattle.gc_lines.specs.Answering.{AnswerRule}
-use Rattle.gc_lines.specs.declared.frame.Frame.{Frame}
+use Rattle.gc_ask.proofs.Common.{◌≡◌, ℕ, ◌+◌, ◌<◌, List, [], ◌∷◌, ◌++◌, length, Result, Ok, Err, refl, sym, ap, ◌∙◌, subst, arith, length-append, AllByRecursion, AnswerRule, Frame, end_of_serving, RunFault, LinkResult, EndedWell, ServedConnection, ServesConnection, ServesInOrder, ServesNext, ServesOne, ServesEach, ServesWell}
 use Rattle.gc_lines.specs.declared.served.Served.{Served}
 use Rattle.gc_lines.specs.declared.served.ServeFault.{ServeFault}
-use Rattle.gc_texts.specs.Faults.{end_of_serving}
-use Rattle.gc_texts.specs.declared.fault.RunFault.{RunFault}
-use Rattle.gc_ask.specs.Asking.{LinkResult}
-use Rattle.gc_ask.specs.Serving.{EndedWell, ServedConnection, ServesConnection, ServesInOrder, ServesNext, ServesOne, ServesEach, ServesWell}
 
 -- all of these, and one more
 all_and_one : (xs : List ServedConnection) (x : ServedConnection) → AllByRecursion EndedWell xs → EndedWell x → AllByRecursion EndedWell (xs ++ x ∷ [])

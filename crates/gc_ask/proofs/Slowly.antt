@@ -1,9 +1,6 @@
 -- How an instrument whose replies take time answers a frame: as an answerer of lines does, at the moment at which the line came.
-use Rattle.std.proofs.Common.{◌≡◌, ℕ, List, [], ◌∷◌, ◌++◌, true, false}
-use Rattle.gc_lines.specs.Answering.{AppendsAnswer}
-use Rattle.gc_lines.specs.declared.frame.Frame.TheVariants.{Line}
+use Rattle.gc_ask.proofs.Common.{◌≡◌, ℕ, List, [], ◌∷◌, ◌++◌, true, false, AppendsAnswer, Line, SlowState, HearsLine, HearsSometime}
 use Rattle.gc_lines.proofs.AnsweringLines.{line_answered, line_unanswered}
-use Rattle.gc_scenes.specs.Slow.{SlowState, HearsLine, HearsSometime}
 
 -- appending a line's reply, and CR LF after it, is how the frame of that line is answered
 pub slowly_answered : (before after : SlowState) (line : List ℕ) (at : ℕ) (old between new : List ℕ) → AppendsAnswer (HearsLine before line at after) old between true

@@ -1,15 +1,9 @@
 -- A command text that is read whole and asked: this project's own.
+use Rattle.gc_ask.specs.Common.{Consumes, Ports, ports_of, Taken, taken_by, Ghosts as Sink, Input, Command, RunFault, TooManyReads}
 use Rattle.std.specs.Prelude.{◌≡◌, Bool, true, ℕ, ◌+◌, ◌*◌, ◌-◌, ◌≤◌, List, length, Err}
-use Rattle.std.specs.Io.KnownBytes.{Consumes}
-use Rattle.gc_lines.specs.Answering.{Ports, ports_of, Taken, taken_by}
 use Rattle.gc_lines.specs.declared.ports.Source.{Ghosts as Source}
-use Rattle.gc_lines.specs.declared.ports.Sink.{Ghosts as Sink}
 use Rattle.gc_ask.specs.Asking.{AreFresh, Written, Asks, LinkResult, UseEnds, AskingEnds, RunsConnected, RunsText}
 use Rattle.gc_ask.specs.declared.unused.TheConstants.{ROOM}
-use Rattle.gc_texts.specs.WholeTexts.{Input}
-use Rattle.gc_texts.specs.declared.commands.Command.{Command}
-use Rattle.gc_texts.specs.declared.fault.RunFault.{RunFault}
-use Rattle.gc_texts.specs.declared.fault.RunFault.TheVariants.{TooManyReads}
 
 -- what is seen of a link at the client's end, and of the sink of the settlements
 pub record SeenAtClient : Type 0 where

@@ -2,21 +2,10 @@
 -- manual's. Below, `given` are all bytes that the link gave, and `w` is what the link and the sink of the settlements took.
 -- `is_remote` says that somebody other than this program answers at the link's other end, and `over e` what its ports are after
 -- the end e.
+use Rattle.gc_ask.specs.Common.{Appends, Ports, Taken, all_of, lines, with_end, Call, IDS, ById, Settlement, pending_of, lost, heard, fits, hears_line, settlement_line, settlement_lines, Input, source_of, GaveBytes, GivesCommands, RefusesCommands, Command, RunFault, Read, Write, TooManyReads, LinkClosed, Output}
 use Rattle.std.specs.Prelude.{◌≡◌, ℕ, ◌+◌, ◌%◌, ◌<◌, ◌⊎◌, Bool, true, false, List, [], ◌∷◌, ◌++◌, length, take, Option, Some, None, Result, Ok, Err, if◌then◌else◌}
-use Rattle.std.specs.Io.KnownBytes.{Appends}
-use Rattle.gc_lines.specs.Answering.{Ports, Taken, all_of}
-use Rattle.gc_lines.specs.Frames.{lines}
-use Rattle.gc_lines.specs.Lines.{with_end}
-use Rattle.gc_catalogue.specs.Texts.{request_line}
-use Rattle.gc_catalogue.specs.declared.call.Call.{Call}
-use Rattle.gc_client.specs.declared.window.TheConstants.{IDS}
+use Rattle.gc_catalogue.specs.Prelude.{request_line}
 use Rattle.gc_client.specs.declared.pending.Pending.{Pending}
-use Rattle.gc_client.specs.Rule.{ById, Settlement, pending_of, lost, heard, fits, hears_line}
-use Rattle.gc_texts.specs.Settlements.{settlement_line, settlement_lines}
-use Rattle.gc_texts.specs.WholeTexts.{Input, source_of, GaveBytes, GivesCommands, RefusesCommands}
-use Rattle.gc_texts.specs.declared.commands.Command.{Command}
-use Rattle.gc_texts.specs.declared.fault.RunFault.{RunFault}
-use Rattle.gc_texts.specs.declared.fault.RunFault.TheVariants.{Read, Write, TooManyReads, LinkClosed, Output}
 
 -- a command that was sent and waits; its deadline is the greatest of a u64, and the client is given no moment, so it never times out
 abbrev pub awaited : Command → Pending Call

@@ -1,17 +1,12 @@
 -- A port or a device that is kept: how its connections ended, and what is written of them. This project's own.
+use Rattle.gc_ask.specs.Common.{Appends, AnswerRule, serve_fault_text, Frame, Served, ServeFault, run_fault_text}
 use Rattle.std.specs.Prelude.{◌≡◌, ◌⊎◌, ℕ, ◌+◌, ◌-◌, ◌^◌, Bool, true, List, [], ◌∷◌, ◌++◌, length, Option, Some, None, Result, Ok, Err, codes}
 use Rattle.std.specs.Fmt.{decimal}
-use Rattle.std.specs.Io.KnownBytes.{Appends}
-use Rattle.gc_lines.specs.Answering.{AnswerRule, serve_fault_text}
-use Rattle.gc_lines.specs.declared.frame.Frame.{Frame}
-use Rattle.gc_lines.specs.declared.served.Served.{Served}
-use Rattle.gc_lines.specs.declared.served.ServeFault.{ServeFault}
-use Rattle.gc_lines.specs.declared.served.ServeFault.TheVariants as serving
-use Rattle.gc_texts.specs.Faults.{run_fault_text}
-use Rattle.gc_texts.specs.declared.fault.RunFault.TheVariants as fault
 use Rattle.gc_ask.specs.Serving.{ServesOne}
 use Rattle.gc_ask.specs.declared.callers.CallerFault.{CallerFault}
 use Rattle.gc_ask.specs.declared.callers.CallerFault.TheVariants.{Serving, Socket, Idle}
+use Rattle.gc_lines.specs.declared.served.ServeFault.TheVariants as serving
+use Rattle.gc_texts.specs.declared.fault.RunFault.TheVariants as fault
 
 -- how a connection ended: it was served to its end, or left for a fault
 abbrev pub ConnectionEnd : Type 0

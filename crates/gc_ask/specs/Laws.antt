@@ -1,10 +1,7 @@
 -- Laws of what is asked: this project's own.
+use Rattle.gc_ask.specs.Common.{AllByRecursion, IDS, heard, settled_by_line, Command}
 use Rattle.std.specs.Prelude.{◌≡◌, ◌≢◌, ℕ, ◌+◌, ◌%◌, List, [], ◌∷◌, ◌++◌, Some}
-use Rattle.std.specs.List.{AllByRecursion}
-use Rattle.gc_client.specs.declared.window.TheConstants.{IDS}
-use Rattle.gc_client.specs.Rule.{heard, settled_by_line}
 use Rattle.gc_ask.specs.Asking.{awaited, asked_from}
-use Rattle.gc_texts.specs.declared.commands.Command.{Command}
 
 -- no line of these is a reply with the id of request k
 abbrev pub HasNoReply : (k : ℕ) → List (List ℕ) → Type 0

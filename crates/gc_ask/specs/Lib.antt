@@ -1,3 +1,5 @@
+mod Common
+pub mod Prelude
 pub mod Asking
 pub mod AskRuns
 pub mod Keeping

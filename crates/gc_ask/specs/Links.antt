@@ -1,17 +1,12 @@
 -- No part of a promise: what is seen of a link that commands are asked over, and what its calls do. A step is one call that
 -- uses the link, or several in a row. A place is the number of a request, counted from 0. A link is remote where the
 -- instrument's end isn't in this program.
+use Rattle.gc_ask.specs.Common.{Appends, Consumes, Keeps, Ports, Taken, TakesFront, Input, RunFault, Read, Write, TooManyReads, LinkClosed}
 use Rattle.std.specs.Prelude.{◌≡◌, ℕ, ◌+◌, ◌*◌, ◌-◌, ◌<◌, Bool, true, false, not, List, [], Option, Some, Result, Ok, Err, OnOk, ◌≤◌, length, take}
 use Rattle.std.specs.Borrow.{GName}
-use Rattle.std.specs.Io.KnownBytes.{Appends, Consumes, Keeps}
-use Rattle.gc_lines.specs.Answering.{Ports, Taken}
-use Rattle.gc_lines.specs.Ports.{TakesFront}
 use Rattle.gc_ask.specs.Asking.{LinkResult, UseEnds, NoneEnded}
 use Rattle.gc_ask.specs.Looping.{IsOfOneEnd, SeenAtBoth}
 use Rattle.gc_ask.specs.declared.unused.TheConstants.{ROOM}
-use Rattle.gc_texts.specs.WholeTexts.{Input}
-use Rattle.gc_texts.specs.declared.fault.RunFault.{RunFault}
-use Rattle.gc_texts.specs.declared.fault.RunFault.TheVariants.{Read, Write, TooManyReads, LinkClosed}
 
 -- the ghost names of the references that a link holds: of its client's end, and of its instrument's
 pub record HeldNames : Type 0 where

@@ -2,18 +2,9 @@
 -- of a line whose end hasn't come. `place` is the number of a command, counted from 0. `is_remote` says that somebody other than
 -- this program answers at the other end of the link. `w` is what the link and the sink of the settlements took, and `over e`
 -- says what the link's ports are after the end e. `from` and `to` are the client before and after.
+use Rattle.gc_ask.specs.Common.{Appends, Consumes, Ports, taken_by, Kept, StandsFor, rest_behind, lines_completed, Ghosts as Sink, Call, ById, heard, fits, hears_line, AreSettlements, settlement_seen, settlement_lines_from, WrotePartOfSettlements, Command, RunFault, Write, Output}
 use Rattle.std.specs.Prelude.{◌≡◌, ℕ, ◌+◌, ◌*◌, ◌-◌, ◌≤◌, ◌⊎◌, Bool, true, false, List, [], ◌∷◌, ◌++◌, length, Option, Some, None, Ok, Err, take, drop, map}
-use Rattle.std.specs.Io.KnownBytes.{Appends, Consumes}
-use Rattle.gc_lines.specs.Answering.{Ports, taken_by}
-use Rattle.gc_lines.specs.Assembler.{Kept, StandsFor}
-use Rattle.gc_lines.specs.Frames.{rest_behind}
-use Rattle.gc_lines.specs.Passing.{lines_completed}
-use Rattle.gc_lines.specs.declared.ports.Sink.{Ghosts as Sink}
-use Rattle.gc_catalogue.specs.declared.call.Call.{Call}
 use Rattle.gc_client.specs.declared.settlement.Settlement.{Settlement}
-use Rattle.gc_client.specs.Rule.{ById, heard, fits, hears_line}
-use Rattle.gc_client.specs.Settlements.{AreSettlements, settlement_seen}
-use Rattle.gc_texts.specs.Settlements.{settlement_lines_from, WrotePartOfSettlements}
 use Rattle.gc_ask.specs.declared.ask.AskState.{AskState}
 use Rattle.gc_ask.specs.declared.client_end.ClientEnd.{ClientEnd}
 use Rattle.gc_ask.specs.declared.link.AskedLink.{Ghosts as AskedLink}
@@ -21,9 +12,6 @@ use Rattle.gc_ask.specs.declared.unused.TheConstants.{ROOM}
 use Rattle.gc_ask.specs.Asking.{Written, LinkResult, first_reply, waiting_for, written_request, lost_of}
 use Rattle.gc_ask.specs.Links.{BothStep, LeavesSink, SeenStep, TakesRequest}
 use Rattle.gc_ask.specs.Looping.{SeenAtBoth, seen_at_both, written_at_both}
-use Rattle.gc_texts.specs.declared.commands.Command.{Command}
-use Rattle.gc_texts.specs.declared.fault.RunFault.{RunFault}
-use Rattle.gc_texts.specs.declared.fault.RunFault.TheVariants.{Write, Output}
 
 -- what is seen of this link and of this sink of the settlements, by the ghost members of their traits
 abbrev pub seen_through : {L K : Type 0} → AskedLink L → L → Sink K → K → SeenAtBoth

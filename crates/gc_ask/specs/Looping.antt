@@ -1,12 +1,8 @@
 -- The two ends of a link, and commands that are asked over it, also with an instrument of this program at its other end: this project's own.
 -- `is_remote` says that somebody other than this program answers there.
+use Rattle.gc_ask.specs.Common.{Ports, ports_of, taken_by, Taken, Ghosts as Sink, Command, Memory, Socket, Input}
 use Rattle.std.specs.Prelude.{◌≡◌, Bool, false, ℕ, ◌+◌, ◌⊎◌, List, Ok, Err}
-use Rattle.gc_lines.specs.Answering.{Ports, ports_of, taken_by, Taken}
 use Rattle.gc_lines.specs.declared.ports.Source.{Ghosts as Source}
-use Rattle.gc_lines.specs.declared.ports.Sink.{Ghosts as Sink}
-use Rattle.gc_texts.specs.declared.commands.Command.{Command}
-use Rattle.gc_texts.specs.declared.fault.RunFault.TheVariants.{Memory, Socket}
-use Rattle.gc_texts.specs.WholeTexts.{Input}
 use Rattle.gc_ask.specs.declared.looped.Duplex.{Duplex}
 use Rattle.gc_ask.specs.AskRuns.{AsksWithin, SeenAtClient, written_at_client}
 use Rattle.gc_ask.specs.Asking.{Written, LinkResult, AreFresh, UseEnds, RunsConnected, RunsText}

@@ -1,8 +1,8 @@
 -- The fault of a place over which no connection can be had: this project's own.
+use Rattle.gc_ask.specs.Common.{RunFault}
 use Rattle.std.specs.Prelude.{◌≡◌, Option, Some, None}
 use Rattle.gc_links.specs.declared.device.Unusable.{Unusable}
 use Rattle.gc_links.specs.declared.device.Unusable.TheVariants as unusable
-use Rattle.gc_texts.specs.declared.fault.RunFault.{RunFault}
 use Rattle.gc_texts.specs.declared.fault.RunFault.TheVariants as fault
 
 -- the fault for why a device can't be used

@@ -1,14 +1,8 @@
 -- An instrument that is served over connections, one after the other, each of which finds it restarted: this project's own. Below,
 -- `rule` is what the instrument does with a frame, `restart` what a restart makes of its state, `most` how many reads are made of a
 -- connection at most, and `before` and `after` are its states. `Missing` is true of the faults for which a connection can't be had.
+use Rattle.gc_ask.specs.Common.{AllByRecursion, AnswerRule, AnswersRun, HasEnded, Ports, Frame, Served, ServeFault, end_of_serving, RunFault}
 use Rattle.std.specs.Prelude.{◌≡◌, ◌⊎◌, ◌<◌, ℕ, Bool, false, List, [], ◌∷◌, length, Option, Result, Ok, Err}
-use Rattle.std.specs.List.{AllByRecursion}
-use Rattle.gc_lines.specs.Answering.{AnswerRule, AnswersRun, HasEnded, Ports}
-use Rattle.gc_lines.specs.declared.frame.Frame.{Frame}
-use Rattle.gc_lines.specs.declared.served.Served.{Served}
-use Rattle.gc_lines.specs.declared.served.ServeFault.{ServeFault}
-use Rattle.gc_texts.specs.Faults.{end_of_serving}
-use Rattle.gc_texts.specs.declared.fault.RunFault.{RunFault}
 use Rattle.gc_ask.specs.Asking.{AreFresh, LinkResult}
 
 -- a connection that was served: what is seen of its two directions before and after, and how serving it ended

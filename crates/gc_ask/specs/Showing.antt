@@ -1,7 +1,6 @@
 -- What a terminal shows of settlements: this project's own.
+use Rattle.gc_ask.specs.Common.{flat_map, escaped}
 use Rattle.std.specs.Prelude.{ℕ, ◌==◌, Bool, true, false, List, [], ◌∷◌, Option, None, if◌then◌else◌}
-use Rattle.std.specs.List.{flat_map}
-use Rattle.gc_texts.specs.Logs.{escaped}
 
 -- a byte as a terminal is to show it: a line feed as it is, any other byte as in a line of a log
 abbrev pub shown_byte : ℕ → List ℕ

@@ -1,18 +1,10 @@
 -- One reading for a reply, and which values of an answer are rounded when it is written.
-use Rattle.std.specs.Prelude.{◌≡◌, ℕ, List, [], ◌∷◌, refl}
-use Rattle.std.proofs.Common.{sym, ◌∙◌}
-use Rattle.gc_values.specs.declared.fault.ValueFault.{ValueFault}
-use Rattle.gc_values.specs.declared.value.Value.{Value}
-use Rattle.gc_values.specs.declared.value.Value.TheVariants as value
-use Rattle.gc_catalogue.specs.declared.answer.Answer.{Answer}
-use Rattle.gc_catalogue.specs.declared.call.Call.{Call}
-use Rattle.gc_catalogue.specs.Answers.{answer_fields, IsAnswer, IsUnreadable}
-use Rattle.gc_catalogue.specs.Laws.{AreShown, DoublesAreRounded, OneReading}
-use Rattle.gc_catalogue.specs.Lists.{shown_values}
+use Rattle.gc_catalogue.proofs.Common.{◌∷◌, sym, ◌∙◌, ValueFault, Value, Answer, Call, answer_fields, IsAnswer, IsUnreadable, AreShown, DoublesAreRounded, OneReading, shown_values, no_list_fault, one_list_fault, one_values}
+use Rattle.std.specs.Prelude.{◌≡◌, ℕ, List, [], refl}
 use Rattle.gc_values.proofs.RoundedDecimals.{rounded_rounds}
-use Rattle.gc_values.proofs.ListLaws.{no_list_fault, one_list_fault, one_values}
 use Rattle.gc_catalogue.proofs.ReadingLaws.{one_reading_by}
 use Rattle.gc_catalogue.proofs.Table.{answer_kinds, few_answer_values, same_answer, same_answer_kinds, shape-rounded, values-rounded}
+use Rattle.gc_values.specs.declared.value.Value.TheVariants as value
 
 -- parameters are read as at most one answer of a call
 pub one_answer : (call : Call) (params : List ℕ) (a b : Answer) → IsAnswer call params a → IsAnswer call params b → a ≡ b

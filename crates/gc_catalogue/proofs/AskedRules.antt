@@ -1,22 +1,8 @@
 -- What is asked: one thing for a number and parameters, and one for a line; and one reading for a reply.
-use Rattle.std.proofs.Common.{◌≡◌, ℕ, List, refl, sym, ap, ◌∙◌, subst}
-use Rattle.std.specs.Prelude.{Option, Result, Ok}
-use Rattle.gc_lines.proofs.Written.{request_back}
-use Rattle.gc_lines.specs.Requests.{RequestFields}
+use Rattle.gc_catalogue.proofs.Common.{◌≡◌, ℕ, List, refl, sym, ap, ◌∙◌, subst, Option, Result, Ok, request_back, RequestFields, request_at, asked_request, raw_params, raw_request, IsAsked, AskedReadBack, EachReplyIsReadForAsked, OneAsked, OneAskedForALine, OneAskedReading, IsCall, OneCallForALine, raw_bytes, IsRawCall, Table, Raw, Call, RawCall, RawText}
 use Rattle.gc_lines.specs.declared.fault.LineFault.{LineFault}
-use Rattle.gc_lines.specs.Readers.{request_at}
-use Rattle.gc_catalogue.specs.Asked.{asked_request, raw_params, raw_request, IsAsked}
-use Rattle.gc_catalogue.specs.AskedLaws.{AskedReadBack, EachReplyIsReadForAsked, OneAsked, OneAskedForALine, OneAskedReading}
-use Rattle.gc_catalogue.specs.Calls.{IsCall}
-use Rattle.gc_catalogue.specs.Laws.{OneCallForALine}
 use Rattle.gc_catalogue.specs.RawProps.{IsRawCall-prop}
-use Rattle.gc_catalogue.specs.RawTexts.{raw_bytes}
-use Rattle.gc_catalogue.specs.Raws.{IsRawCall}
 use Rattle.gc_catalogue.specs.declared.asked.Asked.{Asked}
-use Rattle.gc_catalogue.specs.declared.asked.Asked.TheVariants.{Table, Raw}
-use Rattle.gc_catalogue.specs.declared.call.Call.{Call}
-use Rattle.gc_catalogue.specs.declared.raw.RawCall.{RawCall}
-use Rattle.gc_catalogue.specs.declared.raw_text.RawText.{RawText}
 use Rattle.gc_catalogue.proofs.AnswerLaws.{one_reading}
 use Rattle.gc_catalogue.proofs.CallLaws.{one_call}
 use Rattle.gc_catalogue.proofs.EachReply.{each_reply}

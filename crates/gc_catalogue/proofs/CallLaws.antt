@@ -1,12 +1,8 @@
 -- One call for a number and parameters, or one refusal, and never both.
-use Rattle.std.specs.Prelude.{◌≡◌, ℕ, List, Result, Ok, Err, IsOk, OnOk, IfErr, ⊤, refl}
-use Rattle.std.proofs.Common.{sym, ◌∙◌, ap}
+use Rattle.gc_catalogue.proofs.Common.{Result, Ok, Err, IsOk, OnOk, IfErr, ⊤, sym, ◌∙◌, ap, Call, call_fields, IsCall, IsFitting, IsRefusal, params_of, no_list_fault, one_list_fault, one_values, params_fit, written_reads}
+use Rattle.std.specs.Prelude.{◌≡◌, ℕ, List, refl}
 use Rattle.gc_catalogue.specs.declared.fault.CallFault.{CallFault}
 use Rattle.gc_catalogue.specs.declared.fault.CallFault.TheVariants.{Unknown, Parameters}
-use Rattle.gc_catalogue.specs.declared.call.Call.{Call}
-use Rattle.gc_catalogue.specs.Calls.{call_fields, IsCall, IsFitting, IsRefusal}
-use Rattle.gc_catalogue.specs.Lists.{params_of}
-use Rattle.gc_values.proofs.ListLaws.{no_list_fault, one_list_fault, one_values, params_fit, written_reads}
 use Rattle.gc_catalogue.proofs.Table.{same_number_alike, few_values, same_call, call_kinds}
 
 -- a number and parameters are those of at most one call

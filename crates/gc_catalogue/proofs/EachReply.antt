@@ -1,26 +1,16 @@
 -- Each reply has a reading for each call: if both codes are 0, the parameters are read as an answer of the call, or there is a
 -- fault for which they can't be.
-use Rattle.std.proofs.Common.{◌≡◌, ℕ, List, [], ◌∷◌, refl, sym, ap, ◌∙◌, subst, ◌⊎◌, inl, inr}
+use Rattle.gc_catalogue.proofs.Common.{◌≡◌, ℕ, List, [], refl, sym, ap, ◌∙◌, subst, ◌⊎◌, inl, inr, kind_of, kinds_of, AreParams, ValueFault, Kind, Value, each_list, answer_fields, IsAnswer, IsUnreadable, call_fields, EachReplyIsRead, Answer, Call}
+use Rattle.std.proofs.Common.{◌∷◌}
 use Rattle.std.specs.Prelude.{Bool, ℤ, pos}
-use Rattle.gc_values.specs.Decimals.{zero}
-use Rattle.gc_values.specs.Item.{kind_of}
-use Rattle.gc_values.specs.Lists.{kinds_of, AreParams}
+use Rattle.gc_values.specs.Prelude.{zero}
 use Rattle.gc_values.specs.declared.decimal.Decimal.{Decimal}
-use Rattle.gc_values.specs.declared.fault.ValueFault.{ValueFault}
-use Rattle.gc_values.specs.declared.value.Kind.{Kind}
-use Rattle.gc_values.specs.declared.value.Kind.TheVariants as kind
-use Rattle.gc_values.specs.declared.value.Value.{Value}
-use Rattle.gc_values.specs.declared.value.Value.TheVariants as value
-use Rattle.gc_values.proofs.EachItem.{each_list}
-use Rattle.gc_catalogue.specs.Answers.{answer_fields, IsAnswer, IsUnreadable}
-use Rattle.gc_catalogue.specs.Calls.{call_fields}
-use Rattle.gc_catalogue.specs.Laws.{EachReplyIsRead}
-use Rattle.gc_catalogue.specs.declared.answer.Answer.{Answer}
-use Rattle.gc_catalogue.specs.declared.answer.Answer.TheVariants as answer
 use Rattle.gc_catalogue.specs.declared.answer.Shape.{Shape}
-use Rattle.gc_catalogue.specs.declared.answer.Shape.TheVariants as shape
-use Rattle.gc_catalogue.specs.declared.call.Call.{Call}
 use Rattle.gc_catalogue.proofs.ReadingLaws.{each_reading_by}
+use Rattle.gc_values.specs.declared.value.Kind.TheVariants as kind
+use Rattle.gc_values.specs.declared.value.Value.TheVariants as value
+use Rattle.gc_catalogue.specs.declared.answer.Answer.TheVariants as answer
+use Rattle.gc_catalogue.specs.declared.answer.Shape.TheVariants as shape
 
 -- the value is of this kind: it holds a decimal, a whole number, a truth value or bytes, as the kind says
 abbrev IsOfKind : Kind → Value → Type 0

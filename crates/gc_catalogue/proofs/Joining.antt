@@ -1,17 +1,7 @@
 -- Texts joined by commas, and texts each after a comma.
-use Rattle.std.specs.Prelude.{◌≡◌, ◌<◌, ◌-◌, ◌++◌, ℕ, List, [], ◌∷◌, Option, length, take, refl}
-use Rattle.std.specs.Fmt.{decimal}
-use Rattle.std.proofs.Common.{sym, ◌∙◌, ap, arith, append_assoc, append-nil, length-append}
-use Rattle.std.proofs.lemmas.List.{same_from_push}
+use Rattle.gc_catalogue.proofs.Common.{◌<◌, ◌∷◌, Option, decimal, sym, ◌∙◌, ap, arith, append_assoc, append-nil, length-append, same_from_push, take-append_seam, params_text, reply_text, id_text, request_signature, request_text, text, Value, before_commas, behind_commas, params_of, IsWithoutComma, text_not_empty}
+use Rattle.std.specs.Prelude.{◌≡◌, ◌-◌, ◌++◌, ℕ, List, [], length, take, refl}
 use Rattle.std.proofs.lemmas.List.Folds.{flat_map-map}
-use Rattle.std.proofs.Math.Seq.{take-append_seam}
-use Rattle.gc_lines.specs.Replies.{params_text, reply_text}
-use Rattle.gc_lines.specs.Headers.{id_text}
-use Rattle.gc_lines.specs.Requests.{request_signature, request_text}
-use Rattle.gc_values.specs.Item.{text}
-use Rattle.gc_values.specs.declared.value.Value.{Value}
-use Rattle.gc_catalogue.specs.Lists.{before_commas, behind_commas, params_of, IsWithoutComma}
-use Rattle.gc_values.proofs.TextShape.{text_not_empty}
 
 -- values joined by commas are the first one's text, and then the others' texts, each after a comma
 pub params_of-cons : (v : Value) (vs : List Value) → params_of (v ∷ vs) ≡ text v ++ behind_commas vs

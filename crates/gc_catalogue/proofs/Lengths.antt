@@ -1,11 +1,6 @@
 -- How long the parameters of a line that is written are at most.
-use Rattle.std.specs.Prelude.{◌≤◌, ◌*◌, List, [], ◌∷◌, length}
-use Rattle.std.proofs.Common.{arith, length-append, lit≤}
-use Rattle.gc_values.proofs.TextShape.{text_is_short}
-use Rattle.gc_values.specs.Item.{text}
-use Rattle.gc_values.specs.declared.value.Value.{Value}
-use Rattle.gc_values.specs.Lists.{AreValues}
-use Rattle.gc_catalogue.specs.Lists.{behind_commas}
+use Rattle.gc_catalogue.proofs.Common.{◌*◌, ◌∷◌, arith, length-append, lit≤, text_is_short, text, AreValues, Value, behind_commas}
+use Rattle.std.specs.Prelude.{◌≤◌, List, [], length}
 
 -- the texts of values in range, each after a comma, have at most 67 bytes for each value
 pub behind_short : (vs : List Value) → AreValues vs → length (behind_commas vs) ≤ 67 * length vs

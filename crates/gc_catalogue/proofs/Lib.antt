@@ -1,3 +1,4 @@
+mod Common
 pub mod AnswerLaws
 pub mod AskedRules
 pub mod CallLaws

@@ -1,22 +1,10 @@
 -- Lines that are written read back.
-use Rattle.std.specs.Prelude.{◌<◌, ℕ, List, [], ◌∷◌, Option, Some, None, refl}
-use Rattle.std.proofs.Common.{◌∙◌, arith, lit<}
-use Rattle.gc_lines.proofs.Written.{request_back, reply_back}
-use Rattle.gc_lines.specs.Headers.{IsIdInRange, MayBeId}
-use Rattle.gc_values.specs.declared.value.Value.{Value}
-use Rattle.gc_values.specs.declared.value.Value.TheVariants as value
-use Rattle.gc_catalogue.specs.declared.answer.Answer.{Answer}
-use Rattle.gc_catalogue.specs.declared.answer.Answer.TheVariants.{Nothing}
-use Rattle.gc_catalogue.specs.declared.answer.Reading.TheVariants as reading
-use Rattle.gc_catalogue.specs.declared.call.Call.{Call}
-use Rattle.gc_catalogue.specs.Answers.{answer_fields, IsAnswer, IsAnswerOf, IsFittingAnswer, rounded_answer}
-use Rattle.gc_catalogue.specs.Laws.{CallsReadBack, ReadsBackAnswer}
-use Rattle.gc_values.specs.Lists.{AreValues}
-use Rattle.gc_catalogue.specs.Lists.{shown_values}
-use Rattle.gc_catalogue.specs.Texts.{answer_params, reply_of, request_of}
+use Rattle.gc_catalogue.proofs.Common.{◌<◌, ◌∷◌, Option, Some, None, ◌∙◌, arith, lit<, request_back, reply_back, IsIdInRange, MayBeId, Value, Answer, Nothing, Call, answer_fields, IsAnswer, IsAnswerOf, IsFittingAnswer, rounded_answer, CallsReadBack, ReadsBackAnswer, AreValues, shown_values, answer_params, reply_of, request_of, written_reads}
+use Rattle.std.specs.Prelude.{ℕ, List, [], refl}
 use Rattle.gc_catalogue.proofs.CallLaws.{written_is_call}
-use Rattle.gc_values.proofs.ListLaws.{written_reads}
 use Rattle.gc_catalogue.proofs.Table.{number_fits, shape-rounded, values-rounded}
+use Rattle.gc_values.specs.declared.value.Value.TheVariants as value
+use Rattle.gc_catalogue.specs.declared.answer.Reading.TheVariants as reading
 
 -- the line of a call with values in range, with an id below 8 or without one, reads back as the call
 pub call_again : CallsReadBack

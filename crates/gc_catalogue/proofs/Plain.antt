@@ -1,14 +1,6 @@
 -- Parameters that are written are *plain*: they have neither CR nor LF.
-use Rattle.std.specs.Prelude.{◌++◌, List, [], ◌∷◌}
-use Rattle.std.proofs.Common.{lit<}
-use Rattle.std.proofs.lemmas.List.Elements.{All-from_recursion}
-use Rattle.gc_lines.proofs.Plain.{plain_append, plain_cons}
-use Rattle.gc_lines.specs.Lines.{IsPlainByte, IsPlain}
-use Rattle.gc_values.proofs.TextShape.{text_is_plain}
-use Rattle.gc_values.specs.Item.{text}
-use Rattle.gc_values.specs.declared.value.Value.{Value}
-use Rattle.gc_values.specs.Lists.{AreValues}
-use Rattle.gc_catalogue.specs.Lists.{behind_commas, params_of}
+use Rattle.gc_catalogue.proofs.Common.{◌∷◌, lit<, All-from_recursion, plain_append, plain_cons, IsPlainByte, IsPlain, text_is_plain, text, AreValues, Value, behind_commas, params_of}
+use Rattle.std.specs.Prelude.{◌++◌, List, []}
 use Rattle.gc_catalogue.proofs.Joining.{params_of-cons}
 
 -- values in range, each after a comma, are plain

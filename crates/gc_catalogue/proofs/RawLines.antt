@@ -1,15 +1,5 @@
 -- Lines of procedures that aren't in the table: how long they are, and that they fit.
-use Rattle.std.proofs.Common.{◌≡◌, ◌-◌, ◌≤◌, ◌++◌, ℕ, List, length, take, replicate, ap, ◌∙◌, arith, length-append}
-use Rattle.std.specs.Prelude.{Option, Some, None}
-use Rattle.std.proofs.lemmas.List.{length-replicate}
-use Rattle.std.proofs.Math.Seq.{take-append_seam}
-use Rattle.gc_lines.proofs.Plain.{request_plain}
-use Rattle.gc_lines.specs.Headers.{id_text}
-use Rattle.gc_lines.specs.Requests.{request_text}
-use Rattle.gc_catalogue.specs.AskedLaws.{RawLinesFit}
-use Rattle.gc_catalogue.specs.Asked.{raw_params, raw_request}
-use Rattle.gc_catalogue.specs.RawFacts.{length-request}
-use Rattle.gc_catalogue.specs.Raws.{line_length}
+use Rattle.gc_catalogue.proofs.Common.{◌≡◌, ◌-◌, ◌≤◌, ◌++◌, ℕ, List, length, take, replicate, ap, ◌∙◌, arith, length-append, Option, Some, None, length-replicate, take-append_seam, request_plain, id_text, request_text, RawLinesFit, raw_params, raw_request, length-request, line_length}
 
 -- the text of an optional id has at most two bytes
 id_text_short : (id : Option ℕ) → length (id_text id) ≤ 2

@@ -1,20 +1,9 @@
 -- Which procedures that aren't in the table may be asked for, and what replies say of them: one refusal or none, and one reading.
-use Rattle.std.proofs.Common.{◌≡◌, ◌≤◌, ◌%◌, ◌⊎◌, ℕ, List, [], length, refl, sym, ◌∙◌, subst, inl, inr, arith}
-use Rattle.std.proofs.lemmas.Bool.{cases_lt}
-use Rattle.gc_lines.specs.Replies.{ReplyFields}
-use Rattle.gc_values.proofs.EachItem.{each_list}
-use Rattle.gc_values.proofs.ParamLists.{one_list, params_even, even_not_odd}
-use Rattle.gc_values.specs.Lists.{IsListFault, open_quote, faulty_items}
-use Rattle.gc_values.specs.Params.{AreTooMany, IsParams, quotes}
-use Rattle.gc_values.specs.declared.fault.ValueFault.{ValueFault}
-use Rattle.gc_values.specs.declared.fault.ValueFault.TheVariants as fault
-use Rattle.gc_catalogue.specs.declared.answer.Reading.{Reading}
-use Rattle.gc_catalogue.specs.declared.answer.Answer.{Answer}
-use Rattle.gc_catalogue.specs.declared.answer.Answer.TheVariants.{Nothing}
+use Rattle.gc_catalogue.proofs.Common.{◌≡◌, ◌≤◌, ◌%◌, ◌⊎◌, ℕ, List, [], length, refl, sym, ◌∙◌, subst, inl, inr, arith, cases_lt, ReplyFields, each_list, one_list, params_even, even_not_odd, IsListFault, open_quote, faulty_items, AreTooMany, IsParams, quotes, ValueFault, Reading, Answer, Nothing, AreFewItems, IsItemsRefusal, IsRawAnswer, IsRawCall, IsRawReading, IsRawRefusal}
 use Rattle.gc_catalogue.specs.declared.raw.RawFault.{RawFault}
 use Rattle.gc_catalogue.specs.declared.raw.RawFault.TheVariants.{InTable, NotPlain, TooLong, OpenQuote, TooMany}
-use Rattle.gc_catalogue.specs.Raws.{AreFewItems, IsItemsRefusal, IsRawAnswer, IsRawCall, IsRawReading, IsRawRefusal}
 use Rattle.gc_catalogue.proofs.ReadingLaws.{IsDecisive, each_reading_by, one_reading_by}
+use Rattle.gc_values.specs.declared.fault.ValueFault.TheVariants as fault
 
 -- parameters of at most 16 items have an even number of double quotes
 pub few_close_quotes : (params : List ℕ) → AreFewItems params → quotes params % 2 ≡ 0

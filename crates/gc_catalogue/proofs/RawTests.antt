@@ -1,21 +1,11 @@
 -- The test `may_have` holds of all parameters that a procedure that isn't in the table may be asked for with.
-use Rattle.std.proofs.Common.{◌≡◌, ◌≢◌, ◌+◌, ◌<◌, ◌≤◌, ◌==◌, ◌%◌, ◌&&◌, ◌++◌, ℕ, zero, suc, Bool, true, false, not, nat_le, nat_lt, List, [], ◌∷◌, length, replicate, refl, sym, ap, subst, inl, inr, ◌∙◌, arith}
-use Rattle.std.specs.Prelude.{Result, Ok, Err}
+use Rattle.gc_catalogue.proofs.Common.{◌≡◌, ◌≢◌, ◌+◌, ◌≤◌, ◌==◌, ◌%◌, ◌&&◌, ◌++◌, ℕ, zero, suc, Bool, true, false, not, nat_le, nat_lt, List, [], length, replicate, refl, sym, ap, subst, inl, inr, ◌∙◌, arith, Result, Ok, Err, AllByRecursion, list_all, recursion_from_All, IsPlainByte, pieces_of, even_not_odd, joined, quoted_after, quotes, ArePieces, HasCommasInQuotes, IsParams, AreBytes, is_plain_byte, may_have, outer_commas, outer_commas-append, padded_front, quoted_by, quoted_by_quotes, closed_by, raw_bytes, IsRawCall, line_length, RawCall}
+use Rattle.std.proofs.Common.{◌<◌, ◌∷◌}
 use Rattle.std.specs.Result.{result_ok}
-use Rattle.std.specs.List.{AllByRecursion, list_all}
 use Rattle.std.proofs.lemmas.Bool.Decides.{eqb_tells}
-use Rattle.std.proofs.lemmas.List.Elements.{recursion_from_All}
-use Rattle.gc_lines.specs.Lines.{IsPlainByte}
-use Rattle.gc_values.proofs.ParamLists.{pieces_of, even_not_odd}
 use Rattle.gc_values.proofs.Quotes.{IsPiece}
-use Rattle.gc_values.specs.Params.{joined, quoted_after, quotes, ArePieces, HasCommasInQuotes, IsParams}
 use Rattle.gc_catalogue.proofs.RawRules.{few_items}
-use Rattle.gc_catalogue.specs.Bytes.{AreBytes}
 use Rattle.gc_catalogue.specs.RawAgain.{request_if, with_params}
-use Rattle.gc_catalogue.specs.RawFacts.{is_plain_byte, may_have, outer_commas, outer_commas-append, padded_front, quoted_by, quoted_by_quotes, closed_by}
-use Rattle.gc_catalogue.specs.RawTexts.{raw_bytes}
-use Rattle.gc_catalogue.specs.Raws.{IsRawCall, line_length}
-use Rattle.gc_catalogue.specs.declared.raw.RawCall.{RawCall}
 
 -- each comma of a text is behind an open double quote; `quoted` says whether one is open before the text
 abbrev AreWithin : (quoted : Bool) → List ℕ → Type 0

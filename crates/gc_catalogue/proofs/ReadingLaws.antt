@@ -1,13 +1,7 @@
 -- One reading for a reply, and each reply has one, whatever its parameters may be read as (`IsReadingBy`).
+use Rattle.gc_catalogue.proofs.Common.{◌⊎◌, inl, inr, sym, ◌∙◌, ap, cases_eq, ReplyFields, ValueFault, Answer, Reading, IsReadingBy}
 use Rattle.std.specs.Prelude.{◌≡◌, refl}
-use Rattle.std.proofs.Common.{◌⊎◌, inl, inr, sym, ◌∙◌, ap}
-use Rattle.std.proofs.lemmas.Bool.{cases_eq}
-use Rattle.gc_lines.specs.Replies.{ReplyFields}
-use Rattle.gc_values.specs.declared.fault.ValueFault.{ValueFault}
-use Rattle.gc_catalogue.specs.declared.answer.Answer.{Answer}
-use Rattle.gc_catalogue.specs.declared.answer.Reading.{Reading}
 use Rattle.gc_catalogue.specs.declared.answer.Reading.TheVariants as reading
-use Rattle.gc_catalogue.specs.Readings.{IsReadingBy}
 
 -- what parameters may be read as: one answer at most, one fault at most, and never both
 pub record IsDecisive (IsRead : Answer → Type 0) (IsFaulty : ValueFault → Type 0) : Type 0 where

@@ -1,32 +1,16 @@
 -- A request line is of bytes, whatever is asked.
-use Rattle.std.proofs.Common.{◌<◌, ◌/◌, ◌%◌, ◌^◌, ℕ, zero, suc, ℤ, pos, negsuc, unsigned_abs, true, false, List, [], ◌∷◌, ◌++◌, refl, arith, lit<}
-use Rattle.std.proofs.lemmas.Bool.{ltb-true}
+use Rattle.gc_catalogue.proofs.Common.{◌/◌, ◌%◌, ◌^◌, ℕ, zero, suc, ℤ, pos, negsuc, unsigned_abs, true, false, List, [], ◌++◌, refl, arith, lit<, ltb-true, All-from_recursion, recursion_from_All, decimal, AllByRecursion, Option, Some, None, slice_index, codes, IsIdInRange, id_text, request_signature, request_text, AreDigits, IsDigit, text, signed_text, minus_text, places_text, whole_text, written, Value, raw_params, RequestLinesAreOfBytes, AreBytes, call_fields, behind_commas, params_of, Table, Raw}
+use Rattle.std.proofs.Common.{◌<◌, ◌∷◌}
 use Rattle.std.proofs.lemmas.Fmt.{decimal_is_IsNumeral}
-use Rattle.std.proofs.lemmas.List.Elements.{All-from_recursion, recursion_from_All}
 use Rattle.std.proofs.lemmas.List.Sums.{AllPass-from_list_all}
 use Rattle.std.proofs.lemmas.Str.Parse.{digit_from_value}
-use Rattle.std.specs.Fmt.{decimal}
-use Rattle.std.specs.List.{AllByRecursion}
-use Rattle.std.specs.Prelude.{Option, Some, None, nat_lt, slice_index, codes}
+use Rattle.std.specs.Prelude.{nat_lt}
 use Rattle.std.specs.Str.Parse.{AllDigits}
-use Rattle.gc_lines.specs.Headers.{IsIdInRange, id_text}
-use Rattle.gc_lines.specs.Requests.{request_signature, request_text}
 use Rattle.gc_values.proofs.Every.{every_append, every_weaker}
 use Rattle.gc_values.proofs.WrittenSpells.{is_fraction_text, writes_whole}
-use Rattle.gc_values.specs.Digits.{AreDigits, IsDigit}
-use Rattle.gc_values.specs.Item.{text}
-use Rattle.gc_values.specs.Whole.{signed_text}
-use Rattle.gc_values.specs.Written.{minus_text, places_text, whole_text, written}
-use Rattle.gc_values.specs.declared.value.Value.{Value}
-use Rattle.gc_values.specs.declared.value.Value.TheVariants as value
-use Rattle.gc_catalogue.specs.Asked.{raw_params}
-use Rattle.gc_catalogue.specs.AskedLaws.{RequestLinesAreOfBytes}
-use Rattle.gc_catalogue.specs.Bytes.{AreBytes}
-use Rattle.gc_catalogue.specs.Calls.{call_fields}
-use Rattle.gc_catalogue.specs.Lists.{behind_commas, params_of}
-use Rattle.gc_catalogue.specs.declared.asked.Asked.TheVariants.{Table, Raw}
 use Rattle.gc_catalogue.proofs.Joining.{params_of-cons}
 use Rattle.gc_catalogue.proofs.Table.{IsNoText, no_text, number_fits}
+use Rattle.gc_values.specs.declared.value.Value.TheVariants as value
 
 -- a text is of bytes. `AreBytes` says the same by places, and this by recursion
 abbrev IsOfBytes : List ℕ → Type 0

@@ -1,12 +1,8 @@
 -- Texts of the same bytes are equal: the unused bytes are zero, and the facts that a text carries have one proof each. Below, a
 -- text's *places* are all its 503 bytes (`bytes`), its *count* says how many of them are used (`len`), and its bytes are those
 -- (`raw_bytes`).
-use Rattle.std.proofs.Common.{◌≡◌, ◌-◌, ◌≤◌, ◌++◌, ℕ, List, length, take, drop, replicate, sym, ap, ◌∙◌, subst, arith, length-take-le}
+use Rattle.gc_catalogue.proofs.Common.{◌≡◌, ◌-◌, ◌≤◌, ◌++◌, ℕ, List, length, take, drop, replicate, sym, ap, ◌∙◌, subst, arith, length-take-le, take-append-drop, AreBytes, raw_bytes, RawText}
 use Rattle.std.proofs.Props.{props}
-use Rattle.std.proofs.lemmas.List.{take-append-drop}
-use Rattle.gc_catalogue.specs.Bytes.{AreBytes}
-use Rattle.gc_catalogue.specs.RawTexts.{raw_bytes}
-use Rattle.gc_catalogue.specs.declared.raw_text.RawText.{RawText}
 
 -- the facts that a text with these places and this count carries
 record Facts (bytes : List ℕ) (len : ℕ) : Type 0 where

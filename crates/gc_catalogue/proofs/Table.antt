@@ -1,18 +1,8 @@
 -- What holds of every row of the tables of calls and answers (`call_fields`, `answer_fields`). The prover goes through the rows
 -- itself: a new row needs no line here.
-use Rattle.std.specs.Prelude.{◌≡◌, ◌≤◌, ◌<◌, ℕ, List, length}
-use Rattle.std.proofs.Common.{arith}
-use Rattle.std.specs.List.{AllByRecursion}
-use Rattle.gc_values.specs.Lists.{kinds_of}
-use Rattle.gc_values.specs.declared.value.Kind.{Kind}
-use Rattle.gc_values.specs.declared.value.Value.{Value}
+use Rattle.gc_catalogue.proofs.Common.{◌<◌, arith, AllByRecursion, kinds_of, Kind, Value, Answer, Call, answer_fields, rounded_answer, call_fields, HaveOneSignature, shown_values}
+use Rattle.std.specs.Prelude.{◌≡◌, ◌≤◌, ℕ, List, length}
 use Rattle.gc_values.specs.declared.value.Value.TheVariants as value
-use Rattle.gc_catalogue.specs.declared.answer.Answer.{Answer}
-use Rattle.gc_catalogue.specs.declared.call.Call.{Call}
-use Rattle.gc_catalogue.specs.Answers.{answer_fields, rounded_answer}
-use Rattle.gc_catalogue.specs.Calls.{call_fields}
-use Rattle.gc_catalogue.specs.Laws.{HaveOneSignature}
-use Rattle.gc_catalogue.specs.Lists.{shown_values}
 
 -- the kinds of a call's values
 abbrev pub call_kinds : Call → List Kind

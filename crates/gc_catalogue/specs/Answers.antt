@@ -1,17 +1,16 @@
 -- Answers, this project's own after the procedure tables of the manual: their shapes, and which parameters are an answer's.
 use Rattle.std.specs.Prelude.{◌≡◌, ℕ, List, [], ◌∷◌}
-use Rattle.gc_values.specs.Decimals.{rounded}
+use Rattle.gc_values.specs.Prelude.{rounded, kinds_of, AreParams, AreValues, IsListFault}
 use Rattle.gc_values.specs.declared.fault.ValueFault.{ValueFault}
 use Rattle.gc_values.specs.declared.value.Value.{Value}
-use Rattle.gc_values.specs.declared.value.Value.TheVariants as value
 use Rattle.gc_catalogue.specs.declared.answer.Answer.{Answer}
 use Rattle.gc_catalogue.specs.declared.answer.Answer.TheVariants.{Nothing, Short, Version, Long, Name, Date, Temperature, Place, Height, Angles, Measured, MeasuredMode}
 use Rattle.gc_catalogue.specs.declared.answer.Shape.{Shape}
-use Rattle.gc_catalogue.specs.declared.answer.Shape.TheVariants as shape
 use Rattle.gc_catalogue.specs.declared.call.Call.{Call}
 use Rattle.gc_catalogue.specs.Calls.{call_fields}
 use Rattle.gc_catalogue.specs.Structs.{date_values, station_values}
-use Rattle.gc_values.specs.Lists.{kinds_of, AreParams, AreValues, IsListFault}
+use Rattle.gc_values.specs.declared.value.Value.TheVariants as value
+use Rattle.gc_catalogue.specs.declared.answer.Shape.TheVariants as shape
 
 -- an answer's shape, and its values in their order on the line
 pub record AnswerFields : Type 0 where

@@ -1,7 +1,6 @@
 -- What is asked of an instrument: a call of the table, or a procedure that isn't in it. Their lines have the manual's form.
 use Rattle.std.specs.Prelude.{◌≡◌, ℕ, Bool, true, false, List, Option}
-use Rattle.gc_lines.specs.Replies.{ReplyFields}
-use Rattle.gc_lines.specs.Requests.{RequestFields, request_text}
+use Rattle.gc_lines.specs.Prelude.{ReplyFields, RequestFields, request_text}
 use Rattle.gc_catalogue.specs.declared.answer.Reading.{Reading}
 use Rattle.gc_catalogue.specs.declared.asked.Asked.{Asked}
 use Rattle.gc_catalogue.specs.declared.asked.Asked.TheVariants.{Table, Raw}

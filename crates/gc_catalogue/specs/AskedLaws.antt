@@ -1,7 +1,6 @@
 -- What is claimed of the definitions of what is asked, apart from any call of a function: this project's own.
 use Rattle.std.specs.Prelude.{◌≡◌, ◌≤◌, ℕ, List, Option, length}
-use Rattle.gc_lines.specs.Headers.{IsIdInRange}
-use Rattle.gc_lines.specs.Lines.{IsPlain}
+use Rattle.gc_lines.specs.Prelude.{IsIdInRange, IsPlain}
 use Rattle.gc_catalogue.specs.declared.asked.Asked.{Asked}
 use Rattle.gc_catalogue.specs.declared.raw.RawCall.{RawCall}
 use Rattle.gc_catalogue.specs.Asked.{asked_line, asked_request, raw_line, IsAsked, IsAskedFitting, IsAskedReading}

@@ -1,6 +1,6 @@
 -- Why a request names no call: the numbers and the texts of the faults, which are this project's own.
 use Rattle.std.specs.Prelude.{ℕ, List, codes}
-use Rattle.gc_values.specs.ValueFault.{value_fault_number, value_fault_text}
+use Rattle.gc_values.specs.Prelude.{value_fault_number, value_fault_text}
 use Rattle.gc_catalogue.specs.declared.fault.CallFault.{CallFault}
 use Rattle.gc_catalogue.specs.declared.fault.CallFault.TheVariants.{Unknown, Parameters}
 

@@ -7,11 +7,11 @@ use Rattle.gc_values.specs.declared.value.Value.TheVariants.{Double, Long, Short
 use Rattle.gc_catalogue.specs.declared.fault.CallFault.{CallFault}
 use Rattle.gc_catalogue.specs.declared.fault.CallFault.TheVariants.{Unknown, Parameters}
 use Rattle.gc_catalogue.specs.declared.answer.Shape.{Shape}
-use Rattle.gc_catalogue.specs.declared.answer.Shape.TheVariants as shape
 use Rattle.gc_catalogue.specs.declared.call.Call.{Call}
 use Rattle.gc_catalogue.specs.declared.call.Call.TheVariants.{NullProc, SetPrecision, GetPrecision, ComVersion, InstrumentNo, InstrumentName, SetDate, GetDate, IntTemp, CsvVersion, DoMeasure, GetStation, SetStation, GetHeight, SetHeight, GetFace, GetAngle, SimpleMea, QuickDist, SetPrism, GetPrism, MeasDistance, Position, ChangeFace, FineAdjust}
 use Rattle.gc_catalogue.specs.Structs.{date_values, station_values}
-use Rattle.gc_values.specs.Lists.{kinds_of, AreParams, AreValues, IsListFault}
+use Rattle.gc_values.specs.Prelude.{kinds_of, AreParams, AreValues, IsListFault}
+use Rattle.gc_catalogue.specs.declared.answer.Shape.TheVariants as shape
 
 -- a procedure's number, the values of its parameters in their order on the line, and the shape of its answer
 pub record CallFields : Type 0 where

@@ -1,25 +1,20 @@
 -- What is claimed of the definitions themselves, apart from any call of a function: this project's own.
 use Rattle.std.specs.Prelude.{◌≡◌, ◌≢◌, ◌<◌, ℕ, List, Option, Ok}
 use Rattle.std.specs.List.{AllZip}
-use Rattle.gc_lines.specs.Headers.{IsIdInRange}
-use Rattle.gc_lines.specs.Replies.{ReplyFields}
-use Rattle.gc_lines.specs.Requests.{RequestFields, request_text}
-use Rattle.gc_lines.specs.Readers.{reply_at, request_at}
-use Rattle.gc_values.specs.Decimals.{fraction}
-use Rattle.gc_values.specs.Fraction.{IsRounded}
+use Rattle.gc_lines.specs.Prelude.{IsIdInRange, ReplyFields, RequestFields, request_text, reply_at, request_at}
+use Rattle.gc_values.specs.Prelude.{fraction, IsRounded, kinds_of}
 use Rattle.gc_values.specs.declared.value.Value.{Value}
-use Rattle.gc_values.specs.declared.value.Value.TheVariants as value
 use Rattle.gc_catalogue.specs.declared.answer.Answer.{Answer}
 use Rattle.gc_catalogue.specs.declared.answer.Answer.TheVariants.{Nothing}
 use Rattle.gc_catalogue.specs.declared.fault.CallFault.{CallFault}
 use Rattle.gc_catalogue.specs.declared.answer.Reading.{Reading}
-use Rattle.gc_catalogue.specs.declared.answer.Reading.TheVariants as reading
 use Rattle.gc_catalogue.specs.declared.call.Call.{Call}
 use Rattle.gc_catalogue.specs.Answers.{answer_fields, IsAnswerOf, IsFittingAnswer, rounded_answer}
 use Rattle.gc_catalogue.specs.Calls.{call_fields, IsCall, IsFitting, IsRefusal}
-use Rattle.gc_values.specs.Lists.{kinds_of}
 use Rattle.gc_catalogue.specs.Readings.{IsReading, ReadingRule}
 use Rattle.gc_catalogue.specs.Texts.{reply_line, reply_of, request_line, request_of}
+use Rattle.gc_values.specs.declared.value.Value.TheVariants as value
+use Rattle.gc_catalogue.specs.declared.answer.Reading.TheVariants as reading
 
 -- two calls have parameters of the same kinds, and answers of the same shape
 pub record HaveOneSignature (c d : Call) : Type 0 where

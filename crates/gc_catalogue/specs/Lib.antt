@@ -1,3 +1,4 @@
+pub mod Prelude
 pub mod Answers
 pub mod Asked
 pub mod AskedLaws

@@ -1,9 +1,7 @@
 -- What is written of a list of values, by the manual's chapter on the ASCII protocol: their texts, with commas between them.
 use Rattle.std.specs.Prelude.{◌≡◌, ◌≢◌, ℕ, List, [], ◌∷◌, ◌++◌, map}
 use Rattle.std.specs.List.{flat_map}
-use Rattle.gc_values.specs.Decimals.{rounded}
-use Rattle.gc_values.specs.Item.{text}
-use Rattle.gc_values.specs.Params.{joined}
+use Rattle.gc_values.specs.Prelude.{rounded, text, joined}
 use Rattle.gc_values.specs.declared.value.Value.{Value}
 use Rattle.gc_values.specs.declared.value.Value.TheVariants as value
 

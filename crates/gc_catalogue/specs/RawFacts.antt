@@ -14,10 +14,8 @@ use Rattle.std.proofs.lemmas.List.{length-replicate}
 use Rattle.std.proofs.lemmas.List.Elements.{All-from_recursion}
 use Rattle.std.proofs.lemmas.List.Sums.{sum_by-cons}
 use borrow.Author.Tests.{leb-true, eqb-true}
-use Rattle.gc_lines.specs.Headers.{id_text}
-use Rattle.gc_lines.specs.Lines.{IsPlainByte}
-use Rattle.gc_lines.specs.Requests.{request_signature, request_text}
-use Rattle.gc_values.specs.Params.{joined, quoted_after, quotes, ArePieces, IsPadded, IsParam, IsParams}
+use Rattle.gc_lines.specs.Prelude.{id_text, IsPlainByte, request_signature, request_text}
+use Rattle.gc_values.specs.Prelude.{joined, quoted_after, quotes, ArePieces, IsPadded, IsParam, IsParams}
 use Rattle.gc_catalogue.specs.Bytes.{AreBytes}
 use Rattle.gc_catalogue.specs.Raws.{IsRawCall, line_length}
 

@@ -1,8 +1,8 @@
 -- For the proofs alone: `IsRawCall` has at most one proof for a number and parameters.
 use Rattle.std.specs.Prelude.{◌≡◌, ◌<◌, ◌≤◌, ◌%◌, ℕ, List, length}
 use Rattle.std.proofs.Props.{props}
-use Rattle.gc_lines.specs.Lines.{IsPlain}
-use Rattle.gc_values.specs.Params.{IsParams, quotes}
+use Rattle.gc_lines.specs.Prelude.{IsPlain}
+use Rattle.gc_values.specs.Prelude.{IsParams, quotes}
 use Rattle.gc_catalogue.specs.Calls.{IsNoProcedure}
 use Rattle.gc_catalogue.specs.Raws.{line_length, IsRawCall}
 

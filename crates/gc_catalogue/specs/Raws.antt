@@ -1,12 +1,9 @@
 -- Procedures that aren't in the table: which numbers and parameters may be asked for, why others may not, and what a reply says.
 -- The lines' form is the manual's; these rules are this project's own.
 use Rattle.std.specs.Prelude.{◌≡◌, ◌⊎◌, ◌<◌, ◌≤◌, ◌%◌, ℕ, List, length, Some}
-use Rattle.gc_lines.specs.Lines.{IsPlain}
-use Rattle.gc_lines.specs.Replies.{ReplyFields}
-use Rattle.gc_lines.specs.Requests.{request_text}
-use Rattle.gc_values.specs.Params.{AreTooMany, HasOpenQuote, IsParams, quotes}
+use Rattle.gc_lines.specs.Prelude.{IsPlain, ReplyFields, request_text}
+use Rattle.gc_values.specs.Prelude.{AreTooMany, HasOpenQuote, IsParams, quotes}
 use Rattle.gc_values.specs.declared.fault.ValueFault.{ValueFault}
-use Rattle.gc_values.specs.declared.fault.ValueFault.TheVariants as fault
 use Rattle.gc_catalogue.specs.declared.answer.Answer.{Answer}
 use Rattle.gc_catalogue.specs.declared.answer.Answer.TheVariants.{Nothing}
 use Rattle.gc_catalogue.specs.declared.answer.Reading.{Reading}
@@ -14,6 +11,7 @@ use Rattle.gc_catalogue.specs.declared.raw.RawFault.{RawFault}
 use Rattle.gc_catalogue.specs.declared.raw.RawFault.TheVariants.{InTable, NotPlain, TooLong, OpenQuote, TooMany}
 use Rattle.gc_catalogue.specs.Calls.{IsNoProcedure, IsProcedure}
 use Rattle.gc_catalogue.specs.Readings.{IsReadingBy}
+use Rattle.gc_values.specs.declared.fault.ValueFault.TheVariants as fault
 
 -- the length, in bytes, of the line of a request with this number, these parameters and an id
 abbrev pub line_length : (rpc : ℕ) → (params : List ℕ) → ℕ

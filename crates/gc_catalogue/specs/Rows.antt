@@ -1,7 +1,7 @@
 -- No part of a promise: what reading a row of the tables, or a part of one, says of the parameters that are asked for, before
 -- (`old`) and after it (`new`). `of` has the ghost members of their trait.
 use Rattle.std.specs.Prelude.{◌≡◌, ℕ, List, ◌++◌}
-use Rattle.gc_values.specs.Lists.{kinds_of}
+use Rattle.gc_values.specs.Prelude.{kinds_of}
 use Rattle.gc_values.specs.declared.fault.ValueFault.{ValueFault}
 use Rattle.gc_values.specs.declared.parameters.Parameters.{Ghosts as Parameters}
 use Rattle.gc_values.specs.declared.value.Kind.{Kind}

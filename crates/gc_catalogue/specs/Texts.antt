@@ -1,7 +1,6 @@
 -- The lines of calls and answers as they are written: their form is the manual's, in its chapter on the ASCII protocol.
 use Rattle.std.specs.Prelude.{ℕ, List, Option, Some}
-use Rattle.gc_lines.specs.Requests.{RequestFields, request_text}
-use Rattle.gc_lines.specs.Replies.{ReplyFields, reply_text}
+use Rattle.gc_lines.specs.Prelude.{RequestFields, request_text, ReplyFields, reply_text}
 use Rattle.gc_catalogue.specs.declared.answer.Answer.{Answer}
 use Rattle.gc_catalogue.specs.declared.call.Call.{Call}
 use Rattle.gc_catalogue.specs.Answers.{answer_fields, rounded_answer}

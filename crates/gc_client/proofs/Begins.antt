@@ -1,6 +1,5 @@
 -- A beginning asks for null procedures with the ids of a fixed list, the word. It has begun where all eight are answered.
-use Rattle.std.proofs.Common.{◌≡◌, ℕ, ◌≤◌, true, List, [], drop, length, length-drop, nat_eq, sym, ◌∙◌, ap, arith}
-use Rattle.std.proofs.lemmas.Bool.{eqb-true, eq-eqb}
+use Rattle.gc_client.proofs.Common.{◌≡◌, ℕ, ◌≤◌, true, List, [], drop, length, length-drop, nat_eq, sym, ◌∙◌, ap, arith, eqb-true, eq-eqb}
 use Rattle.gc_client.specs.Beginning.{the_word}
 
 -- where n of the word's eight ids are answered, nothing of the word is left exactly where n is 8

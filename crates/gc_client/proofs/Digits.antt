@@ -1,12 +1,6 @@
 -- Ids and places of the requests that wait, as numbers: `next` is the client's next id, and `waiting` how many requests wait.
-use Rattle.std.proofs.Common.{◌≡◌, ℕ, ◌<◌, ◌≤◌, List, length, Option, Some, Result, Ok, Err, refl, sym, subst, ap, ◌∙◌, arith}
-use Rattle.std.proofs.lemmas.Bool.{lt-ltb, ltb-true}
+use Rattle.gc_client.proofs.Common.{◌≡◌, ℕ, ◌<◌, ◌≤◌, List, length, Option, Some, Result, Ok, Err, refl, sym, subst, ap, ◌∙◌, arith, lt-ltb, ltb-true, IsIdInRange, ReplyFields, IsReply, reply_at, reply_found, reply_again, ById, place, place_in, heard, id_in}
 use Rattle.gc_lines.specs.declared.fault.LineFault.{LineFault}
-use Rattle.gc_lines.specs.Headers.{IsIdInRange}
-use Rattle.gc_lines.specs.Replies.{ReplyFields, IsReply}
-use Rattle.gc_lines.specs.Readers.{reply_at}
-use Rattle.gc_lines.proofs.Replies.{reply_found, reply_again}
-use Rattle.gc_client.specs.Rule.{ById, place, place_in, heard, id_in}
 use Rattle.gc_client.specs.Ids.{id_at_place, FitsWaiting, IdsDiffer, IdsHavePlaces, SendKeepsIds, SettlingKeepsIds, HearsByGrammar}
 
 -- where the next id is below 8 and fewer than seven requests wait, a request that is sent has the next id, and the others keep

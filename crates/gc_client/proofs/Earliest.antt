@@ -1,10 +1,6 @@
 -- For the loops that look for the earliest deadline and count the requests that haven't timed out: what one more request adds to
 -- the deadlines seen so far.
-use Rattle.std.proofs.Common.{◌≡◌, ℕ, suc, ◌+◌, true, false, not, List, [], ◌∷◌, ◌++◌, take, Some, refl, ap, ◌∙◌, arith}
-use Rattle.std.specs.Prelude.{slice_get}
-use Rattle.std.proofs.lemmas.List.{append-nil}
-use Rattle.gc_client.specs.declared.pending.Pending.{Pending}
-use Rattle.gc_client.specs.Rule.{deadlines}
+use Rattle.gc_client.proofs.Common.{◌≡◌, ℕ, suc, ◌+◌, true, false, not, List, [], ◌∷◌, ◌++◌, take, Some, refl, ap, ◌∙◌, arith, slice_get, append-nil, Pending, deadlines}
 use Rattle.gc_client.proofs.Lists.{next_chosen}
 
 -- One turn of the loop: it looks at the request p, at place k of the requests ws that wait.

@@ -1,14 +1,7 @@
 -- What a reply settles.
-use Rattle.std.proofs.Common.{◌≡◌, ℕ, zero, suc, ◌≤◌, Bool, false, List, [], ◌∷◌, ◌++◌, length, map, take, drop, Ok, sym, ap, ap₂, ◌∙◌, arith, length-drop}
-use Rattle.gc_lines.specs.Replies.{ReplyFields}
-use Rattle.gc_lines.specs.Readers.{reply_at}
-use Rattle.gc_lines.proofs.Replies.{reply_found}
-use Rattle.gc_client.specs.declared.pending.Pending.{Pending}
+use Rattle.gc_client.proofs.Common.{◌≡◌, ℕ, zero, suc, ◌≤◌, Bool, false, List, [], ◌∷◌, ◌++◌, length, map, take, drop, Ok, sym, ap, ap₂, ◌∙◌, arith, length-drop, ReplyFields, reply_at, reply_found, Pending, lost, settled_by_line, settle, ReadingRule, IsAnsweredBy, IsSettledBy}
 use Rattle.gc_client.specs.declared.settlement.Outcome.{Outcome}
 use Rattle.gc_client.specs.declared.settlement.Outcome.TheVariants.{Answered, Late, Lost}
-use Rattle.gc_client.specs.Rule.{lost, settled_by_line, settle}
-use Rattle.gc_catalogue.specs.Readings.{ReadingRule}
-use Rattle.gc_client.specs.Settlements.{IsAnsweredBy, IsSettledBy}
 
 -- where a request hadn't timed out, and an outcome is the answer that this reply line gives it, the request with that
 -- outcome is the settlement that the rule makes of it by that line

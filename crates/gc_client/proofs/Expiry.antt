@@ -1,12 +1,7 @@
 -- For the loop that times out requests at a moment, which looks at one request after the other. Here `ws` are the requests that
 -- waited at the start, and `qs` what the loop has made of them so far: those that it has looked at have timed out if their
 -- deadlines were reached.
-use Rattle.std.proofs.Common.{◌≡◌, ℕ, zero, suc, ◌+◌, ◌<◌, ◌≤◌, Bool, true, false, ◌||◌, ◌&&◌, not, List, [], ◌∷◌, ◌++◌, map, take, drop, Some, leb, refl, sym, ◌∙◌, ap, ap₂, subst, arith}
-use Rattle.std.specs.Prelude.{slice_get, nat_le}
-use Rattle.std.proofs.lemmas.Bool.{le-leb, lt-leb, and_right}
-use Rattle.std.proofs.lemmas.List.{append-nil}
-use Rattle.gc_client.specs.declared.pending.Pending.{Pending}
-use Rattle.gc_client.specs.Rule.{expired, is_expiring, expiring, given_up_at}
+use Rattle.gc_client.proofs.Common.{◌≡◌, ℕ, zero, suc, ◌+◌, ◌<◌, ◌≤◌, Bool, true, false, ◌||◌, ◌&&◌, not, List, [], ◌∷◌, ◌++◌, map, take, drop, Some, leb, refl, sym, ◌∙◌, ap, ap₂, subst, arith, slice_get, nat_le, le-leb, lt-leb, and_right, append-nil, Pending, expired, is_expiring, expiring, given_up_at}
 use Rattle.gc_client.proofs.Lists.{next_chosen, drop_next}
 use Rattle.gc_client.proofs.Marks.{marked_timed_out}
 

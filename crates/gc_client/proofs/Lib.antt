@@ -1,3 +1,4 @@
+mod Common
 pub mod Digits
 pub mod Earliest
 pub mod Ends

@@ -1,9 +1,5 @@
 -- Lists in loops: what is true of the first k elements, or of those from place k on, one element further.
-use Rattle.std.proofs.Common.{◌≡◌, ℕ, zero, suc, ◌+◌, Bool, List, [], ◌∷◌, ◌++◌, map, filter, take, drop, get_or, Option, Some, None, sym, ◌∙◌, ap, arith}
-use Rattle.std.specs.Prelude.{slice_get, IsSome}
-use Rattle.std.proofs.lemmas.List.{map-append, take_more, drop_more}
-use Rattle.std.proofs.lemmas.List.Elements.{filter-append}
-use Rattle.std.proofs.lemmas.Option.{slice_get_within, get_or_from_slice_get}
+use Rattle.gc_client.proofs.Common.{◌≡◌, ℕ, zero, suc, ◌+◌, Bool, List, [], ◌∷◌, ◌++◌, map, filter, take, drop, get_or, Option, Some, None, sym, ◌∙◌, ap, arith, slice_get, IsSome, map-append, take_more, drop_more, filter-append, slice_get_within, get_or_from_slice_get}
 
 -- the first k + 1 elements are the first k, and the one at place k
 pub take_next : {A : Type 0} (xs : List A) (k : ℕ) (x : A) → slice_get xs k ≡ Some x → take (suc k) xs ≡ take k xs ++ x ∷ []

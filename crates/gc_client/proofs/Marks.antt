@@ -1,9 +1,5 @@
 -- Marking the request at a place as timed out is a write at that place.
-use Rattle.std.proofs.Common.{◌≡◌, ℕ, zero, suc, ◌<◌, ◌≤◌, List, [], ◌∷◌, length, get_or, set, Some, None, true, refl, sym, ap, ◌∙◌, arith}
-use Rattle.std.specs.Prelude.{slice_get}
-use Rattle.std.proofs.lemmas.Option.{none-some, slice_get_within, get_or_from_slice_get}
-use Rattle.gc_client.specs.declared.pending.Pending.{Pending}
-use Rattle.gc_client.specs.Rule.{given_up_at}
+use Rattle.gc_client.proofs.Common.{◌≡◌, ℕ, zero, suc, ◌<◌, ◌≤◌, List, [], ◌∷◌, length, get_or, set, Some, None, true, refl, sym, ap, ◌∙◌, arith, slice_get, none-some, slice_get_within, get_or_from_slice_get, Pending, given_up_at}
 
 -- a request marked as timed out
 abbrev pub marked_timed_out : {Q : Type 0} → Pending Q → Pending Q

@@ -1,10 +1,7 @@
 -- A course is what has come so far: the sends that weren't refused, the settlements, and the client. It accounts for its sends
 -- where the settled requests, and after them those that wait, are the requests that were sent. Every course that begins with a
 -- new client does.
-use Rattle.std.proofs.Common.{◌≡◌, ℕ, zero, suc, ◌+◌, ◌<◌, Bool, true, false, List, [], ◌∷◌, ◌++◌, length, map, drop, Option, Some, None, refl, sym, ap, ◌∙◌, arith, append_assoc, ltb, eqb}
-use Rattle.std.proofs.lemmas.List.{map-append, append-nil}
-use Rattle.gc_client.specs.declared.pending.Pending.{Pending}
-use Rattle.gc_client.specs.Rule.{Settled, ById, expired, lost, settle, place, heard, send_unless_full, settles_at, hears, restarts}
+use Rattle.gc_client.proofs.Common.{◌≡◌, ℕ, zero, suc, ◌+◌, ◌<◌, Bool, true, false, List, [], ◌∷◌, ◌++◌, length, map, drop, Option, Some, None, refl, sym, ap, ◌∙◌, arith, append_assoc, ltb, eqb, map-append, append-nil, Pending, Settled, ById, expired, lost, settle, place, heard, send_unless_full, settles_at, hears, restarts}
 use Rattle.gc_client.specs.OneForOne.{Step, Send, Hear, Expire, Restart, Course, of_settled, of_pending, begun, sent_on, settled_on, course_after, course, AccountsForSends}
 
 -- where a request waits at place k, settling through place k settles k + 1 requests

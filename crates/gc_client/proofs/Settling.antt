@@ -1,15 +1,7 @@
 -- For the loop that settles requests as lost: what one more settlement adds to those made so far.
-use Rattle.std.proofs.Common.{◌≡◌, ℕ, zero, suc, ◌+◌, ◌<◌, List, [], ◌∷◌, ◌++◌, length, map, take, drop, set, Some, sym, subst, ◌∙◌, ap, ap₂, arith}
-use Rattle.std.specs.Prelude.{slice_get}
-use Rattle.std.proofs.lemmas.List.{map-append, take_more_set}
-use Rattle.std.proofs.lemmas.List.Elements.{All-append}
-use Rattle.gc_client.specs.declared.pending.Pending.{Pending}
-use Rattle.gc_client.specs.declared.settlement.Settlement.{Settlement}
-use Rattle.gc_client.specs.Rule.{lost}
-use Rattle.gc_client.specs.Rule
-use Rattle.gc_catalogue.specs.Readings.{ReadingRule}
-use Rattle.gc_client.specs.Settlements.{settlement_seen, IsReadBy, AreReadBy, IsSettledBy, AreSettledBy}
+use Rattle.gc_client.proofs.Common.{◌≡◌, ℕ, zero, suc, ◌+◌, ◌<◌, List, [], ◌∷◌, ◌++◌, length, map, take, drop, set, Some, sym, subst, ◌∙◌, ap, ap₂, arith, slice_get, map-append, take_more_set, All-append, Pending, Settlement, lost, ReadingRule, settlement_seen, IsReadBy, AreReadBy, IsSettledBy, AreSettledBy}
 use Rattle.gc_client.proofs.Lists.{take_next, head_of_drop}
+use Rattle.gc_client.specs.Rule
 
 -- where the outcome of a settlement is read by `says`, so are the outcomes of the list of this settlement alone
 well_read_one : {Q : Type 0} (says : ReadingRule Q) (s : Settlement Q) → IsReadBy says s.call s.outcome → AreReadBy says (s ∷ [])

@@ -1,7 +1,5 @@
 -- Foreign lines change nothing.
-use Rattle.std.proofs.Common.{◌≡◌, ℕ, ◌↔◌, true, List, [], ◌∷◌, filter, Option, Some, None, refl, ap, ◌∙◌, if◌then◌else◌}
-use Rattle.std.specs.Option.{is_some}
-use Rattle.gc_client.specs.Rule.{ById, heard, hears}
+use Rattle.gc_client.proofs.Common.{◌≡◌, ℕ, ◌↔◌, true, List, [], ◌∷◌, filter, Option, Some, None, refl, ap, ◌∙◌, if◌then◌else◌, is_some, ById, heard, hears}
 use Rattle.gc_client.specs.Silence.{IsReplyWithId, is_ours, preceded_by, hears_all, IgnoresForeign}
 use Rattle.gc_client.proofs.Digits.{heard_by_grammar}
 

@@ -3,7 +3,7 @@
 -- premises, is in `gc_theorems`.
 use Rattle.std.specs.Prelude.{◌≡◌, ◌⊎◌, ℕ, Bool, true, false, List, [], ◌∷◌, Option, Some, None, nat_eq}
 use Rattle.gc_catalogue.specs.declared.call.Call.TheVariants.{NullProc}
-use Rattle.gc_catalogue.specs.Texts.{request_line}
+use Rattle.gc_catalogue.specs.Prelude.{request_line}
 use Rattle.gc_client.specs.Rule.{heard}
 
 -- The word: the ids of the null procedures, in order. Each is one less than the id before it, and 7 comes after 0, because in a

@@ -1,20 +1,19 @@
 -- What a client does with a line, this project's own: the line settles requests, is a stray, or is no reply by the manual's
 -- chapter on the ASCII protocol.
 use Rattle.std.specs.Prelude.{◌≡◌, ℕ, ◌<◌, ◌≤◌, true, false, List, [], length, map, take, IsOk, Ok, Err}
-use Rattle.gc_lines.specs.Readers.{reply_at}
-use Rattle.gc_lines.specs.Replies.{ReplyFields}
+use Rattle.gc_lines.specs.Prelude.{reply_at, ReplyFields}
 use Rattle.gc_client.specs.declared.pending.Pending.{Pending}
 use Rattle.gc_client.specs.declared.window.TheConstants.{WINDOW}
 use Rattle.gc_client.specs.Places.{IsPlaceHeard}
 use Rattle.gc_client.specs.declared.settlement.Settlement.{Settlement}
 use Rattle.gc_client.specs.declared.heard.Heard.{Heard}
 use Rattle.gc_client.specs.declared.heard.Hearing.{Hearing}
-use Rattle.gc_client.specs.declared.heard.Hearing.TheVariants as kind
 use Rattle.gc_lines.specs.declared.fault.LineFault.TheVariants.{TooLong}
 use Rattle.gc_client.specs.declared.heard.Heard.TheVariants.{Settled, Stray, Unread}
 use Rattle.gc_client.specs.Rule.{ById, Windowed, heard, fits, hears_line, settles_at, lost}
-use Rattle.gc_catalogue.specs.Readings.{ReadingRule}
+use Rattle.gc_catalogue.specs.Prelude.{ReadingRule}
 use Rattle.gc_client.specs.Settlements.{AreSettledBy}
+use Rattle.gc_client.specs.declared.heard.Hearing.TheVariants as kind
 
 -- the settlements in what a client reports of a line
 abbrev pub settlements_in : {Q : Type 0} → Heard Q → List (Settlement Q)

@@ -1,6 +1,6 @@
 -- Ids, this project's own: one digit for each request that waits, going round at the number of ids.
 use Rattle.std.specs.Prelude.{◌≡◌, ℕ, ◌+◌, ◌-◌, ◌%◌, ◌<◌, ◌≤◌, ◌↔◌, true, List, length, Some}
-use Rattle.gc_lines.specs.Replies.{ReplyFields, IsReply}
+use Rattle.gc_lines.specs.Prelude.{ReplyFields, IsReply}
 use Rattle.gc_client.specs.declared.window.TheConstants.{WINDOW, IDS}
 use Rattle.gc_client.specs.Rule.{ById, fits, heard, place_in}
 

@@ -1,3 +1,4 @@
+pub mod Prelude
 pub mod Rule
 pub mod Ids
 pub mod Settlements

@@ -1,10 +1,10 @@
 -- How the code's settlements correspond to those of the client's rule: this project's own. A line is read by the manual's chapter
 -- on the ASCII protocol.
 use Rattle.std.specs.Prelude.{◌≡◌, ℕ, List, map, All, ⊤}
-use Rattle.gc_lines.specs.Replies.{ReplyFields, IsReply}
+use Rattle.gc_lines.specs.Prelude.{ReplyFields, IsReply}
 use Rattle.gc_catalogue.specs.declared.call.Call.{Call}
 use Rattle.gc_catalogue.specs.declared.answer.Reading.{Reading}
-use Rattle.gc_catalogue.specs.Readings.{IsReading, ReadingRule}
+use Rattle.gc_catalogue.specs.Prelude.{IsReading, ReadingRule}
 use Rattle.gc_client.specs.declared.settlement.Settlement.{Settlement}
 use Rattle.gc_client.specs.declared.settlement.Outcome.{Outcome}
 use Rattle.gc_client.specs.declared.settlement.Outcome.TheVariants.{Answered, Late, Lost}

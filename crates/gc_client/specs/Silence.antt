@@ -1,7 +1,7 @@
 -- Foreign lines, this project's own: lines that are no replies, and replies without an id.
 use Rattle.std.specs.Prelude.{◌≡◌, ℕ, Bool, List, [], ◌∷◌, ◌++◌, filter, Some}
 use Rattle.std.specs.Option.{is_some}
-use Rattle.gc_lines.specs.Replies.{ReplyFields, IsReply}
+use Rattle.gc_lines.specs.Prelude.{ReplyFields, IsReply}
 use Rattle.gc_client.specs.Rule.{Settlement, Settled, ById, heard, nothing_settled, hears_line}
 
 -- a line is a reply with an id, by the grammar

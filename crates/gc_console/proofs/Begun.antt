@@ -1,13 +1,8 @@
 -- A subcommand that began over the standard streams: what its clauses say of the status of its end, together. `r` is its result.
-use Rattle.std.proofs.Common.{◌≡◌, ◌≤◌, ℕ, Bool, List, Option, Some, None, Result, Ok, Err, IfOk, subst}
+use Rattle.gc_console.proofs.Common.{◌≡◌, ◌≤◌, ℕ, Bool, List, Option, Some, None, Result, Ok, Err, IfOk, subst, Ports, PlaysScene, ReadsWholeSource, TellsDrill, EndSeen, end_seen, Traces, DoesCheck, DoesDrill, DoesExec, EndsFrom, opening, opening_ports}
 use Rattle.gc_client.specs.declared.window.TheConstants.{WINDOW}
-use Rattle.gc_lines.specs.Answering.{Ports}
-use Rattle.gc_console.specs.Drills.{PlaysScene, ReadsWholeSource, TellsDrill}
-use Rattle.gc_console.specs.Refusing.{EndSeen, end_seen}
 use Rattle.gc_console.specs.Serves.{FailsByPorts, IsDoneAtEnd, TellsChecking, TellsExec}
 use Rattle.gc_console.specs.declared.drill.Drilling.{Drilling}
-use Rattle.gc_console.specs.declared.traces.Traces.{Traces}
-use Rattle.gc_console.specs.Subcommands.{DoesCheck, DoesDrill, DoesExec, EndsFrom, opening, opening_ports}
 
 -- what is known of the ports and the messages at the start is what is known of the streams; and what output and messages took is what is
 -- noted

@@ -1,31 +1,16 @@
 -- Which job the words ask for.
-use Rattle.std.proofs.Common.{◌≡◌, ◌∙◌, ℕ, Bool, true, false, List, [], ◌∷◌, Option, Some, None, refl, sym, subst, ap, codes, inl, inr, find, option_map}
-use Rattle.std.specs.Prelude.{Box, IsSome, is_some}
+use Rattle.gc_console.proofs.Common.{◌≡◌, ◌∙◌, ℕ, Bool, true, false, List, [], ◌∷◌, Option, Some, None, refl, sym, subst, ap, codes, inl, inr, find, option_map, Box, IsSome, is_some, box_value, subcommand_rows, Text, out-SubCommand, SubCommand, Place, IsJobOf, are_dated, name_of, station_job, subcommand_named, subcommands, Job, Subcommand, HasNumbers, HasRehearsalNumbers, IsChosen, IsRecording, IsSite, HasLimits, is_at_without_multiple, is_stale_too_soon, unit_in, Words, has_flag}
 use Rattle.std.proofs.lemmas.Slice.Eq.{bytes_eq-Decides}
 use Rattle.std.specs.Str.{bytes_eq}
-use Rattle.std.specs.Box.{box_value}
-use Rattle.clap.specs.Simple.{subcommand_rows}
-use Rattle.clap.specs.Walk.{Text}
-use Rattle.clap.specs.declared.parser.matches.ArgMatches.TheViews.{out-SubCommand}
-use Rattle.clap.specs.declared.parser.matches.SubCommand.{SubCommand}
-use Rattle.gc_links.specs.declared.place.Place.{Place}
-use Rattle.gc_console.specs.Jobs.{IsJobOf, are_dated, name_of, station_job, subcommand_named, subcommands}
-use Rattle.gc_console.specs.declared.words.ClientJob.TheVariants as kind
-use Rattle.gc_console.specs.declared.words.Job.{Job}
-use Rattle.gc_console.specs.declared.words.Job.TheVariants as job
-use Rattle.gc_console.specs.declared.words.Subcommand.{Subcommand}
-use Rattle.gc_console.specs.declared.words.Subcommand.TheVariants as subcommand
-use Rattle.gc_options.specs.Chosen.{HasNumbers, HasRehearsalNumbers, IsChosen, IsRecording, IsSite}
-use Rattle.gc_options.specs.Limits.{HasLimits}
-use Rattle.gc_options.specs.Stations.{is_at_without_multiple, is_stale_too_soon}
-use Rattle.gc_options.specs.Units.{unit_in}
-use Rattle.gc_options.specs.Words.{Words, has_flag}
 use Rattle.gc_options.specs.declared.limit.Limit.TheVariants.{Cycles, NightCycles}
 use Rattle.gc_options.specs.declared.rehearsal.Rehearsal.{Rehearsal}
 use Rattle.gc_options.specs.declared.settings.Settings.{Settings}
 use Rattle.gc_options.specs.declared.site.Recording.{Recording}
 use Rattle.gc_options.specs.declared.site.Site.{Site}
 use Rattle.gc_options.specs.declared.unit.Unit.{Unit}
+use Rattle.gc_console.specs.declared.words.ClientJob.TheVariants as kind
+use Rattle.gc_console.specs.declared.words.Job.TheVariants as job
+use Rattle.gc_console.specs.declared.words.Subcommand.TheVariants as subcommand
 
 -- each subcommand is found by its name
 pub named_again : (s : Subcommand) → subcommand_named (name_of s) ≡ Some s

@@ -1,7 +1,7 @@
+mod Common
 mod Begun
 mod Ends
 mod JobLemmas
-mod Left
 mod Missing
 mod Played
 mod ProgramLemmas

@@ -1,12 +1,6 @@
 -- A connection that can't be had: the fault `Socket` of an address, and that of a device, are among the faults of a place.
-use Rattle.std.proofs.Common.{◌≡◌, ℕ, Some, None, Ok, Err, inl, inr}
-use Rattle.gc_ask.specs.Asking.{LinkResult}
-use Rattle.gc_ask.specs.Places.{IsFaultOfDevice, IsFaultOfPlace}
-use Rattle.gc_ask.specs.Serving.{ServesEach}
-use Rattle.gc_lines.specs.Answering.{AnswerRule}
+use Rattle.gc_console.proofs.Common.{◌≡◌, ℕ, Some, None, Ok, Err, inl, inr, LinkResult, IsFaultOfDevice, IsFaultOfPlace, ServesEach, AnswerRule, RunFault, Socket}
 use Rattle.gc_lines.specs.declared.frame.Frame.{Frame}
-use Rattle.gc_texts.specs.declared.fault.RunFault.{RunFault}
-use Rattle.gc_texts.specs.declared.fault.RunFault.TheVariants.{Socket}
 
 -- `Socket` is a fault of a place
 pub socket_of_place : (fault : RunFault) → fault ≡ Socket → IsFaultOfPlace fault

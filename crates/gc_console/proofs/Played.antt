@@ -1,10 +1,6 @@
 -- Status 0 comes only of a schedule that was played.
-use Rattle.std.proofs.Common.{◌≡◌, ℕ, Bool, true, List, Option, Result, Ok, Err, inl, inr, refl, arith}
-use Rattle.gc_filters.specs.Drill.{DrillsAs, PlaysAll, is_read_whole}
-use Rattle.gc_console.specs.Drills.{PlaysSource, ReadsWholeSource, TellsDrillWithin}
-use Rattle.gc_console.specs.Refusing.{EndSeen}
-use Rattle.gc_texts.specs.Faults.{run_fault_text, Tells}
-use Rattle.gc_texts.specs.declared.fault.RunFault.{RunFault}
+use Rattle.gc_console.proofs.Common.{◌≡◌, ℕ, Bool, true, List, Option, Result, Ok, Err, inl, inr, refl, arith, PlaysSource, ReadsWholeSource, TellsDrillWithin, EndSeen, run_fault_text, Tells, RunFault}
+use Rattle.gc_filters.specs.Prelude.{DrillsAs, PlaysAll, is_read_whole}
 use Rattle.gc_world.specs.declared.event.Event.{Event}
 
 -- if the status is 0, the text was a schedule, and the sink took its output

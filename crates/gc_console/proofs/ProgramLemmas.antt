@@ -1,23 +1,12 @@
 -- The program that clap is told, and the job that words ask it for.
-use Rattle.std.proofs.Common.{◌≡◌, ◌∙◌, ℕ, ◌+◌, ◌<◌, ◌++◌, Bool, true, false, List, [], ◌∷◌, Option, Some, None, length, take, get_or, map, find, refl, sym, subst, ap}
+use Rattle.gc_console.proofs.Common.{◌≡◌, ◌∙◌, ℕ, ◌+◌, ◌<◌, ◌++◌, Bool, true, false, List, [], ◌∷◌, Option, Some, None, length, take, get_or, map, find, refl, sym, subst, ap, ⊤, Box, is_some, option_and_then, box_value, found_of, has_subcommand, App, HasMatchesOf, Shape, app_of, argument_words, built, is_simple, label_of, names_of, rows_at, shape_of, subcommand_of, subcommand_rows, subcommand_rows_of, with_subcommand, Text, answers_to, rows_of, stop_after, out-ArgMatches, out-SubCommand, SubCommand, AsksSubcommand, IsJobOf, name_of, subcommands, AreSubcommands, IsBareProgram, IsSubcommand, bare_program, program, shape_of_subcommand, Job, Subcommand, Words}
 use Rattle.std.proofs.lemmas.List.{take_more}
-use Rattle.std.specs.Prelude.{⊤, Box, is_some, option_and_then, option_map}
-use Rattle.std.specs.Box.{box_value}
+use Rattle.std.specs.Prelude.{option_map}
 use Rattle.clap.specs.Built.{AddsInTurn, AddsSubcommand, IsParsedFrom}
-use Rattle.clap.specs.Matches.{found_of, has_subcommand}
-use Rattle.clap.specs.Simple.{App, HasMatchesOf, Shape, app_of, argument_words, built, is_simple, label_of, names_of, rows_at, shape_of, subcommand_of, subcommand_rows, subcommand_rows_of, with_subcommand}
-use Rattle.clap.specs.Walk.{Text, answers_to, rows_of, stop_after}
 use Rattle.clap.specs.declared.builder.command.Command.{Command}
 use Rattle.clap.specs.declared.builder.command.Command.TheViews.{out-Command}
 use Rattle.clap.specs.declared.parser.matches.ArgMatches.{ArgMatches}
-use Rattle.clap.specs.declared.parser.matches.ArgMatches.TheViews.{out-ArgMatches, out-SubCommand}
-use Rattle.clap.specs.declared.parser.matches.SubCommand.{SubCommand}
-use Rattle.gc_console.specs.Jobs.{AsksSubcommand, IsJobOf, name_of, subcommands}
-use Rattle.gc_console.specs.Program.{AreSubcommands, IsBareProgram, IsSubcommand, bare_program, program, shape_of_subcommand}
-use Rattle.gc_console.specs.declared.words.Job.{Job}
-use Rattle.gc_console.specs.declared.words.Subcommand.{Subcommand}
 use Rattle.gc_console.specs.declared.words.Subcommand.TheVariants as subcommand
-use Rattle.gc_options.specs.Words.{Words}
 
 -- one more subcommand
 are_more : (ss : List Subcommand) (commands : List Command) (s : Subcommand) (command : Command) → AreSubcommands ss commands → IsSubcommand s command

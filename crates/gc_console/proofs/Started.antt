@@ -1,8 +1,6 @@
 -- Which instrument a subcommand begins with.
-use Rattle.std.proofs.Common.{◌≡◌, ◌⊎◌, ℕ, List, Option, None, Result, Ok, inl, inr, sym, ◌∙◌}
-use Rattle.gc_instrument.specs.State.{State}
-use Rattle.gc_scenes.specs.SceneState.{SceneState}
-use Rattle.gc_scenes.specs.Slow.{HearsSometime, SlowState, slow_restarted}
+use Rattle.gc_console.proofs.Common.{◌≡◌, ◌⊎◌, ℕ, List, Option, None, Result, Ok, inl, inr, sym, ◌∙◌, State}
+use Rattle.gc_scenes.specs.Prelude.{SceneState, HearsSometime, SlowState, slow_restarted}
 use Rattle.gc_console.specs.Served.{ServesAsAsked, ServesOrRefuses}
 use Rattle.gc_console.specs.declared.refusal.Refusal.{Refusal}
 use Rattle.gc_console.specs.declared.scene.Staged.{Staged}

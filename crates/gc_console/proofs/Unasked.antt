@@ -1,12 +1,6 @@
 -- Words for which no job was done: what is said of their answer, together. `r` is its result.
-use Rattle.std.proofs.Common.{◌≡◌, ℕ, Bool, true, List, Option, Some, Result, Ok, Err, IfOk, subst}
-use Rattle.std.specs.List.{list_any}
-use Rattle.clap.specs.Takes.{takes}
-use Rattle.gc_console.specs.Program.{program}
-use Rattle.gc_console.specs.Programs.{HasNoJob, IsAnswered, LacksMemory, asks_for_text}
+use Rattle.gc_console.proofs.Common.{◌≡◌, ℕ, Bool, true, List, Option, Some, Result, Ok, Err, IfOk, subst, list_any, takes, program, HasNoJob, IsAnswered, LacksMemory, asks_for_text, Opening, Traces}
 use Rattle.gc_console.specs.Stations.{HasNoRun}
-use Rattle.gc_console.specs.Subcommands.{Opening}
-use Rattle.gc_console.specs.declared.traces.Traces.{Traces}
 
 -- no job was done. `asks` says whether a word asks for the help or the version, and `told` is what the messages have then
 pub no_job : {T E : Type 0} (r : Result T E) (status_of : T → ℕ) (begun : Opening) (words : List (List ℕ)) (traces : Traces) (asks : Bool) (told : Option (List ℕ))

@@ -1,23 +1,13 @@
 -- What `loop` and `ask` wrote through an output that may show its bytes on a terminal. Of this output, once it was handed on, it isn't
 -- known whether it still does (`at'`), but what the sink inside took is known, so that it makes no difference.
-use Rattle.std.proofs.Common.{◌≡◌, ℕ, Bool, true, false, List, Option, Some, Result, Ok, Err, IfOk, inl, inr, ap, refl}
+use Rattle.gc_console.proofs.Common.{◌≡◌, ℕ, Bool, true, false, List, Option, Some, Result, Ok, Err, IfOk, inl, inr, ap, refl, AskRunsConnected, AsksOverFresh, AsksWithin, SeenAtClient, Asks, LinkResult, LosesOne, RunsConnected, StopsAt, Written, LoopRunsConnected, LoopsOverFresh, unless_shown, Ports, Taken, Place, end_seen, Input, RunFault, Read, Write, TooManyReads, LinkClosed, Socket, Output}
 use Rattle.std.specs.Io.KnownBytes.{Appends}
-use Rattle.gc_ask.specs.AskRuns.{AskRunsConnected, AsksOverFresh, AsksWithin, SeenAtClient}
-use Rattle.gc_ask.specs.Asking.{Asks, LinkResult, LosesOne, RunsConnected, StopsAt, Written}
-use Rattle.gc_ask.specs.Looping.{LoopRunsConnected, LoopsOverFresh}
-use Rattle.gc_ask.specs.Showing.{unless_shown}
-use Rattle.gc_lines.specs.Answering.{Ports, Taken}
 use Rattle.gc_lines.specs.declared.ports.Sink.{Ghosts as Sink}
 use Rattle.gc_lines.specs.declared.ports.Source.{Ghosts as Source}
-use Rattle.gc_links.specs.declared.place.Place.{Place}
 use Rattle.gc_logs.specs.declared.heard.Heard.{Heard}
 use Rattle.gc_logs.specs.declared.told.Told.{Told}
 use Rattle.gc_console.specs.Asked.{TellsAskAt, TellsLoop}
-use Rattle.gc_console.specs.Refusing.{end_seen}
-use Rattle.gc_texts.specs.WholeTexts.{Input}
 use Rattle.gc_texts.specs.declared.commands.Command.{Command}
-use Rattle.gc_texts.specs.declared.fault.RunFault.{RunFault}
-use Rattle.gc_texts.specs.declared.fault.RunFault.TheVariants.{Read, Write, TooManyReads, LinkClosed, Socket, Output}
 
 -- what is known of a sink that had taken `old` and has now taken `new` holds of one that has taken `told` in its place
 record Retold (old new told : Option (List ℕ)) : Type 0 where

@@ -1,22 +1,11 @@
 -- How `ask`, `loop` and `serve` report how they ended: this project's own.
+use Rattle.gc_console.specs.Common.{Appends, AskRunsConnected, LoopRunsConnected, IsFaultOfPlace, Ports, Taken, Place, is_port, Refuses, range_line, command_stop_text, with_command_fault, run_fault_text, Tells, source_of, RunFault}
 use Rattle.std.specs.Prelude.{◌≡◌, ◌⊎◌, ℕ, Bool, true, false, List, Option, None, Result, Ok, Err}
-use Rattle.std.specs.Io.KnownBytes.{Appends}
-use Rattle.gc_ask.specs.AskRuns.{AskRunsConnected}
-use Rattle.gc_ask.specs.Looping.{LoopRunsConnected}
-use Rattle.gc_ask.specs.Places.{IsFaultOfPlace}
-use Rattle.gc_lines.specs.Answering.{Ports, Taken}
-use Rattle.gc_links.specs.declared.place.Place.{Place}
-use Rattle.gc_logs.specs.Ends.{is_port}
-use Rattle.gc_logs.specs.Refusals.{Refuses, range_line}
 use Rattle.gc_console.specs.Refusing.{EndSeen}
 use Rattle.gc_console.specs.Scenes.{AreUnused}
 use Rattle.gc_console.specs.Serves.{most_reads}
-use Rattle.gc_texts.specs.CommandStops.{command_stop_text, with_command_fault}
-use Rattle.gc_texts.specs.Faults.{run_fault_text, Tells}
-use Rattle.gc_texts.specs.WholeTexts.{source_of}
 use Rattle.gc_texts.specs.declared.command_text.CommandStop.{CommandStop}
 use Rattle.gc_texts.specs.declared.command_text.CommandStop.TheVariants.{Fault, Line}
-use Rattle.gc_texts.specs.declared.fault.RunFault.{RunFault}
 
 -- what is seen of the sink of these ports
 abbrev pub sink_of : Ports → Taken

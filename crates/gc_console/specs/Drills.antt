@@ -1,16 +1,10 @@
 -- How a schedule that a source gives is played, and how that is reported: this project's own. `text_of` gives what is written of
 -- events that are played on an instrument, through a window of some width, with or without the line of totals.
+use Rattle.gc_console.specs.Common.{Consumes, Refuses, range_line, IsDrill, PlaysAll, drill_text_on, scene_drill_text, Ports, run_fault_text, IsReadToEnd, source_of}
 use Rattle.std.specs.Prelude.{ℕ, ◌⊎◌, Bool, List}
-use Rattle.std.specs.Io.KnownBytes.{Consumes}
-use Rattle.gc_logs.specs.Refusals.{Refuses, range_line}
 use Rattle.gc_console.specs.Refusing.{EndSeen, TellsEnd}
 use Rattle.gc_console.specs.Scenes.{AreUnused, HoldsOfInstrument, RefusesScene}
 use Rattle.gc_console.specs.declared.drill.Drilling.{Drilling}
-use Rattle.gc_filters.specs.Drill.{IsDrill, PlaysAll, drill_text_on}
-use Rattle.gc_filters.specs.SceneDrill.{scene_drill_text}
-use Rattle.gc_lines.specs.Answering.{Ports}
-use Rattle.gc_texts.specs.Faults.{run_fault_text}
-use Rattle.gc_texts.specs.WholeTexts.{IsReadToEnd, source_of}
 use Rattle.gc_world.specs.declared.event.Event.{Event}
 
 -- the width was out of its range, which is reported (`Refuses`), and source and sink weren't used (`AreUnused`)

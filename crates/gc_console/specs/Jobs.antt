@@ -1,32 +1,21 @@
 -- What the words of the command line ask for, each value by the name of its argument: this project's own.
+use Rattle.gc_console.specs.Common.{bytes_eq, Text, Place, GivesPlace, HasNumbers, HasRehearsalNumbers, IsChosen, IsLog, IsRecording, IsRehearsal, IsSite, HasLimits, LacksLimit, is_at_without_multiple, is_stale_too_soon, unit_in, IsNumberOr, ReadsNumber, Words, has_flag, text_in, is_dated_path, Settings, Recording, Site}
 use Rattle.std.specs.Prelude.{◌≡◌, ◌⊎◌, ⊤, ℕ, Bool, true, false, not, ◌&&◌, List, [], ◌∷◌, Option, Some, None, codes, find, option_map, if◌then◌else◌}
 use Rattle.std.specs.Borrow.{Bor}
-use Rattle.std.specs.Str.{bytes_eq}
-use Rattle.clap.specs.Walk.{Text}
-use Rattle.gc_links.specs.declared.place.Place.{Place}
-use Rattle.gc_links.specs.declared.place.Place.TheVariants as place
 use Rattle.gc_console.specs.declared.drill.Drilling.{Drilling}
 use Rattle.gc_console.specs.declared.serve.Serving.{Serving}
 use Rattle.gc_console.specs.declared.words.ClientJob.{ClientJob}
-use Rattle.gc_console.specs.declared.words.ClientJob.TheVariants as kind
 use Rattle.gc_console.specs.declared.words.Job.{Job}
-use Rattle.gc_console.specs.declared.words.Job.TheVariants as job
 use Rattle.gc_console.specs.declared.words.Subcommand.{Subcommand}
-use Rattle.gc_console.specs.declared.words.Subcommand.TheVariants as subcommand
-use Rattle.gc_options.specs.Chosen.{GivesPlace, HasNumbers, HasRehearsalNumbers, IsChosen, IsLog, IsRecording, IsRehearsal, IsSite}
-use Rattle.gc_texts.specs.DatedPaths.{is_dated_path}
-use Rattle.gc_options.specs.Limits.{HasLimits, LacksLimit}
-use Rattle.gc_options.specs.Stations.{is_at_without_multiple, is_stale_too_soon}
-use Rattle.gc_options.specs.Units.{unit_in}
-use Rattle.gc_options.specs.Words.{IsNumberOr, ReadsNumber, Words, has_flag, text_in}
 use Rattle.gc_options.specs.declared.choice.Choice.{Choice}
 use Rattle.gc_options.specs.declared.limit.Limit.TheVariants.{Cycles, NightCycles}
 use Rattle.gc_options.specs.declared.rehearsal.Rehearsal.{Rehearsal}
-use Rattle.gc_options.specs.declared.settings.Settings.{Settings}
 use Rattle.gc_options.specs.declared.site.LogPlace.{LogPlace}
-use Rattle.gc_options.specs.declared.site.Recording.{Recording}
-use Rattle.gc_options.specs.declared.site.Site.{Site}
 use Rattle.gc_options.specs.declared.unit.Unit.{Unit}
+use Rattle.gc_links.specs.declared.place.Place.TheVariants as place
+use Rattle.gc_console.specs.declared.words.ClientJob.TheVariants as kind
+use Rattle.gc_console.specs.declared.words.Job.TheVariants as job
+use Rattle.gc_console.specs.declared.words.Subcommand.TheVariants as subcommand
 
 -- what clap found: the name of the subcommand and the words behind it, if there is one
 abbrev pub Asked : Type 0

@@ -1,3 +1,5 @@
+mod Common
+pub mod Prelude
 pub mod Asked
 pub mod Drills
 pub mod Jobs

@@ -1,15 +1,14 @@
 -- The command line of the program, as clap is to know it, and what its words ask for: this project's own.
+use Rattle.gc_console.specs.Common.{Rule, Text, rehearse_rules, shape, station_rules}
 use Rattle.std.specs.Prelude.{◌≡◌, ⊤, true, false, List, [], ◌∷◌, codes, map}
 use Rattle.clap.specs.Simple.{App, Shape, app_of, new_shape, shape_of, subcommand_of}
-use Rattle.clap.specs.Walk.{Rule, Text}
 use Rattle.clap.specs.declared.builder.command.Command.{Command}
 use Rattle.clap.specs.declared.builder.command.Command.TheViews.{out-Command}
 use Rattle.gc_console.specs.Jobs.{IsJobOf, name_of, subcommands}
 use Rattle.gc_console.specs.declared.words.Job.{Job}
 use Rattle.gc_console.specs.declared.words.Subcommand.{Subcommand}
-use Rattle.gc_console.specs.declared.words.Subcommand.TheVariants as subcommand
 use Rattle.gc_console.specs.Rules.{ask_rules, check_rules, drill_rules, exec_rules, loop_rules, serve_rules}
-use Rattle.gc_options.specs.Options.{rehearse_rules, shape, station_rules}
+use Rattle.gc_console.specs.declared.words.Subcommand.TheVariants as subcommand
 
 -- the arguments of a subcommand
 abbrev pub rules_of : Subcommand → List Rule

@@ -1,23 +1,17 @@
 -- What `geocom` had done when it ended, by the words of its command line: this project's own. `begun` is what is known of its standard
 -- streams at the start.
+use Rattle.gc_console.specs.Common.{Appends, bytes_eq, Refuses, at_line, date_line, place_line, range_line, refusal_line, stale_line, unit_line, Standard, limit_refusal, fault_line, run_fault_text, Memory, Output}
 use Rattle.std.specs.Prelude.{◌≡◌, ◌≤◌, ◌||◌, ℕ, ◌⊎◌, Bool, true, List, Option, Some, Result, Ok, Err, codes}
-use Rattle.std.specs.Io.KnownBytes.{Appends}
 use Rattle.std.specs.declared.io.ErrorKind.{ErrorKind}
 use Rattle.std.specs.declared.io.ErrorKind.TheVariants.{OutOfMemory}
 use Rattle.std.specs.List.{list_any}
-use Rattle.std.specs.Str.{bytes_eq}
 use Rattle.clap.specs.Takes.{takes}
-use Rattle.gc_logs.specs.Refusals.{Refuses, at_line, date_line, place_line, range_line, refusal_line, stale_line, unit_line}
-use Rattle.gc_logs.specs.declared.standard.Standard.{Standard}
 use Rattle.gc_console.specs.Program.{IsJobOfWords, program}
 use Rattle.gc_console.specs.declared.words.Job.{Job}
-use Rattle.gc_console.specs.declared.words.Job.TheVariants as asked
-use Rattle.gc_options.specs.Limits.{limit_refusal}
 use Rattle.gc_console.specs.Stations.{DoesOver, HasNoRun, Seeing}
 use Rattle.gc_console.specs.Subcommands.{DoesCheck, DoesDrill, DoesExec, DoesServe, EndsFrom, Opening}
 use Rattle.gc_console.specs.declared.traces.Traces.{Traces}
-use Rattle.gc_texts.specs.Faults.{fault_line, run_fault_text}
-use Rattle.gc_texts.specs.declared.fault.RunFault.TheVariants.{Memory, Output}
+use Rattle.gc_console.specs.declared.words.Job.TheVariants as asked
 
 -- a job was refused: the status is 2, and exactly this line was written on the messages
 abbrev pub RefusesJob : (line : List ℕ) → (begun : Opening) → Traces → (status : ℕ) → Type 0

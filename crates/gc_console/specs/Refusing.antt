@@ -1,13 +1,8 @@
 -- What a subcommand reports: how it ended, or why a scene was refused. This project's own.
+use Rattle.gc_console.specs.Common.{Appends, scene_trouble_line, Ports, run_fault_text, fault_line, Tells, RunFault, Schedule}
 use Rattle.std.specs.Prelude.{◌≡◌, ℕ, List, ◌++◌, Option, Result}
-use Rattle.std.specs.Io.KnownBytes.{Appends}
-use Rattle.gc_filters.specs.SceneTroubles.{scene_trouble_line}
-use Rattle.gc_lines.specs.Answering.{Ports}
 use Rattle.gc_console.specs.declared.refusal.Refusal.{Refusal}
 use Rattle.gc_console.specs.declared.refusal.Refusal.TheVariants.{Fault, Line}
-use Rattle.gc_texts.specs.Faults.{run_fault_text, fault_line, Tells}
-use Rattle.gc_texts.specs.declared.fault.RunFault.{RunFault}
-use Rattle.gc_texts.specs.declared.fault.RunFault.TheVariants.{Schedule}
 
 -- what is seen of a subcommand that has ended: its ports at its start and at its end, its status, and what had been written on
 -- the messages by its start and by its end

@@ -1,7 +1,6 @@
 -- The arguments of each subcommand but `station` and `rehearse`, as clap is to know them: this project's own.
+use Rattle.gc_console.specs.Common.{Rule, flag, path, positional, signed_number, tied}
 use Rattle.std.specs.Prelude.{List, [], ◌∷◌, codes}
-use Rattle.clap.specs.Walk.{Rule}
-use Rattle.gc_options.specs.Options.{flag, path, positional, signed_number, tied}
 
 -- the arguments of `exec`
 abbrev pub exec_rules : List Rule

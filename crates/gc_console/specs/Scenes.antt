@@ -1,8 +1,6 @@
 -- The instrument that a subcommand begins with, and what is reported where its scene is refused: this project's own.
+use Rattle.gc_console.specs.Common.{State, simulator_opening, SceneState, Ports}
 use Rattle.std.specs.Prelude.{◌≡◌, ◌⊎◌, Option, None}
-use Rattle.gc_instrument.specs.State.{State, simulator_opening}
-use Rattle.gc_scenes.specs.SceneState.{SceneState}
-use Rattle.gc_lines.specs.Answering.{Ports}
 use Rattle.gc_console.specs.Refusing.{EndSeen, TellsRefusal}
 use Rattle.gc_console.specs.declared.refusal.Refusal.{Refusal}
 

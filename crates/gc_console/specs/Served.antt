@@ -1,25 +1,10 @@
 -- What `serve` did, and how it reports its end: this project's own. `rule` is what an instrument does with a frame, and `restart` what a
 -- restart makes of its state; `old` and `new` are the messages before and after.
+use Rattle.gc_console.specs.Common.{LinkResult, KeepsServing, IsFaultOfPlace, ServesEach, AnswersFrame, State, restarted, simulator_opening, AnswerRule, Place, TellsAt, is_port, Refuses, range_line, are_open, Standard, PlaysFrame, SceneState, scene_restarted, HearsSometime, SlowState, slow_restarted, RunFault}
 use Rattle.std.specs.Prelude.{◌≡◌, ◌⊎◌, ℕ, Bool, false, List, Option, None, Some, Err}
-use Rattle.gc_ask.specs.Asking.{LinkResult}
-use Rattle.gc_ask.specs.Keeping.{KeepsServing}
-use Rattle.gc_ask.specs.Places.{IsFaultOfPlace}
-use Rattle.gc_ask.specs.Serving.{ServesEach}
-use Rattle.gc_instrument.specs.Serving.{AnswersFrame}
-use Rattle.gc_instrument.specs.State.{State, restarted, simulator_opening}
-use Rattle.gc_lines.specs.Answering.{AnswerRule}
 use Rattle.gc_lines.specs.declared.frame.Frame.{Frame}
-use Rattle.gc_links.specs.declared.place.Place.{Place}
-use Rattle.gc_logs.specs.Ends.{TellsAt, is_port}
-use Rattle.gc_logs.specs.Refusals.{Refuses, range_line}
-use Rattle.gc_logs.specs.Streams.{are_open}
-use Rattle.gc_logs.specs.declared.standard.Standard.{Standard}
-use Rattle.gc_scenes.specs.SceneServing.{PlaysFrame}
-use Rattle.gc_scenes.specs.SceneState.{SceneState, scene_restarted}
-use Rattle.gc_scenes.specs.Slow.{HearsSometime, SlowState, slow_restarted}
 use Rattle.gc_console.specs.Serves.{most_reads}
 use Rattle.gc_console.specs.declared.serve.Serving.{Serving}
-use Rattle.gc_texts.specs.declared.fault.RunFault.{RunFault}
 
 -- an instrument was served at a place, over so many connections one after the other, or up to a fault (`ServesEach`), and how that ended is
 -- reported (`TellsAt`)

@@ -1,12 +1,8 @@
 -- How `exec` and `check` report how their loop over frames ended: this project's own.
+use Rattle.gc_console.specs.Common.{IsChecking, IsCheckingLog, IsServing, IsSceneServing, Ports, serve_fault_text}
 use Rattle.std.specs.Prelude.{◌≡◌, ℕ, ◌+◌, ◌<◌, ◌⊎◌, ◌↔◌, Bool, true, false, Option, Result}
 use Rattle.gc_console.specs.Refusing.{EndSeen, TellsEnd}
 use Rattle.gc_console.specs.Scenes.{RefusesScene, HoldsOfInstrument}
-use Rattle.gc_filters.specs.Checking.{IsChecking}
-use Rattle.gc_filters.specs.LogChecking.{IsCheckingLog}
-use Rattle.gc_instrument.specs.Serving.{IsServing}
-use Rattle.gc_scenes.specs.SceneServing.{IsSceneServing}
-use Rattle.gc_lines.specs.Answering.{Ports, serve_fault_text}
 use Rattle.gc_lines.specs.declared.served.Served.{Served}
 use Rattle.gc_lines.specs.declared.served.ServeFault.{ServeFault}
 

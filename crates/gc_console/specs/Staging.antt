@@ -1,18 +1,14 @@
 -- The instrument that a scene sets up, with rules or without them: this project's own.
+use Rattle.gc_console.specs.Common.{Consumes, IsAtEnd, IsLineOf, takes_all, OpensPlain, OpensRuled, OpensTimed, SceneFault, SetsUp, IsReadFault, RunFault}
 use Rattle.std.specs.Prelude.{◌⊎◌, ℕ, IsTrue, List, Option}
-use Rattle.std.specs.Io.KnownBytes.{Consumes, IsAtEnd}
-use Rattle.gc_filters.specs.SceneLines.{IsLineOf, takes_all}
-use Rattle.gc_filters.specs.Scenes.{OpensPlain, OpensRuled, OpensTimed, SceneFault, SetsUp}
-use Rattle.gc_filters.specs.declared.scene_line.SceneKind.TheVariants as kind
 use Rattle.gc_filters.specs.declared.scene_line.SceneLine.{SceneLine}
-use Rattle.gc_texts.specs.Texts.{IsReadFault}
-use Rattle.gc_texts.specs.declared.fault.RunFault.{RunFault}
 use Rattle.gc_console.specs.Refusing.{refusal_fault}
 use Rattle.gc_console.specs.declared.refusal.Refusal.{Refusal}
 use Rattle.gc_console.specs.declared.scene.Staged.{Staged}
 use Rattle.gc_console.specs.declared.scene.Staged.TheVariants.{Plain, Ruled}
 use Rattle.gc_console.specs.declared.scene.Timed.{Timed}
 use Rattle.gc_console.specs.declared.scene.Timed.TheVariants.{Still, Slow}
+use Rattle.gc_filters.specs.declared.scene_line.SceneKind.TheVariants as kind
 
 -- this is the opening state of the instrument that the lines set up, which has rules unless they are those of a scene without rules
 abbrev pub OpensStaged : List SceneLine → Staged → Type 0

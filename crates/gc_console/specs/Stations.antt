@@ -1,38 +1,24 @@
 -- What `geocom station` had done when it ended, by the job that its words named: this project's own. `old` and `new` are streams at its
 -- start and at its end, of whose input it is noted which bytes its reads gave. `acted` is what was noted of the link and the file, and
 -- `traces` of the whole program.
+use Rattle.gc_console.specs.Common.{ports_of, path_of, are_open, ReportsClosed, hearing_of, Standard, with_status_line, Settings, Recording, Site}
 use Rattle.std.specs.Prelude.{◌≡◌, ℕ, Bool, true, false, List, [], Option, Some, None, option_map, IfSome}
 use Rattle.std.specs.Option.{is_some}
-use Rattle.gc_files.specs.Rows.{appended}
-use Rattle.gc_files.specs.Sinks.{asks_sync}
+use Rattle.gc_files.specs.Prelude.{appended, asks_sync}
 use Rattle.gc_files.specs.declared.past.Past.{Past}
-use Rattle.gc_lines.specs.Answering.{ports_of}
 use Rattle.gc_lines.specs.declared.ports.Sink.{Ghosts as Sink}
 use Rattle.gc_lines.specs.declared.ports.Source.{Ghosts as Source}
-use Rattle.gc_links.specs.Placed.{place_seen}
-use Rattle.gc_links.specs.Seeing.{signals_at}
-use Rattle.gc_measuring.specs.Noted.{IsMeantRecord}
-use Rattle.gc_measuring.specs.Recording.{IsBegunAt}
-use Rattle.gc_measuring.specs.TaskTexts.{IsCheckable}
-use Rattle.gc_measuring.specs.Telling.{AppendingRun, Stage, Views, acts_noted, began_noted, stage, views_by}
-use Rattle.gc_measuring.specs.Texts.{ReadsAndAppends, ReadsAndMeasures}
-use Rattle.gc_logs.specs.Following.{path_of}
-use Rattle.gc_logs.specs.Streams.{are_open, ReportsClosed}
-use Rattle.gc_logs.specs.Transcripts.{hearing_of}
+use Rattle.gc_links.specs.Prelude.{place_seen, signals_at}
+use Rattle.gc_measuring.specs.Prelude.{IsMeantRecord, IsBegunAt, IsCheckable, AppendingRun, Stage, Views, acts_noted, began_noted, stage, views_by, ReadsAndAppends, ReadsAndMeasures}
 use Rattle.gc_logs.specs.declared.following.Followed.{Followed}
 use Rattle.gc_logs.specs.declared.heard.Heard.{Heard}
-use Rattle.gc_logs.specs.declared.standard.Standard.{Standard}
 use Rattle.gc_logs.specs.declared.streams.Streams.{Streams}
 use Rattle.gc_console.specs.declared.words.ClientJob.{ClientJob}
-use Rattle.gc_console.specs.declared.words.ClientJob.TheVariants as client
 use Rattle.gc_console.specs.Refusing.{EndSeen, end_seen}
-use Rattle.gc_options.specs.Stations.{with_status_line}
-use Rattle.gc_options.specs.declared.settings.Settings.{Settings}
-use Rattle.gc_options.specs.declared.site.Recording.{Recording}
-use Rattle.gc_options.specs.declared.site.Site.{Site}
 use Rattle.gc_console.specs.Subcommands.{DoesAsk, DoesLoop, Opening}
 use Rattle.gc_console.specs.declared.traces.Acted.{Acted}
 use Rattle.gc_console.specs.declared.traces.Traces.{Traces}
+use Rattle.gc_console.specs.declared.words.ClientJob.TheVariants as client
 
 -- how the ports of a station are seen: its input by the ghost members of `source`; by `onto` a run over its text that writes on the
 -- output, and by `into` one that appends to a file. `begun` says what holds of a file that was just opened, for these records of a

@@ -1,11 +1,8 @@
 -- What a subcommand other than `station` had done when it ended, by what its words named: this project's own. What is seen of it
 -- (`EndSeen`) are its ports at its start and at its end, its status, and what the messages had taken by its start and by its end.
+use Rattle.gc_console.specs.Common.{unless_shown, Ports, Place, Standard}
 use Rattle.std.specs.Prelude.{◌≡◌, ◌≤◌, ℕ, Bool, false, List, [], Option, Some, None}
-use Rattle.gc_ask.specs.Showing.{unless_shown}
 use Rattle.gc_client.specs.declared.window.TheConstants.{WINDOW}
-use Rattle.gc_lines.specs.Answering.{Ports}
-use Rattle.gc_links.specs.declared.place.Place.{Place}
-use Rattle.gc_logs.specs.declared.standard.Standard.{Standard}
 use Rattle.gc_console.specs.Asked.{TellsAskAt, TellsLoop}
 use Rattle.gc_console.specs.Drills.{PlaysScene, ReadsWholeSource, TellsDrill}
 use Rattle.gc_console.specs.Refusing.{EndSeen, end_seen}

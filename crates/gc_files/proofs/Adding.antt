@@ -1,15 +1,10 @@
 -- How calls of a file add up. The life of a file is what it held at first, and the steps (calls) since then. To mend a file
 -- is to cut off what follows its last line feed, and to sync that. An opening mends a file, and writes the head where it has
 -- no whole row.
-use Rattle.std.proofs.Common.{◌≡◌, inl, inr, ℕ, ◌≤◌, ◌<◌, ◌==◌, true, false, List, [], ◌∷◌, ◌++◌, length, take, refl, sym, ◌∙◌, ap, subst, arith, append_assoc, Bool, if◌then◌else◌, Option, Some, None}
-use Rattle.std.proofs.lemmas.Bool.{cases_Bool, eqb-true}
-use Rattle.std.proofs.lemmas.List.{append-nil}
+use Rattle.gc_files.proofs.Common.{◌≡◌, inl, inr, ℕ, ◌≤◌, ◌<◌, ◌==◌, true, false, List, [], ◌∷◌, ◌++◌, length, take, refl, sym, ◌∙◌, ap, subst, arith, append_assoc, Bool, if◌then◌else◌, Option, Some, None, cases_Bool, eqb-true, append-nil, Step, Append, Cut, Sync, Life, has_sync, content, later_by, Adds, synced, whole, is_empty, mended, cuts_none, appended, MendedAndPut, IsFront, Did, Opens, OpensInPart, PutsAll, PutsFront, IsEndOfRows, IsMended, IsMendedInPart}
 use Rattle.std.specs.Io.KnownBytes.{Appends, Keeps}
 use Rattle.gc_files.specs.Sinks.{known_content}
 use Rattle.gc_files.proofs.Moments.{held_after_two}
-use Rattle.gc_files.specs.Files.{Step, Append, Cut, Sync, Life, has_sync, content, later_by, Adds}
-use Rattle.gc_files.specs.Runs.{synced}
-use Rattle.gc_files.specs.Rows.{whole, is_empty, mended, cuts_none, appended, MendedAndPut, IsFront, Did, Opens, OpensInPart, PutsAll, PutsFront, IsEndOfRows, IsMended, IsMendedInPart}
 
 -- adding the steps `xs` to a life, and then `ys`, is adding `xs ++ ys`
 pub later_two : (xs ys : List Step) (life : Life) → later_by ys (later_by xs life) ≡ later_by (xs ++ ys) life

@@ -1,12 +1,7 @@
 -- Over failed syncs a table stays, where a copy takes the file's place before a run goes on. A file has two sides: what a
 -- read returns, and what is on the disk. `Lasts` says of a side that whatever a crash leaves of it has the rows of some runs
 -- after the table from before them.
-use Rattle.std.proofs.Common.{◌≡◌, inl, inr, ℕ, Bool, true, false, List, [], ◌∷◌, ◌++◌, refl, sym, ◌∙◌, ap, subst, append_assoc}
-use Rattle.std.proofs.lemmas.List.{append-nil}
-use Rattle.gc_files.specs.Files.{Life, content, later_by}
-use Rattle.gc_files.specs.Rows.{has_feed, opened_table}
-use Rattle.gc_files.specs.Runs.{Run, IsHead, IsRun, HasRows}
-use Rattle.gc_files.specs.Failing.{Sides, settled, same_sides, done_by, Loses, Stopped, Unsynced, Event, Ran, Copied, Crashed, sides_after, ArePossibleEvents, runs_of, IsTrusted, IsFound, TablesOutlastFailures}
+use Rattle.gc_files.proofs.Common.{◌≡◌, inl, inr, ℕ, Bool, true, false, List, [], ◌∷◌, ◌++◌, refl, sym, ◌∙◌, ap, subst, append_assoc, append-nil, Life, content, later_by, has_feed, opened_table, Run, IsHead, IsRun, HasRows, Sides, settled, same_sides, done_by, Loses, Stopped, Unsynced, Event, Ran, Copied, Crashed, sides_after, ArePossibleEvents, runs_of, IsTrusted, IsFound, TablesOutlastFailures}
 use Rattle.gc_files.proofs.Whole.{whole_front}
 use Rattle.gc_files.proofs.Moments.{may_stay}
 use Rattle.gc_files.proofs.Lasting.{Lasts, lasts_over_one_more, same_table}

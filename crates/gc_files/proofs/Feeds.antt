@@ -1,13 +1,7 @@
 -- A file that is copied block by block: `at` is how many of its bytes were copied so far, and each line feed among them is
 -- counted.
-use Rattle.std.proofs.Common.{◌≡◌, ℕ, ◌+◌, ◌≤◌, ◌==◌, List, [], ◌∷◌, ◌++◌, length, take, refl, sym, ◌∙◌, ap, subst, arith, length-append, Option}
-use Rattle.std.specs.Prelude.{filter}
-use Rattle.std.proofs.Math.Seq.{take-add}
-use Rattle.std.proofs.lemmas.List.{append-nil, take_all}
+use Rattle.gc_files.proofs.Common.{◌≡◌, ℕ, ◌+◌, ◌≤◌, ◌==◌, List, [], ◌∷◌, ◌++◌, length, take, refl, sym, ◌∙◌, ap, subst, arith, length-append, Option, filter, take-add, append-nil, take_all, feeds, Sync, Life, Adds, PutsAll}
 use Rattle.std.proofs.lemmas.List.Elements.{filter-append}
-use Rattle.gc_files.specs.Failing.{feeds}
-use Rattle.gc_files.specs.Files.{Sync, Life, Adds}
-use Rattle.gc_files.specs.Rows.{PutsAll}
 use Rattle.gc_files.proofs.Adding.{puts_two}
 use Rattle.gc_files.proofs.Looking.{IsBlock}
 

@@ -1,12 +1,7 @@
 -- Files of rows that took rows in turn: what is known of each once one more is left, and that a left file has all its rows.
-use Rattle.std.proofs.Common.{◌≡◌, inl, inr, ℕ, ◌<◌, true, List, [], ◌∷◌, ◌++◌, length, drop, map, take, refl, sym, ◌∙◌, ap, subst, arith, append_assoc, append-nil, length-append}
-use Rattle.std.proofs.lemmas.Bool.{cases_Bool}
-use Rattle.std.proofs.lemmas.List.{map_push, take_all}
-use Rattle.gc_files.specs.Files.{Step, Life, MayBeLeft, content, later_by, settled}
-use Rattle.std.specs.List.{AllByRecursion}
-use Rattle.gc_files.specs.InTurn.{AreOnlyAppendedTo, AreSynced, HaveWholeRows, LastsWhole, LeftFilesLast, all_steps}
-use Rattle.gc_files.specs.Rows.{appended, cuts_none, has_feed, opened_table, whole}
-use Rattle.gc_files.specs.Runs.{IsRun, life_after, row_lines, rows_of}
+use Rattle.gc_files.proofs.Common.{◌≡◌, inl, inr, ℕ, ◌<◌, true, List, [], ◌∷◌, ◌++◌, length, drop, map, take, refl, sym, ◌∙◌, ap, subst, arith, append_assoc, length-append, cases_Bool, map_push, take_all, Step, Life, MayBeLeft, content, later_by, AllByRecursion, AreOnlyAppendedTo, AreSynced, HaveWholeRows, LastsWhole, LeftFilesLast, all_steps, appended, cuts_none, has_feed, opened_table, whole, IsRun, life_after, row_lines, rows_of}
+use Rattle.std.proofs.Common.{append-nil}
+use Rattle.gc_files.specs.Files.{settled}
 use Rattle.gc_files.proofs.Lasting.{tables_last}
 use Rattle.gc_files.proofs.Pieces.{all_pieces, pieces_count, pieces_whole}
 use Rattle.gc_files.proofs.Staying.{happen_append, is_run, life_append, no_rows_of_none, run_by, splits_at_run}

@@ -1,9 +1,5 @@
 -- Runs that a kill ends, and what the calls of a run do.
-use Rattle.std.proofs.Common.{◌≡◌, inl, inr, ℕ, List, [], ◌∷◌, ◌++◌, take, refl, sym, ◌∙◌, ap, subst, arith, append_assoc, Option}
-use Rattle.std.proofs.lemmas.List.{append-nil}
-use Rattle.gc_files.specs.Files.{Step, Sync, Life, held_after, content, later_by}
-use Rattle.gc_files.specs.Rows.{opened_table, head_written, mended, appended, MendedAndPut, IsFront, ComesTo}
-use Rattle.gc_files.specs.Runs.{synced, Run, run_bytes, IsHead, IsRun, life_after, life_once_ended, HasRows, IsUncrashedRun, AreUncrashedRuns, KillsLoseNothing, OpeningsAreRuns, FailedOpeningsAreRuns}
+use Rattle.gc_files.proofs.Common.{◌≡◌, inl, inr, ℕ, List, [], ◌∷◌, ◌++◌, take, refl, sym, ◌∙◌, ap, subst, arith, append_assoc, Option, append-nil, Step, Sync, Life, held_after, content, later_by, opened_table, head_written, mended, appended, MendedAndPut, IsFront, ComesTo, synced, Run, run_bytes, IsHead, IsRun, life_after, life_once_ended, HasRows, IsUncrashedRun, AreUncrashedRuns, KillsLoseNothing, OpeningsAreRuns, FailedOpeningsAreRuns}
 use Rattle.gc_files.proofs.Adding.{cuts_two, appended_two, synced_all}
 use Rattle.gc_files.proofs.Lasting.{RunHas, run_moments, has_rows_more}
 use Rattle.gc_files.proofs.Moments.{may_stay, held_after_two, mended_by_two_steps, mend_synced}

@@ -1,12 +1,8 @@
 -- Over runs and crashes a table stays. A table is the head and the whole rows of a file; `held` is what the file held before a
 -- run, and `left` what is found in it at some moment of the run or after it.
-use Rattle.std.proofs.Common.{◌≡◌, ◌⊎◌, inl, inr, ℕ, zero, suc, ◌≤◌, Bool, true, false, List, [], ◌∷◌, ◌++◌, length, take, refl, sym, ◌∙◌, ap, subst, arith, append_assoc, length-append, if◌then◌else◌, Option, Some, None}
-use Rattle.std.proofs.lemmas.Bool.{cases_Bool}
-use Rattle.std.proofs.lemmas.List.{append-nil}
+use Rattle.gc_files.proofs.Common.{◌≡◌, ◌⊎◌, inl, inr, ℕ, zero, suc, ◌≤◌, Bool, true, false, List, [], ◌∷◌, ◌++◌, length, take, refl, sym, ◌∙◌, ap, subst, arith, append_assoc, length-append, if◌then◌else◌, Option, Some, None, cases_Bool, append-nil, Step, Append, Cut, Sync, Life, has_sync, content, later_by, MayBeLeft, MayLeave, whole, row_line, is_empty, head_written, opened_table, mended, appended, MendedAndPut, IsFront, synced, Run, row_lines, run_bytes, AreRows, IsHead, IsRun, life_once_ended, CrashMayLeave, Happen, life_after, rows_of, AreRowCounts, HasRows, TablesLast}
 use Rattle.std.proofs.lemmas.List.Prefix.{front_fits}
-use Rattle.gc_files.specs.Files.{Step, Append, Cut, Sync, Life, settled, has_sync, content, later_by, MayBeLeft, MayLeave}
-use Rattle.gc_files.specs.Rows.{whole, row_line, is_empty, head_written, opened_table, mended, appended, MendedAndPut, IsFront}
-use Rattle.gc_files.specs.Runs.{synced, Run, row_lines, run_bytes, AreRows, IsHead, IsRun, life_once_ended, CrashMayLeave, Happen, life_after, rows_of, AreRowCounts, HasRows, TablesLast}
+use Rattle.gc_files.specs.Files.{settled}
 use Rattle.gc_files.proofs.Whole.{whole_whole, whole_more, Within, whole_rows_within}
 use Rattle.gc_files.proofs.Moments.{may_stay, leaves_two, none_synced, mended_leaves_whole, mend_moments, mended_by_two_steps, mend_synced, front_take, put_moments}
 

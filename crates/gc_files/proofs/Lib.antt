@@ -1,3 +1,4 @@
+mod Common
 pub mod Whole
 pub mod Moments
 pub mod Lasting

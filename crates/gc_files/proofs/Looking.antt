@@ -1,13 +1,8 @@
 -- What a look at a file finds: whether it fits the sign (one begins with the other), and where its last whole row ends. `at`
 -- is how many bytes were looked at, and `rest` is the sign after them.
-use Rattle.std.proofs.Common.{◌≡◌, inl, inr, ℕ, zero, suc, ◌+◌, ◌-◌, ◌≤◌, ◌<◌, ◌==◌, ◌&&◌, true, false, List, [], ◌∷◌, ◌++◌, length, take, drop, refl, sym, ◌∙◌, ap, subst, arith, append_assoc, length-append, length-drop, slice_index, Option, Some, None}
-use Rattle.std.proofs.Math.Seq.{take-add, take-append-add}
-use Rattle.std.proofs.lemmas.Bool.{cases_Bool, eqb-true, eq-eqb}
-use Rattle.std.proofs.lemmas.List.{drop_all, take-append-drop, take-append-le, length-take-le, drop-drop}
+use Rattle.gc_files.proofs.Common.{◌≡◌, inl, inr, ℕ, zero, suc, ◌+◌, ◌-◌, ◌≤◌, ◌<◌, ◌==◌, ◌&&◌, true, false, List, [], ◌∷◌, ◌++◌, length, take, drop, refl, sym, ◌∙◌, ap, subst, arith, append_assoc, length-append, length-drop, slice_index, Option, Some, None, take-add, take-append-add, cases_Bool, eqb-true, eq-eqb, drop_all, take-append-drop, take-append-le, length-take-le, drop-drop, Append, Life, Adds, has_feed, whole, fits, PutsAll, PutsFront}
 use borrow.Rule.Slice.PartMut.{put_mid}
 use Rattle.memchr.specs.Find.{IsLastByte, is_byte}
-use Rattle.gc_files.specs.Files.{Append, Life, Adds}
-use Rattle.gc_files.specs.Rows.{has_feed, whole, fits, PutsAll, PutsFront}
 use Rattle.gc_files.proofs.Whole.{whole_behind, whole_front, whole_none, feed_front}
 use Rattle.gc_files.proofs.Adding.{puts_more}
 

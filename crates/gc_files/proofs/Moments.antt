@@ -1,11 +1,5 @@
 -- What a file holds at each moment of a run. To mend a file is to cut off what follows its last line feed, and to sync that.
-use Rattle.std.proofs.Common.{◌≡◌, ◌⊎◌, inl, inr, ℕ, zero, suc, ◌+◌, ◌≤◌, ◌==◌, true, false, List, [], ◌∷◌, ◌++◌, length, take, refl, sym, ◌∙◌, ap, subst, arith, append_assoc, length-append}
-use Rattle.std.proofs.Math.Seq.{take-append-add, take-nil}
-use Rattle.std.proofs.lemmas.Bool.{cases_Bool, cases_lt, eqb-true, true≢false}
-use Rattle.std.proofs.lemmas.List.{append-nil, take_all, take_at, take-append-le}
-use Rattle.gc_files.specs.Files.{Step, Append, Cut, Sync, stepped, held_after, has_sync, MayLeave}
-use Rattle.gc_files.specs.Rows.{whole, mended, cuts_none, appended, IsFront}
-use Rattle.gc_files.specs.Runs.{synced}
+use Rattle.gc_files.proofs.Common.{◌≡◌, ◌⊎◌, inl, inr, ℕ, zero, suc, ◌+◌, ◌≤◌, ◌==◌, true, false, List, [], ◌∷◌, ◌++◌, length, take, refl, sym, ◌∙◌, ap, subst, arith, append_assoc, length-append, take-append-add, take-nil, cases_Bool, cases_lt, eqb-true, true≢false, append-nil, take_all, take_at, take-append-le, Step, Append, Cut, Sync, stepped, held_after, has_sync, MayLeave, whole, mended, cuts_none, appended, IsFront, synced}
 use Rattle.gc_files.proofs.Whole.{Torn, whole_and_torn, whole_take}
 
 -- what a file holds after these steps is among what a crash after them may leave

@@ -1,8 +1,5 @@
 -- Where a run goes on in a file in which a sync failed, and no copy took its place, a table may not last: such runs, computed.
-use Rattle.std.proofs.Common.{◌≡◌, inl, inr, ℕ, false, List, [], ◌∷◌, refl, arith, None}
-use Rattle.gc_files.specs.Files.{Append, Sync}
-use Rattle.gc_files.specs.Runs.{Run, IsRun, rows_of}
-use Rattle.gc_files.specs.Failing.{settled, same_sides, Stopped, Unsynced, Event, Ran, ArePossibleEvents, runs_of, CopiesAreNeeded}
+use Rattle.gc_files.proofs.Common.{◌≡◌, inl, inr, ℕ, false, List, [], ◌∷◌, refl, arith, None, Append, Sync, Run, IsRun, rows_of, settled, same_sides, Stopped, Unsynced, Event, Ran, ArePossibleEvents, runs_of, CopiesAreNeeded}
 
 -- a head that is a line feed
 abbrev line_feed_head : List ℕ

@@ -1,13 +1,6 @@
 -- Bytes as lines: how many there are, and which of them are those of a front. Bytes are whole if they end in a line feed or are
 -- none.
-use Rattle.std.proofs.Common.{◌≡◌, inl, inr, ℕ, ◌+◌, ◌-◌, ◌≤◌, ◌==◌, true, false, List, [], ◌∷◌, ◌++◌, length, take, drop, refl, sym, ◌∙◌, ap, subst, arith, append_assoc, length-append, if◌then◌else◌}
-use Rattle.std.specs.List.{onto_first}
-use Rattle.std.proofs.Math.Seq.{take-append-add}
-use Rattle.std.proofs.lemmas.Bool.{cases_Bool, eqb-true}
-use Rattle.std.proofs.lemmas.List.{take_at, take-append-drop}
-use Rattle.gc_files.specs.Failing.{feeds}
-use Rattle.gc_files.specs.Rows.{has_feed, whole, row_line, IsFront}
-use Rattle.gc_files.specs.Runs.{row_lines, AreRows}
+use Rattle.gc_files.proofs.Common.{◌≡◌, inl, inr, ℕ, ◌+◌, ◌-◌, ◌≤◌, ◌==◌, true, false, List, [], ◌∷◌, ◌++◌, length, take, drop, refl, sym, ◌∙◌, ap, subst, arith, append_assoc, length-append, if◌then◌else◌, onto_first, take-append-add, cases_Bool, eqb-true, take_at, take-append-drop, feeds, has_feed, whole, row_line, IsFront, row_lines, AreRows}
 use Rattle.gc_files.proofs.Whole.{whole_line, whole_more, whole_none}
 
 -- the lines of bytes, without their line feeds; after the last line feed there is one more, if anything is left. (`onto_first`

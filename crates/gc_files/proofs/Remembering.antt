@@ -1,12 +1,8 @@
 -- What a file in memory remembers: its calls, as the steps of its life. A file is kept where a crash leaves all that it holds
 -- (`IsKept`).
-use Rattle.std.proofs.Common.{◌≡◌, inl, inr, ℕ, List, [], ◌∷◌, ◌++◌, refl, sym, ◌∙◌, ap, Option, None, Some, subst}
-use Rattle.std.proofs.lemmas.Bool.{true≢false}
-use Rattle.std.proofs.lemmas.List.{map_push}
+use Rattle.gc_files.proofs.Common.{◌≡◌, inl, inr, ℕ, List, [], ◌∷◌, ◌++◌, refl, sym, ◌∙◌, ap, Option, None, Some, subst, true≢false, map_push, step_of, life_by, HoldsAfter, Step, Sync, Life, stepped, held_after, content, MayLeave, IsKept, later_by, Adds}
 use Rattle.std.proofs.lemmas.Option.{same_Some}
 use Rattle.gc_files.specs.declared.memory_file.Call.{Call}
-use Rattle.gc_files.specs.Calls.{step_of, life_by, HoldsAfter}
-use Rattle.gc_files.specs.Files.{Step, Sync, Life, stepped, held_after, content, MayLeave, IsKept, later_by, Adds}
 use Rattle.gc_files.proofs.Moments.{held_after_two, leaves_two}
 
 -- where `new` are `calls` and then c, the life after `new` is the life after `calls` with the step of c at its end

@@ -1,12 +1,8 @@
 -- A run of a file, with earlier runs or events before it and later ones after it: a sync in it kept all that it had taken by
 -- then. A file's life is what it held when the machine started, and the calls since then. Its sides are two lives: the one that
 -- a read returns, and the one of which a crash may leave a part.
-use Rattle.std.proofs.Common.{◌≡◌, inl, inr, ℕ, ◌≤◌, Bool, true, false, List, [], ◌∷◌, ◌++◌, length, take, refl, sym, ◌∙◌, ap, subst, append_assoc, append-nil, None}
-use Rattle.std.proofs.lemmas.Bool.{cases_Bool}
-use Rattle.gc_files.specs.Failing.{Sides, Event, Ran, Copied, Crashed, feeds, sides_by, sides_after, doubt_by, doubt_after, ArePossibleEvents, runs_of, IsTrusted}
-use Rattle.gc_files.specs.Files.{Step, Append, Cut, Sync, Life, has_sync}
-use Rattle.gc_files.specs.Rows.{whole, opened_table, head_written, OpensFile, mended, cuts_none, appended, IsFront}
-use Rattle.gc_files.specs.Runs.{synced, Run, row_lines, IsRun, WereKept, OpensAndWrites, Happen, life_after, life_once_ended, rows_of, AreRowCounts, HasRows}
+use Rattle.gc_files.proofs.Common.{◌≡◌, inl, inr, ℕ, ◌≤◌, Bool, true, false, List, [], ◌∷◌, ◌++◌, length, take, refl, sym, ◌∙◌, ap, subst, append_assoc, None, cases_Bool, Sides, Event, Ran, Copied, Crashed, feeds, sides_by, sides_after, doubt_by, doubt_after, ArePossibleEvents, runs_of, IsTrusted, Step, Append, Cut, Sync, Life, has_sync, whole, opened_table, head_written, OpensFile, mended, cuts_none, appended, IsFront, synced, Run, row_lines, IsRun, WereKept, OpensAndWrites, Happen, life_after, life_once_ended, rows_of, AreRowCounts, HasRows}
+use Rattle.std.proofs.Common.{append-nil}
 use Rattle.gc_files.proofs.Killing.{openings_are_runs}
 use Rattle.gc_files.proofs.Moments.{mended_by_two_steps, mend_synced, none_synced}
 use Rattle.gc_files.proofs.Whole.{whole_more}

@@ -1,11 +1,6 @@
 -- The whole rows of bytes, which are all through their last line feed, and how many rows are whole in the first k bytes of the
 -- lines of rows.
-use Rattle.std.proofs.Common.{◌≡◌, inl, inr, ℕ, zero, suc, ◌+◌, ◌-◌, ◌≤◌, ◌<◌, ◌==◌, true, false, List, [], ◌∷◌, ◌++◌, length, take, drop, refl, sym, ◌∙◌, ap, subst, arith, length-append, if◌then◌else◌}
-use Rattle.std.proofs.Math.Seq.{take-append-add}
-use Rattle.std.proofs.lemmas.Bool.{cases_Bool, cases_lt}
-use Rattle.std.proofs.lemmas.List.{append-nil, take_all, take-append-le, take-append-drop}
-use Rattle.gc_files.specs.Rows.{has_feed, whole, row_line}
-use Rattle.gc_files.specs.Runs.{row_lines, AreRows}
+use Rattle.gc_files.proofs.Common.{◌≡◌, inl, inr, ℕ, zero, suc, ◌+◌, ◌-◌, ◌≤◌, ◌<◌, ◌==◌, true, false, List, [], ◌∷◌, ◌++◌, length, take, drop, refl, sym, ◌∙◌, ap, subst, arith, length-append, if◌then◌else◌, take-append-add, cases_Bool, cases_lt, append-nil, take_all, take-append-le, take-append-drop, has_feed, whole, row_line, row_lines, AreRows}
 
 -- where a second text has no line feed, both texts together have one exactly where the first has
 pub feed_front : (xs ys : List ℕ) → has_feed ys ≡ false → has_feed (xs ++ ys) ≡ has_feed xs

@@ -1,8 +1,8 @@
 -- What the calls of a file in memory stand for: this project's own.
 use Rattle.std.specs.Prelude.{◌≡◌, ℕ, List, map, Some, Result}
 use Rattle.gc_files.specs.declared.memory_file.Call.{Call}
-use Rattle.gc_files.specs.declared.memory_file.Call.TheVariants as call
 use Rattle.gc_files.specs.Files.{Step, Append, Cut, Sync, Life, Makes, content}
+use Rattle.gc_files.specs.declared.memory_file.Call.TheVariants as call
 
 -- the step that a call is
 abbrev pub step_of : Call → Step

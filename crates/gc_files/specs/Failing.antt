@@ -1,9 +1,9 @@
 -- Files in which a sync failed: what the system may have lost of them, and what becomes of their rows. This project's own.
 use Rattle.std.specs.Prelude.{◌≡◌, ◌⊎◌, ℕ, Bool, true, false, not, List, [], ◌∷◌, ◌++◌, ◌==◌, length, filter, Option}
 use Rattle.gc_files.specs.Files.{Step, Life, IfKnown, content, later_by, MayBeLeft}
-pub use Rattle.gc_files.specs.Files.{settled}
 use Rattle.gc_files.specs.Rows.{has_feed, opened_table}
 use Rattle.gc_files.specs.Runs.{Run, IsHead, IsRun, HasRows}
+pub use Rattle.gc_files.specs.Files.{settled}
 
 -- how many line feeds are among these bytes
 abbrev pub feeds : List ℕ → ℕ

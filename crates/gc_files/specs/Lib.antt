@@ -1,3 +1,4 @@
+pub mod Prelude
 pub mod Files
 pub mod Calls
 pub mod Rows

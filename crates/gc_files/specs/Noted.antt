@@ -1,9 +1,9 @@
 -- The steps that were done to a file, as they are noted for proofs: a note is a step, or a whole list of earlier notes (a past).
 use Rattle.std.specs.Prelude.{◌≡◌, ◌⊎◌, ℕ, List, [], ◌∷◌, ◌++◌, take, Result, Ok, Err}
-use Rattle.gc_files.specs.Files as step
 use Rattle.gc_files.specs.Files.{Step}
 use Rattle.gc_files.specs.declared.past.Done.{Done}
 use Rattle.gc_files.specs.declared.past.Done.TheVariants.{Append, Sync, All}
+use Rattle.gc_files.specs.Files as step
 
 -- the steps that a note stands for: the one step of a call, or all steps of another past
 abbrev pub steps_done : Done → List Step

@@ -1,25 +1,13 @@
 -- What a judge writes of frames, one after the other, is the lines of their verdicts. A frame is ended where a line feed has
 -- ended it. Throughout, s, t and u are states of the judge, which count the frames so far, and a and b what the sink had taken
 -- before and has taken after.
-use Rattle.std.proofs.Common.{◌≡◌, ℕ, ◌+◌, ◌-◌, ◌<◌, ◌≤◌, ◌^◌, min, true, false, cond, List, [], ◌∷◌, ◌++◌, length, take, map, Option, Some, Result, Ok, Err, refl, sym, ap, ◌∙◌, subst, arith, append_assoc, length-append}
+use Rattle.gc_filters.proofs.Common.{◌≡◌, ℕ, ◌+◌, ◌-◌, ◌<◌, ◌≤◌, ◌^◌, min, true, false, cond, List, [], ◌∷◌, ◌++◌, length, take, map, Option, Some, Result, Ok, Err, refl, sym, ap, ◌∙◌, subst, arith, append_assoc, length-append, cond_both, length-map, option_to_list, Ports, AnswersInOrder, AnswersAll, AnswersPart, AnswersFrames, EndsBecause, progress, frames, frame_of, pieces_behind, is_line_feed, ends_in_return, Frame, Line, Cleared, Overlong, More, in_order_then, in_order_one, IsVerdict, AreSaidOf, said_of, verdict_text, verdict_line, verdict_lines_from, AreFrameVerdicts, frame_remark, WritesVerdictOn, JudgesFrame, WritesAll, WritesPart, Checks, Verdict}
 use Rattle.std.specs.Prelude.{nat_lt}
 use Rattle.std.specs.Fmt.{decimal}
-use Rattle.std.proofs.lemmas.Bool.{cond_both}
-use Rattle.std.proofs.lemmas.List.{length-map}
-use Rattle.std.specs.Option.{option_to_list}
-use Rattle.gc_lines.specs.Answering.{Ports, AnswersInOrder, AnswersAll, AnswersPart, AnswersFrames, EndsBecause, progress}
-use Rattle.gc_lines.specs.Frames.{frames, frame_of, pieces_behind, is_line_feed, ends_in_return}
-use Rattle.gc_lines.specs.declared.frame.Frame.{Frame}
-use Rattle.gc_lines.specs.declared.frame.Frame.TheVariants.{Line, Cleared, Overlong, More}
 use Rattle.gc_lines.specs.declared.served.Served.{Served}
 use Rattle.gc_lines.specs.declared.served.ServeFault.{ServeFault}
 use Rattle.gc_lines.specs.declared.served.ServeFault.TheVariants.{Read, Write, TooManyReads}
-use Rattle.gc_lines.proofs.InOrder.{in_order_then, in_order_one}
-use Rattle.gc_filters.specs.Verdicts.{IsVerdict, AreSaidOf, said_of, verdict_text, verdict_line, verdict_lines_from, AreFrameVerdicts}
-use Rattle.gc_filters.specs.Remarks.{frame_remark}
-use Rattle.gc_filters.specs.Checking.{WritesVerdictOn, JudgesFrame, WritesAll, WritesPart, Checks}
 use Rattle.gc_filters.specs.declared.check.Judge.{Judge}
-use Rattle.gc_filters.specs.declared.verdict.Verdict.{Verdict}
 
 -- a line feed has ended each of these frames
 AreEnded : List Frame → Type 0

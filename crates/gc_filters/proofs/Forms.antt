@@ -1,15 +1,6 @@
 -- Which lines have the forms of a schedule.
-use Rattle.std.proofs.Common.{◌≡◌, ℕ, List, ◌++◌, Option, Some, ap, subst, sym, ◌∙◌, codes}
+use Rattle.gc_filters.proofs.Common.{◌≡◌, ℕ, List, ◌++◌, Option, Some, ap, subst, sym, ◌∙◌, codes, Event, Send, Cuts, IsNumber, IsProcedureText, IsTarget, NoTarget, IsReadAs, read_alike, holds_of_rest, same_Some, IsNumbered, IsRequested, IsSend, IsEvent, Requested, SendsRequested}
 use Rattle.gc_catalogue.specs.declared.call.Call.{Call}
-use Rattle.gc_world.specs.declared.event.Event.{Event}
-use Rattle.gc_world.specs.declared.event.Event.TheVariants.{Send}
-use Rattle.gc_texts.specs.Cuts.{Cuts}
-use Rattle.gc_texts.specs.Procedures.{IsNumber, IsProcedureText, IsTarget}
-use Rattle.gc_texts.specs.Troubles.{NoTarget}
-use Rattle.gc_texts.specs.LineForms.{IsReadAs}
-use Rattle.gc_texts.proofs.Cutting.{read_alike, holds_of_rest}
-use Rattle.std.proofs.lemmas.Option.{same_Some}
-use Rattle.gc_filters.specs.Schedule.{IsNumbered, IsRequested, IsSend, IsEvent, Requested, SendsRequested}
 use Rattle.gc_filters.proofs.InThree.{first_cut, second_cut}
 
 -- if a line is `word` and `rest`, the number up to `max` that is read of `rest`, or `None`, is also read of the line, as the number

@@ -1,9 +1,5 @@
 -- Texts of three parts with a space between each two, and where they are cut.
-use Rattle.std.proofs.Common.{◌≡◌, ℕ, List, ◌∷◌, ◌++◌, Option, Some, None, ap, sym, ◌∙◌}
-use Rattle.std.proofs.lemmas.Option.{same_Some}
-use Rattle.gc_texts.specs.Cuts.{Cuts}
-use Rattle.gc_texts.proofs.Cutting.{cut_found, one_front}
-use Rattle.gc_filters.specs.Schedule.{InThree}
+use Rattle.gc_filters.proofs.Common.{◌≡◌, ℕ, List, ◌∷◌, ◌++◌, Option, Some, None, ap, sym, ◌∙◌, same_Some, Cuts, cut_found, one_front, InThree}
 
 -- the three parts of a text that is cut at its first space, and again at the first space of what follows that
 abbrev pub parts_at_two_spaces : (text first rest second third : List ℕ) → Cuts 32 text first (Some rest) → Cuts 32 rest second (Some third) → InThree text

@@ -1,3 +1,4 @@
+mod Common
 mod Checked
 mod Forms
 mod InThree

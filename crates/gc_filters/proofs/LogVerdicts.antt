@@ -3,22 +3,11 @@
 -- only a front of them did. `HasChecked`: they did, and the check keeps the bytes since the last line feed. `HasJudged`: some of them
 -- did, and the others wait. a, b and c are what the sink had taken at three moments, in order, and n, m and k how many verdicts had
 -- gone out by then. The client is as far as the log shows it: `x` before p, `y` after it, and `z` after q.
-use Rattle.std.proofs.Common.{◌≡◌, ℕ, ◌+◌, ◌-◌, ◌<◌, ◌≤◌, Bool, true, false, cond, nat_lt, List, [], ◌∷◌, ◌++◌, length, take, map, Option, Some, None, refl, sym, ap, subst, ◌∙◌, arith, append_assoc, append-nil, length-append}
+use Rattle.gc_filters.proofs.Common.{◌≡◌, ℕ, ◌+◌, ◌-◌, ◌<◌, ◌≤◌, Bool, true, false, cond, nat_lt, List, [], ◌∷◌, ◌++◌, length, take, map, Option, Some, None, refl, sym, ap, subst, ◌∙◌, arith, append_assoc, append-nil, length-append, ltb-true, ltb-false, length-map, map-append, take-append-le, Appends-nil, Appends-trans, all_of, pieces_behind, rest_behind, whole_and_part, TakesFront, all_of-append, Cuts, Lacks, WritesPart, AreVerdictsBetween, AreVerdictsFrom, HasChecked, HasJudged, JudgesLine, JudgesMore, KeepsLine, NoneWait, StopsWriting, TakesLine, TakesPiece, TakesPieceInPart, WritesVerdicts, WritesVerdictsInPart, WritesWaiting}
 use Rattle.std.specs.Io.KnownBytes.{Appends}
-use Rattle.std.proofs.lemmas.Bool.{ltb-true, ltb-false}
-use Rattle.std.proofs.lemmas.List.{length-map, map-append, take-append-le}
 use Rattle.std.proofs.Math.Seq.{take-append-add}
-use Rattle.std.proofs.KnownBytes.{Appends-nil, Appends-trans}
-use Rattle.gc_lines.specs.Answering.{all_of}
-use Rattle.gc_lines.specs.Frames.{pieces_behind, rest_behind}
-use Rattle.gc_lines.specs.Passing.{whole_and_part}
-use Rattle.gc_lines.specs.Ports.{TakesFront}
 use Rattle.gc_lines.proofs.Cutting.{front_joins_piece, pieces-append, rest-append}
-use Rattle.gc_lines.proofs.InOrder.{all_of-append}
 use Rattle.gc_lines.proofs.Known.{Appends-is}
-use Rattle.gc_texts.specs.Cuts.{Cuts, Lacks}
-use Rattle.gc_filters.specs.Checking.{WritesPart}
-use Rattle.gc_filters.specs.LogChecking.{AreVerdictsBetween, AreVerdictsFrom, HasChecked, HasJudged, JudgesLine, JudgesMore, KeepsLine, NoneWait, StopsWriting, TakesLine, TakesPiece, TakesPieceInPart, WritesVerdicts, WritesVerdictsInPart, WritesWaiting}
 use Rattle.gc_filters.specs.declared.check_log.LogCheck.{LogCheck}
 use Rattle.gc_filters.specs.declared.check_log.PartialLine.{PartialLine}
 use Rattle.gc_filters.specs.declared.log_client.LogClient.{LogClient}

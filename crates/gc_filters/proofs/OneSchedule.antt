@@ -1,15 +1,5 @@
 -- One line has the form of one event, and one text is the schedule of one list of events.
-use Rattle.std.proofs.Common.{◌≡◌, ◌==◌, ℕ, Bool, true, false, List, drop, length, get_or, Option, Some, None, refl, ap, subst, sym, ◌∙◌, codes, if◌then◌else◌}
-use Rattle.std.specs.Prelude.{filter}
-use Rattle.gc_values.specs.Digits.{number}
-use Rattle.gc_world.specs.declared.event.Event.{Event}
-use Rattle.gc_world.specs.declared.event.Event.TheVariants.{Send, UpDeliver, UpBytes, UpLose, UpRepeat, DownDeliver, DownBytes, DownLose, DownRepeat, Expire, RestartClient, RestartInstrument}
-use Rattle.gc_texts.specs.LineForms.{is_kept, text_lines}
-use Rattle.gc_texts.specs.Procedures.{IsNumber, IsProcedureText, IsTarget}
-use Rattle.gc_texts.proofs.Cutting.{holds_of_rest}
-use Rattle.gc_texts.proofs.OneReading.{one_procedure, one_list}
-use Rattle.gc_texts.proofs.Procedures.{one_number}
-use Rattle.gc_filters.specs.Schedule.{IsRequested, IsSend, IsEvent, IsSchedule, Requested, request_with}
+use Rattle.gc_filters.proofs.Common.{◌≡◌, ◌==◌, ℕ, Bool, true, false, List, drop, length, get_or, Option, Some, None, refl, ap, subst, sym, ◌∙◌, codes, if◌then◌else◌, filter, number, Event, Send, UpDeliver, UpBytes, UpLose, UpRepeat, DownDeliver, DownBytes, DownLose, DownRepeat, Expire, RestartClient, RestartInstrument, is_kept, text_lines, IsNumber, IsProcedureText, IsTarget, holds_of_rest, one_procedure, one_list, one_number, IsRequested, IsSend, IsEvent, IsSchedule, Requested, request_with}
 use Rattle.gc_filters.proofs.InThree.{one_in_three}
 
 -- which words an event's line begins with

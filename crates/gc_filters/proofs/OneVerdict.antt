@@ -1,20 +1,10 @@
 -- A frame has one verdict at most, and a stream one list of verdicts' lines.
-use Rattle.std.proofs.Common.{◌≡◌, ℕ, List, ◌∷◌, Result, Ok, Err, drop, slice_index, arith, sym, ap, ◌∙◌, subst}
-use Rattle.gc_lines.specs.Frames.{frames}
-use Rattle.gc_lines.specs.Readers.{request_at, reply_at}
-use Rattle.gc_lines.specs.Replies.{ReplyFields, IsReply}
-use Rattle.gc_lines.specs.Requests.{RequestFields, IsRequest}
-use Rattle.gc_lines.specs.declared.fault.LineFault.{LineFault}
-use Rattle.gc_lines.specs.declared.frame.Frame.{Frame}
-use Rattle.gc_lines.specs.declared.frame.Frame.TheVariants.{Line, Cleared, Overlong, More}
+use Rattle.gc_filters.proofs.Common.{◌≡◌, ℕ, List, ◌∷◌, Result, Ok, Err, drop, slice_index, arith, sym, ap, ◌∙◌, subst, frames, request_at, reply_at, ReplyFields, IsReply, RequestFields, IsRequest, LineFault, Frame, Line, Cleared, Overlong, More, one_list, IsRequestVerdict, reads, refuses, BeginsAsReply, IsLineVerdict, request, reply, no_reply, no_request, IsVerdict, IsSaidOf, said_of, AreVerdictLines, verdict_lines_from, Verdict}
 use Rattle.gc_lines.proofs.Requests.{one_request, request_again, request_bad}
 use Rattle.gc_lines.proofs.Replies.{one_reply, reply_again, reply_bad}
 use Rattle.gc_catalogue.proofs.CallLaws.{one_refusal, no_refusal}
 use Rattle.gc_catalogue.specs.declared.fault.CallFault.{CallFault}
-use Rattle.gc_texts.proofs.OneReading.{one_list}
 use Rattle.gc_filters.specs.Laws.{OneVerdict}
-use Rattle.gc_filters.specs.Verdicts.{IsRequestVerdict, reads, refuses, BeginsAsReply, IsLineVerdict, request, reply, no_reply, no_request, IsVerdict, IsSaidOf, said_of, AreVerdictLines, verdict_lines_from}
-use Rattle.gc_filters.specs.declared.verdict.Verdict.{Verdict}
 use Rattle.gc_filters.specs.declared.verdict.Verdict.TheVariants as verdict
 
 -- where a result is the error `e` and is the error `f`, these are one fault

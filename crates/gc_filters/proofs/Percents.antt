@@ -1,11 +1,6 @@
 -- A line without a `%` behind its first byte: it has a sign-on only at its beginning, and no reply begins in it behind a CR.
-use Rattle.std.proofs.Common.{◌≡◌, ◌==◌, ◌&&◌, ◌||◌, ℕ, Bool, true, false, List, [], ◌∷◌, Option, None, Some, Bor, is_some, length, take, refl, sym, ap, subst, ◌∙◌}
-use Rattle.std.specs.Option.{option_copied}
+use Rattle.gc_filters.proofs.Common.{◌≡◌, ◌==◌, ◌&&◌, ◌||◌, ℕ, Bool, true, false, List, [], ◌∷◌, Option, None, Some, Bor, is_some, length, take, refl, sym, ap, subst, ◌∙◌, option_copied, ne_eqb, true≢false, Lacks, Cuts, has_part, is_sign_on, begins_as_sign_on, has_lone_return}
 use Rattle.std.specs.Cmp.Lexicographic.{pointwise}
-use Rattle.std.proofs.lemmas.Bool.{ne_eqb, true≢false}
-use Rattle.gc_texts.specs.Cuts.{Lacks, Cuts, has_part}
-use Rattle.gc_texts.specs.SignOns.{is_sign_on}
-use Rattle.gc_filters.specs.Remarks.{begins_as_sign_on, has_lone_return}
 
 and_none : (b : Bool) → (b && false) ≡ false
 and_none true = refl

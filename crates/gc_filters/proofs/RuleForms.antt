@@ -1,19 +1,10 @@
 -- Lines `answer` of a scene with rules, and the reply that each gives.
-use Rattle.std.proofs.Common.{◌≡◌, ℕ, ◌<◌, ◌≤◌, List, length, Option, Some, None, refl, sym, ◌∙◌, subst, arith}
-use Rattle.std.specs.Prelude.{IfSome, IfNone, Result, Ok, Err}
-use Rattle.gc_catalogue.specs.RawTexts.{raw_bytes}
+use Rattle.gc_filters.proofs.Common.{◌≡◌, ℕ, ◌<◌, ◌≤◌, List, length, Option, Some, None, refl, sym, ◌∙◌, subst, arith, IfSome, IfNone, scripted_params, Scripted, IsNumber, IsRpc, second_word, IsReadAs, one_number, BeginsAnswer, rc_in_answer, params_in_answer, IsAnswerLine, Scripts, BeginsWith, IsLineRead, IsReplyTrouble, IsSceneTrouble, IsScriptRead, SceneWord}
+use Rattle.std.specs.Prelude.{Result, Ok, Err}
+use Rattle.gc_catalogue.specs.Prelude.{raw_bytes}
 use Rattle.gc_catalogue.specs.declared.raw.RawCall.{RawCall}
-use Rattle.gc_scenes.specs.Params.{scripted_params}
-use Rattle.gc_scenes.specs.declared.rules.Scripted.{Scripted}
-use Rattle.gc_texts.specs.Procedures.{IsNumber, IsRpc}
-use Rattle.gc_texts.specs.Words.{second_word}
-use Rattle.gc_texts.specs.LineForms.{IsReadAs}
-use Rattle.gc_texts.proofs.Procedures.{one_number}
-use Rattle.gc_filters.specs.SceneLines.{BeginsAnswer, rc_in_answer, params_in_answer, IsAnswerLine, Scripts}
-use Rattle.gc_filters.specs.SceneTroubles.{BeginsWith, IsLineRead, IsReplyTrouble, IsSceneTrouble, IsScriptRead}
 use Rattle.gc_filters.specs.declared.scene_trouble.SceneTrouble.{SceneTrouble}
 use Rattle.gc_filters.specs.declared.scene_trouble.SceneTrouble.TheVariants as trouble
-use Rattle.gc_filters.specs.declared.scene_trouble.SceneWord.{SceneWord}
 
 -- where a request of this procedure has these parameters, and r is the reply made of it with this return code, or `None` if its
 -- parameters have more than 490 bytes, too many for a reply, r is read as `Scripts` says

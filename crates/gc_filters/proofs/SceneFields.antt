@@ -1,10 +1,7 @@
 -- Fields of a scene's lines that don't read: what is then at fault in the line, and that the line says nothing in which the field would
 -- have a value. `text` is what was read in place of the line's word.
-use Rattle.std.proofs.Common.{◌≡◌, ℕ, List, sym, subst}
-use Rattle.gc_values.specs.Decimals.{SpellsDecimal}
+use Rattle.gc_filters.proofs.Common.{◌≡◌, ℕ, List, sym, subst, SpellsDecimal, IsNumber, NoDecimal, NoNumber}
 use Rattle.gc_values.specs.declared.decimal.Decimal.{Decimal}
-use Rattle.gc_texts.specs.Procedures.{IsNumber}
-use Rattle.gc_filters.specs.SceneTroubles.{NoDecimal, NoNumber}
 
 -- a field that is no number
 pub no_number : {Value : Type 0} (Says : Value → Type 0) (field : Value → ℕ) (text word : List ℕ) (max : ℕ) → text ≡ word

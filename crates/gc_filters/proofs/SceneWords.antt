@@ -1,26 +1,12 @@
 -- The words that lines of scenes begin with: a line begins with one word at most, and says nothing of another word's; and what a line
 -- needs is known by its words.
-use Rattle.std.proofs.Common.{◌≡◌, ℕ, ◌==◌, ℤ, Bool, true, false, List, [], ◌∷◌, get_or, if◌then◌else◌, arith, refl, ap, sym, subst, ◌∙◌, codes}
-use Rattle.std.proofs.lemmas.Bool.{ne_eqb}
-use Rattle.gc_instrument.specs.declared.target.Target.{Target}
-use Rattle.gc_scenes.specs.declared.delay.Delay.{Delay}
-use Rattle.gc_scenes.specs.declared.rules.Fault.{Fault}
-use Rattle.gc_scenes.specs.declared.rules.Noise.{Noise}
-use Rattle.gc_scenes.specs.declared.rules.Scripted.{Scripted}
+use Rattle.gc_filters.proofs.Common.{◌≡◌, ℕ, ◌==◌, ℤ, Bool, true, false, List, [], ◌∷◌, get_or, if◌then◌else◌, arith, refl, ap, sym, subst, ◌∙◌, codes, ne_eqb, Target, Delay, Fault, Noise, Scripted, IsNumber, first_word, second_word, third_word, IsAnswerLine, IsBlockedLine, IsDelayLine, IsDriftLine, IsFaultLine, IsLateReplyLine, IsLineOf, IsNameLine, IsNoiseLine, IsSceneLine, IsSerialLine, IsStartLine, IsTargetLine, need_of, takes, way_line, BeginsWith, word_text, Blocked, Drift, SceneLine, SceneWord}
 use Rattle.gc_scenes.specs.declared.ways.Way.{Way}
-use Rattle.gc_scenes.specs.declared.ways.Way.TheVariants as way
-use Rattle.gc_texts.specs.Procedures.{IsNumber}
-use Rattle.gc_texts.specs.Words.{first_word, second_word, third_word}
-use Rattle.gc_filters.specs.SceneLines.{IsAnswerLine, IsBlockedLine, IsDelayLine, IsDriftLine, IsFaultLine, IsLateReplyLine, IsLineOf, IsNameLine, IsNoiseLine, IsSceneLine, IsSerialLine, IsStartLine, IsTargetLine, need_of, takes, way_line}
-use Rattle.gc_filters.specs.SceneTroubles.{BeginsWith, word_text}
-use Rattle.gc_filters.specs.declared.scene_line.Blocked.{Blocked}
-use Rattle.gc_filters.specs.declared.scene_line.Drift.{Drift}
 use Rattle.gc_filters.specs.declared.scene_line.Need.{Need}
-use Rattle.gc_filters.specs.declared.scene_line.Need.TheVariants as need
 use Rattle.gc_filters.specs.declared.scene_line.SceneKind.{SceneKind}
-use Rattle.gc_filters.specs.declared.scene_line.SceneLine.{SceneLine}
+use Rattle.gc_scenes.specs.declared.ways.Way.TheVariants as way
+use Rattle.gc_filters.specs.declared.scene_line.Need.TheVariants as need
 use Rattle.gc_filters.specs.declared.scene_line.SceneLine.TheVariants as says
-use Rattle.gc_filters.specs.declared.scene_trouble.SceneWord.{SceneWord}
 use Rattle.gc_filters.specs.declared.scene_trouble.SceneWord.TheVariants as word
 
 -- the word that a line begins with that says this

@@ -1,21 +1,10 @@
 -- That a text is one scene without rules at most.
-use Rattle.std.proofs.Common.{◌≡◌, arith, ℕ, List, inl, inr, ap, subst, sym, ◌∙◌, codes}
-use Rattle.std.specs.Prelude.{IsTrue, filter}
-use Rattle.std.proofs.lemmas.List.{append_cancel_left}
+use Rattle.gc_filters.proofs.Common.{◌≡◌, arith, ℕ, List, inl, inr, ap, subst, sym, ◌∙◌, codes, IsTrue, filter, append_cancel_left, State, Target, behind, IsTextOf, is_kept, text_lines, first_word, second_word, after_two_words, one_list, IsLineOf, IsTargetLine, need_of, takes, IsScene, IsOverfullScene, OverfillAnInstrument, FitAnInstrument, scene_opening, SceneLine}
 use Rattle.gc_values.proofs.DecimalLaws.{spells_unique}
 use Rattle.gc_values.proofs.WholeLemmas.{one_whole}
-use Rattle.gc_instrument.specs.State.{State}
-use Rattle.gc_instrument.specs.declared.target.Target.{Target}
-use Rattle.gc_texts.specs.Cuts.{behind}
-use Rattle.gc_texts.specs.LineForms.{IsTextOf, is_kept, text_lines}
-use Rattle.gc_texts.specs.Words.{first_word, second_word, after_two_words}
-use Rattle.gc_texts.proofs.OneReading.{one_list}
-use Rattle.gc_filters.specs.SceneLines.{IsLineOf, IsTargetLine, need_of, takes}
-use Rattle.gc_filters.specs.Scenes.{IsScene, IsOverfullScene, OverfillAnInstrument, FitAnInstrument, scene_opening}
-use Rattle.gc_filters.specs.declared.scene_line.SceneKind.TheVariants as kind
-use Rattle.gc_filters.specs.declared.scene_line.SceneLine.{SceneLine}
-use Rattle.gc_filters.specs.declared.scene_line.SceneLine.TheVariants as says
 use Rattle.gc_filters.proofs.SceneWords.{begins, one_word, word_in}
+use Rattle.gc_filters.specs.declared.scene_line.SceneKind.TheVariants as kind
+use Rattle.gc_filters.specs.declared.scene_line.SceneLine.TheVariants as says
 
 -- two targets with one direction and one distance are one
 same_target : (t u : Target) → t.hz ≡ u.hz → t.v ≡ u.v → t.distance ≡ u.distance → t ≡ u

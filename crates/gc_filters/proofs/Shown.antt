@@ -1,14 +1,9 @@
 -- The text of a report is that of the run that it shows. A run of events ends with a wire: the line, the instrument, and the
 -- lists and counts of what has happened.
-use Rattle.std.proofs.Common.{◌≡◌, Bool, length, refl, sym, ap, ◌∙◌}
-use Rattle.std.proofs.lemmas.List.{length-map}
-use Rattle.gc_client.specs.Settlements.{settlement_seen}
+use Rattle.gc_filters.proofs.Common.{◌≡◌, Bool, length, refl, sym, ap, ◌∙◌, length-map, sent_seen, IsReport, made_seen, Wire, wire_text}
+use Rattle.gc_client.specs.Prelude.{settlement_seen}
 use Rattle.gc_world.specs.declared.report.Report.{Report}
-use Rattle.gc_world.specs.Faithful.{sent_seen}
-use Rattle.gc_world.specs.Reports.{IsReport, made_seen}
-use Rattle.gc_world.specs.World.{Wire}
 use Rattle.gc_filters.specs.Reports.{report_text}
-use Rattle.gc_filters.specs.Drill.{wire_text}
 
 -- the text of a report is that of the run whose wire the report shows
 pub text_shown : {S : Type 0} (r : Report S) (w : Wire S) (totals : Bool) → IsReport r w → report_text r totals ≡ wire_text w totals

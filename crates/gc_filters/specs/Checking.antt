@@ -1,14 +1,8 @@
 -- What a check writes, and how it ends: this project's own. `given` are the bytes that the source gave, and `old` and `new` are
 -- what the sink had taken before and has taken after, where that is known. A check writes a text for each piece of its input: of a
 -- stream for each frame, of a log for each line; `Written` says which texts are written of pieces.
+use Rattle.gc_filters.specs.Common.{Appends, IsRunOverPorts, Ports, WholeOrCut, all_of, frames, Frame, More, Served, ServeFault}
 use Rattle.std.specs.Prelude.{◌≡◌, ℕ, ◌+◌, ◌-◌, ◌<◌, min, ◌^◌, List, [], ◌∷◌, ◌++◌, length, take, Option, Some, None, Result}
-use Rattle.std.specs.Io.KnownBytes.{Appends}
-use Rattle.gc_lines.specs.Answering.{IsRunOverPorts, Ports, WholeOrCut, all_of}
-use Rattle.gc_lines.specs.Frames.{frames}
-use Rattle.gc_lines.specs.declared.frame.Frame.{Frame}
-use Rattle.gc_lines.specs.declared.frame.Frame.TheVariants.{More}
-use Rattle.gc_lines.specs.declared.served.Served.{Served}
-use Rattle.gc_lines.specs.declared.served.ServeFault.{ServeFault}
 use Rattle.gc_filters.specs.Verdicts.{IsSaidOf, verdict_line, AreFrameVerdicts}
 use Rattle.gc_filters.specs.declared.check.Judge.{Judge}
 

@@ -1,22 +1,10 @@
 -- What a schedule that is played writes: this project's own. A run of events ends with a wire: the line, the instrument, and
 -- the lists and counts of what has happened.
+use Rattle.gc_filters.specs.Common.{Appends, Ports, TakesPart, State, Event, played, Wire, FirstFaulty, MemoryOnlyIf, FailsAtRead, IsReadFault, GaveBytes, IsReadToEnd, source_of, TEXT_LIMIT, RunFault, Schedule, Output}
 use Rattle.std.specs.Prelude.{◌≡◌, ℕ, ◌+◌, ◌<◌, ◌≤◌, Bool, true, false, List, length, Option, Result, Ok, Err}
-use Rattle.std.specs.Io.KnownBytes.{Appends}
-use Rattle.gc_lines.specs.Answering.{Ports}
-use Rattle.gc_lines.specs.Ports.{TakesPart}
-use Rattle.gc_instrument.specs.State.{State}
-use Rattle.gc_world.specs.declared.event.Event.{Event}
-use Rattle.gc_world.specs.Clients.{played}
-use Rattle.gc_world.specs.World.{Wire}
-use Rattle.gc_texts.specs.LineForms.{FirstFaulty, MemoryOnlyIf}
 use Rattle.gc_filters.specs.Reports.{run_text}
 use Rattle.gc_filters.specs.Schedule.{IsEvent, IsSchedule}
 use Rattle.gc_filters.specs.declared.report_text.Totals.{Totals}
-use Rattle.gc_texts.specs.Texts.{FailsAtRead, IsReadFault}
-use Rattle.gc_texts.specs.WholeTexts.{GaveBytes, IsReadToEnd, source_of}
-use Rattle.gc_texts.specs.declared.text.TheConstants.{TEXT_LIMIT}
-use Rattle.gc_texts.specs.declared.fault.RunFault.{RunFault}
-use Rattle.gc_texts.specs.declared.fault.RunFault.TheVariants.{Schedule, Output}
 
 -- the counts of a run, by the wire with which it ends
 abbrev pub totals_of : {S : Type 0} → Wire S → Totals

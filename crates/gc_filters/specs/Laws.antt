@@ -1,8 +1,6 @@
 -- Laws of schedules, scenes and verdicts: both the laws and what they speak of are this project's own.
+use Rattle.gc_filters.specs.Common.{Frame, Event, State}
 use Rattle.std.specs.Prelude.{◌≡◌, ℕ, List}
-use Rattle.gc_lines.specs.declared.frame.Frame.{Frame}
-use Rattle.gc_world.specs.declared.event.Event.{Event}
-use Rattle.gc_instrument.specs.State.{State}
 use Rattle.gc_filters.specs.Scenes.{IsScene, IsOverfullScene}
 use Rattle.gc_filters.specs.Schedule.{IsSchedule}
 use Rattle.gc_filters.specs.Verdicts.{IsVerdict, AreVerdictLines}

@@ -1,3 +1,5 @@
+mod Common
+pub mod Prelude
 pub mod Checking
 pub mod Drill
 pub mod Laws

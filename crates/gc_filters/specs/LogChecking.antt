@@ -1,15 +1,8 @@
 -- What a check of a log writes of each of its lines: this project's own. `given` are the bytes that the source gave, `rest` those
 -- of a line that no line feed has ended, and `old` and `new` what the sink had taken before and has taken after, where that is
 -- known.
+use Rattle.gc_filters.specs.Common.{Appends, IsRunOverPorts, Ports, all_of, ends_in_return, pieces_behind, rest_behind, Served, ServeFault, marked_text, escaped, IsLogLine, LogMark}
 use Rattle.std.specs.Prelude.{◌≡◌, ℕ, ◌+◌, ◌-◌, ◌<◌, ◌≤◌, ◌==◌, ◌&&◌, Bool, true, false, not, nat_lt, List, [], ◌∷◌, ◌++◌, length, take, get_or, map, Option, Some, None, Result, if◌then◌else◌, codes}
-use Rattle.std.specs.Io.KnownBytes.{Appends}
-use Rattle.gc_lines.specs.Answering.{IsRunOverPorts, Ports, all_of}
-use Rattle.gc_lines.specs.Frames.{ends_in_return, pieces_behind, rest_behind}
-use Rattle.gc_lines.specs.declared.served.Served.{Served}
-use Rattle.gc_lines.specs.declared.served.ServeFault.{ServeFault}
-use Rattle.gc_texts.specs.Logs.{marked_text, escaped, IsLogLine}
-use Rattle.gc_texts.specs.declared.log_line.LogMark.{LogMark}
-use Rattle.gc_texts.specs.declared.log_line.LogMark.TheVariants as mark
 use Rattle.gc_filters.specs.Checking.{WritesAll, WritesBy, WritesPart}
 use Rattle.gc_filters.specs.Verdicts.{IsLineVerdict, verdict_text}
 use Rattle.gc_filters.specs.LogClients.{after_entry, is_impossible_entry, nothing_known}
@@ -18,6 +11,7 @@ use Rattle.gc_filters.specs.declared.check_log.LogCheck.{LogCheck}
 use Rattle.gc_filters.specs.declared.check_log.PartialLine.{PartialLine}
 use Rattle.gc_filters.specs.declared.log_client.LogClient.{LogClient}
 use Rattle.gc_filters.specs.declared.verdict.Verdict.{Verdict}
+use Rattle.gc_texts.specs.declared.log_line.LogMark.TheVariants as mark
 use Rattle.gc_filters.specs.declared.verdict.Verdict.TheVariants as verdict
 
 -- the verdict on a line that went or came whole, as text: `overlong` if it has more than 512 bytes, else that of `check`

@@ -3,19 +3,12 @@
 -- the next id; at any other nothing is known until the next beginning. After a line about the connection the log may lack requests that
 -- were sent: their writes were cut. Then no reply counts as impossible until the next request shows by its id how many these were; if that
 -- is a null procedure, it may be one of a beginning, and nothing is known.
+use Rattle.gc_filters.specs.Common.{LineFault, reply_at, request_at, ReplyFields, RequestFields, is_answered, left_by, the_word, place, is_impossible, LogMark}
 use Rattle.std.specs.Prelude.{ℕ, ◌+◌, ◌-◌, ◌%◌, ◌==◌, ◌&&◌, ◌||◌, Bool, true, false, not, nat_lt, nat_le, nat_eq, List, [], ◌∷◌, length, Option, Some, None, Result, Ok, Err, if◌then◌else◌}
-use Rattle.gc_lines.specs.declared.fault.LineFault.{LineFault}
-use Rattle.gc_lines.specs.Readers.{reply_at, request_at}
-use Rattle.gc_lines.specs.Replies.{ReplyFields}
-use Rattle.gc_lines.specs.Requests.{RequestFields}
-use Rattle.gc_client.specs.Beginning.{is_answered, left_by, the_word}
-use Rattle.gc_client.specs.Rule.{place}
 use Rattle.gc_client.specs.declared.window.TheConstants.{WINDOW, IDS}
-use Rattle.gc_texts.specs.Strays.{is_impossible}
-use Rattle.gc_texts.specs.declared.log_line.LogMark.{LogMark}
-use Rattle.gc_texts.specs.declared.log_line.LogMark.TheVariants as mark
 use Rattle.gc_filters.specs.declared.log_client.Known.{Known}
 use Rattle.gc_filters.specs.declared.log_client.LogClient.{LogClient}
+use Rattle.gc_texts.specs.declared.log_line.LogMark.TheVariants as mark
 
 -- a client of which nothing is known, and no beginning was seen in part
 abbrev pub nothing_known : LogClient

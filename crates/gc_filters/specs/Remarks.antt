@@ -1,13 +1,7 @@
 -- What a check remarks of a line behind its verdict: this project's own. A line may be no reply, because it is measured data in GSI, has
 -- a sign-on in it, or is replies with another line end; or, of a log, because it is a request of this end that came back.
+use Rattle.gc_filters.specs.Common.{starts_with, request_at, Frame, Line, has_part, is_sign_on, LogMark}
 use Rattle.std.specs.Prelude.{ℕ, ◌+◌, ◌==◌, ◌&&◌, ◌||◌, Bool, true, false, List, [], get_or, is_ok, if◌then◌else◌, codes}
-use Rattle.std.specs.List.{starts_with}
-use Rattle.gc_lines.specs.Readers.{request_at}
-use Rattle.gc_lines.specs.declared.frame.Frame.{Frame}
-use Rattle.gc_lines.specs.declared.frame.Frame.TheVariants.{Line}
-use Rattle.gc_texts.specs.Cuts.{has_part}
-use Rattle.gc_texts.specs.SignOns.{is_sign_on}
-use Rattle.gc_texts.specs.declared.log_line.LogMark.{LogMark}
 use Rattle.gc_texts.specs.declared.log_line.LogMark.TheVariants as mark
 
 -- whether a GSI word begins at this place of a line: the word index 11 of measured data, or 41 of a code block, and behind four more bytes

@@ -1,11 +1,7 @@
 -- What is written of a report: its settlements, and a line of totals. This project's own.
+use Rattle.gc_filters.specs.Common.{decimal, Call, Settlement, settlement_seen, settlement_lines}
 use Rattle.std.specs.Prelude.{ℕ, Bool, List, [], ◌++◌, length, map, if◌then◌else◌, codes}
-use Rattle.std.specs.Fmt.{decimal}
-use Rattle.gc_catalogue.specs.declared.call.Call.{Call}
-use Rattle.gc_client.specs.Rule.{Settlement}
-use Rattle.gc_client.specs.Settlements.{settlement_seen}
 use Rattle.gc_world.specs.declared.report.Report.{Report}
-use Rattle.gc_texts.specs.Settlements.{settlement_lines}
 use Rattle.gc_filters.specs.declared.report_text.Totals.{Totals}
 
 -- the line of totals, for these counts

@@ -1,31 +1,20 @@
 -- The lines of scenes, of whatever kind: what each says, and for which scenes it is: this project's own.
+use Rattle.gc_filters.specs.Common.{list_all, raw_bytes, Target, Delay, Fault, Noise, Scripted, before, behind, IsNumber, IsRpc, first_word, second_word, third_word, fourth_word, after_two_words, after_three_words, after_four_words, SpellsDecimal, NamesWhole, FitsLong}
 use Rattle.std.specs.Prelude.{◌≡◌, ◌⊎◌, ℕ, ℤ, Bool, true, false, IsTrue, List, [], ◌∷◌, ◌++◌, Some, codes}
-use Rattle.std.specs.List.{list_all}
-use Rattle.gc_catalogue.specs.RawTexts.{raw_bytes}
 use Rattle.gc_catalogue.specs.declared.raw.RawCall.{RawCall}
-use Rattle.gc_instrument.specs.declared.target.Target.{Target}
-use Rattle.gc_scenes.specs.declared.delay.Delay.{Delay}
-use Rattle.gc_scenes.specs.declared.rules.Fault.{Fault}
-use Rattle.gc_scenes.specs.declared.rules.Noise.{Noise}
 use Rattle.gc_scenes.specs.declared.rules.Offset.{Offset}
-use Rattle.gc_scenes.specs.declared.rules.Scripted.{Scripted}
 use Rattle.gc_scenes.specs.declared.ways.Way.{Way}
-use Rattle.gc_scenes.specs.declared.ways.Way.TheVariants as way
-use Rattle.gc_texts.specs.Cuts.{before, behind}
-use Rattle.gc_texts.specs.Procedures.{IsNumber, IsRpc}
-use Rattle.gc_texts.specs.Words.{first_word, second_word, third_word, fourth_word, after_two_words, after_three_words, after_four_words}
-use Rattle.gc_values.specs.Decimals.{SpellsDecimal}
-use Rattle.gc_values.specs.Text as text
-use Rattle.gc_values.specs.Whole.{NamesWhole, FitsLong}
 use Rattle.gc_filters.specs.declared.scene_line.Blocked.{Blocked}
 use Rattle.gc_filters.specs.declared.scene_line.Drift.{Drift}
 use Rattle.gc_filters.specs.declared.scene_line.Need.{Need}
-use Rattle.gc_filters.specs.declared.scene_line.Need.TheVariants as need
 use Rattle.gc_filters.specs.declared.scene_line.SceneKind.{SceneKind}
-use Rattle.gc_filters.specs.declared.scene_line.SceneKind.TheVariants as kind
 use Rattle.gc_filters.specs.declared.scene_line.SceneLine.{SceneLine}
-use Rattle.gc_filters.specs.declared.scene_line.SceneLine.TheVariants as says
 use Rattle.gc_filters.specs.declared.scene_line.Span.{Span}
+use Rattle.gc_scenes.specs.declared.ways.Way.TheVariants as way
+use Rattle.gc_values.specs.Text as text
+use Rattle.gc_filters.specs.declared.scene_line.Need.TheVariants as need
+use Rattle.gc_filters.specs.declared.scene_line.SceneKind.TheVariants as kind
+use Rattle.gc_filters.specs.declared.scene_line.SceneLine.TheVariants as says
 
 -- the count of requests that a line `fault` without `for` stands for: the greatest number of 32 bits, for "without end". (Where
 -- `after` is 0, such a fault does end, after so many.) This project's own

@@ -1,8 +1,6 @@
 -- What the lines of a scene say together, in the parts of which an instrument is made: this project's own.
+use Rattle.gc_filters.specs.Common.{simulator_opening, no_ways, Prism}
 use Rattle.std.specs.Prelude.{◌≡◌, true, false, List, None}
-use Rattle.gc_instrument.specs.State.{simulator_opening}
-use Rattle.gc_scenes.specs.Ways.{no_ways}
-use Rattle.gc_scenes.specs.declared.rules.Prism.{Prism}
 use Rattle.gc_scenes.specs.declared.rules.SceneRules.{SceneRules}
 use Rattle.gc_filters.specs.Scenes.{answers_of, delays_of, drops_from, faults_of, late_of, name_of, noise_of, prisms_of, repeats_of, serial_of, starts_of, targets_of, ways_of}
 use Rattle.gc_filters.specs.declared.scene_line.SceneLine.{SceneLine}

@@ -1,22 +1,14 @@
 -- What is at fault in a faulty line of a scene: this project's own.
+use Rattle.gc_filters.specs.Common.{decimal, NamesWhole, FitsLong, SpellsDecimal, Delay, Scripted, IsRawRefusal, behind, IsNumber, IsRpc, second_word, third_word, fourth_word, after_two_words, after_three_words, after_four_words}
 use Rattle.std.specs.Prelude.{◌≡◌, ◌⊎◌, ℕ, ℤ, List, ◌++◌, MatchResult, Result, codes}
-use Rattle.std.specs.Fmt.{decimal}
-use Rattle.gc_values.specs.Text as text
-use Rattle.gc_values.specs.Whole.{NamesWhole, FitsLong}
-use Rattle.gc_scenes.specs.declared.delay.Delay.{Delay}
-use Rattle.gc_scenes.specs.declared.rules.Scripted.{Scripted}
 use Rattle.gc_values.specs.declared.decimal.Decimal.{Decimal}
-use Rattle.gc_catalogue.specs.Raws.{IsRawRefusal}
 use Rattle.gc_catalogue.specs.declared.raw.RawFault.{RawFault}
 use Rattle.gc_catalogue.specs.declared.raw.RawFault.TheVariants.{InTable}
-use Rattle.gc_texts.specs.Cuts.{behind}
-use Rattle.gc_values.specs.Decimals.{SpellsDecimal}
-use Rattle.gc_texts.specs.Procedures.{IsNumber, IsRpc}
-use Rattle.gc_texts.specs.Words.{second_word, third_word, fourth_word, after_two_words, after_three_words, after_four_words}
 use Rattle.gc_filters.specs.SceneLines.{Begins, IsLateReplyLine, SaysRestart, Scripts, code_max, delay_max, params_in_answer, rc_in_answer, scene_target_max}
 use Rattle.gc_filters.specs.declared.scene_trouble.SceneTrouble.{SceneTrouble}
-use Rattle.gc_filters.specs.declared.scene_trouble.SceneTrouble.TheVariants as trouble
 use Rattle.gc_filters.specs.declared.scene_trouble.SceneWord.{SceneWord}
+use Rattle.gc_values.specs.Text as text
+use Rattle.gc_filters.specs.declared.scene_trouble.SceneTrouble.TheVariants as trouble
 use Rattle.gc_filters.specs.declared.scene_trouble.SceneWord.TheVariants as word
 
 -- a word that a line of a scene begins with, as it is written

@@ -1,27 +1,13 @@
 -- A scene's text, of whatever kind, and the instrument that it sets up: this project's own.
+use Rattle.gc_filters.specs.Common.{State, IsFittingState, opening, simulator_opening, Target, still, SceneState, SlowState, no_ways, with_way, Delay, Fault, Noise, Prism, Scripted, ItemForm, IsTextOf, TextFault, RunFault, SceneFull, TEXT_LIMIT}
 use Rattle.std.specs.Prelude.{◌≡◌, ◌⊎◌, ℕ, ℤ, suc, ◌==◌, ◌<◌, ◌≤◌, Bool, true, false, not, List, [], ◌∷◌, length, Option, Some, None, unwrap_or, fold, filter_map, if◌then◌else◌}
-use Rattle.gc_instrument.specs.State.{State, IsFittingState, opening, simulator_opening}
-use Rattle.gc_instrument.specs.declared.target.Target.{Target}
-use Rattle.gc_scenes.specs.Laws.{still}
-use Rattle.gc_scenes.specs.SceneState.{SceneState}
-use Rattle.gc_scenes.specs.Slow.{SlowState}
-use Rattle.gc_scenes.specs.Ways.{no_ways, with_way}
-use Rattle.gc_scenes.specs.declared.delay.Delay.{Delay}
-use Rattle.gc_scenes.specs.declared.rules.Fault.{Fault}
-use Rattle.gc_scenes.specs.declared.rules.Noise.{Noise}
-use Rattle.gc_scenes.specs.declared.rules.Prism.{Prism}
-use Rattle.gc_scenes.specs.declared.rules.Scripted.{Scripted}
 use Rattle.gc_scenes.specs.declared.ways.Ways.{Ways}
-use Rattle.gc_texts.specs.LineForms.{ItemForm, IsTextOf, TextFault}
-use Rattle.gc_texts.specs.declared.fault.RunFault.{RunFault}
-use Rattle.gc_texts.specs.declared.fault.RunFault.TheVariants.{SceneFull}
-use Rattle.gc_texts.specs.declared.text.TheConstants.{TEXT_LIMIT}
 use Rattle.gc_filters.specs.SceneLines.{IsLineOf}
 use Rattle.gc_filters.specs.declared.scene.LateScene.{LateScene}
-use Rattle.gc_filters.specs.declared.scene_line.SceneKind.TheVariants as kind
 use Rattle.gc_filters.specs.declared.scene_line.SceneLine.{SceneLine}
-use Rattle.gc_filters.specs.declared.scene_line.SceneLine.TheVariants as says
 use Rattle.gc_filters.specs.declared.scene_parts.TheConstants.{MOST_ANSWERS, MOST_DELAYS, MOST_FAULTS, MOST_STARTS, MOST_TARGETS}
+use Rattle.gc_filters.specs.declared.scene_line.SceneKind.TheVariants as kind
+use Rattle.gc_filters.specs.declared.scene_line.SceneLine.TheVariants as says
 
 -- What lines say together.
 

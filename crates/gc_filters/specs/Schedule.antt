@@ -1,11 +1,6 @@
 -- A schedule's text, and the events that it gives: this project's own.
+use Rattle.gc_filters.specs.Common.{Call, Lacks, IsTextOf, IsNumber, IsProcedureText, IsTarget, IsWordAnd, Event}
 use Rattle.std.specs.Prelude.{◌≡◌, ℕ, List, ◌∷◌, ◌++◌, codes}
-use Rattle.gc_catalogue.specs.declared.call.Call.{Call}
-use Rattle.gc_texts.specs.Cuts.{Lacks}
-use Rattle.gc_texts.specs.LineForms.{IsTextOf}
-use Rattle.gc_texts.specs.Procedures.{IsNumber, IsProcedureText, IsTarget}
-use Rattle.gc_texts.specs.TaskLines.{IsWordAnd}
-use Rattle.gc_world.specs.declared.event.Event.{Event}
 use Rattle.gc_world.specs.declared.event.Event.TheVariants.{Send, UpDeliver, UpBytes, UpLose, UpRepeat, DownDeliver, DownBytes, DownLose, DownRepeat, Expire, RestartClient, RestartInstrument}
 
 -- the greatest count of bytes and the greatest place of a line in flight that a schedule may name: the greatest number of 32 bits. This

@@ -1,19 +1,6 @@
 -- What a check says of each frame of a stream: this project's own.
+use Rattle.gc_filters.specs.Common.{decimal, AllZip, numbered_fault, line_fault_number, frames, PastSignature, ReplyFields, IsReply, FirstBadOfReply, reply_signature, RequestFields, IsRequest, FirstBadOfRequest, LineFault, Frame, Line, Cleared, Overlong, More, refusal_number, IsCall, IsRefusal, Call}
 use Rattle.std.specs.Prelude.{◌≡◌, ℕ, ◌+◌, List, [], ◌∷◌, ◌++◌, codes}
-use Rattle.std.specs.Fmt.{decimal}
-use Rattle.std.specs.List.{AllZip}
-use Rattle.gc_lines.specs.Answering.{numbered_fault}
-use Rattle.gc_lines.specs.Faults.{line_fault_number}
-use Rattle.gc_lines.specs.Frames.{frames}
-use Rattle.gc_lines.specs.Headers.{PastSignature}
-use Rattle.gc_lines.specs.Replies.{ReplyFields, IsReply, FirstBadOfReply, reply_signature}
-use Rattle.gc_lines.specs.Requests.{RequestFields, IsRequest, FirstBadOfRequest}
-use Rattle.gc_lines.specs.declared.fault.LineFault.{LineFault}
-use Rattle.gc_lines.specs.declared.frame.Frame.{Frame}
-use Rattle.gc_lines.specs.declared.frame.Frame.TheVariants.{Line, Cleared, Overlong, More}
-use Rattle.gc_catalogue.specs.CallFault.{refusal_number}
-use Rattle.gc_catalogue.specs.Calls.{IsCall, IsRefusal}
-use Rattle.gc_catalogue.specs.declared.call.Call.{Call}
 use Rattle.gc_catalogue.specs.declared.fault.CallFault.{CallFault}
 use Rattle.gc_filters.specs.Remarks.{frame_remark}
 use Rattle.gc_filters.specs.declared.verdict.Verdict.{Verdict}

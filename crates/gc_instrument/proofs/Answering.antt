@@ -1,31 +1,13 @@
 -- What the code wrote for a request is the reply that the definitions give to it (`AnswersRequest`, `IsReplied`, `handed`), and
 -- it reads as the outcome of carrying out the call (`IsAnswered`). Below, a state *fits* if `IsFittingState` holds of it, and a
 -- reply is *plain* if it has neither CR nor LF.
-use Rattle.std.proofs.Common.{◌≡◌, ◌⊎◌, inl, inr, ℕ, ◌<◌, arith, List, ◌==◌, if◌then◌else◌, Some, None, refl, sym, ap, ◌∙◌, subst, [], Bool, true, false, Option}
-use Rattle.gc_lines.specs.Lines.{IsPlain}
-use Rattle.std.proofs.lemmas.Bool.{cases_eq, cond-false, ne_eqb}
-use Rattle.gc_lines.specs.Answering.{AppendsAnswer}
-use Rattle.gc_lines.specs.AnsweringLines.{RepliesTo}
-use Rattle.gc_lines.specs.Requests.{RequestFields, IsRequest}
-use Rattle.gc_lines.proofs.AnsweringLines.{appended_alone}
+use Rattle.gc_instrument.proofs.Common.{◌≡◌, ◌⊎◌, inl, inr, ℕ, ◌<◌, arith, List, ◌==◌, if◌then◌else◌, Some, None, refl, sym, ap, ◌∙◌, subst, [], Bool, true, false, Option, IsPlain, AppendsAnswer, RepliesTo, RequestFields, IsRequest, cases_eq, cond-false, ne_eqb, appended_alone, one_call, no_refusal, rounded_answer, ReadsBackAnswer, ReadsBackValue, ReadsBackRefusal, IsCall, IsFitting, IsRefusal, IsReading, reply_of, request_line, request_of, Answer, CallFault, Call, State, IsFittingState, Executed, exec, IsReplied, silent, answers, AppendsExchange, AnswersCall, repeats, executes, AnswersRequest, refuses, answers_call, IsReplyToCall, IsReplyToRequest, IsAnswered, IsExchanged, Handed, handed, again_or_new, kept_line, with_kept, reading_of, refusal_line, executed_line, reply_id}
 use Rattle.gc_lines.proofs.Replies.{reply_found}
 use Rattle.gc_lines.proofs.Requests.{request_found, one_request}
-use Rattle.gc_catalogue.proofs.CallLaws.{one_call, no_refusal}
 use Rattle.gc_catalogue.proofs.LineLaws.{call_again, answer_again, refusal_again, rounded_fits}
-use Rattle.gc_catalogue.specs.Answers.{rounded_answer}
-use Rattle.gc_catalogue.specs.Laws.{ReadsBackAnswer, ReadsBackValue, ReadsBackRefusal}
 use Rattle.gc_catalogue.specs.declared.answer.Reading.{Reading}
 use Rattle.gc_catalogue.specs.declared.answer.Reading.TheVariants.{Value, Refused}
-use Rattle.gc_catalogue.specs.Calls.{IsCall, IsFitting, IsRefusal}
-use Rattle.gc_catalogue.specs.Readings.{IsReading}
-use Rattle.gc_catalogue.specs.Texts.{reply_of, request_line, request_of}
-use Rattle.gc_catalogue.specs.declared.answer.Answer.{Answer}
-use Rattle.gc_catalogue.specs.declared.fault.CallFault.{CallFault}
-use Rattle.gc_catalogue.specs.declared.call.Call.{Call}
 use Rattle.gc_instrument.proofs.Executions.{IsSoundOutcome, exec_outcome}
-use Rattle.gc_instrument.specs.State.{State, IsFittingState}
-use Rattle.gc_instrument.specs.Execution.{Executed, exec}
-use Rattle.gc_instrument.specs.Replying.{IsReplied, silent, answers, AppendsExchange, AnswersCall, repeats, executes, AnswersRequest, refuses, answers_call, IsReplyToCall, IsReplyToRequest, IsAnswered, IsExchanged, Handed, handed, again_or_new, kept_line, with_kept, reading_of, refusal_line, executed_line, reply_id}
 
 -- a request that names no call gets the refusal's line, with the id of its reply, and changes nothing
 pub refused_reply : (state : State) (q : RequestFields) (fault : CallFault) (id : ℕ) (line : List ℕ)

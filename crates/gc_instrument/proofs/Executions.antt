@@ -1,31 +1,13 @@
 -- The outcome of every call is sound (`IsSoundOutcome`): the serial number, the name and the scene stay, the values are in range,
 -- and a code other than 0 has no answer. Below, a state *fits* if `IsFittingState` holds of it.
-use Rattle.std.proofs.Common.{◌≡◌, ℕ, ℤ, pos, negsuc, ◌<◌, ◌≤◌, ◌&&◌, ◌||◌, Bool, true, false, cond, List, Option, Some, None, refl, sym, ap, subst, arith}
-use Rattle.std.proofs.lemmas.Bool.{and_parts, leb-true}
-use Rattle.std.specs.Prelude.{int_lt, int_le, nat_le, unsigned_abs}
-use Rattle.std.specs.Ordering.{int_eq}
-use Rattle.std.proofs.lemmas.Int.{ints}
-use Rattle.gc_values.specs.Text.{IsText}
-use Rattle.gc_values.specs.Whole.{FitsLong, FitsShort}
-use Rattle.gc_values.specs.declared.decimal.Decimal.{Decimal}
-use Rattle.gc_catalogue.specs.Answers.{IsAnswerOf, IsFittingAnswer}
-use Rattle.gc_catalogue.specs.Calls.{IsFitting}
-use Rattle.gc_values.specs.Lists.{AreValues}
-use Rattle.gc_catalogue.specs.Structs.{date_values}
-use Rattle.gc_catalogue.specs.declared.answer.Answer.{Answer}
-use Rattle.gc_catalogue.specs.declared.answer.Answer.TheVariants.{Nothing}
-use Rattle.gc_catalogue.specs.declared.call.Call.{Call}
-use Rattle.gc_catalogue.specs.declared.call.Call.TheVariants.{NullProc}
+use Rattle.gc_instrument.proofs.Common.{◌≡◌, ℕ, ℤ, pos, negsuc, ◌<◌, ◌≤◌, ◌&&◌, ◌||◌, Bool, true, false, cond, List, Option, Some, None, refl, sym, ap, subst, arith, and_parts, leb-true, int_lt, int_le, nat_le, unsigned_abs, int_eq, ints, Decimal, IsAnswerOf, IsFittingAnswer, IsFitting, date_values, Answer, Nothing, Call, NullProc, exec, done, refused, set_if, distance_outcome, commanded, searched, adjusted, measured, unmeasured, pointed, is_precision, is_prism, is_date, State, IsFittingState, IsFittingKept, opening_of, restarted, first_date, first_within, Target}
+use Rattle.gc_values.specs.Prelude.{IsText, FitsLong, FitsShort, AreValues}
 use Rattle.gc_catalogue.specs.declared.call.DateTime.{DateTime}
-use Rattle.gc_instrument.specs.Execution.{exec, done, refused, set_if, distance_outcome, commanded, searched, adjusted, measured, unmeasured, pointed, is_precision, is_prism, is_date}
 use Rattle.gc_instrument.specs.Faces.{face_number}
-pub use Rattle.gc_instrument.specs.Outcomes.{IsSoundOutcome}
-use Rattle.gc_instrument.specs.State.{State, IsFittingState, IsFittingKept, opening_of, restarted, first_date}
-use Rattle.gc_instrument.specs.Targets.{first_within}
 use Rattle.gc_instrument.specs.declared.face.Face.{Face}
 use Rattle.gc_instrument.specs.declared.face.Face.TheVariants.{Normal, Turned}
-use Rattle.gc_instrument.specs.declared.target.Target.{Target}
 use Rattle.gc_instrument.proofs.Keeping.{commanded_by_tests}
+pub use Rattle.gc_instrument.specs.Outcomes.{IsSoundOutcome}
 
 -- a call may lead from the state s to t: the serial number, the name and the scene stay, and t fits where s does
 record MayLeadTo (s t : State) : Type 0 where

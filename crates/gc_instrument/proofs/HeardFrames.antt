@@ -1,16 +1,9 @@
 -- Frames that an instrument answered are lines that it was handed; frames that are no lines are ignored.
-use Rattle.std.proofs.Common.{◌≡◌, ℕ, ◌+◌, ◌<◌, List, [], ◌∷◌, ◌++◌, length, map, take, Bool, Option, Some, None, Result, Ok, Err, refl, sym, ap, ◌∙◌, subst, true, false}
+use Rattle.gc_instrument.proofs.Common.{◌≡◌, ℕ, ◌+◌, ◌<◌, List, [], ◌∷◌, ◌++◌, length, map, take, Bool, Option, Some, None, Result, Ok, Err, refl, sym, ap, ◌∙◌, subst, true, false, option_map, option_to_list, length-map, AnswersInOrder, AnswersAll, AnswersPart, AnswersFrames, AppendsAnswer, Progress, all_of, progress, AnswersLines, RepliesTo, frames, line_in, lines, rest_of, rest_behind, with_end, frames_behind, State, IsReplied, IsReplyToRequest, Hears, replies_text}
 use Rattle.std.specs.List.{filter_map}
-use Rattle.std.specs.Option.{option_map, option_to_list}
-use Rattle.std.proofs.lemmas.List.{length-map}
 use Rattle.std.proofs.lemmas.Option.{none-some}
 use Rattle.std.proofs.lemmas.List.Elements.{filter_map-append}
 use Rattle.std.proofs.lemmas.List.Folds.{flat_map-map}
-use Rattle.gc_lines.specs.Answering.{AnswersInOrder, AnswersAll, AnswersPart, AnswersFrames, AppendsAnswer, Progress, all_of, progress}
-use Rattle.gc_lines.specs.AnsweringLines.{AnswersLines, RepliesTo}
-use Rattle.gc_lines.specs.Frames.{frames, line_in, lines, rest_of, rest_behind}
-use Rattle.gc_lines.specs.Lines.{with_end}
-use Rattle.gc_lines.specs.Passing.{frames_behind}
 use Rattle.gc_lines.specs.declared.frame.Frame.{Frame}
 use Rattle.gc_lines.specs.declared.frame.Frame.TheVariants.{Line, Cleared, Overlong, More}
 use Rattle.gc_lines.specs.declared.served.Served.{Served}
@@ -18,10 +11,7 @@ use Rattle.gc_lines.specs.declared.served.ServeFault.{ServeFault}
 use Rattle.gc_lines.specs.declared.served.ServeFault.TheVariants.{Read, Write, TooManyReads}
 use Rattle.gc_lines.proofs.Known.{Appends-is}
 use Rattle.gc_lines.proofs.Passing.{frames-append}
-use Rattle.gc_instrument.specs.State.{State}
-use Rattle.gc_instrument.specs.Replying.{IsReplied, IsReplyToRequest}
 use Rattle.gc_instrument.proofs.Answering.{is_replied}
-use Rattle.gc_instrument.specs.Hearing.{Hears, replies_text}
 use Rattle.gc_instrument.specs.Serving.{AnswersFrame, ServesAll, ServesPart, Serves}
 
 -- a text that answers a frame by replies that are `IsReplyToRequest` answers it as `AnswersFrame` says

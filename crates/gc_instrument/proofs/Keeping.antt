@@ -1,23 +1,7 @@
 -- The stored reply: for which id it is found, that no call's outcome depends on it, and what is stored after an execution. Below,
 -- a line is *plain* if it has neither CR nor LF, and a state *fits* if `IsFittingState` holds of it.
-use Rattle.std.proofs.Common.{◌≡◌, ℤ, pos, ◌||◌, Bool, true, false, cond, ℕ, List, Option, Some, None, refl, sym, ap, ◌∙◌, eqb, ◌+◌, ◌-◌, ◌++◌, length, take, drop, arith, length-append}
-use Rattle.std.specs.Prelude.{int_lt, unwrap_or}
-use Rattle.std.proofs.lemmas.List.{take_all}
+use Rattle.gc_instrument.proofs.Common.{◌≡◌, ℤ, pos, ◌||◌, Bool, true, false, cond, ℕ, List, Option, Some, None, refl, sym, ap, ◌∙◌, eqb, ◌+◌, ◌-◌, ◌++◌, length, take, drop, arith, length-append, int_lt, unwrap_or, take_all, IsPlain, int_eq, Decimal, Answer, Nothing, Call, NullProc, Executed, exec, done, refused, set_if, distance_outcome, commanded, searched, adjusted, measured, unmeasured, ExecutesApart, IsReplyToCall, IsReplyToExecuted, executes, IsAnswered, kept_after, kept_line, with_kept, executed_with, IsSoundState, State, KeptReply, IsFittingState, IsFittingKept, kept_id, kept_in, first_within, Target}
 use Rattle.std.proofs.Math.Seq.{drop-append_seam}
-use Rattle.gc_lines.specs.Lines.{IsPlain}
-use Rattle.std.specs.Ordering.{int_eq}
-use Rattle.gc_values.specs.declared.decimal.Decimal.{Decimal}
-use Rattle.gc_catalogue.specs.declared.answer.Answer.{Answer}
-use Rattle.gc_catalogue.specs.declared.answer.Answer.TheVariants.{Nothing}
-use Rattle.gc_catalogue.specs.declared.call.Call.{Call}
-use Rattle.gc_catalogue.specs.declared.call.Call.TheVariants.{NullProc}
-use Rattle.gc_instrument.specs.Execution.{Executed, exec, done, refused, set_if, distance_outcome, commanded, searched, adjusted, measured, unmeasured}
-use Rattle.gc_instrument.specs.Laws.{ExecutesApart}
-use Rattle.gc_instrument.specs.Replying.{IsReplyToCall, IsReplyToExecuted, executes, IsAnswered, kept_after, kept_line, with_kept, executed_with}
-use Rattle.gc_instrument.specs.Seen.{IsSoundState}
-use Rattle.gc_instrument.specs.State.{State, KeptReply, IsFittingState, IsFittingKept, kept_id, kept_in}
-use Rattle.gc_instrument.specs.Targets.{first_within}
-use Rattle.gc_instrument.specs.declared.target.Target.{Target}
 
 -- the stored reply that `kept_in` makes of an id and a line has that id; without an id it makes none
 pub id_kept : (id : Option ℕ) (line : List ℕ) → id ≡ kept_id (kept_in id line)

@@ -1,12 +1,5 @@
 -- Lines that are no requests change nothing.
-use Rattle.std.proofs.Common.{◌≡◌, ℕ, List, [], ◌∷◌, ◌++◌, Option, None, refl, sym, ap, ◌∙◌, subst}
-use Rattle.std.specs.Option.{option_to_list}
-use Rattle.gc_lines.specs.Frames.{lines}
-use Rattle.gc_lines.specs.Requests.{IsNoRequest}
-use Rattle.gc_instrument.specs.State.{State}
-use Rattle.gc_instrument.specs.Replying.{IsReplied, silent, answers}
-use Rattle.gc_instrument.specs.Hearing.{Hears, IsOutput}
-use Rattle.gc_instrument.specs.Laws.{AreForeign, ForeignLinesAreSilent}
+use Rattle.gc_instrument.proofs.Common.{◌≡◌, ℕ, List, [], ◌∷◌, ◌++◌, Option, None, refl, sym, ap, ◌∙◌, subst, option_to_list, lines, IsNoRequest, State, IsReplied, silent, answers, Hears, IsOutput, AreForeign, ForeignLinesAreSilent}
 use Rattle.gc_instrument.proofs.HeardFrames.{lines-next}
 
 -- lines have the same replies, and lead to the same state, once lines that are no requests are put in front of them

@@ -1,21 +1,7 @@
 -- From one state, a line leads to one state, and to one reply or to none, and lines lead to one state and one list of replies;
 -- and what is written for two streams, one after the other.
-use Rattle.std.proofs.Common.{◌≡◌, ℕ, List, [], ◌∷◌, ◌++◌, Option, Some, None, sym, ap, ◌∙◌, subst}
-use Rattle.std.specs.Option.{option_to_list}
+use Rattle.gc_instrument.proofs.Common.{◌≡◌, ℕ, List, [], ◌∷◌, ◌++◌, Option, Some, None, sym, ap, ◌∙◌, subst, option_to_list, lines, rest_of, with_end, RequestFields, replies_once, in_order_then, CallFault, Call, one_call, one_refusal, no_refusal, exec, Hears, IsOutput, replies_text, OneReply, AnswersCall, repeats, executes, AnswersRequest, refuses, answers_call, IsReplied, kept_after, with_kept, refusal_line, reply_id, State}
 use Rattle.std.proofs.lemmas.Grind.{flat_map-append}
-use Rattle.gc_lines.specs.Frames.{lines, rest_of}
-use Rattle.gc_lines.specs.Lines.{with_end}
-use Rattle.gc_lines.specs.Requests.{RequestFields}
-use Rattle.gc_lines.proofs.AnsweringLines.{replies_once}
-use Rattle.gc_lines.proofs.InOrder.{in_order_then}
-use Rattle.gc_catalogue.specs.declared.fault.CallFault.{CallFault}
-use Rattle.gc_catalogue.specs.declared.call.Call.{Call}
-use Rattle.gc_catalogue.proofs.CallLaws.{one_call, one_refusal, no_refusal}
-use Rattle.gc_instrument.specs.Execution.{exec}
-use Rattle.gc_instrument.specs.Hearing.{Hears, IsOutput, replies_text}
-use Rattle.gc_instrument.specs.Laws.{OneReply}
-use Rattle.gc_instrument.specs.Replying.{AnswersCall, repeats, executes, AnswersRequest, refuses, answers_call, IsReplied, kept_after, with_kept, refusal_line, reply_id}
-use Rattle.gc_instrument.specs.State.{State}
 use Rattle.gc_instrument.proofs.HeardFrames.{lines-next}
 
 -- a state, an id or none, and a call determine the state after the call, and the reply

@@ -2,18 +2,18 @@
 use Rattle.std.specs.Prelude.{◌≡◌, ℕ, ℤ, pos, ◌&&◌, ◌||◌, Bool, true, false, Option, Some, None, int_le, int_lt, nat_le, unsigned_abs, if◌then◌else◌}
 use Rattle.std.specs.Ordering.{int_eq}
 use Rattle.std.specs.Option.{option_map}
-use Rattle.gc_values.specs.Directions.{is_up_to}
+use Rattle.gc_values.specs.Prelude.{is_up_to}
 use Rattle.gc_values.specs.declared.decimal.Decimal.{Decimal}
 use Rattle.gc_catalogue.specs.declared.call.Call.{Call}
-use Rattle.gc_catalogue.specs.declared.call.Call.TheVariants as call
 use Rattle.gc_catalogue.specs.declared.call.DateTime.{DateTime}
 use Rattle.gc_catalogue.specs.declared.answer.Answer.{Answer}
-use Rattle.gc_catalogue.specs.declared.answer.Answer.TheVariants as answer
 use Rattle.gc_instrument.specs.Faces.{turned, face_number}
 use Rattle.gc_instrument.specs.Numbers.{temperature}
 use Rattle.gc_instrument.specs.State.{State}
 use Rattle.gc_instrument.specs.Targets.{first_at, first_within}
 use Rattle.gc_instrument.specs.declared.target.Target.{Target}
+use Rattle.gc_catalogue.specs.declared.call.Call.TheVariants as call
+use Rattle.gc_catalogue.specs.declared.answer.Answer.TheVariants as answer
 
 -- the outcome of a call: the state after it, the return code and the answer
 pub record Executed : Type 0 where

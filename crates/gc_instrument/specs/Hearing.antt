@@ -1,9 +1,7 @@
 -- Lines that are handed to an instrument one after the other, and what is written for a stream of bytes: this project's own.
 use Rattle.std.specs.Prelude.{◌≡◌, ℕ, List}
 use Rattle.std.specs.List.{flat_map}
-use Rattle.gc_lines.specs.Answering.{AnswersInOrder}
-use Rattle.gc_lines.specs.Lines.{with_end}
-use Rattle.gc_lines.specs.Frames.{lines}
+use Rattle.gc_lines.specs.Prelude.{AnswersInOrder, with_end, lines}
 use Rattle.gc_instrument.specs.State.{State}
 use Rattle.gc_instrument.specs.Replying.{IsReplied}
 

@@ -1,11 +1,8 @@
 -- What is claimed of the definitions themselves, apart from any call of a function: this project's own.
 use Rattle.std.specs.Prelude.{◌≡◌, ◌↔◌, ℕ, ◌<◌, List, [], ◌++◌, Option, Some, None}
 use Rattle.std.specs.List.{AllByRecursion}
-use Rattle.gc_lines.specs.AnsweringLines.{HasOneReply}
-use Rattle.gc_lines.specs.Frames.{lines, rest_of}
-use Rattle.gc_lines.specs.Requests.{IsNoRequest}
-use Rattle.gc_catalogue.specs.Calls.{IsFitting}
-use Rattle.gc_catalogue.specs.Texts.{request_line}
+use Rattle.gc_lines.specs.Prelude.{HasOneReply, lines, rest_of, IsNoRequest}
+use Rattle.gc_catalogue.specs.Prelude.{IsFitting, request_line}
 use Rattle.gc_catalogue.specs.declared.call.Call.{Call}
 use Rattle.gc_instrument.specs.Execution.{exec}
 use Rattle.gc_instrument.specs.Hearing.{Hears, IsOutput}

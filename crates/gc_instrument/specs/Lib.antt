@@ -1,3 +1,4 @@
+pub mod Prelude
 pub mod Execution
 pub mod Faces
 pub mod Hearing

@@ -1,7 +1,6 @@
 -- What holds of the outcome of every execution, whatever the call and the state: this project's own.
 use Rattle.std.specs.Prelude.{◌≡◌, ◌≢◌, ◌<◌}
-use Rattle.gc_catalogue.specs.Answers.{IsAnswerOf, IsFittingAnswer}
-use Rattle.gc_catalogue.specs.Calls.{IsFitting}
+use Rattle.gc_catalogue.specs.Prelude.{IsAnswerOf, IsFittingAnswer, IsFitting}
 use Rattle.gc_catalogue.specs.declared.answer.Answer.TheVariants.{Nothing}
 use Rattle.gc_catalogue.specs.declared.call.Call.{Call}
 use Rattle.gc_instrument.specs.Execution.{Executed}

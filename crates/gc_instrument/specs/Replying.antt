@@ -1,24 +1,17 @@
 -- The reply to a line: what the instrument does with each line that it gets. The communication codes are the manual's, the rest
 -- is this project's own.
 use Rattle.std.specs.Prelude.{◌≡◌, ◌<◌, ℕ, List, [], Bool, true, false, Option, Some, None, if◌then◌else◌, ◌==◌, nat_eq, unwrap_or}
-use Rattle.gc_lines.specs.Answering.{AppendsAnswer}
-use Rattle.gc_lines.specs.AnsweringLines.{RepliesTo}
-pub use Rattle.gc_lines.specs.AnsweringLines.{silent, answers}
-use Rattle.gc_lines.specs.Lines.{IsPlain}
-use Rattle.gc_lines.specs.Replies.{ReplyFields, IsReply, reply_text}
-use Rattle.gc_lines.specs.Requests.{RequestFields}
-use Rattle.gc_catalogue.specs.Answers.{rounded_answer}
-use Rattle.gc_catalogue.specs.Calls.{IsCall, IsFitting, IsRefusal}
-use Rattle.gc_catalogue.specs.Readings.{IsReading}
-use Rattle.gc_catalogue.specs.Texts.{reply_line, request_line}
+use Rattle.gc_lines.specs.Prelude.{AppendsAnswer, RepliesTo, IsPlain, ReplyFields, IsReply, reply_text, RequestFields}
+use Rattle.gc_catalogue.specs.Prelude.{rounded_answer, IsCall, IsFitting, IsRefusal, IsReading, reply_line, request_line}
 use Rattle.gc_catalogue.specs.declared.fault.CallFault.{CallFault}
 use Rattle.gc_catalogue.specs.declared.fault.CallFault.TheVariants.{Unknown, Parameters}
 use Rattle.gc_catalogue.specs.declared.answer.Reading.{Reading}
 use Rattle.gc_catalogue.specs.declared.answer.Reading.TheVariants.{Value, Refused}
 use Rattle.gc_catalogue.specs.declared.call.Call.{Call}
 use Rattle.gc_instrument.specs.State.{State, KeptReply}
-pub use Rattle.gc_instrument.specs.State.{kept_after}
 use Rattle.gc_instrument.specs.Execution.{Executed, exec}
+pub use Rattle.gc_lines.specs.AnsweringLines.{silent, answers}
+pub use Rattle.gc_instrument.specs.State.{kept_after}
 
 -- the id of the reply to a request: the request's, or 0 if it has none (the manual's)
 abbrev pub reply_id : RequestFields → ℕ

@@ -1,6 +1,6 @@
 -- What a contract sees of an instrument, and what is known of every one: this project's own.
 use Rattle.std.specs.Prelude.{Option, IfSome}
-use Rattle.gc_lines.specs.Lines.{IsPlain}
+use Rattle.gc_lines.specs.Prelude.{IsPlain}
 use Rattle.gc_instrument.specs.State.{State, KeptReply, IsFittingState}
 use Rattle.gc_instrument.specs.declared.instrument.Instrument.TheInside.{Inside}
 

@@ -1,10 +1,7 @@
 -- What serving writes, and how it ends: this project's own.
 use Rattle.std.specs.Prelude.{◌≡◌, ℕ, ◌+◌, ◌<◌, List, ◌∷◌, ◌++◌, length, take, Option, Some, Result}
 use Rattle.std.specs.Io.KnownBytes.{Appends}
-use Rattle.gc_lines.specs.Answering.{IsRunOverPorts, Ports, Progress, WholeOrCut, progress}
-use Rattle.gc_lines.specs.AnsweringLines.{AnswersLines}
-use Rattle.gc_lines.specs.Frames.{lines}
-use Rattle.gc_lines.specs.Lines.{with_end}
+use Rattle.gc_lines.specs.Prelude.{IsRunOverPorts, Ports, Progress, WholeOrCut, progress, AnswersLines, lines, with_end}
 use Rattle.gc_lines.specs.declared.frame.Frame.{Frame}
 use Rattle.gc_lines.specs.declared.served.Served.{Served}
 use Rattle.gc_lines.specs.declared.served.ServeFault.{ServeFault}

@@ -1,13 +1,10 @@
 -- The state of a simulated instrument, as it is at the start and after a restart: this project's own.
 use Rattle.std.specs.Prelude.{◌≡◌, ◌≤◌, ℕ, ℤ, pos, List, [], ◌∷◌, Option, Some, None, IfSome, codes, refl}
 use Rattle.std.specs.Option.{option_map}
-use Rattle.gc_lines.specs.Replies.{ReplyFields, IsReply}
-use Rattle.gc_values.specs.Decimals.{decimal, zero}
+use Rattle.gc_lines.specs.Prelude.{ReplyFields, IsReply}
+use Rattle.gc_values.specs.Prelude.{decimal, zero, IsText, FitsLong, AreValues}
 use Rattle.gc_values.specs.declared.decimal.Decimal.{Decimal}
-use Rattle.gc_values.specs.Text.{IsText}
-use Rattle.gc_values.specs.Whole.{FitsLong}
-use Rattle.gc_values.specs.Lists.{AreValues}
-use Rattle.gc_catalogue.specs.Structs.{date_values}
+use Rattle.gc_catalogue.specs.Prelude.{date_values}
 use Rattle.gc_catalogue.specs.declared.call.Station.{Station}
 use Rattle.gc_catalogue.specs.declared.call.DateTime.{DateTime}
 use Rattle.gc_instrument.specs.declared.face.Face.{Face}

@@ -1,6 +1,6 @@
 -- The targets of a scene, and which of them an instrument meets: this project's own.
 use Rattle.std.specs.Prelude.{◌&&◌, Bool, List, Option, find}
-use Rattle.gc_values.specs.Decimals.{decimal_eq, is_within, zero}
+use Rattle.gc_values.specs.Prelude.{decimal_eq, is_within, zero}
 use Rattle.gc_values.specs.declared.decimal.Decimal.{Decimal}
 use Rattle.gc_instrument.specs.declared.pointing.Pointing.{Pointing}
 use Rattle.gc_instrument.specs.declared.target.Target.{Target}

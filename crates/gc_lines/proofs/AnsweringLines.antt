@@ -1,12 +1,6 @@
 -- An answerer of lines: when a line is no request, that it has one reply, and what it appends to the text that it was handed.
-use Rattle.std.proofs.Common.{◌≡◌, ℕ, List, [], ◌∷◌, Option, Some, None, Result, Ok, Err, true, false, refl, sym, ap, ◌∙◌, subst, append_assoc}
-use Rattle.gc_lines.specs.Answering.{AppendsAnswer}
+use Rattle.gc_lines.proofs.Common.{◌≡◌, ℕ, List, [], ◌∷◌, Option, Some, None, Result, Ok, Err, true, false, refl, sym, ap, ◌∙◌, subst, append_assoc, AppendsAnswer, GivesEach, with_end, RequestFields, IsRequest, IsNoRequest, LineFault, Line}
 use Rattle.gc_lines.specs.AnsweringLines.{RepliesTo, silent, answers, ReplyRule, HasOneReply, AnswersLines}
-use Rattle.gc_lines.specs.Headers.{GivesEach}
-use Rattle.gc_lines.specs.Lines.{with_end}
-use Rattle.gc_lines.specs.Requests.{RequestFields, IsRequest, IsNoRequest}
-use Rattle.gc_lines.specs.declared.fault.LineFault.{LineFault}
-use Rattle.gc_lines.specs.declared.frame.Frame.TheVariants.{Line}
 use Rattle.gc_lines.proofs.Requests.{one_request}
 
 -- a line is no request if reading it gave a fault, and if reading gives the request of each line that is one

@@ -1,14 +1,7 @@
 -- A stream that is cut at its line feeds, piece by piece. r is what is before the bytes that are cut, since the last line
 -- feed.
-use Rattle.std.proofs.Common.{◌≡◌, ◌≢◌, ℕ, ◌+◌, ◌<◌, ◌≤◌, suc, Bool, true, false, not, cond, List, [], ◌∷◌, ◌++◌, length, take, drop, Some, None, refl, sym, ap, ◌∙◌, arith, append_assoc, map, subst}
-use Rattle.std.specs.List.{prefix_len, position, flat_map, AllByRecursion}
-use Rattle.std.proofs.lemmas.List.{append-nil, map-append}
-use Rattle.std.proofs.lemmas.Bool.{ltb-true, ltb-false, eqb-true, eq-eqb, ne_eqb}
+use Rattle.gc_lines.proofs.Common.{◌≡◌, ◌≢◌, ℕ, ◌+◌, ◌<◌, ◌≤◌, suc, Bool, true, false, not, cond, List, [], ◌∷◌, ◌++◌, length, take, drop, Some, None, refl, sym, ap, ◌∙◌, arith, append_assoc, map, subst, prefix_len, position, flat_map, AllByRecursion, append-nil, map-append, ltb-true, ltb-false, eqb-true, eq-eqb, ne_eqb, ltb, one-add, is_line_feed, pieces_behind, rest_behind, pieces, rest_of, HasNoLineFeed, IsCut, frame_of, FramesHoweverCut}
 use Rattle.std.proofs.Permutation.{every_append}
-use Rattle.std.proofs.Math.Dec.{ltb}
-use Rattle.std.proofs.Math.Numerals.{one-add}
-use Rattle.gc_lines.specs.Frames.{is_line_feed, pieces_behind, rest_behind, pieces, rest_of, HasNoLineFeed, IsCut, frame_of}
-use Rattle.gc_lines.specs.Laws.{FramesHoweverCut}
 
 -- whether a byte continues the bytes before it: it is no line feed
 abbrev pub goes_on : ℕ → Bool

@@ -1,22 +1,10 @@
 -- What a few digits are worth. The run is the longest row of digits at the front of some bytes.
-use Rattle.std.proofs.Common.{◌≡◌, ℕ, ◌+◌, ◌-◌, ◌*◌, ◌/◌, ◌%◌, ◌^◌, ◌<◌, ◌≤◌, List, [], ◌∷◌, ◌++◌, true, false, cond, length, take, get_or, drop, slice_set, arith, refl, ap, ◌∙◌, sym, subst, inl, inr, lit<, append_assoc, add-one, Ok, Err, ◌⊎◌, length-drop}
-use Rattle.std.specs.Fmt.{decimal}
-use Rattle.std.proofs.lemmas.Fmt.{decimal_step, decimal_digit}
-use Rattle.std.proofs.lemmas.List.{length-set, drop-set, take-append-drop, length-take-le, take_all, length-take, nil_from_length, drop_more}
-use Rattle.std.proofs.lemmas.Bool.{cases_lt, lt-ltb, le-ltb}
+use Rattle.gc_lines.proofs.Common.{◌≡◌, ℕ, ◌+◌, ◌-◌, ◌*◌, ◌/◌, ◌%◌, ◌^◌, ◌<◌, ◌≤◌, List, [], ◌∷◌, ◌++◌, true, false, cond, length, take, get_or, drop, slice_set, arith, refl, ap, ◌∙◌, sym, subst, inl, inr, lit<, append_assoc, add-one, Ok, Err, ◌⊎◌, length-drop, decimal, decimal_step, decimal_digit, length-set, drop-set, take-append-drop, length-take-le, take_all, length-take, nil_from_length, drop_more, cases_lt, lt-ltb, le-ltb, LineFault, digits_value, AllDigits, prefix_len, one-add, nat_tests, IsNumeralModel, numerals_by_value, tells_digits, digits_value_short, digit_from_value, NoDigitFirst, digits_len, number_at}
 use Rattle.std.proofs.Math.Nat.{pow-suc, div-lt_iff_lt-mul}
-use Rattle.gc_lines.specs.declared.fault.LineFault.{LineFault}
-use Rattle.std.specs.Str.Parse.{digits_value, AllDigits}
-use Rattle.std.specs.List.{prefix_len}
 use Rattle.std.specs.Char.{is_ascii_digit, digit_value}
-use Rattle.std.proofs.Math.Numerals.{one-add}
-use Rattle.std.proofs.lemmas.Bool.Decides.{nat_tests}
-use Rattle.std.proofs.lemmas.Str.Parse.{IsNumeralModel, numerals_by_value, tells_digits, digits_value_short, digit_from_value}
 use Rattle.std.proofs.lemmas.Int.Digits.{digits_value_more, digits_more}
 use Rattle.std.proofs.lemmas.Str.{digit_value_digit}
 use Rattle.std.proofs.lemmas.List.Folds.{length-prefix_len}
-use Rattle.gc_lines.specs.Numbers.{NoDigitFirst}
-use Rattle.gc_lines.specs.Readers.{digits_len, number_at}
 
 -- texts of digits, with their values, are numerals of base 10 as the library's lemmas on numerals take them
 pub digits_are_numerals : IsNumeralModel (AllDigits 10) (digits_value 10)

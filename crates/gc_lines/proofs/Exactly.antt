@@ -1,7 +1,5 @@
 -- The end of a run of answering: `HasEnded`, from what the result says of the ports.
-use Rattle.std.proofs.Common.{ℕ, Result, Err, OnOk, rules}
-use Rattle.std.specs.Io.KnownBytes.{IsAtEnd}
-use Rattle.gc_lines.specs.Answering.{Ports, EndsBecause, HasEnded}
+use Rattle.gc_lines.proofs.Common.{ℕ, Result, Err, OnOk, rules, IsAtEnd, Ports, EndsBecause, HasEnded}
 use Rattle.gc_lines.specs.declared.served.Served.{Served}
 use Rattle.gc_lines.specs.declared.served.ServeFault.{ServeFault}
 use Rattle.gc_lines.specs.declared.served.ServeFault.TheVariants.{Read}

@@ -1,15 +1,6 @@
 -- Each field's reader finds just what has the field's form.
-use Rattle.std.proofs.Common.{◌≡◌, ℕ, ◌+◌, ◌-◌, ◌&&◌, true, false, cond, List, [], ◌∷◌, ◌++◌, length, take, drop, get_or, Option, Some, None, Result, Ok, Err, refl, sym, ap, ◌∙◌, subst, arith, eqb}
-use Rattle.std.specs.Str.Parse.{digits_value}
-use Rattle.std.proofs.lemmas.List.{take-append-drop, take_at, drop_at}
-use Rattle.std.proofs.lemmas.Bool.{ltb-true, lt-ltb, eqb-true, eq-eqb, and_parts}
+use Rattle.gc_lines.proofs.Common.{◌≡◌, ℕ, ◌+◌, ◌-◌, ◌&&◌, true, false, cond, List, [], ◌∷◌, ◌++◌, length, take, drop, get_or, Option, Some, None, Result, Ok, Err, refl, sym, ap, ◌∙◌, subst, arith, eqb, digits_value, take-append-drop, take_at, drop_at, ltb-true, lt-ltb, eqb-true, eq-eqb, and_parts, ltb, LineFault, Signature, Id, Colon, IsSmallNumber, HasNumber, NoDigitFirst, HasId, EndsId, IsIdInRange, id_text, PastSignature, number_at, digits_len, signature_at, id_at, colon_at}
 use Rattle.std.specs.Cmp.Lexicographic.{bytes_decides}
-use Rattle.std.proofs.Math.Dec.{ltb}
-use Rattle.gc_lines.specs.declared.fault.LineFault.{LineFault}
-use Rattle.gc_lines.specs.declared.fault.LineFault.TheVariants.{Signature, Id, Colon}
-use Rattle.gc_lines.specs.Numbers.{IsSmallNumber, HasNumber, NoDigitFirst}
-use Rattle.gc_lines.specs.Headers.{HasId, EndsId, IsIdInRange, id_text, PastSignature}
-use Rattle.gc_lines.specs.Readers.{number_at, digits_len, signature_at, id_at, colon_at}
 use Rattle.gc_lines.proofs.Digits.{same_run, run_digits, run_stops, run_length, run_of_length_one, run_of_digit}
 use Rattle.gc_lines.proofs.Reading.{ReadsField, guard_ok, guard_err}
 

@@ -1,8 +1,6 @@
 -- Where the first byte is that passes a test.
-use Rattle.std.proofs.Common.{◌≡◌, ℕ, Bool, List, length, Option, Some, None, refl, arith}
-use Rattle.std.specs.List.{position, position_or_len}
+use Rattle.gc_lines.proofs.Common.{◌≡◌, ℕ, Bool, List, length, Option, Some, None, refl, arith, position, position_or_len, false_from_ne_true, lt-ltb, le-ltb}
 use Rattle.std.proofs.lemmas.List.Sums.{position_or_len_is}
-use Rattle.std.proofs.lemmas.Bool.{false_from_ne_true, lt-ltb, le-ltb}
 use Rattle.memchr.specs.Find.{IsFirstByte}
 
 -- if r is the first place at which the test holds, or none, as `IsFirstByte` has it, `position` gives r

@@ -1,15 +1,5 @@
 -- Texts that wait for one another: how one more joins them, how they are sent, and which part of them went out.
-use Rattle.std.proofs.Common.{◌≡◌, ℕ, ◌+◌, ◌-◌, ◌<◌, ◌≤◌, Bool, true, false, List, [], ◌∷◌, ◌++◌, length, take, map, Option, Some, None, nat_lt, cond, refl, sym, ap, ◌∙◌, subst, arith, append_assoc, length-append}
-use Rattle.std.specs.Option.{option_to_list}
-use Rattle.std.specs.Io.KnownBytes.{Appends}
-use Rattle.std.proofs.lemmas.Bool.{ltb-true, ltb-false, lt-ltb}
-use Rattle.std.proofs.lemmas.List.{append-nil, length-map, map-append, take-append-le}
-use Rattle.std.proofs.Math.Seq.{take-append-add}
-use Rattle.std.proofs.KnownBytes.{Appends-nil}
-use Rattle.gc_lines.specs.Answering.{AnswerRule, AnswersInOrder, AnswersAll, AnswersPart, Progress, all_of, progress}
-use Rattle.gc_lines.specs.Passing.{Gathering, GathersPart, TakesTextsPart, whole_and_part}
-use Rattle.gc_lines.specs.Ports.{TakesFront}
-use Rattle.gc_lines.specs.declared.frame.Frame.{Frame}
+use Rattle.gc_lines.proofs.Common.{◌≡◌, ℕ, ◌+◌, ◌-◌, ◌<◌, ◌≤◌, Bool, true, false, List, [], ◌∷◌, ◌++◌, length, take, map, Option, Some, None, nat_lt, cond, refl, sym, ap, ◌∙◌, subst, arith, append_assoc, length-append, option_to_list, Appends, ltb-true, ltb-false, lt-ltb, append-nil, length-map, map-append, take-append-le, take-append-add, Appends-nil, AnswerRule, AnswersInOrder, AnswersAll, AnswersPart, Progress, all_of, progress, Gathering, GathersPart, TakesTextsPart, whole_and_part, TakesFront, Frame}
 use Rattle.gc_lines.proofs.InOrder.{in_order_then, in_order_one, all_of-append, all_then, part_then, part_with_later, one_part}
 use Rattle.gc_lines.proofs.Known.{Appends-is, Appends-parts}
 

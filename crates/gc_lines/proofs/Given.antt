@@ -1,14 +1,6 @@
 -- What the source gave so far, and what was done with it. In the lemmas, in the order of the run: a, a', a'' are the bytes that
 -- the source still has, and s, t, u say how far the answering has come (`Progress`).
-use Rattle.std.proofs.Common.{ℕ, ◌+◌, ◌≤◌, Bool, List, [], ◌++◌, length, Option, sym, subst, arith, length-append}
-use Rattle.std.specs.Io.KnownBytes.{Consumes}
-use Rattle.std.proofs.lemmas.List.{append-nil}
-use Rattle.std.proofs.KnownBytes.{Consumes-trans}
-use Rattle.gc_lines.specs.Answering.{AnswerRule, AnswersAll, AnswersPart, GaveInReads, Progress, progress}
-use Rattle.gc_lines.specs.Assembler.{Kept, StandsFor}
-use Rattle.gc_lines.specs.Frames.{frames, rest_behind}
-use Rattle.gc_lines.specs.Passing.{frames_behind, GathersPart}
-use Rattle.gc_lines.specs.declared.frame.Frame.{Frame}
+use Rattle.gc_lines.proofs.Common.{ℕ, ◌+◌, ◌≤◌, Bool, List, [], ◌++◌, length, Option, sym, subst, arith, length-append, Consumes, append-nil, Consumes-trans, AnswerRule, AnswersAll, AnswersPart, GaveInReads, Progress, progress, Kept, StandsFor, frames, rest_behind, frames_behind, GathersPart, Frame}
 use Rattle.gc_lines.proofs.InOrder.{all_then, part_then}
 use Rattle.gc_lines.proofs.Cutting.{rest-append}
 use Rattle.gc_lines.proofs.Passing.{frames-append}

@@ -1,11 +1,5 @@
 -- Reading a header finds the fields of its form, or the first that is bad.
-use Rattle.std.proofs.Common.{◌≡◌, ℕ, inl, inr, List, ◌∷◌, ◌++◌, Option, Some, None, Result, Ok, Err, refl, ap, ◌∙◌, subst, get_or}
-use Rattle.std.proofs.lemmas.Bool.{eq-eqb}
-use Rattle.gc_lines.specs.declared.fault.LineFault.{LineFault}
-use Rattle.gc_lines.specs.declared.fault.LineFault.TheVariants.{Signature, Number, Id, Colon, Code, TooLong}
-use Rattle.gc_lines.specs.Numbers.{IsSmallNumber, NoDigitFirst}
-use Rattle.gc_lines.specs.Headers.{EndsId, IsIdInRange, id_text, PastSignature, PastNumber, PastId, PastColon, FirstBadField}
-use Rattle.gc_lines.specs.Readers.{number_at, HeaderFields, signature_at, id_at, colon_at, header_at, ◌>>=◌}
+use Rattle.gc_lines.proofs.Common.{◌≡◌, ℕ, inl, inr, List, ◌∷◌, ◌++◌, Option, Some, None, Result, Ok, Err, refl, ap, ◌∙◌, subst, get_or, eq-eqb, LineFault, Signature, Number, Id, Colon, Code, TooLong, IsSmallNumber, NoDigitFirst, EndsId, IsIdInRange, id_text, PastSignature, PastNumber, PastId, PastColon, FirstBadField, number_at, HeaderFields, signature_at, id_at, colon_at, header_at, ◌>>=◌}
 use Rattle.gc_lines.proofs.Reading.{none_means_fault, fault_means_none, bind_ok, bind_err, bind_on, bind_stop}
 use Rattle.gc_lines.proofs.Fields.{signature_reads, number_reads, id_reads, colon_reads}
 

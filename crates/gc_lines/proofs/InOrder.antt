@@ -1,13 +1,7 @@
 -- Lists of items, such as frames, that are answered one after the other: the state after them, and what is written. In the
 -- lemmas, in the order of the run: s, t, u are the answerer's states, or how far the run has come (`Progress`).
-use Rattle.std.proofs.Common.{◌≡◌, ℕ, ◌+◌, List, [], ◌∷◌, ◌++◌, take, Option, Some, refl, sym, ap, ◌∙◌, subst, arith, append_assoc, length-append}
-use Rattle.std.specs.Option.{option_to_list}
-use Rattle.std.proofs.lemmas.List.{append-nil}
+use Rattle.gc_lines.proofs.Common.{◌≡◌, ℕ, ◌+◌, List, [], ◌∷◌, ◌++◌, take, Option, Some, refl, sym, ap, ◌∙◌, subst, arith, append_assoc, length-append, option_to_list, append-nil, Appends-trans, Appends-nil, AnswerRule, AnswersInOrder, AnswersAll, AnswersPart, Progress, all_of, TakesFront, Frame}
 use Rattle.std.proofs.lemmas.Grind.{flat_map-append}
-use Rattle.std.proofs.KnownBytes.{Appends-trans, Appends-nil}
-use Rattle.gc_lines.specs.Answering.{AnswerRule, AnswersInOrder, AnswersAll, AnswersPart, Progress, all_of}
-use Rattle.gc_lines.specs.Ports.{TakesFront}
-use Rattle.gc_lines.specs.declared.frame.Frame.{Frame}
 use Rattle.gc_lines.proofs.Known.{Appends-is}
 
 -- if answering the items xs takes the state from s to t with the texts ps, and answering ys takes it from t to u with the

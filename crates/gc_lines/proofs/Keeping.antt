@@ -1,12 +1,7 @@
 -- What an assembler keeps of the rest, which is the bytes since the last line feed, as more bytes come.
-use Rattle.std.proofs.Common.{◌≡◌, ℕ, ◌+◌, ◌-◌, ◌<◌, ◌≤◌, true, List, ◌++◌, length, take, get_or, sym, ◌∙◌, ap, arith, inl, inr, length-append, eq-eqb}
-use Rattle.std.proofs.lemmas.List.{length-take, take_all, take-append-le, append-nil, get_or-append-add}
-use Rattle.std.proofs.lemmas.Bool.{cases_lt, lt-ltb, le-ltb}
-use Rattle.std.proofs.Math.Seq.{take-append-add}
+use Rattle.gc_lines.proofs.Common.{◌≡◌, ℕ, ◌+◌, ◌-◌, ◌<◌, ◌≤◌, true, List, ◌++◌, length, take, get_or, sym, ◌∙◌, ap, arith, inl, inr, length-append, length-take, take_all, take-append-le, append-nil, get_or-append-add, cases_lt, lt-ltb, le-ltb, take-append-add, Kept, StandsFor, frame_of, Line}
+use Rattle.std.proofs.Common.{eq-eqb}
 use Rattle.arrayvec.specs.ArrayVec.{ArrayVec}
-use Rattle.gc_lines.specs.Assembler.{Kept, StandsFor}
-use Rattle.gc_lines.specs.Frames.{frame_of}
-use Rattle.gc_lines.specs.declared.frame.Frame.TheVariants.{Line}
 
 -- the first `cap` bytes of `rest ++ bytes` are the first `cap` of `rest`, and then the first `cap - length rest` of `bytes`
 pub take-append : (cap : ℕ) (rest bytes : List ℕ) → take cap (rest ++ bytes) ≡ take cap rest ++ take (cap - length rest) bytes

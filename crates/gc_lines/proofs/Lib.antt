@@ -1,3 +1,4 @@
+mod Common
 pub mod Keeping
 pub mod Digits
 pub mod Cutting

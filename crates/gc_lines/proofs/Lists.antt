@@ -1,8 +1,7 @@
 -- Equal lists, lists with more after them, and a fact that holds of each element (`AllByRecursion`). `all_append`: what holds of
 -- the elements of two lists holds of those of both, one after the other.
-use Rattle.std.proofs.Common.{◌≡◌, ℕ, zero, suc, List, [], ◌∷◌, ◌++◌, length, Some, refl, subst}
+use Rattle.gc_lines.proofs.Common.{◌≡◌, ℕ, zero, suc, List, [], ◌∷◌, ◌++◌, length, Some, refl, subst, AllByRecursion}
 use Rattle.std.specs.Prelude.{slice_get}
-use Rattle.std.specs.List.{AllByRecursion}
 pub use Rattle.std.proofs.Permutation.{every_append as all_append}
 
 -- what holds of each element of a list holds of the one at any place

@@ -1,14 +1,5 @@
 -- A piece of the stream while it is answered: which of its frames were answered, and what is left of it (`PieceAnswered`).
-use Rattle.std.proofs.Common.{◌≡◌, ℕ, ◌+◌, ◌<◌, Bool, true, false, eqb, cond, ◌-◌, List, [], ◌∷◌, ◌++◌, length, take, drop, map, Some, None, refl, sym, ap, ◌∙◌, subst, arith, append_assoc}
-use Rattle.std.specs.List.{position}
-use Rattle.std.proofs.lemmas.Bool.Decides.{nat_tests}
-use Rattle.std.proofs.lemmas.List.{append-nil, drop_all, map-append}
-use Rattle.gc_lines.specs.Answering.{AnswerRule, AnswersPart, Progress, progress}
-use Rattle.gc_lines.specs.Assembler.{Kept, StandsFor}
-use Rattle.gc_lines.specs.Frames.{is_line_feed, ends_in_return, frame_of, frames, pieces_behind, rest_behind}
-use Rattle.gc_lines.specs.Passing.{completed, frames_behind, Gathering, GathersPart, NoneWait}
-use Rattle.gc_lines.specs.declared.frame.Frame.{Frame}
-use Rattle.gc_lines.specs.declared.frame.Frame.TheVariants.{Line, Cleared, Overlong, More}
+use Rattle.gc_lines.proofs.Common.{◌≡◌, ℕ, ◌+◌, ◌<◌, Bool, true, false, eqb, cond, ◌-◌, List, [], ◌∷◌, ◌++◌, length, take, drop, map, Some, None, refl, sym, ap, ◌∙◌, subst, arith, append_assoc, position, nat_tests, append-nil, drop_all, map-append, AnswerRule, AnswersPart, Progress, progress, Kept, StandsFor, is_line_feed, ends_in_return, frame_of, frames, pieces_behind, rest_behind, completed, frames_behind, Gathering, GathersPart, NoneWait, Frame, Line, Cleared, Overlong, More}
 use Rattle.gc_lines.specs.declared.session.Session.{Session}
 use Rattle.gc_lines.proofs.Cutting.{cut_none, cut_some, pieces-append}
 use Rattle.gc_lines.proofs.Gathering.{gathering_start}

@@ -1,19 +1,6 @@
 -- Bytes without CR and LF, and the line that they make.
-use Rattle.std.proofs.Common.{◌≡◌, ℕ, ◌+◌, ◌-◌, ◌<◌, ◌≤◌, List, [], ◌∷◌, ◌++◌, length, take, get_or, Option, Some, None, refl, sym, ap, ◌∙◌, arith, length-append, append_assoc, map}
-use Rattle.std.specs.List.{AllByRecursion}
-use Rattle.std.specs.Fmt.{decimal}
-use Rattle.std.specs.Str.Parse.{AllDigits}
-use Rattle.std.proofs.lemmas.Fmt.{decimal_is_IsNumeral}
-use Rattle.std.proofs.lemmas.Str.Parse.{digit_from_value}
+use Rattle.gc_lines.proofs.Common.{◌≡◌, ℕ, ◌+◌, ◌-◌, ◌<◌, ◌≤◌, List, [], ◌∷◌, ◌++◌, length, take, get_or, Option, Some, None, refl, sym, ap, ◌∙◌, arith, length-append, append_assoc, map, AllByRecursion, decimal, AllDigits, decimal_is_IsNumeral, digit_from_value, take_at, Line, IsPlainByte, IsPlain, with_end, HasNoLineFeed, frame_of, frames, rest_of, id_text, RequestFields, request_text, ReplyFields, reply_text, params_text, IsRequestInRange, IsReplyInRange, PlainIsOneLine}
 use Rattle.std.proofs.lemmas.List.Elements.{recursion_from_All, All-from_recursion, All-append}
-use Rattle.std.proofs.lemmas.List.{take_at}
-use Rattle.gc_lines.specs.declared.frame.Frame.TheVariants.{Line}
-use Rattle.gc_lines.specs.Lines.{IsPlainByte, IsPlain, with_end}
-use Rattle.gc_lines.specs.Frames.{HasNoLineFeed, frame_of, frames, rest_of}
-use Rattle.gc_lines.specs.Headers.{id_text}
-use Rattle.gc_lines.specs.Requests.{RequestFields, request_text}
-use Rattle.gc_lines.specs.Replies.{ReplyFields, reply_text, params_text}
-use Rattle.gc_lines.specs.Laws.{IsRequestInRange, IsReplyInRange, PlainIsOneLine}
 use Rattle.gc_lines.proofs.Cutting.{front_joins_piece}
 use Rattle.gc_lines.proofs.Keeping.{line_frame, last-append}
 

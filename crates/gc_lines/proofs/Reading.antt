@@ -1,9 +1,5 @@
 -- A reader of one field, and what it finds where the field has its form, or hasn't. A chain is `r >>= f`: r is its first part.
-use Rattle.std.proofs.Common.{◌≡◌, ℕ, ◌⊎◌, inl, inr, Bool, true, false, cond, List, Result, Ok, Err, IfOk, IfErr, refl, sym, ap, subst}
-use Rattle.gc_lines.specs.declared.fault.LineFault.{LineFault}
-use Rattle.gc_lines.specs.Headers.{GivesSame, GivesEach, FailsEach}
-use Rattle.gc_lines.specs.Laws.{ReadsExactly}
-use Rattle.gc_lines.specs.Readers.{◌>>=◌}
+use Rattle.gc_lines.proofs.Common.{◌≡◌, ℕ, ◌⊎◌, inl, inr, Bool, true, false, cond, List, Result, Ok, Err, IfOk, IfErr, refl, sym, ap, subst, LineFault, GivesSame, GivesEach, FailsEach, ReadsExactly, ◌>>=◌}
 
 -- a reader finds just what has the form, and has one fault
 pub record ReadsField {A : Type 0} (read : List ℕ → Result A LineFault) (Has : List ℕ → A → Type 0) (fault : LineFault) : Type 0 where

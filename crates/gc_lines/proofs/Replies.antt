@@ -1,12 +1,5 @@
 -- Reading a reply finds the fields of the grammar, or the first that is bad.
-use Rattle.std.proofs.Common.{◌≡◌, ℕ, inl, inr, List, [], ◌∷◌, ◌++◌, Result, Ok, Err, refl, sym, ap, ◌∙◌, subst, eqb}
-use Rattle.std.proofs.lemmas.Bool.{eqb-true}
-use Rattle.gc_lines.specs.declared.fault.LineFault.{LineFault}
-use Rattle.gc_lines.specs.declared.fault.LineFault.TheVariants.{Code}
-use Rattle.gc_lines.specs.Numbers.{HasNumber, NoDigitFirst}
-use Rattle.gc_lines.specs.Headers.{id_text}
-use Rattle.gc_lines.specs.Replies.{ReplyFields, IsReply, HasCode, EndsCode, IsReplyBody, FirstBadOfReply, reply_signature}
-use Rattle.gc_lines.specs.Readers.{number_at, HeaderFields, header_at, ◌>>=◌, params_at, code_at, reply_at}
+use Rattle.gc_lines.proofs.Common.{◌≡◌, ℕ, inl, inr, List, [], ◌∷◌, ◌++◌, Result, Ok, Err, refl, sym, ap, ◌∙◌, subst, eqb, eqb-true, LineFault, Code, HasNumber, NoDigitFirst, id_text, ReplyFields, IsReply, HasCode, EndsCode, IsReplyBody, FirstBadOfReply, reply_signature, number_at, HeaderFields, header_at, ◌>>=◌, params_at, code_at, reply_at}
 use Rattle.gc_lines.proofs.Reading.{ReadsLines, reads_exactly, ReadsField, none_means_fault, fault_means_none, bind_ok, bind_err, bind_on, guard_ok, guard_err}
 use Rattle.gc_lines.proofs.Fields.{number_reads}
 use Rattle.gc_lines.proofs.Headers.{header_found, header_again, ReadsBody, line_fault, line_bad}

@@ -1,8 +1,5 @@
 -- Reading a request finds the fields of the grammar, or the first that is bad.
-use Rattle.std.proofs.Common.{◌≡◌, ℕ, List, Result, Ok, Err, subst}
-use Rattle.gc_lines.specs.declared.fault.LineFault.{LineFault}
-use Rattle.gc_lines.specs.Requests.{RequestFields, IsRequest, FirstBadOfRequest, request_signature}
-use Rattle.gc_lines.specs.Readers.{HeaderFields, header_at, request_at}
+use Rattle.gc_lines.proofs.Common.{◌≡◌, ℕ, List, Result, Ok, Err, subst, LineFault, RequestFields, IsRequest, FirstBadOfRequest, request_signature, HeaderFields, header_at, request_at}
 use Rattle.gc_lines.proofs.Reading.{ReadsLines, reads_exactly, bind_ok, bind_on}
 use Rattle.gc_lines.proofs.Headers.{header_found, header_again, ReadsBody, line_fault, line_bad}
 

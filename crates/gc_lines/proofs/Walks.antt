@@ -1,6 +1,6 @@
 -- A step that hand-written proofs (walks) of higher crates share: those of gc_links `history.rt`, gc_files `past.rt` and
 -- gc_station `kept.rt`. Assumes `Logic`.
-use Rattle.std.proofs.Common.{List, [], ◌∷◌, refl}
+use Rattle.gc_lines.proofs.Common.{List, [], ◌∷◌, refl}
 use seplogic.Ra.Ura.{Ura}
 use mir.Val.{Val, vstruct, vnil}
 use types.Logic.{Logic}

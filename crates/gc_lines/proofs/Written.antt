@@ -1,14 +1,5 @@
 -- What is written is the one line without leading zeros that has the grammar.
-use Rattle.std.proofs.Common.{◌≡◌, ◌↔◌, ℕ, ◌<◌, List, [], ◌∷◌, ◌++◌, length, Ok, refl, sym, ap, ◌∙◌, subst, arith, inl, inr}
-use Rattle.std.specs.Fmt.{decimal}
-use Rattle.std.proofs.lemmas.Fmt.{length-decimal-le, decimal_nonempty, decimal_is_IsNumeral, decimal-digits_value, decimal_digit, first_decimal}
-use Rattle.std.proofs.lemmas.Bool.{cases_lt}
-use Rattle.gc_lines.specs.Numbers.{IsSmallNumber, NoLeadingZero}
-use Rattle.gc_lines.specs.Headers.{id_text}
-use Rattle.gc_lines.specs.Requests.{RequestFields, IsRequest, IsWrittenRequest, request_signature, request_text}
-use Rattle.gc_lines.specs.Replies.{ReplyFields, IsReply, IsWrittenReply, EndsCode, params_text, reply_signature, reply_text}
-use Rattle.gc_lines.specs.Readers.{request_at, reply_at}
-use Rattle.gc_lines.specs.Laws.{IsRequestInRange, IsReplyInRange}
+use Rattle.gc_lines.proofs.Common.{◌≡◌, ◌↔◌, ℕ, ◌<◌, List, [], ◌∷◌, ◌++◌, length, Ok, refl, sym, ap, ◌∙◌, subst, arith, inl, inr, decimal, length-decimal-le, decimal_nonempty, decimal_is_IsNumeral, decimal-digits_value, decimal_digit, first_decimal, cases_lt, IsSmallNumber, NoLeadingZero, id_text, RequestFields, IsRequest, IsWrittenRequest, request_signature, request_text, ReplyFields, IsReply, IsWrittenReply, EndsCode, params_text, reply_signature, reply_text, request_at, reply_at, IsRequestInRange, IsReplyInRange}
 use Rattle.gc_lines.proofs.Digits.{digits_are_numerals}
 use Rattle.gc_lines.proofs.Requests.{request_again}
 use Rattle.gc_lines.proofs.Replies.{reply_again}

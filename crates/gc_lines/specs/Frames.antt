@@ -1,10 +1,10 @@
 -- The frames and lines of a stream. The manual ends a line by CR LF and lets a lone LF clear the receiver; the rest is this
 -- project's own.
 use Rattle.std.specs.Prelude.{◌≡◌, ◌≢◌, ℕ, ◌-◌, ◌==◌, ◌&&◌, Bool, List, [], ◌∷◌, ◌++◌, length, take, nat_lt, slice_index, if◌then◌else◌, map, Option, Some, None}
-pub use Rattle.std.specs.Char.{is_newline as is_line_feed}
 use Rattle.std.specs.List.{flat_map, filter_map, AllByRecursion}
 use Rattle.gc_lines.specs.declared.frame.Frame.{Frame}
 use Rattle.gc_lines.specs.declared.frame.Frame.TheVariants.{Line, Cleared, Overlong}
+pub use Rattle.std.specs.Char.{is_newline as is_line_feed}
 
 -- whether the last byte is a carriage return
 abbrev pub ends_in_return : List ℕ → Bool

@@ -1,9 +1,9 @@
 -- A frame whose line is lent in place of being handed over: this project's own.
 use Rattle.std.specs.Prelude.{◌≡◌, ℕ, ◌≤◌, List, length}
 use Rattle.gc_lines.specs.declared.frame.Frame.{Frame}
-use Rattle.gc_lines.specs.declared.frame.Frame.TheVariants as frame
 use Rattle.gc_lines.specs.declared.frame.Lent.{Lent}
 use Rattle.gc_lines.specs.declared.frame.Lent.TheVariants.{Line, Cleared, Overlong, More}
+use Rattle.gc_lines.specs.declared.frame.Frame.TheVariants as frame
 
 -- the frame that a lent one stands for: the same, with its line by value
 abbrev pub lent_seen : Lent → Frame

@@ -1,3 +1,4 @@
+pub mod Prelude
 pub mod Ports
 pub mod Lines
 pub mod Frames

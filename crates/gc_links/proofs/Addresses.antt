@@ -1,11 +1,7 @@
 -- The addresses of a name, as a loop takes one after the other.
-use Rattle.std.proofs.Common.{◌+◌, ◌<◌, ◌≡◌, [], ◌∷◌, length, take, sym, ap, ◌∙◌, add-one, eq-zero-or-pos, ⊎_elim}
-use Rattle.std.proofs.Math.Seq.{take-nil}
-use Rattle.std.proofs.lemmas.List.{nil_from_length}
+use Rattle.gc_links.proofs.Common.{◌+◌, ◌<◌, ◌≡◌, [], ◌∷◌, length, take, sym, ap, ◌∙◌, add-one, eq-zero-or-pos, ⊎_elim, take-nil, nil_from_length, SocketAddr, HostAddrs, host_addrs}
 use Rattle.std.specs.Iterator.Adapters.{take_source, take_count}
 use Rattle.std.specs.Array.Iter.{array_into_iter_items}
-use Rattle.std.specs.declared.net.socket_addr.SocketAddr.{SocketAddr}
-use Rattle.std.specs.Net.ToAddrs.{HostAddrs, host_addrs}
 
 -- one address comes, and the rest after it
 pub one_comes : (s t : HostAddrs) (x : SocketAddr) → array_into_iter_items (take_source s) ≡ x ∷ array_into_iter_items (take_source t)

@@ -1,11 +1,7 @@
 -- The calls of a reading of the clocks, by its steps.
-use Rattle.std.proofs.Common.{List, [], ◌∷◌, ◌++◌, ◌≡◌, ap, ◌∙◌, refl, append_assoc, Result, Ok, Err}
-use Rattle.std.specs.Time.{instant_nanos}
+use Rattle.gc_links.proofs.Common.{List, [], ◌∷◌, ◌++◌, ◌≡◌, ap, ◌∙◌, refl, append_assoc, Result, Ok, Err, instant_nanos, monotonic_call, wall_call, Call, Makes, Monotonic, NoMonotonic, NoWall, MissesClocks, no_monotonic, no_wall}
 use Rattle.std.specs.declared.time.Instant.{Instant}
 use Rattle.std.specs.declared.time.SystemTime.{SystemTime}
-use Rattle.gc_links.specs.Answered.{monotonic_call, wall_call}
-use Rattle.gc_links.specs.Calls.{Call, Makes, Monotonic, NoMonotonic, NoWall}
-use Rattle.gc_links.specs.Clocks.{MissesClocks, no_monotonic, no_wall}
 use Rattle.gc_links.proofs.Making.{makes_one}
 
 module _ {E : Type 0} where

@@ -1,12 +1,5 @@
 -- The calls that connect to a peer, by their steps.
-use Rattle.std.proofs.Common.{◌≡◌, List, [], ◌∷◌, ◌++◌, map, sym, ap, ◌∙◌, subst, refl, append_assoc, append-nil, Result, Ok, Err, IfOk}
-use Rattle.std.proofs.lemmas.List.{map-append}
-use Rattle.std.specs.declared.net.socket_addr.SocketAddr.{SocketAddr}
-use Rattle.gc_links.specs.declared.connection.Peer.{Peer}
-use Rattle.gc_links.specs.declared.system.sockets.Wired.{Wired}
-use Rattle.gc_links.specs.Answered.{connect_call}
-use Rattle.gc_links.specs.Calls.{Call, Makes, Address, Reached}
-use Rattle.gc_links.specs.Connecting.{Seeks, not_reached, ReachesFirst, none, ConnectsFirst, Connects}
+use Rattle.gc_links.proofs.Common.{◌≡◌, List, [], ◌∷◌, ◌++◌, map, sym, ap, ◌∙◌, subst, refl, append_assoc, append-nil, Result, Ok, Err, IfOk, map-append, SocketAddr, Peer, Wired, connect_call, Call, Makes, Address, Reached, Seeks, not_reached, ReachesFirst, none, ConnectsFirst, Connects}
 use Rattle.gc_links.proofs.Making.{makes_one, makes_then}
 
 -- a connection to the next address was made

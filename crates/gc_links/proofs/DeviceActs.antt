@@ -1,20 +1,10 @@
 -- The acts of a link over a device, by the calls over its connection.
-use Rattle.std.proofs.Common.{◌≡◌, ℕ, List, [], ◌∷◌, ◌++◌, Bool, false, refl, ap, ◌∙◌, subst, Option, Some, None, Result, Ok, Err}
-use Rattle.gc_lines.specs.declared.ports.PortFailed.{PortFailed}
-use Rattle.gc_links.specs.declared.link.Came.{Came}
-use Rattle.gc_links.specs.declared.link.Came.TheVariants as came
-use Rattle.gc_links.specs.declared.link.Moment.{Moment}
+use Rattle.gc_links.proofs.Common.{◌≡◌, ℕ, List, [], ◌∷◌, ◌++◌, Bool, false, refl, ap, ◌∙◌, subst, Option, Some, None, Result, Ok, Err, PortFailed, Came, Moment, Closed, read_act, put_act, clock_act, open_act, Call, Device, Makes, Asked, Dropped, ClocksGive, device_end, reach_call, DoesOver, DoesOnDevice, LeavesNone, Takes, TakesNone, again, anew, Hold, Linked, Nothing, Aside, linked_end, hold_after, ended, ending, TakesHeld, TakesDevice}
 use Rattle.gc_links.specs.declared.system.devices.OpenDevice.{OpenDevice}
-use Rattle.gc_links.specs.Acts.{Closed, read_act, put_act, clock_act, open_act}
-use Rattle.gc_links.specs.Calls.{Call, Device, Makes, Asked, Dropped}
-use Rattle.gc_links.specs.Clocks.{ClocksGive}
-use Rattle.gc_links.specs.Devices.{device_end, reach_call}
-use Rattle.gc_links.specs.Does.{DoesOver}
-use Rattle.gc_links.specs.DoesOnDevice.{DoesOnDevice, LeavesNone, Takes, TakesNone, again, anew, dropped}
-use Rattle.gc_links.specs.Holds.{Hold, Linked, Nothing, Aside, linked_end, hold_after, ended, ending}
-use Rattle.gc_links.specs.Slots.{TakesHeld, TakesDevice}
+use Rattle.gc_links.specs.DoesOnDevice.{dropped}
 use Rattle.gc_links.proofs.Making.{makes_as, makes_then, makes_one}
 use Rattle.gc_links.proofs.Reading.{clocks_only}
+use Rattle.gc_links.specs.declared.link.Came.TheVariants as came
 
 module _ (path : List ℕ) (start : ℕ) (before after : Hold) where
   -- a read, by what was done over the connection

@@ -1,11 +1,5 @@
 -- How the acts of a link over a device go on to stand on the system's calls.
-use Rattle.std.proofs.Common.{◌≡◌, ℕ, List, [], ◌∷◌, ◌++◌, ap, ◌∙◌, sym, subst}
-use mathlib.Core.Logic.{∥∥₁_elim, ∥∥₁_map, ∥∥₁_prop}
-use Rattle.std.proofs.lemmas.Grind.{merely}
-use Rattle.gc_links.specs.Acts.{Act}
-use Rattle.gc_links.specs.Calls.{Call, Makes, Monotonic}
-use Rattle.gc_links.specs.DoesOnDevice.{DoesOnDevice, AreMeantOnDevice, HoldsFirst}
-use Rattle.gc_links.specs.Holds.{Hold}
+use Rattle.gc_links.proofs.Common.{◌≡◌, ℕ, List, [], ◌∷◌, ◌++◌, ap, ◌∙◌, sym, subst, ∥∥₁_elim, ∥∥₁_map, ∥∥₁_prop, merely, Act, Call, Makes, Monotonic, DoesOnDevice, AreMeantOnDevice, HoldsFirst, Hold}
 use Rattle.gc_links.proofs.Meaning.{meant_none, meant_then}
 
 module _ (path : List ℕ) (start : ℕ) where

@@ -1,3 +1,4 @@
+mod Common
 pub mod Addresses
 pub mod Clocking
 pub mod Connecting

@@ -1,17 +1,11 @@
 -- The acts of a station's link are done by its calls of the system.
-use Rattle.std.proofs.Common.{◌≡◌, List, subst, refl}
-use mathlib.Core.Logic.{∥∥₁_elim, ∥∥₁_map, ∥∥₁_prop}
-use Rattle.gc_links.specs.declared.connection.Peer.{Peer}
-use Rattle.gc_links.specs.declared.connection.Peer.TheVariants as peer
+use Rattle.gc_links.proofs.Common.{◌≡◌, List, subst, refl, ∥∥₁_elim, ∥∥₁_map, ∥∥₁_prop, Peer, Act, Call, PlaceSeen, AreMeantAt, AreMeantOnTcp, place_seen, place_in, acts_in, calls_in, SignalsSeen, signals_at}
 use Rattle.gc_links.specs.declared.placed.PlacedLink.{PlacedLink}
 use Rattle.gc_links.specs.declared.placed.PlacedLink.TheVariants.{Tcp, Device}
 use Rattle.gc_links.specs.declared.watched.Watched.{Watched}
-use Rattle.gc_links.specs.Acts.{Act}
-use Rattle.gc_links.specs.Calls.{Call}
 use Rattle.gc_links.specs.LinksMeant.{IsMeant, IsMeantAt, place_of_link}
-use Rattle.gc_links.specs.Placed.{PlaceSeen, AreMeantAt, AreMeantOnTcp, place_seen, place_in, acts_in, calls_in}
-use Rattle.gc_links.specs.Seeing.{SignalsSeen, signals_at}
 use Rattle.gc_links.specs.TcpLinks.{peer_place}
+use Rattle.gc_links.specs.declared.connection.Peer.TheVariants as peer
 
 -- over TCP, for either kind of peer
 on_tcp : (to : Peer) (acts : List Act) (calls : List Call) → AreMeantOnTcp (place_seen (peer_place to)) acts calls → AreMeantAt (place_seen (peer_place to)) acts calls

@@ -1,6 +1,5 @@
 -- Calls that were made, one after the other.
-use Rattle.std.proofs.Common.{List, [], ◌∷◌, ◌++◌, ◌≡◌, sym, ap, ◌∙◌, append_assoc, append-nil}
-use Rattle.gc_links.specs.Calls.{Call, Makes}
+use Rattle.gc_links.proofs.Common.{List, [], ◌∷◌, ◌++◌, ◌≡◌, sym, ap, ◌∙◌, append_assoc, append-nil, Call, Makes}
 
 -- no call was made
 pub makes_none : {old : List Call} → (Fact : List Call → Type 0) → Fact [] → Makes old old Fact

@@ -1,11 +1,5 @@
 -- How a link's acts go on to stand on the system's calls, as one act more is done.
-use Rattle.std.proofs.Common.{◌≡◌, List, [], ◌∷◌, ◌++◌, flat_map, sym, ap, ◌∙◌, subst, refl, append_assoc, append-nil}
-use Rattle.std.proofs.lemmas.List.{map-append}
-use Rattle.std.proofs.lemmas.Grind.{flat_map-append, merely}
-use mathlib.Core.Logic.{∥∥₁_elim, ∥∥₁_prop}
-use Rattle.gc_links.specs.Acts.{Act}
-use Rattle.gc_links.specs.Calls.{Call, Makes}
-use Rattle.gc_links.specs.Meant.{Deed, AreDone, after_all, AreMeant}
+use Rattle.gc_links.proofs.Common.{◌≡◌, List, [], ◌∷◌, ◌++◌, flat_map, sym, ap, ◌∙◌, subst, refl, append_assoc, append-nil, map-append, flat_map-append, merely, ∥∥₁_elim, ∥∥₁_prop, Act, Call, Makes, Deed, AreDone, after_all, AreMeant}
 
 module _ {State : Type 0} (Does : State → Act → List Call → State → Type 0) where
   -- one deed more

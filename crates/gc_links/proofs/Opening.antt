@@ -1,12 +1,5 @@
 -- The calls of an opening, by its steps.
-use Rattle.std.proofs.Common.{◌≡◌, ℕ, List, [], ◌∷◌, ◌++◌, ap, refl, Option, Some}
-use Rattle.gc_links.specs.declared.connection.Peer.{Peer}
-use Rattle.gc_links.specs.declared.system.sockets.Wired.{Wired}
-use Rattle.gc_links.specs.Acts.{Closed, Opened, Unopened}
-use Rattle.gc_links.specs.Answered.{wired_end, open_end}
-use Rattle.gc_links.specs.Calls.{End, Call, Makes, Dropped}
-use Rattle.gc_links.specs.Connecting.{Reaches, ReachesNone}
-use Rattle.gc_links.specs.DoesOnTcp.{DoesOnTcp, unreached, dropped}
+use Rattle.gc_links.proofs.Common.{◌≡◌, ℕ, List, [], ◌∷◌, ◌++◌, ap, refl, Option, Some, Peer, Wired, Closed, Opened, Unopened, wired_end, open_end, End, Call, Makes, Dropped, Reaches, ReachesNone, DoesOnTcp, unreached, dropped}
 use Rattle.gc_links.proofs.Making.{makes_one, makes_as, makes_then}
 
 module _ (peer : Peer) (start : ℕ) (before : Option End) where

@@ -1,17 +1,8 @@
 -- The calls of a read, by its steps.
-use Rattle.std.proofs.Common.{ℕ, ◌<◌, ◌≤◌, List, [], ◌∷◌, ◌++◌, ◌≡◌, length, take, sym, ap, ◌∙◌, subst, refl, append_assoc, All, Option, Result, Ok, Err, Some, None, lt_of_lt_of_le, le_of_eq}
-use Rattle.std.proofs.lemmas.List.{length-take-le}
-use Rattle.std.proofs.lemmas.List.Elements.{All-append, All-cons, All-nil}
-use Rattle.gc_lines.specs.declared.ports.PortFailed.{PortFailed}
-use Rattle.gc_links.specs.declared.link.Came.{Came}
-use Rattle.gc_links.specs.declared.link.Came.TheVariants as came
-use Rattle.gc_links.specs.declared.link.Moment.{Moment}
-use Rattle.gc_links.specs.Acts.{read_act, clock_act, Silent, Broke, Untold}
-use Rattle.gc_links.specs.Calls as call
-use Rattle.gc_links.specs.Calls.{End, Call, Makes}
-use Rattle.gc_links.specs.Clocks.{ReadsClocks, MissesClocks, ClocksGive, ClocksAfter}
-use Rattle.gc_links.specs.Does.{IsIdle, without_bytes, with_bytes, DoesConnected, DoesOver}
+use Rattle.gc_links.proofs.Common.{ℕ, ◌<◌, ◌≤◌, List, [], ◌∷◌, ◌++◌, ◌≡◌, length, take, sym, ap, ◌∙◌, subst, refl, append_assoc, All, Option, Result, Ok, Err, Some, None, lt_of_lt_of_le, le_of_eq, length-take-le, All-append, All-cons, All-nil, PortFailed, Came, Moment, read_act, clock_act, Silent, Broke, Untold, End, Call, Makes, ReadsClocks, MissesClocks, ClocksGive, ClocksAfter, IsIdle, without_bytes, with_bytes, DoesConnected, DoesOver}
 use Rattle.gc_links.proofs.Making.{makes_one, makes_as, makes_then}
+use Rattle.gc_links.specs.declared.link.Came.TheVariants as came
+use Rattle.gc_links.specs.Calls as call
 
 -- a reading of the clocks is idle
 pub reads_idle : (start : ℕ) (end : End) (moment : Moment) (calls : List Call) → ReadsClocks start moment calls → All (IsIdle end) calls

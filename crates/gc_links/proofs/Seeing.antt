@@ -1,13 +1,5 @@
 -- How the acts of a link that looks for files and reads others go on.
-use Rattle.std.proofs.Common.{◌≡◌, ℕ, List, [], ◌∷◌, ◌++◌, sym, ap, ◌∙◌, subst, append-nil, refl, Result, Ok, Err}
-use Rattle.std.proofs.lemmas.Grind.{merely}
-use mathlib.Core.Logic.{∥∥₁_elim, ∥∥₁_prop}
-use Rattle.gc_values.specs.declared.file_value.ValueFile.{ValueFile}
-use Rattle.gc_lines.specs.declared.ports.PortFailed.{PortFailed}
-use Rattle.gc_links.specs.declared.link.Moment.{Moment}
-use Rattle.gc_links.specs.Acts.{Act, Told, put_act, open_act}
-use Rattle.gc_links.specs.Calls.{Call, Makes}
-use Rattle.gc_links.specs.Seeing.{AreSeen, IsSeen, SignalsSeen, begun, more}
+use Rattle.gc_links.proofs.Common.{◌≡◌, ℕ, List, [], ◌∷◌, ◌++◌, sym, ap, ◌∙◌, subst, append-nil, refl, Result, Ok, Err, merely, ∥∥₁_elim, ∥∥₁_prop, ValueFile, PortFailed, Moment, Act, Told, put_act, open_act, Call, Makes, AreSeen, IsSeen, SignalsSeen, begun, more}
 
 module _ (signals : SignalsSeen) (files : List ValueFile) (began : Moment) where
   -- one act more, which was noted

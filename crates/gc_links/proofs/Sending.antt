@@ -1,8 +1,6 @@
 -- The calls of a write of many bytes, one after the other.
-use Rattle.std.proofs.Common.{ℕ, ◌+◌, ◌-◌, ◌<◌, ◌≤◌, List, [], ◌∷◌, ◌++◌, ◌≡◌, length, take, drop, sym, subst, refl, le_of_eq, arith}
-use Rattle.std.proofs.lemmas.List.{length-drop, take_all, drop-drop}
-use Rattle.gc_links.specs.Calls.{End, Call, Makes, Took, TookNone}
-use Rattle.gc_links.specs.Does.{Sends}
+use Rattle.gc_links.proofs.Common.{ℕ, ◌+◌, ◌-◌, ◌<◌, ◌≤◌, List, [], ◌∷◌, ◌++◌, ◌≡◌, length, take, sym, subst, refl, le_of_eq, arith, length-drop, take_all, drop-drop, End, Call, Makes, Took, TookNone, Sends}
+use Rattle.std.proofs.Common.{drop}
 use Rattle.gc_links.proofs.Making.{makes_one, makes_then}
 
 -- a write more, of what the writes before left

@@ -1,13 +1,6 @@
 -- The values of files, and when one was changed, by the calls that read them.
-use Rattle.std.proofs.Common.{◌≡◌, ◌+◌, ◌-◌, ◌<◌, ◌≤◌, ◌||◌, ℕ, suc, Bool, List, [], ◌∷◌, ◌++◌, length, take, get_or, slice_set, replicate, refl, sym, ap, subst, inl, ◌∙◌, arith, append_assoc, length-append, Option, Some, None}
-use Rattle.std.proofs.Math.Seq.{set-append_seam}
-use Rattle.std.proofs.lemmas.List.{length-take-le, take_all, take_more}
-use Rattle.gc_values.specs.FileValues.{no_value, no_values, path_of, IsValueIn}
-use Rattle.gc_values.specs.declared.file_value.ValueFile.{ValueFile}
-use Rattle.gc_links.specs.Answered.{file_bytes, file_call}
-use Rattle.gc_links.specs.Calls.{Call, Kept, NotKept, Makes}
-use Rattle.gc_links.specs.Seeing.{AreTaken, AreValues, IsLook, IsSeenAt, IsTakenBy, IsTouch, SignalsSeen, none, one_more}
-use Rattle.gc_links.specs.declared.link.Moment.{Moment}
+use Rattle.gc_links.proofs.Common.{◌≡◌, ◌+◌, ◌-◌, ◌<◌, ◌≤◌, ◌||◌, ℕ, suc, Bool, List, [], ◌∷◌, ◌++◌, length, take, get_or, slice_set, replicate, refl, sym, ap, subst, inl, ◌∙◌, arith, append_assoc, length-append, Option, Some, None, set-append_seam, length-take-le, take_all, take_more, no_value, no_values, path_of, IsValueIn, ValueFile, file_bytes, file_call, Call, Kept, NotKept, Makes, AreTaken, AreValues, IsLook, IsSeenAt, IsTakenBy, IsTouch, SignalsSeen, one_more, Moment}
+use Rattle.gc_links.specs.Seeing.{none}
 use Rattle.gc_links.specs.declared.system.files.SmallFile.{SmallFile}
 use Rattle.gc_links.proofs.Making.{makes_none, makes_then}
 

@@ -1,19 +1,9 @@
 -- How the acts of a link over TCP go on to stand on the system's calls.
-use Rattle.std.proofs.Common.{◌≡◌, ℕ, List, [], ◌∷◌, ◌++◌, ap, ◌∙◌, refl, Option, None, Result, Ok, Err}
-use Rattle.gc_lines.specs.declared.ports.PortFailed.{PortFailed}
-use Rattle.gc_links.specs.declared.connection.Peer.{Peer}
-use Rattle.gc_links.specs.declared.link.Came.{Came}
-use Rattle.gc_links.specs.declared.link.Came.TheVariants as outcome
-use Rattle.gc_links.specs.declared.link.Moment.{Moment}
-use Rattle.gc_links.specs.Acts.{Act, Told, Untold, Put, Cut, clock_act, put_act, read_act}
-use Rattle.gc_links.specs.Calls.{End, Call, Makes, Monotonic}
-use Rattle.gc_links.specs.Clocks.{ClocksGive}
-use Rattle.gc_links.specs.Does.{DoesOver}
-use Rattle.gc_links.specs.DoesOnTcp.{DoesOnTcp}
-use Rattle.gc_links.specs.Meant.{AreMeant}
+use Rattle.gc_links.proofs.Common.{◌≡◌, ℕ, List, [], ◌∷◌, ◌++◌, ap, ◌∙◌, refl, Option, None, Result, Ok, Err, PortFailed, Peer, Came, Moment, Act, Told, Untold, Put, Cut, clock_act, put_act, read_act, End, Call, Makes, Monotonic, ClocksGive, DoesOver, DoesOnTcp, AreMeant}
 use Rattle.gc_links.proofs.Making.{makes_as}
 use Rattle.gc_links.proofs.Meaning.{meant_then}
 use Rattle.gc_links.proofs.Reading.{clocks_only}
+use Rattle.gc_links.specs.declared.link.Came.TheVariants as outcome
 
 module _ (peer : Peer) (start : ℕ) where
   module _ (over : Option End) where

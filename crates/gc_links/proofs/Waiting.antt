@@ -1,11 +1,5 @@
 -- The calls of reads that are made again and again while nothing comes.
-use Rattle.std.proofs.Common.{ℕ, List, [], ◌∷◌, ◌++◌, sym, subst, refl, All}
-use Rattle.std.proofs.lemmas.List.Elements.{All-append, All-cons, All-nil}
-use Rattle.gc_links.specs.declared.link.Came.{Came}
-use Rattle.gc_links.specs.declared.link.Moment.{Moment}
-use Rattle.gc_links.specs.Acts.{read_act, Silent}
-use Rattle.gc_links.specs.Calls.{End, Call, CameNone, Makes}
-use Rattle.gc_links.specs.Does.{IsIdle, DoesConnected}
+use Rattle.gc_links.proofs.Common.{ℕ, List, [], ◌∷◌, ◌++◌, sym, subst, refl, All, All-append, All-cons, All-nil, Came, Moment, read_act, Silent, End, Call, CameNone, Makes, IsIdle, DoesConnected}
 use Rattle.gc_links.proofs.Making.{makes_then}
 use Rattle.gc_links.proofs.Reading.{idle_before, reads_idle}
 

@@ -5,13 +5,13 @@ use Rattle.std.specs.declared.time.Instant.{Instant}
 use Rattle.std.specs.declared.time.SystemTime.{SystemTime}
 use Rattle.std.specs.declared.net.socket_addr.SocketAddr.{SocketAddr}
 use Rattle.std.specs.Net.ToAddrs.{HostAddrs, host_addrs}
-use Rattle.gc_links.specs.Calls as call
 use Rattle.gc_links.specs.Calls.{End, Call, Address}
 use Rattle.gc_links.specs.declared.system.files.SmallFile.{SmallFile}
 use Rattle.gc_links.specs.declared.system.sockets.Wired.{Wired}
 use Rattle.gc_links.specs.declared.system.sockets.Written.{Written}
-use Rattle.gc_links.specs.declared.system.sockets.Written.TheVariants as wrote
 use Rattle.gc_links.specs.declared.system.sockets.Heard.{Heard}
+use Rattle.gc_links.specs.Calls as call
+use Rattle.gc_links.specs.declared.system.sockets.Written.TheVariants as wrote
 use Rattle.gc_links.specs.declared.system.sockets.Heard.TheVariants as heard
 
 -- the call that read the monotonic clock, by its answer

@@ -1,12 +1,12 @@
 -- The call for which each note of the system's calls stands: this project's own.
 use Rattle.std.specs.Time.{instant_nanos, system_time_nanos}
 use Rattle.std.specs.Net.ToAddrs.{host_addrs}
-use Rattle.gc_links.specs.Calls as call
 use Rattle.gc_links.specs.Calls.{End, Call}
 use Rattle.gc_links.specs.declared.calls.FarEnd.{FarEnd}
 use Rattle.gc_links.specs.declared.calls.FarEnd.TheVariants.{Address, Device}
 use Rattle.gc_links.specs.declared.calls.CallNote.{CallNote}
 use Rattle.gc_links.specs.declared.calls.CallNote.TheVariants.{Monotonic, NoMonotonic, Wall, NoWall, Found, NotFound, Reached, NotReached, Took, TookNone, NotTaken, Came, CameNone, NotCome, Dropped, Asked, Looked, Kept, NotKept}
+use Rattle.gc_links.specs.Calls as call
 
 -- the end that this value names
 abbrev pub end_of : FarEnd → End

@@ -1,6 +1,6 @@
 -- What a moment of a link is by the system's clocks: this project's own.
 use Rattle.std.specs.Prelude.{◌≡◌, ℕ, ◌-◌, ◌/◌, ◌^◌, ◌<◌, min, false, List, [], ◌∷◌, Result, Ok, Err}
-use Rattle.gc_values.specs.FileValues.{no_values}
+use Rattle.gc_values.specs.Prelude.{no_values}
 use Rattle.gc_links.specs.declared.link.Came.{Came}
 use Rattle.gc_links.specs.declared.link.Came.TheVariants.{Bytes, End, NoMoment}
 use Rattle.gc_links.specs.declared.link.Moment.{Moment}

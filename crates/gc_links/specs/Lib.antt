@@ -1,3 +1,4 @@
+pub mod Prelude
 pub mod Acts
 pub mod Answered
 pub mod CallCoding

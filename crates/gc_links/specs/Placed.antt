@@ -9,9 +9,9 @@ use Rattle.gc_links.specs.Meant.{AreMeant}
 use Rattle.gc_links.specs.TcpLinks.{peer_place, tcp_place}
 use Rattle.gc_links.specs.declared.connection.Peer.{Peer}
 use Rattle.gc_links.specs.declared.place.Place.{Place}
-use Rattle.gc_links.specs.declared.place.Place.TheVariants as place
 use Rattle.gc_links.specs.declared.placed.PlacedLink.{PlacedLink}
 use Rattle.gc_links.specs.declared.placed.PlacedLink.TheVariants.{Tcp, Device}
+use Rattle.gc_links.specs.declared.place.Place.TheVariants as place
 
 -- a place by its number or its text: a port of 127.0.0.1, a host with its port, or the path of a device
 pub data PlaceSeen : Type 0 where

@@ -1,6 +1,6 @@
 -- What a word says of where an instrument is: this project's own.
 use Rattle.std.specs.Prelude.{◌≡◌, ℕ, ◌<◌, ◌≤◌, List, ◌∷◌, ◌++◌, length, get_or}
-use Rattle.gc_values.specs.Whole.{NamesNumber}
+use Rattle.gc_values.specs.Prelude.{NamesNumber}
 use Rattle.gc_links.specs.declared.place.Place.{Place}
 use Rattle.gc_links.specs.declared.place.Place.TheVariants.{Port, Host, Device}
 

@@ -2,7 +2,7 @@
 -- reads files with values: this project's own.
 use Rattle.std.specs.Prelude.{◌≡◌, ◌⊎◌, ℕ, ◌-◌, Bool, false, ◌||◌, List, [], ◌∷◌, ◌++◌, length, replicate, Option, Some, None, option_map}
 use Rattle.std.specs.Borrow.{Bor}
-use Rattle.gc_values.specs.FileValues.{IsValueIn, no_value, path_of}
+use Rattle.gc_values.specs.Prelude.{IsValueIn, no_value, path_of}
 use Rattle.gc_values.specs.declared.file_value.TheConstants.{FILE_VALUES}
 use Rattle.gc_values.specs.declared.file_value.ValueFile.{ValueFile}
 use Rattle.gc_links.specs.Acts.{Act, Told, Gave, Silent}

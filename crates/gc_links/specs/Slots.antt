@@ -3,11 +3,11 @@ use Rattle.std.specs.Prelude.{◌≡◌, true, List, ℕ, [], ◌∷◌, Option,
 use Rattle.gc_links.specs.Calls.{Call, Asked}
 use Rattle.gc_links.specs.Devices.{device_end}
 use Rattle.gc_links.specs.DoesOnDevice.{HoldsFirst, LeavesNone, Takes, TakesNone}
-use Rattle.gc_links.specs.Holds as hold
 use Rattle.gc_links.specs.Holds.{Hold}
 use Rattle.gc_links.specs.declared.slot.Slot.{Slot}
 use Rattle.gc_links.specs.declared.slot.Slot.TheVariants.{Empty, Aside, Linked, Gone}
 use Rattle.gc_links.specs.declared.system.devices.OpenDevice.{OpenDevice}
+use Rattle.gc_links.specs.Holds as hold
 
 -- what the link has of its device
 abbrev pub hold_of : Slot → Hold

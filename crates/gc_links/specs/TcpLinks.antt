@@ -1,10 +1,10 @@
 -- What is seen of a link over TCP: this project's own.
 use Rattle.std.specs.Prelude.{◌≡◌, [], Result, IfOk}
 use Rattle.gc_links.specs.declared.connection.Peer.{Peer}
-use Rattle.gc_links.specs.declared.connection.Peer.TheVariants as peer
 use Rattle.gc_links.specs.declared.place.Place.{Place}
-use Rattle.gc_links.specs.declared.place.Place.TheVariants as place
 use Rattle.gc_links.specs.declared.tcp.TcpLink.{TcpLink}
+use Rattle.gc_links.specs.declared.connection.Peer.TheVariants as peer
+use Rattle.gc_links.specs.declared.place.Place.TheVariants as place
 
 -- where a peer is
 abbrev pub peer_place : Peer → Place

@@ -1,13 +1,7 @@
 -- A file of rows that is left joins the earlier ones, and the next file has taken nothing yet.
-use Rattle.std.proofs.Common.{◌≡◌, ℕ, List, [], ◌∷◌, ◌++◌, ap, refl, sym, ◌∙◌}
+use Rattle.gc_logs.proofs.Common.{◌≡◌, ℕ, List, [], ◌∷◌, ◌++◌, ap, refl, sym, ◌∙◌, Step, appended, all_steps, files_in, appended_two, EarlierFilesLast}
 use Rattle.std.proofs.lemmas.List.{append-nil}
-use Rattle.gc_files.specs.Files.{Step}
-use Rattle.gc_files.specs.Rows.{appended}
-use Rattle.gc_files.specs.InTurn.{all_steps}
-use Rattle.gc_files.specs.Left.{files_in}
-use Rattle.gc_files.proofs.Adding.{appended_two}
 use Rattle.gc_files.proofs.InTurn.{all_left_last, all_steps_more}
-use Rattle.gc_logs.specs.Following.{EarlierFilesLast}
 use Rattle.gc_logs.specs.declared.following.Followed.{Followed}
 
 -- a file, whose steps (`steps`) appended `taken`, joins the earlier files, whose steps were `left` and are then `left'`. The file

@@ -1,3 +1,4 @@
+mod Common
 pub mod Leaving
 mod LogCuts
 mod LogLines

@@ -1,16 +1,8 @@
 -- The files of a log: where each of them ends, and the lines that they have.
-use Rattle.std.proofs.Common.{◌≡◌, ℕ, ◌+◌, ◌-◌, ◌<◌, ◌≤◌, ◌==◌, inl, inr, false, not, nat_eq, Result, Ok, Err, List, [], ◌∷◌, ◌++◌, length, take, get_or, refl, sym, ap, subst, ◌∙◌, arith, append_assoc, append-nil}
-use Rattle.std.specs.List.{AllByRecursion}
-use Rattle.std.proofs.lemmas.Bool.{cases_Bool, eqb-false, eqb-true, not-false}
-use Rattle.std.proofs.lemmas.List.{length-take-le, take_more}
-use Rattle.gc_lines.specs.Answering.{all_of}
-use Rattle.gc_texts.specs.Cuts.{Lacks}
+use Rattle.gc_logs.proofs.Common.{◌≡◌, ℕ, ◌+◌, ◌-◌, ◌<◌, ◌≤◌, ◌==◌, inl, inr, false, not, nat_eq, Result, Ok, Err, List, [], ◌∷◌, ◌++◌, length, take, get_or, refl, sym, ap, subst, ◌∙◌, arith, append_assoc, append-nil, AllByRecursion, cases_Bool, eqb-false, eqb-true, not-false, length-take-le, take_more, all_of, Lacks, IsPrintableByte, log_text, stamp_text, IsBegun, LogFiles, RollsOver, StayBelow, TurnsTo, added, bytes_of, elsewhere, rolled, EndsLine, EndInLines, IsLine, CutAtLines, LogsKeepTheNewest}
 use Rattle.std.proofs.lemmas.List.Elements.{recursion_from_All}
-use Rattle.gc_texts.specs.Logs.{IsPrintableByte, log_text}
-use Rattle.gc_texts.specs.Stamps.{stamp_text}
 use Rattle.gc_texts.proofs.Cutting.{one_front}
 use Rattle.gc_texts.proofs.LogStamps.{log_lines_are_printable}
-use Rattle.gc_logs.specs.Files.{IsBegun, LogFiles, RollsOver, StayBelow, TurnsTo, added, bytes_of, elsewhere, rolled, EndsLine, EndInLines, IsLine, CutAtLines, LogsKeepTheNewest}
 
 -- bytes end in a line feed if their last part does, which isn't empty
 pub ends_append : (xs ys : List ℕ) → 0 < length ys → EndsLine ys → EndsLine (xs ++ ys)

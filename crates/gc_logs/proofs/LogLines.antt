@@ -1,22 +1,12 @@
 -- The lines that a log has of more and more bytes, what is pending after these, and the bytes that the lines stand for
 -- (`wire`). `TakesUnlessFailed` says that a log's sink, if it hasn't failed, took a text: a, b and c are what is seen of the sink
 -- at first, then and at last; for `TakesEntries` they are what is seen of the place where the lines go. `p` is what is pending.
-use Rattle.std.proofs.Common.{◌≡◌, ℕ, ◌+◌, ◌-◌, ◌<◌, ◌==◌, ◌&&◌, true, inl, inr, not, List, [], ◌∷◌, ◌++◌, length, take, get_or, refl, sym, ap, subst, ◌∙◌, arith, append_assoc, append-nil}
+use Rattle.gc_logs.proofs.Common.{◌≡◌, ℕ, ◌+◌, ◌-◌, ◌<◌, ◌==◌, ◌&&◌, true, inl, inr, not, List, [], ◌∷◌, ◌++◌, length, take, get_or, refl, sym, ap, subst, ◌∙◌, arith, append_assoc, append-nil, cases_Bool, cond_both, eqb-true, ltb-true, and_parts, take_all, take_more, Taken, ends_in_return, with_end, log_line, Entry, entry, line_mark, part_mark, takes_one_more, entry_of_line, entries_at, pending_at, entries, pending_after, log_text_of, TakesEntries, TakesUnlessFailed, wire_of, wire, LogKeepsAll, Unwritten, Direction, Went, Came}
 use Rattle.std.specs.Prelude.{nat_lt}
-use Rattle.std.proofs.lemmas.Bool.{cases_Bool, cond_both, eqb-true, ltb-true, and_parts}
-use Rattle.std.proofs.lemmas.List.{take_all, take_more}
 use Rattle.std.proofs.lemmas.List.Concat.{flat_map-append}
 use Rattle.std.proofs.KnownBytes.{Appends-trans}
-use Rattle.gc_lines.specs.Answering.{Taken}
-use Rattle.gc_lines.specs.Frames.{ends_in_return}
-use Rattle.gc_lines.specs.Lines.{with_end}
 use Rattle.gc_lines.specs.declared.ports.Sink.{Ghosts as Sink}
-use Rattle.gc_texts.specs.Logs.{log_line}
-use Rattle.gc_logs.specs.Logging.{Entry, entry, line_mark, part_mark, takes_one_more, entry_of_line, entries_at, pending_at, entries, pending_after, log_text_of, TakesEntries, TakesUnlessFailed, wire_of, wire, LogKeepsAll}
 use Rattle.gc_logs.specs.declared.logging.Lines.{Lines}
-use Rattle.gc_logs.specs.declared.logging.Unwritten.{Unwritten}
-use Rattle.gc_logs.specs.declared.logging.Direction.{Direction}
-use Rattle.gc_logs.specs.declared.logging.Direction.TheVariants.{Went, Came}
 
 -- the lines that the bytes `bs` and then b give are those that `bs` give, and after them those that b gives
 entries_more : (way : Direction) (p : Unwritten) (bs : List ℕ) (b : ℕ)

@@ -1,9 +1,5 @@
 -- What was written into the files of a log on the disk, as lines go on in another file.
-use Rattle.std.proofs.Common.{◌≡◌, ℕ, List, ◌++◌, ap, ◌∙◌, append_assoc}
-use Rattle.gc_files.specs.Files.{Step}
-use Rattle.gc_files.specs.Rows.{appended}
-use Rattle.gc_files.proofs.Adding.{appended_two}
-use Rattle.gc_logs.specs.Files.{LogFiles}
+use Rattle.gc_logs.proofs.Common.{◌≡◌, ℕ, List, ◌++◌, ap, ◌∙◌, append_assoc, Step, appended, appended_two, LogFiles}
 
 -- the files with these parts
 abbrev pub made_of : (earlier older newest : List ℕ) (older_size size : ℕ) → LogFiles

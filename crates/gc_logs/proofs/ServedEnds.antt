@@ -1,12 +1,9 @@
 -- The end of serving is told as the end of a run is.
-use Rattle.std.proofs.Common.{ℕ, List, Option, Result, Ok, Err, subst}
+use Rattle.gc_logs.proofs.Common.{ℕ, List, Option, Result, Ok, Err, subst, Appends, numbered_fault, serve_fault_text, run_fault_text, fault_line, Tells, end_of_serving}
 use Rattle.std.proofs.lemmas.List.{append-nil}
-use Rattle.std.specs.Io.KnownBytes.{Appends}
-use Rattle.gc_lines.specs.Answering.{numbered_fault, serve_fault_text}
 use Rattle.gc_lines.specs.declared.served.Served.{Served}
 use Rattle.gc_lines.specs.declared.served.ServeFault.{ServeFault}
 use Rattle.gc_lines.specs.declared.served.ServeFault.TheVariants.{Read, Write, TooManyReads}
-use Rattle.gc_texts.specs.Faults.{run_fault_text, fault_line, Tells, end_of_serving}
 
 -- what tells the end of serving as the end of a run (`end_of_serving`) tells it as itself: both faults have the same text
 pub tells_served : (end : Result Served ServeFault) (status : ℕ) (old new : Option (List ℕ)) → Tells run_fault_text (end_of_serving end) status old new

@@ -1,14 +1,7 @@
 -- A log marks each line by the direction of its bytes: `>` if they were sent, `<` if they were received.
-use Rattle.std.proofs.Common.{◌-◌, ◌==◌, ◌&&◌, ℕ, cond, not, List, [], ◌∷◌, ◌++◌, length, take, refl}
-use Rattle.std.specs.List.{AllByRecursion}
-use Rattle.std.proofs.lemmas.Bool.{cond_both}
+use Rattle.gc_logs.proofs.Common.{◌-◌, ◌==◌, ◌&&◌, ℕ, cond, not, List, [], ◌∷◌, ◌++◌, length, take, refl, AllByRecursion, cond_both, ends_in_return, entry, line_mark, part_mark, takes_one_more, entry_of_line, entries_at, pending_at, entries, entries_of_pending, Unwritten, Direction, Went, Came}
 use Rattle.gc_lines.proofs.Lists.{all_append}
-use Rattle.gc_lines.specs.Frames.{ends_in_return}
-use Rattle.gc_logs.specs.Logging.{entry, line_mark, part_mark, takes_one_more, entry_of_line, entries_at, pending_at, entries, entries_of_pending}
 use Rattle.gc_logs.specs.Ways.{sign_of, IsSigned, MarksTellTheWay}
-use Rattle.gc_logs.specs.declared.logging.Unwritten.{Unwritten}
-use Rattle.gc_logs.specs.declared.logging.Direction.{Direction}
-use Rattle.gc_logs.specs.declared.logging.Direction.TheVariants.{Went, Came}
 
 -- a whole line is marked by its direction
 whole_line_signed : (way : Direction) (bytes : List ℕ) → IsSigned (sign_of way) (entry (line_mark way) bytes)

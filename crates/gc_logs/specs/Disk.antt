@@ -1,6 +1,5 @@
 -- What was written into the files of a log on the disk: this project's own. What a file had before it was opened isn't known.
-use Rattle.gc_files.specs.Rows.{appended}
-use Rattle.gc_files.specs.Sinks.{taken_in}
+use Rattle.gc_logs.specs.Common.{appended, taken_in}
 use Rattle.gc_logs.specs.Files.{LogFiles}
 use Rattle.gc_logs.specs.declared.files_at.FilesAt.{FilesAt}
 

@@ -1,9 +1,8 @@
 -- How the end of a run over a connection is reported: this project's own.
+use Rattle.gc_logs.specs.Common.{run_fault_text, Tells, RunFault}
 use Rattle.std.specs.Prelude.{◌≡◌, ℕ, Bool, true, false, List, Option, Result, Ok, Err}
 use Rattle.gc_links.specs.declared.place.Place.{Place}
 use Rattle.gc_links.specs.declared.place.Place.TheVariants.{Port, Host, Device}
-use Rattle.gc_texts.specs.Faults.{run_fault_text, Tells}
-use Rattle.gc_texts.specs.declared.fault.RunFault.{RunFault}
 
 -- whether a place is a port of 127.0.0.1, of which a fault has its line alone; for any other place a second line may follow
 abbrev pub is_port : Place → Bool

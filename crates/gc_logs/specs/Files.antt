@@ -1,11 +1,7 @@
 -- The files of a log: the present one, into which lines are written, and the older one, which was the present one before it. This
 -- project's own.
+use Rattle.gc_logs.specs.Common.{AllByRecursion, all_of, Lacks, AreBytes, log_line, LogMark}
 use Rattle.std.specs.Prelude.{◌≡◌, ◌⊎◌, ◌==◌, Bool, true, ℕ, ◌+◌, ◌^◌, ◌<◌, ◌≤◌, List, [], ◌∷◌, ◌++◌, length, take, Result, Ok, Err}
-use Rattle.std.specs.List.{AllByRecursion}
-use Rattle.gc_lines.specs.Answering.{all_of}
-use Rattle.gc_texts.specs.Cuts.{Lacks}
-use Rattle.gc_texts.specs.Logs.{AreBytes, log_line}
-use Rattle.gc_texts.specs.declared.log_line.LogMark.{LogMark}
 
 -- what is seen of the files of a log: what was written into all files before the older one, into the older one, and into the present
 -- one, in order; and how many bytes the older one and the present one have, with those that they had when they were opened

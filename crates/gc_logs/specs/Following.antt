@@ -1,11 +1,6 @@
 -- A file of rows that is followed: at which path it is, how it was opened, and what it and the files before it took. This project's own.
+use Rattle.gc_logs.specs.Common.{AllByRecursion, Step, HaveWholeRows, LastsWhole, all_steps, files_in, appended, IsOpenedAs, asks_sync, taken_in}
 use Rattle.std.specs.Prelude.{◌≡◌, ℕ, Bool, true, List, [], ◌++◌}
-use Rattle.std.specs.List.{AllByRecursion}
-use Rattle.gc_files.specs.Files.{Step}
-use Rattle.gc_files.specs.InTurn.{HaveWholeRows, LastsWhole, all_steps}
-use Rattle.gc_files.specs.Left.{files_in}
-use Rattle.gc_files.specs.Rows.{appended}
-use Rattle.gc_files.specs.Sinks.{IsOpenedAs, asks_sync, taken_in}
 use Rattle.gc_logs.specs.declared.following.Followed.{Followed}
 
 -- what was done to the earlier files, one after the other

@@ -1,3 +1,5 @@
+mod Common
+pub mod Prelude
 pub mod Coding
 pub mod Disk
 pub mod Ends

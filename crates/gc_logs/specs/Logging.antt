@@ -1,22 +1,16 @@
 -- What a log has of the bytes of one direction, as they are sent and received: this project's own. Bytes that aren't written
 -- into a line of the log yet are pending.
+use Rattle.gc_logs.specs.Common.{Appends, flat_map, Taken, taken_by, ends_in_return, with_end, log_line, LogMark}
 use Rattle.std.specs.Prelude.{◌≡◌, ℕ, ◌-◌, ◌==◌, ◌&&◌, Bool, true, false, not, nat_lt, List, [], ◌∷◌, ◌++◌, length, take, if◌then◌else◌, codes}
-use Rattle.std.specs.Io.KnownBytes.{Appends}
-use Rattle.std.specs.List.{flat_map}
-use Rattle.gc_lines.specs.Answering.{Taken, taken_by}
-use Rattle.gc_lines.specs.Frames.{ends_in_return}
-use Rattle.gc_lines.specs.Lines.{with_end}
 use Rattle.gc_lines.specs.declared.ports.Sink.{Ghosts as Sink}
-use Rattle.gc_texts.specs.Logs.{log_line}
-use Rattle.gc_texts.specs.declared.log_line.LogMark.{LogMark}
-use Rattle.gc_texts.specs.declared.log_line.LogMark.TheVariants as mark
-use Rattle.gc_links.specs.Acts.{Act, Told, Put, Cut, Gave, Silent, Ended, Broke, Closed, Opened, Unopened}
+use Rattle.gc_links.specs.Prelude.{Act, Told, Put, Cut, Gave, Silent, Ended, Broke, Closed, Opened, Unopened}
 use Rattle.gc_logs.specs.declared.logging.Lines.{Lines}
 use Rattle.gc_logs.specs.declared.logging.Log.{Log}
 use Rattle.gc_logs.specs.declared.logged.Logged.{Logged}
 use Rattle.gc_logs.specs.declared.logging.Unwritten.{Unwritten}
 use Rattle.gc_logs.specs.declared.logging.Direction.{Direction}
 use Rattle.gc_logs.specs.declared.logging.Direction.TheVariants.{Went, Came}
+use Rattle.gc_texts.specs.declared.log_line.LogMark.TheVariants as mark
 
 -- a line of a log without its moment: its mark and its bytes
 pub record Entry : Type 0 where

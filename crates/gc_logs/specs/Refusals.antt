@@ -1,6 +1,6 @@
 -- What the program writes of a command line that it refuses: this project's own.
+use Rattle.gc_logs.specs.Common.{Appends}
 use Rattle.std.specs.Prelude.{◌≡◌, ℕ, ◌++◌, Bool, true, false, List, Option, codes}
-use Rattle.std.specs.Io.KnownBytes.{Appends}
 
 -- the line that says why a command line is refused
 abbrev pub refusal_line : (why : List ℕ) → List ℕ

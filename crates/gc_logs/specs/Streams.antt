@@ -1,7 +1,6 @@
 -- The standard streams, of which some may be closed, and what is reported if one is: this project's own.
+use Rattle.gc_logs.specs.Common.{Appends, run_fault_text, fault_line}
 use Rattle.std.specs.Prelude.{◌≡◌, ℕ, Bool, true, false, ◌&&◌, List, Option}
-use Rattle.std.specs.Io.KnownBytes.{Appends}
-use Rattle.gc_texts.specs.Faults.{run_fault_text, fault_line}
 use Rattle.gc_texts.specs.declared.fault.RunFault.TheVariants.{StreamClosed}
 use Rattle.gc_logs.specs.declared.standard.Standard.{Standard}
 

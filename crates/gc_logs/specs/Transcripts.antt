@@ -1,10 +1,9 @@
 -- What went through a stream, where a transcript keeps it: this project's own. `old` and `new` are what is seen of a source before
 -- and after a call.
+use Rattle.gc_logs.specs.Common.{Input, input_of, GaveBytes, WasRead, IsUnread, RunFault}
 use Rattle.std.specs.Prelude.{◌≡◌, ℕ, List, ◌++◌, take, Result, Ok, Err}
 use Rattle.gc_lines.specs.declared.ports.Source.{Ghosts as Source}
 use Rattle.gc_logs.specs.declared.heard.Heard.{Heard}
-use Rattle.gc_texts.specs.WholeTexts.{Input, input_of, GaveBytes, WasRead, IsUnread}
-use Rattle.gc_texts.specs.declared.fault.RunFault.{RunFault}
 
 -- a read gave the first n bytes of `buf`, and exactly these were noted; a read that failed gave none, and nothing was noted. `old`
 -- and `new` are the bytes that were noted before and after it

@@ -1,7 +1,6 @@
 -- In which direction bytes went, as a log shows it: this project's own.
+use Rattle.gc_logs.specs.Common.{AllByRecursion, mark_text}
 use Rattle.std.specs.Prelude.{◌≡◌, ℕ, List, ◌∷◌}
-use Rattle.std.specs.List.{AllByRecursion}
-use Rattle.gc_texts.specs.Logs.{mark_text}
 use Rattle.gc_logs.specs.Logging.{Entry, entries, entries_of_pending}
 use Rattle.gc_logs.specs.declared.logging.Unwritten.{Unwritten}
 use Rattle.gc_logs.specs.declared.logging.Direction.{Direction}

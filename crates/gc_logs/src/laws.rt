@@ -1,4 +1,4 @@
-//! What is proved of a log. The functions do nothing: their contracts are the laws.
+//! What is proved of a log, and of files of rows that take rows in turn. The functions do nothing: their contracts are the laws.
 
 ghost use Rattle.gc_logs.specs.Logging.{LogKeepsAll};
 ghost use Rattle.gc_logs.specs.Files.{LogsKeepTheNewest};

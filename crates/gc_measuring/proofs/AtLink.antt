@@ -1,10 +1,6 @@
 -- What a run over a link measured, once it is known when the link was made, and which acts it recorded.
-use Rattle.std.proofs.Common.{◌≡◌, ℕ, Bool, List, Some, None, sym, subst}
-use Rattle.gc_links.specs.Acts.{Act}
-use Rattle.gc_measuring.specs.Measuring.{IsMeasured, MeasuresGiven}
-use Rattle.gc_measuring.specs.Telling.{MeasuresAll, MeasuresAllAtLink, MeasuresAtLink, ReportsMeasuring, Stage, Views, seen_at, with_messages}
-use Rattle.gc_options.specs.Stations.{begun_at}
-use Rattle.gc_options.specs.declared.settings.Settings.{Settings}
+use Rattle.gc_measuring.proofs.Common.{◌≡◌, ℕ, Bool, List, Some, None, sym, subst, Act, IsMeasured, MeasuresGiven, MeasuresAll, MeasuresAllAtLink, MeasuresAtLink, ReportsMeasuring, Stage, Views, seen_at, with_messages, Settings}
+use Rattle.gc_options.specs.Prelude.{begun_at}
 
 -- a run that measured, as it reports, and whose link was made at the moment `run` and recorded the acts `told`, measured over that link
 pub measures_at_link : {S K E : Type 0} (views : Views S K E) (station : Settings) (old new : Stage S K E) (told : List Act) (run : ℕ) (is_lost : Bool) (status : ℕ)

@@ -1,18 +1,10 @@
 -- A run's link and its file, once they are handed back.
-use Rattle.std.proofs.Common.{◌≡◌, ℕ, Bool, List, Option, Some, Result, Ok, sym, subst}
-use Rattle.std.proofs.lemmas.Result.{IfOk-weaker, IfOk-at_ok}
-use Rattle.std.specs.Prelude.{IfOk}
-use Rattle.std.specs.Process.{exit_status}
+use Rattle.gc_measuring.proofs.Common.{◌≡◌, ℕ, Bool, List, Option, Some, Result, Ok, sym, subst, IfOk-weaker, IfOk-at_ok, IfOk, exit_status, Act, Watched, AppendingRun, AppendsAll, MeasuresAllAtLink, ReportsAppending, ReportsAtSite, Stage, Views, acts_of, began_of, stage, Snapshot, Settings}
 use Rattle.std.specs.declared.process.ExitCode.{ExitCode}
-use Rattle.gc_links.specs.Acts.{Act}
-use Rattle.gc_links.specs.declared.watched.Watched.{Watched}
 use Rattle.gc_measuring.specs.Appending.{AppendsToFile, appending_run}
-use Rattle.gc_measuring.specs.Telling.{AppendingRun, AppendsAll, MeasuresAllAtLink, ReportsAppending, ReportsAtSite, Stage, Views, acts_of, began_of, stage}
 use Rattle.gc_measuring.specs.declared.recording.Appended.{Appended}
 use Rattle.gc_logs.specs.declared.following.Followed.{Followed}
 use Rattle.gc_logs.specs.declared.streams.Streams.{Streams}
-use Rattle.gc_station.specs.Keeping.{Snapshot}
-use Rattle.gc_options.specs.declared.settings.Settings.{Settings}
 
 -- what is known of a run's link, of which the moment `run` is known at which it was made, and of the status, is known of the link that is
 -- handed back, which was made at that moment

@@ -1,9 +1,5 @@
 -- A text that was read whole from a source that notes what it gave, and gives no tasks.
-use Rattle.std.proofs.Common.{ℕ, List, inl, inr, subst, sym}
-use Rattle.gc_measuring.specs.TaskTexts.{HasNoTasks, HearsNoTasks, RefusesTasks}
-use Rattle.gc_measuring.specs.declared.stop.Stop.{Stop}
-use Rattle.gc_logs.specs.Transcripts.{Hearing, HearsText}
-use Rattle.gc_texts.specs.WholeTexts.{Input, WasRead}
+use Rattle.gc_measuring.proofs.Common.{ℕ, List, inl, inr, subst, sym, HasNoTasks, HearsNoTasks, RefusesTasks, Stop, Hearing, HearsText, Input, WasRead}
 
 -- a text that was read whole, and gives no tasks, is refused
 pub refused_if_read : (given : List ℕ) (old new : Input) (stop : Stop) → WasRead given old new → HasNoTasks given stop → RefusesTasks given old new stop

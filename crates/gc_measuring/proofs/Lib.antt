@@ -1,3 +1,4 @@
+mod Common
 mod AtLink
 mod Both
 mod Described

@@ -1,11 +1,7 @@
 -- The time that is lost behind raw commands of a setup is their number times that of each, unless it is cut.
-use Rattle.std.proofs.Common.{◌≡◌, ℕ, zero, suc, ◌+◌, ◌-◌, ◌*◌, ◌≤◌, ◌&&◌, Bool, true, false, not, if◌then◌else◌, List, [], ◌∷◌, take, nat_lt, nat_le, min, refl, ap, ◌∙◌, arith}
-use Rattle.std.proofs.lemmas.Bool.{lt-ltb, leb-true, leb-false}
+use Rattle.gc_measuring.proofs.Common.{◌≡◌, ℕ, zero, suc, ◌+◌, ◌-◌, ◌*◌, ◌≤◌, ◌&&◌, Bool, true, false, not, if◌then◌else◌, List, [], ◌∷◌, take, nat_lt, nat_le, min, refl, ap, ◌∙◌, arith, lt-ltb, is_of_table, Task, raw_count, lost_by}
+use Rattle.std.proofs.lemmas.Bool.{leb-true, leb-false}
 use native.Mathlib.Nat.{suc-mul}
-use Rattle.gc_catalogue.specs.Asked.{is_of_table}
-use Rattle.gc_texts.specs.declared.tasks.Task.{Task}
-use Rattle.gc_station.specs.RecordedInTime.{raw_count}
-use Rattle.gc_measuring.specs.Bounds.{lost_by}
 
 -- the time behind these tasks is `lost`, and `time` for each raw one of the first `left`; at most `most`
 pub lost_is : (tasks : List Task) (lost left time : ℕ) → lost ≤ 18446744073709551615 → lost_by lost left time tasks ≡ min (lost + raw_count (take left tasks) * time) 18446744073709551615

@@ -1,11 +1,5 @@
 -- Status 0 is reported only of a run that is done, or whose end was asked for.
-use Rattle.std.proofs.Common.{◌≡◌, ℕ, List, Option, Result, Ok, Err, inl, inr, arith}
-use Rattle.gc_measuring.specs.Measuring.{PortsSeen, MeasuresGiven, IsMeasured, ReportsEndOfRun}
-use Rattle.gc_options.specs.declared.settings.Settings.{Settings}
-use Rattle.gc_measuring.specs.declared.stop.Stop.{Stop}
-use Rattle.gc_measuring.specs.declared.stop.Stop.TheVariants.{Run}
-use Rattle.gc_station.specs.declared.tally.Tally.{Tally}
-use Rattle.gc_texts.specs.declared.fault.RunFault.TheVariants.{Output}
+use Rattle.gc_measuring.proofs.Common.{◌≡◌, ℕ, List, Option, Result, Ok, Err, inl, inr, arith, PortsSeen, MeasuresGiven, IsMeasured, ReportsEndOfRun, Settings, Stop, Run, Tally, Output}
 
 -- an end isn't both a value and a stop
 ok_is_no_stop : {A : Type 0} (x : A) (stop : Stop) → ◌≡◌ {A = Result A Stop} (Ok x) (Err stop) → ⊥

@@ -1,9 +1,5 @@
 -- When the first cycle of a run is due by the clock.
-use Rattle.std.proofs.Common.{◌≡◌, ◌+◌, ◌-◌, ◌*◌, ◌/◌, ◌%◌, ◌<◌, ◌≤◌, ℕ, suc, Bool, true, false, Option, Some, List, nat_eq, nat_le, refl, ap, sym, ◌∙◌, arith, eqb-true, leb-true, leb-false}
-use Rattle.std.proofs.Math.Nat.{div-add-mod', mod-lt, suc-mul}
-use Rattle.gc_measuring.specs.Choices.{IsTimeToMultiple, plan_of, time_to_multiple}
-use Rattle.gc_texts.specs.declared.tasks.Task.{Task}
-use Rattle.gc_options.specs.declared.choice.Choice.{Choice}
+use Rattle.gc_measuring.proofs.Common.{◌≡◌, ◌+◌, ◌-◌, ◌*◌, ◌/◌, ◌%◌, ◌<◌, ◌≤◌, ℕ, suc, Bool, true, false, Option, Some, List, nat_eq, nat_le, refl, ap, sym, ◌∙◌, arith, eqb-true, leb-true, leb-false, div-add-mod', mod-lt, suc-mul, IsTimeToMultiple, plan_of, time_to_multiple, Task, Choice}
 
 -- a moment that is `past` after the whole multiple `m`, and no later after it than the wanted one
 earlier : (m past wanted run : ℕ) → m + past ≡ run → past ≤ wanted → run + (wanted - past) ≡ m + wanted

@@ -1,9 +1,5 @@
 -- A text that gives tasks has a line that isn't faulty, with no faulty line before it: memory may be refused there.
-use Rattle.std.proofs.Common.{◌≡◌, ◌<◌, ℕ, if◌then◌else◌, Bool, true, false, List, [], ◌∷◌, ◌++◌, length, map, refl, sym, ap, ◌∙◌, subst, arith}
-use Rattle.std.specs.Prelude.{filter}
-use Rattle.gc_texts.specs.LineForms.{text_lines, is_kept, AreLinesOf}
-use Rattle.gc_texts.specs.TaskLines.{IsTaskLine}
-use Rattle.gc_texts.specs.Tasks.{TasksSeen, IsTasks, MayFollow, ReachesASoundTaskLine, first_mode, no_standing, placed, tasks_of}
+use Rattle.gc_measuring.proofs.Common.{◌≡◌, ◌<◌, ℕ, if◌then◌else◌, Bool, true, false, List, [], ◌∷◌, ◌++◌, length, map, refl, sym, ap, ◌∙◌, subst, arith, filter, text_lines, is_kept, AreLinesOf, IsTaskLine, TasksSeen, IsTasks, MayFollow, ReachesASoundTaskLine, first_mode, no_standing, placed, tasks_of}
 
 -- what lines of this form say
 abbrev said_by : {Said : Type 0} → (form : List ℕ → Said → Type 0) → Type 0

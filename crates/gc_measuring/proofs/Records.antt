@@ -1,10 +1,6 @@
 -- What is left of a link, once it is closed.
-use Rattle.std.proofs.Common.{◌≡◌}
-use Rattle.gc_links.specs.LinksMeant.{IsMeantAt}
-use Rattle.gc_links.specs.Placed.{PlaceSeen, calls_in}
-use Rattle.gc_links.specs.Seeing.{SignalsSeen}
+use Rattle.gc_measuring.proofs.Common.{◌≡◌, IsMeantAt, PlaceSeen, calls_in, SignalsSeen, Watched}
 use Rattle.gc_links.specs.declared.watched.LinkRecord.{LinkRecord}
-use Rattle.gc_links.specs.declared.watched.Watched.{Watched}
 use Rattle.gc_measuring.specs.Noted.{IsMeantRecord}
 
 -- if the acts of a link are what the system's calls did at this place, so are those that are left of it

@@ -1,8 +1,6 @@
 -- Angles in the unit in which people read them: how they are computed, and how their places are written.
-use Rattle.std.proofs.Common.{◌≡◌, ◌∙◌, ℕ, ◌+◌, ◌-◌, ◌*◌, ◌/◌, ◌%◌, ◌^◌, ◌<◌, ◌++◌, false, [], List, length, replicate, append-nil, arith, sym, ap}
-use Rattle.std.proofs.Math.Nat.{add-mul-div_right, div-add-mod'}
-use Rattle.std.specs.Fmt.{char_count, format_spec, padded_integral}
-use Rattle.gc_values.specs.Nearest.{half_up}
+use Rattle.gc_measuring.proofs.Common.{◌≡◌, ◌∙◌, ℕ, ◌+◌, ◌-◌, ◌*◌, ◌/◌, ◌%◌, ◌^◌, ◌<◌, ◌++◌, false, [], List, length, replicate, append-nil, arith, sym, ap, add-mul-div_right, div-add-mod', format_spec, half_up}
+use Rattle.std.specs.Fmt.{char_count, padded_integral}
 
 -- a is q whole p and a rest r: of a times s, over p, the whole number nearest is q times s and that of r times s, over p
 parts_rounded : (q r s p : ℕ) → 0 < p → (2 * (r * s) + p + q * s * (2 * p)) / (2 * p) ≡ q * s + (2 * (r * s) + p) / (2 * p)

@@ -1,14 +1,8 @@
 -- The text that the reads of an input gave.
-use Rattle.std.proofs.Common.{◌≡◌, ℕ, List, ◌++◌, subst}
-use Rattle.std.specs.Io.KnownBytes.{Consumes}
+use Rattle.gc_measuring.proofs.Common.{◌≡◌, ℕ, List, ◌++◌, subst, Consumes, GivesTasks, HearsTasks, Hearing, tasks_seen, ReadsFew, Choice}
 use Rattle.gc_measuring.specs.Labels.{labels_of}
-use Rattle.gc_measuring.specs.TaskTexts.{GivesTasks, HearsTasks}
 use Rattle.gc_measuring.specs.Texts.{ReadsTaskText}
-use Rattle.gc_logs.specs.Transcripts.{Hearing}
-use Rattle.gc_texts.specs.Tasks.{tasks_seen}
-use Rattle.gc_texts.specs.WholeTexts.{ReadsFew}
 use Rattle.gc_texts.specs.declared.tasks.Tasks.{Tasks}
-use Rattle.gc_options.specs.declared.choice.Choice.{Choice}
 
 -- a text with these tasks was heard, and so it was read, with their columns
 pub reads_task_text : (old new : Hearing) (choice : Choice) (text : List ℕ) (tasks : Tasks) → HearsTasks old new choice text tasks

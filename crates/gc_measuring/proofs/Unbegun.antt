@@ -1,12 +1,8 @@
 -- A station that can't begin: its sink is as it was.
-use Rattle.std.proofs.Common.{Bool, Option, Some, None, Err, inl, inr, refl, sym, subst}
+use Rattle.gc_measuring.proofs.Common.{Bool, Option, Some, None, Err, inl, inr, refl, sym, subst, CannotBegin, FailsAtOutput, Tally, RunFault}
 use Rattle.gc_measuring.specs.Stops.{fault_without_link}
-use Rattle.gc_measuring.specs.Telling.{CannotBegin}
 use Rattle.gc_links.specs.declared.device.Unusable.{Unusable}
 use Rattle.gc_links.specs.declared.device.Unusable.TheVariants.{NoTerminal, Held, Forbidden}
-use Rattle.gc_station.specs.Runs.{FailsAtOutput}
-use Rattle.gc_station.specs.declared.tally.Tally.{Tally}
-use Rattle.gc_texts.specs.declared.fault.RunFault.{RunFault}
 
 -- a run that stopped because it had no link didn't fail at its output: its sink is as it was
 no_link_keeps_sink : (reason : Option Unusable) (failed : Bool) → FailsAtOutput {X = Tally} failed failed (Err (fault_without_link reason))

@@ -1,6 +1,5 @@
 -- How many values an answer has.
-use Rattle.std.proofs.Common.{◌≡◌, ◌∙◌, length, ap, refl}
-use Rattle.gc_catalogue.specs.Answers.{answer_fields}
+use Rattle.gc_measuring.proofs.Common.{◌≡◌, ◌∙◌, length, ap, refl, answer_fields}
 use Rattle.gc_catalogue.specs.declared.answer.Answer.{Answer}
 use Rattle.gc_catalogue.specs.declared.answer.Answer.TheVariants.{Nothing, Short, Version, Long, Name, Date, Temperature, Place, Height, Angles, Measured, MeasuredMode}
 use Rattle.gc_measuring.specs.ValueCounts.{AnswersHaveTheirCount, values_of_shape}

@@ -1,5 +1,5 @@
 -- Since when an answer is wanted, over many looks.
-use Rattle.std.proofs.Common.{◌≡◌, false, ◌&&◌, [], ◌∷◌, Some, None, refl, ap, ◌∙◌}
+use Rattle.gc_measuring.proofs.Common.{◌≡◌, false, ◌&&◌, [], ◌∷◌, Some, None, refl, ap, ◌∙◌}
 use Rattle.std.specs.Prelude.{not, if◌then◌else◌}
 use Rattle.gc_links.specs.declared.link.Moment.{Moment}
 use Rattle.gc_station.specs.declared.book.LinkHealth.{LinkHealth}

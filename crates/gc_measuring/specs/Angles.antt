@@ -1,14 +1,11 @@
 -- Angles as `--check` shows them: in radians, as the text has them, or in the unit in which people read them, rounded. Half a turn is
 -- pi to 24 places, as for directions; the places, and which way a tie is rounded, are this project's own.
+use Rattle.gc_measuring.specs.Common.{decimal, Call}
 use Rattle.std.specs.Prelude.{ℕ, ◌*◌, ◌/◌, ◌%◌, ◌^◌, ◌-◌, ◌&&◌, Bool, List, [], ◌++◌, Option, Some, None, if◌then◌else◌, nat_lt, codes, length, replicate, unsigned_abs}
-use Rattle.std.specs.Fmt.{decimal}
-use Rattle.gc_values.specs.Decimals.{decimal_text, units}
-use Rattle.gc_values.specs.Fraction.{is_negative}
-use Rattle.gc_values.specs.Nearest.{half_up}
+use Rattle.gc_values.specs.Prelude.{decimal_text, units, is_negative, half_up}
 use Rattle.gc_values.specs.declared.decimal.Decimal.{Decimal}
 use Rattle.gc_catalogue.specs.declared.asked.Asked.{Asked}
 use Rattle.gc_catalogue.specs.declared.asked.Asked.TheVariants.{Table}
-use Rattle.gc_catalogue.specs.declared.call.Call.{Call}
 use Rattle.gc_catalogue.specs.declared.call.Call.TheVariants.{Position}
 use Rattle.gc_texts.specs.declared.agree.Agree.{Agree}
 use Rattle.gc_texts.specs.declared.near.Near.{Near}

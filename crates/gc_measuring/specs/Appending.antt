@@ -1,13 +1,8 @@
 -- A run that appends to a file, and what is left of it.
+use Rattle.gc_measuring.specs.Common.{Act, Followed, Streams, Snapshot, for_file, Settings}
 use Rattle.std.specs.Prelude.{◌≡◌, ℕ, ◌⊎◌, Bool, List, [], Option, Some, None}
-use Rattle.gc_links.specs.Acts.{Act}
-use Rattle.gc_logs.specs.declared.following.Followed.{Followed}
-use Rattle.gc_logs.specs.declared.streams.Streams.{Streams}
 use Rattle.gc_measuring.specs.Telling.{AppendingRun, HoldsOfFiled, MeasuresAllAtLink, RefusesFile, ReportsAtSite, Stage, Views, acts_of, began_of, stage}
 use Rattle.gc_measuring.specs.declared.recording.Appended.{Appended}
-use Rattle.gc_station.specs.Keeping.{Snapshot}
-use Rattle.gc_options.specs.Stations.{for_file}
-use Rattle.gc_options.specs.declared.settings.Settings.{Settings}
 
 -- the file that the run left, if there is one
 abbrev pub file_of : {R : Type 0} → Option (Appended R) → Option (Followed R)

@@ -1,7 +1,6 @@
 -- How much time null procedures may take that are lost behind raw commands of a setup: this project's own.
+use Rattle.gc_measuring.specs.Common.{is_of_table, Task}
 use Rattle.std.specs.Prelude.{ℕ, ◌+◌, ◌-◌, ◌&&◌, not, if◌then◌else◌, nat_lt, min, List, [], ◌∷◌}
-use Rattle.gc_catalogue.specs.Asked.{is_of_table}
-use Rattle.gc_texts.specs.declared.tasks.Task.{Task}
 
 -- `lost` milliseconds, and `time` more for each raw command among the first `left` of these tasks; the greatest `u64` if that is more
 abbrev pub lost_by : (lost left time : ℕ) → List Task → ℕ

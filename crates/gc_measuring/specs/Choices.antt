@@ -1,8 +1,6 @@
 -- What an operator chooses, and the plan that it makes with the tasks of a text: this project's own.
+use Rattle.gc_measuring.specs.Common.{Choice, Plan, Task}
 use Rattle.std.specs.Prelude.{◌≡◌, ◌<◌, ◌+◌, ◌-◌, ◌*◌, ◌%◌, ℕ, List, [], ◌∷◌, Option, Some, None, max, nat_eq, nat_le, if◌then◌else◌}
-use Rattle.gc_options.specs.declared.choice.Choice.{Choice}
-use Rattle.gc_station.specs.declared.plan.Plan.{Plan}
-use Rattle.gc_texts.specs.declared.tasks.Task.{Task}
 
 -- the longest deadline in use: the greatest of this one and those of the tasks
 abbrev pub longest_deadline : (deadline : ℕ) → List Task → ℕ

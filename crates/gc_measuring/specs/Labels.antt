@@ -1,13 +1,8 @@
 -- Labels: what a station's text says that its rows show, beside what was asked and answered. This project's own.
+use Rattle.gc_measuring.specs.Common.{are_new, are_columns, description_seen, HaveNames, escaped, TasksSeen}
 use Rattle.std.specs.Prelude.{◌≡◌, ℕ, true, List, map}
 use Rattle.std.specs.List.{AllByRecursion}
 use Rattle.gc_measuring.specs.declared.labels.Labels.{Labels}
-use Rattle.gc_rows.specs.DescribedColumns.{are_new}
-use Rattle.gc_texts.specs.ColumnNames.{are_columns}
-use Rattle.gc_texts.specs.Descriptions.{description_seen}
-use Rattle.gc_texts.specs.Fields.{HaveNames}
-use Rattle.gc_texts.specs.Logs.{escaped}
-use Rattle.gc_texts.specs.Tasks.{TasksSeen}
 use Rattle.gc_texts.specs.declared.description.Description.{Description}
 use Rattle.gc_texts.specs.declared.name.Name.{Name}
 

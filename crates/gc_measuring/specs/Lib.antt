@@ -1,3 +1,5 @@
+mod Common
+pub mod Prelude
 pub mod Angles
 pub mod Appending
 pub mod Bounds

@@ -1,6 +1,6 @@
 -- What a station with a log reports beyond what one without a log does: this project's own.
+use Rattle.gc_measuring.specs.Common.{Appends}
 use Rattle.std.specs.Prelude.{◌≡◌, ℕ, Bool, true, false, List, Option, codes}
-use Rattle.std.specs.Io.KnownBytes.{Appends}
 
 -- what is written before the lines on how a run ended: a line if the run's log isn't complete (`is_lost`), because it
 -- couldn't be written; else nothing

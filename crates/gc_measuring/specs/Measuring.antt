@@ -1,35 +1,15 @@
 -- What a station does with the tasks of a text, what it writes of them, and how its end is reported: this project's own. A
 -- `Snapshot` is what was seen of link and sink before one act.
+use Rattle.gc_measuring.specs.Common.{decimal, Consumes, Appends, Input, GaveBytes, described_as, description_seen, name_text, TasksSeen, Settings, Act, Snapshot, KeepsUpBy, close_at_output, Record, RunSeen, RanBy, LastUnlessFailed, watched_of, ForEachAndSomeReadings, Plan, Tally, procedure_of, Entry, record_text, head_text, RunFault, Output, Task}
 use Rattle.std.specs.Prelude.{◌≡◌, ℕ, Bool, true, ◌⊎◌, List, [], ◌++◌, if◌then◌else◌, Option, option_map, Result, Ok, Err, codes}
-use Rattle.std.specs.Fmt.{decimal}
-use Rattle.std.specs.Io.KnownBytes.{Consumes, Appends}
-use Rattle.gc_texts.specs.WholeTexts.{Input, GaveBytes}
 use Rattle.gc_measuring.specs.Choices.{plan_of}
 use Rattle.gc_measuring.specs.Labels.{LabelsSeen, labels_of}
 use Rattle.gc_measuring.specs.Stops.{stop_text, end_of_run}
 use Rattle.gc_measuring.specs.TaskTexts.{GivesTasks, RefusesTasks}
 use Rattle.gc_options.specs.declared.layout.Layout.{Layout}
-use Rattle.gc_options.specs.declared.settings.Settings.{Settings}
 use Rattle.gc_measuring.specs.declared.stop.Stop.{Stop}
 use Rattle.gc_measuring.specs.declared.stop.Stop.TheVariants.{Run}
-use Rattle.gc_lines.specs.Ports.{TakesFront}
-use Rattle.gc_links.specs.Acts.{Act}
-use Rattle.gc_station.specs.Keeping.{Snapshot, KeepsUpBy, close_at_output}
-use Rattle.gc_station.specs.Records.{Record}
-use Rattle.gc_station.specs.Runs.{RunSeen, RanBy, LastUnlessFailed}
-use Rattle.gc_station.specs.Watching.{watched_of}
-use Rattle.gc_station.specs.Scopes.{ForEachAndSomeReadings}
-use Rattle.gc_station.specs.declared.plan.Plan.{Plan}
-use Rattle.gc_station.specs.declared.tally.Tally.{Tally}
-use Rattle.gc_catalogue.specs.Asked.{procedure_of}
-use Rattle.gc_texts.specs.Descriptions.{described_as, description_seen}
-use Rattle.gc_texts.specs.Names.{name_text}
-use Rattle.gc_texts.specs.Tasks.{TasksSeen}
-use Rattle.gc_rows.specs.Columns.{Entry}
-use Rattle.gc_rows.specs.Records.{record_text, head_text}
-use Rattle.gc_texts.specs.declared.fault.RunFault.{RunFault}
-use Rattle.gc_texts.specs.declared.fault.RunFault.TheVariants.{Output}
-use Rattle.gc_texts.specs.declared.tasks.Task.{Task}
+use Rattle.gc_lines.specs.Prelude.{TakesFront}
 use Rattle.gc_rows.specs.declared.when.When.{When}
 
 -- the moments, the id, the cycle, the place and the turn of a record, in a run that began at `run`, in milliseconds since 1970-01-01, UTC

@@ -1,8 +1,5 @@
 -- What is left of the link of a run, once it is closed: this project's own.
-use Rattle.gc_links.specs.LinksMeant.{MeansActs}
-use Rattle.gc_links.specs.Placed.{PlaceSeen}
-use Rattle.gc_links.specs.Seeing.{SignalsSeen}
-use Rattle.gc_links.specs.declared.watched.LinkRecord.{LinkRecord}
+use Rattle.gc_measuring.specs.Common.{MeansActs, PlaceSeen, SignalsSeen, LinkRecord}
 
 -- the acts of a link to this place, which looked for the files of these signals, where they are named, are what the system's calls did
 -- (`MeansActs`), as both were noted of it

@@ -1,21 +1,11 @@
 -- How a file of records is opened, and what is reported of that: this project's own.
+use Rattle.gc_measuring.specs.Common.{Appends, Unfit, IsOpenedAt, copied_line, torn_line, Followed, head_text, form_sign, run_fault_text, fault_line, RunFault, RecordsUnopened, RecordsHeld, RecordsForeign, Output, form_of_rows, Settings}
 use Rattle.std.specs.Prelude.{ℕ, List, [], ◌++◌, Option, Result, OnOk, codes}
-use Rattle.std.specs.Io.KnownBytes.{Appends}
-use Rattle.gc_files.specs.Sinks.{torn_in}
+use Rattle.gc_files.specs.Prelude.{torn_in}
 use Rattle.gc_files.specs.declared.appending.Appending.{Ghosts}
 use Rattle.gc_files.specs.declared.rows_file.RowsFile.{RowsFile}
-use Rattle.gc_files.specs.declared.system.Unfit.{Unfit}
 use Rattle.gc_files.specs.declared.system.Unfit.TheVariants.{Unopened, Held, Foreign, Failed}
-use Rattle.gc_logs.specs.Following.{IsOpenedAt}
-use Rattle.gc_logs.specs.declared.following.Followed.{Followed}
-use Rattle.gc_logs.specs.Repairs.{copied_line, torn_line}
-use Rattle.gc_rows.specs.Records.{head_text, form_sign}
-use Rattle.gc_texts.specs.Faults.{run_fault_text, fault_line}
-use Rattle.gc_texts.specs.declared.fault.RunFault.{RunFault}
-use Rattle.gc_texts.specs.declared.fault.RunFault.TheVariants.{RecordsUnopened, RecordsHeld, RecordsForeign, Output}
-use Rattle.gc_options.specs.Stations.{form_of_rows}
 use Rattle.gc_options.specs.declared.site.Recording.{Recording}
-use Rattle.gc_options.specs.declared.settings.Settings.{Settings}
 
 -- the fault that is reported if a path can't be used as a file of records
 abbrev pub fault_of_unfit : Unfit → RunFault

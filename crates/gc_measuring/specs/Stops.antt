@@ -1,13 +1,10 @@
 -- Why a station that measures the commands of a text stopped before its end, and how that is reported: this project's own.
+use Rattle.gc_measuring.specs.Common.{run_fault_text, fault_line, trouble_line, RunFault, NoCommand, Schedule, Clock}
 use Rattle.std.specs.Prelude.{◌≡◌, ℕ, List, [], ◌++◌, Option, Some, None, Result, Ok, Err, codes}
-use Rattle.gc_ask.specs.Places.{fault_of_unusable}
+use Rattle.gc_ask.specs.Prelude.{fault_of_unusable}
 use Rattle.gc_measuring.specs.declared.stop.Stop.{Stop}
 use Rattle.gc_measuring.specs.declared.stop.Stop.TheVariants.{Text, Empty, Line, Run}
 use Rattle.gc_links.specs.declared.device.Unusable.{Unusable}
-use Rattle.gc_texts.specs.Faults.{run_fault_text, fault_line}
-use Rattle.gc_texts.specs.Troubles.{trouble_line}
-use Rattle.gc_texts.specs.declared.fault.RunFault.{RunFault}
-use Rattle.gc_texts.specs.declared.fault.RunFault.TheVariants.{NoCommand, Schedule, Clock}
 
 -- the fault of a stop
 abbrev pub fault_of_stop : Stop → RunFault

@@ -1,15 +1,8 @@
 -- A station's text that is read whole: this project's own.
+use Rattle.gc_measuring.specs.Common.{Choice, Hearing, HeardBytes, line_at, TasksSeen, IsTasks, TaskFault, tasks_seen, IsTrouble, Input, GaveBytes, WasRead, RefusesText, RunFault, Schedule}
 use Rattle.std.specs.Prelude.{◌≡◌, ℕ, ◌<◌, ◌≤◌, ◌⊎◌, Bool, List, length}
-use Rattle.gc_options.specs.declared.choice.Choice.{Choice}
 use Rattle.gc_measuring.specs.declared.stop.Stop.{Stop}
 use Rattle.gc_measuring.specs.declared.stop.Stop.TheVariants.{Text, Empty, Line}
-use Rattle.gc_logs.specs.Transcripts.{Hearing, HeardBytes}
-use Rattle.gc_texts.specs.LineForms.{line_at}
-use Rattle.gc_texts.specs.Tasks.{TasksSeen, IsTasks, TaskFault, tasks_seen}
-use Rattle.gc_texts.specs.Troubles.{IsTrouble}
-use Rattle.gc_texts.specs.WholeTexts.{Input, GaveBytes, WasRead, RefusesText}
-use Rattle.gc_texts.specs.declared.fault.RunFault.{RunFault}
-use Rattle.gc_texts.specs.declared.fault.RunFault.TheVariants.{Schedule}
 use Rattle.gc_texts.specs.declared.tasks.Tasks.{Tasks}
 use Rattle.gc_texts.specs.declared.trouble.Trouble.{Trouble}
 

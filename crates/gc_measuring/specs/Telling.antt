@@ -1,28 +1,15 @@
 -- What a station's status and messages report of its run, and what it measured then: this project's own. `old` and `new` are the
 -- run at its start and at its end.
+use Rattle.gc_measuring.specs.Common.{Appends, begun_at, for_file, Settings, Streams, Unfit, Ghosts as Source, Act, LinkRecord, Snapshot, FailsAtOutput, Tally, input_of, RunFault, Log}
 use Rattle.std.specs.Prelude.{◌≡◌, ℕ, Bool, true, ◌⊎◌, List, [], Option, Some, None, Result, Err}
-use Rattle.std.specs.Io.KnownBytes.{Appends}
 use Rattle.gc_measuring.specs.Logging.{ReportsLoss}
 use Rattle.gc_measuring.specs.Measuring.{PortsSeen, MeasuresGiven, IsMeasured, AllLast, ReportsEndOfRun}
 use Rattle.gc_measuring.specs.Recording.{unfit_text}
 use Rattle.gc_measuring.specs.Stops.{IsFaultWithoutLink, with_fault}
-use Rattle.gc_options.specs.Stations.{begun_at, for_file}
-use Rattle.gc_options.specs.declared.settings.Settings.{Settings}
 use Rattle.gc_measuring.specs.declared.stop.Stop.{Stop}
 use Rattle.gc_measuring.specs.declared.stop.Stop.TheVariants.{Run}
-use Rattle.gc_logs.specs.declared.streams.Streams.{Streams}
-use Rattle.gc_files.specs.declared.system.Unfit.{Unfit}
-use Rattle.gc_lines.specs.declared.ports.Source.{Ghosts as Source}
 use Rattle.gc_lines.specs.declared.ports.Sink.{Ghosts as Sink}
-use Rattle.gc_links.specs.Acts.{Act}
-use Rattle.gc_links.specs.declared.watched.LinkRecord.{LinkRecord}
 use Rattle.gc_links.specs.declared.watched.Watched.{Watched}
-use Rattle.gc_station.specs.Keeping.{Snapshot}
-use Rattle.gc_station.specs.Runs.{FailsAtOutput}
-use Rattle.gc_station.specs.declared.tally.Tally.{Tally}
-use Rattle.gc_texts.specs.WholeTexts.{input_of}
-use Rattle.gc_texts.specs.declared.fault.RunFault.{RunFault}
-use Rattle.gc_texts.specs.declared.fault.RunFault.TheVariants.{Log}
 
 -- what is seen of a station's ports: of its streams by the ghost members of their traits, the acts that its link recorded, and
 -- what was seen at each of them

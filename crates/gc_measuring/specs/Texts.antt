@@ -1,22 +1,15 @@
 -- A station that reads its whole text before anything else is done, and then runs over the text: this project's own. That run has
 -- streams of its own, whose source gives exactly the text. `before` and `after` are the run at its start and at its end, with the
 -- streams of its caller, of whose input it is noted what the reads gave.
+use Rattle.gc_measuring.specs.Common.{Appends, Consumes, Ghosts as Source, Hearing, hearing_of, Streams, TasksSeen, ReadsFew, Choice, Settings}
 use Rattle.std.specs.Prelude.{◌≡◌, ℕ, ◌⊎◌, Bool, List, ◌++◌, Option, Some, None}
-use Rattle.std.specs.Io.KnownBytes.{Appends, Consumes}
-use Rattle.gc_lines.specs.declared.ports.Source.{Ghosts as Source}
 use Rattle.gc_measuring.specs.Appending.{AppendsToFile}
 use Rattle.gc_measuring.specs.Labels.{labels_of}
 use Rattle.gc_measuring.specs.Stops.{stop_text}
 use Rattle.gc_measuring.specs.TaskTexts.{GivesTasks, HearsNoTasks}
 use Rattle.gc_measuring.specs.Telling.{AppendingRun, MeasuresAllAtLink, ReportsAtSite, Stage, Views, stage}
 use Rattle.gc_measuring.specs.declared.stop.Stop.{Stop}
-use Rattle.gc_logs.specs.Transcripts.{Hearing, hearing_of}
 use Rattle.gc_logs.specs.declared.heard.Heard.{Heard}
-use Rattle.gc_logs.specs.declared.streams.Streams.{Streams}
-use Rattle.gc_texts.specs.Tasks.{TasksSeen}
-use Rattle.gc_texts.specs.WholeTexts.{ReadsFew}
-use Rattle.gc_options.specs.declared.choice.Choice.{Choice}
-use Rattle.gc_options.specs.declared.settings.Settings.{Settings}
 
 -- the reads of an input, which took it from `old` to `new`, gave exactly this text, to its end; and a station with this choice finds
 -- commands of a cycle in it (`all` are its tasks), and these columns beside those of the table's quantities

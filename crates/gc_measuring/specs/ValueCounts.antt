@@ -1,11 +1,9 @@
 -- How many values an answer has: as many as the procedure tables of the manual list for its procedure.
+use Rattle.gc_measuring.specs.Common.{answer_fields, IsAnswerOf, call_fields, Call}
 use Rattle.std.specs.Prelude.{◌≡◌, ℕ, length}
-use Rattle.gc_catalogue.specs.Answers.{answer_fields, IsAnswerOf}
-use Rattle.gc_catalogue.specs.Calls.{call_fields}
 use Rattle.gc_catalogue.specs.declared.answer.Answer.{Answer}
 use Rattle.gc_catalogue.specs.declared.answer.Shape.{Shape}
 use Rattle.gc_catalogue.specs.declared.answer.Shape.TheVariants.{Nothing, Short, Version, Long, Name, Date, Temperature, Place, Height, Angles, Measured, MeasuredMode}
-use Rattle.gc_catalogue.specs.declared.call.Call.{Call}
 
 -- how many values an answer of this shape has
 abbrev pub values_of_shape : Shape → ℕ

@@ -1,17 +1,11 @@
 -- What clap's getters give, as the words of clauses say it.
-use Rattle.std.proofs.Common.{◌≡◌, ◌≢◌, ◌∙◌, ℕ, ◌^◌, ◌<◌, Bool, true, false, List, Option, Some, None, Result, Ok, Err, refl, sym, subst, arith, option_map, unwrap_or, ap, codes}
-use Rattle.std.specs.Prelude.{IfSome, IsSome}
+use Rattle.gc_options.proofs.Common.{◌≡◌, ◌≢◌, ◌∙◌, ℕ, ◌^◌, ◌<◌, Bool, true, false, List, Option, Some, None, Result, Ok, Err, refl, sym, subst, arith, option_map, unwrap_or, ap, codes, IfSome, IsSome, ParsesBool, ParsesUnsigned, Bor, ReadsOne, first_value, one_text, one_of, rows_of, GivesNumber, HasNumber, ReadsNumber, has_flag, text_in}
 use Rattle.std.specs.Option.{option_map_or}
 use Rattle.std.specs.Str.{bytes_eq}
-use Rattle.std.specs.Str.Parse.{ParsesBool, ParsesUnsigned}
-use Rattle.std.specs.Borrow.{Bor}
 use Rattle.std.proofs.lemmas.Slice.Eq.{bytes_eq-Decides}
 use Rattle.std.specs.declared.str.ParseBoolError.{ParseBoolError}
 use Rattle.clap.proofs.WalkLemmas.{first_value-rows, one_text-rows}
-use Rattle.clap.specs.Matches.{ReadsOne, first_value, one_text}
-use Rattle.clap.specs.Walk.{one_of, rows_of}
 use Rattle.clap.specs.declared.parser.matches.Found.{Found}
-use Rattle.gc_options.specs.Words.{GivesNumber, HasNumber, ReadsNumber, has_flag, text_in}
 
 -- the first value of an argument is the text that the words give for it
 pub text_given : (found : Found) (name : List ℕ) (r : Option (Bor (List ℕ))) → option_map (λ text. text.now) r ≡ first_value found name

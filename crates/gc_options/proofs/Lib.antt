@@ -1,3 +1,4 @@
+mod Common
 mod Getters
 mod LimitLemmas
 mod TableLemmas

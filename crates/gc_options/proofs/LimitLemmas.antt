@@ -1,8 +1,6 @@
 -- The limits that the words give.
-use Rattle.std.proofs.Common.{◌≡◌, ◌∙◌, ℕ, List, Option, Some, None, sym, subst}
-use Rattle.std.specs.Prelude.{IfSome, IsSome}
+use Rattle.gc_options.proofs.Common.{◌≡◌, ◌∙◌, ℕ, List, Option, Some, None, sym, subst, IfSome, IsSome, Words, text_in}
 use Rattle.gc_options.specs.Limits.{GivesLimit, HasLimit, ReadsLimit, SaysLimit, limit_name}
-use Rattle.gc_options.specs.Words.{Words, text_in}
 use Rattle.gc_options.specs.declared.limit.Limit.{Limit}
 
 module _ (words : Words) (limit : Limit) (text : List ℕ) (given : text_in words (limit_name limit) ≡ Some text) where

@@ -1,14 +1,11 @@
 -- The arguments that are made of the rows of a table.
-use Rattle.std.proofs.Common.{◌≡◌, ◌∙◌, ℕ, ◌+◌, ◌<◌, ◌++◌, false, List, [], ◌∷◌, Option, length, take, get_or, map, refl, sym, subst, ap, append_assoc, append-nil}
+use Rattle.gc_options.proofs.Common.{◌≡◌, ◌∙◌, ℕ, ◌+◌, ◌<◌, ◌++◌, false, List, [], ◌∷◌, Option, length, take, get_or, map, refl, sym, subst, ap, append_assoc, append-nil, Bor, Rule, Text, rule_of, HasArguments, HasRule, HaveRules, alone, rule_of_row}
 use Rattle.std.proofs.lemmas.List.{take_more, map-append}
-use Rattle.std.specs.Borrow.{Bor}
 use Rattle.clap.specs.Built.{AddsArg, AddsInTurn}
 use Rattle.clap.specs.Simple.{app_of, app_of_fields, new_app, with_rule}
-use Rattle.clap.specs.Walk.{Rule, Text, rule_of}
 use Rattle.clap.specs.declared.builder.arg.Arg.{Arg}
 use Rattle.clap.specs.declared.builder.command.Command.{Command}
 use Rattle.clap.specs.declared.builder.command.Command.TheViews.{out-Command}
-use Rattle.gc_options.specs.Tables.{HasArguments, HasRule, HaveRules, alone, rule_of_row}
 use Rattle.gc_options.specs.declared.arguments.Argument.{Argument}
 
 -- one more argument with its rule

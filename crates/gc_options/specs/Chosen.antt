@@ -1,14 +1,12 @@
 -- What the words of `station` and of `rehearse` choose, each value by the name of its option: this project's own.
 use Rattle.std.specs.Prelude.{◌≡◌, ◌⊎◌, ℕ, ◌*◌, ◌/◌, ◌^◌, ◌-◌, ◌||◌, Bool, true, false, not, List, Option, Some, None, min, is_some, IfSome, IsSome, option_map, if◌then◌else◌, nat_eq, codes}
-use Rattle.gc_links.specs.Places.{NamesPlace}
+use Rattle.gc_links.specs.Prelude.{NamesPlace}
 use Rattle.gc_links.specs.declared.place.Place.{Place}
 use Rattle.gc_links.specs.declared.signals.Signals.{Signals}
 use Rattle.gc_rows.specs.declared.record.Form.{Form}
-use Rattle.gc_rows.specs.declared.record.Form.TheVariants as form
 use Rattle.gc_options.specs.Limits.{GivesLimit}
 use Rattle.gc_options.specs.Words.{Words, text_in, has_flag, GivesNumber, HasNumber, IsNumberOr}
 use Rattle.gc_options.specs.declared.choice.Watch.{Watch}
-use Rattle.gc_options.specs.declared.choice.Watch.TheVariants as watch
 use Rattle.gc_options.specs.declared.limit.Limit.{Limit}
 use Rattle.gc_options.specs.declared.limit.Limit.TheVariants.{NightCycles, Retries, Stale}
 use Rattle.gc_options.specs.declared.rehearsal.Rehearsal.{Rehearsal}
@@ -16,6 +14,8 @@ use Rattle.gc_options.specs.declared.settings.Settings.{Settings}
 use Rattle.gc_options.specs.declared.site.LogPlace.{LogPlace}
 use Rattle.gc_options.specs.declared.site.Recording.{Recording}
 use Rattle.gc_options.specs.declared.site.Site.{Site}
+use Rattle.gc_rows.specs.declared.record.Form.TheVariants as form
+use Rattle.gc_options.specs.declared.choice.Watch.TheVariants as watch
 
 -- the option of this name gives seconds, which are so many milliseconds; the greatest number of 64 bits if they are more
 pub record GivesSeconds (words : Words) (name : List ℕ) (milliseconds : ℕ) : Type 0 where

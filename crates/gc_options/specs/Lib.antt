@@ -1,3 +1,4 @@
+pub mod Prelude
 pub mod Chosen
 pub mod Limits
 pub mod Options

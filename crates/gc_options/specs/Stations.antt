@@ -4,8 +4,8 @@ use Rattle.gc_rows.specs.declared.record.Form.{Form}
 use Rattle.gc_rows.specs.declared.record.Form.TheVariants.{Lines, Csv, Columns, Json}
 use Rattle.gc_options.specs.declared.choice.Choice.{Choice}
 use Rattle.gc_options.specs.declared.choice.Watch.{Watch}
-use Rattle.gc_options.specs.declared.choice.Watch.TheVariants as watch
 use Rattle.gc_options.specs.declared.settings.Settings.{Settings}
+use Rattle.gc_options.specs.declared.choice.Watch.TheVariants as watch
 
 -- the form of rows that go into a file: the one that was asked for, but comma-separated values in place of `Lines`
 abbrev pub form_of_rows : Form → Form

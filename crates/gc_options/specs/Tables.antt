@@ -8,10 +8,10 @@ use Rattle.clap.specs.declared.builder.arg.Arg.{Arg}
 use Rattle.clap.specs.declared.builder.command.Command.{Command}
 use Rattle.clap.specs.declared.builder.command.Command.TheViews.{out-Command}
 use Rattle.clap.specs.declared.builder.value_parser.ValueParser.{ValueParser}
-use Rattle.clap.specs.declared.builder.value_parser.ValueParser.TheVariants as parser
 use Rattle.gc_options.specs.Options.{shape}
 use Rattle.gc_options.specs.declared.arguments.Argument.{Argument}
 use Rattle.gc_options.specs.declared.arguments.Takes.{Takes}
+use Rattle.clap.specs.declared.builder.value_parser.ValueParser.TheVariants as parser
 use Rattle.gc_options.specs.declared.arguments.Takes.TheVariants as kind
 
 -- how clap takes an option: as a flag, or with a value

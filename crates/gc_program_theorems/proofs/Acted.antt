@@ -1,48 +1,17 @@
 -- One act of a rehearsed line: what it is to the station, and what it does to the line, are turns of a synchronization, or
 -- moves of a client that has synchronized.
-use Rattle.std.proofs.Common.{◌≡◌, ◌⊎◌, inl, inr, ℕ, zero, ◌+◌, ◌<◌, false, List, [], ◌∷◌, ◌++◌, length, map, Some, refl, sym, ◌∙◌, ap, subst, arith, length-append}
-use Rattle.std.specs.List.{AllByRecursion}
-use Rattle.std.proofs.lemmas.List.{append_cancel_right, map-append}
+use Rattle.gc_program_theorems.proofs.Common.{◌≡◌, ◌⊎◌, inl, inr, ℕ, zero, ◌+◌, ◌<◌, false, List, [], ◌∷◌, ◌++◌, length, map, Some, refl, sym, ◌∙◌, ap, subst, arith, length-append, AllByRecursion, append_cancel_right, map-append, rest_behind, with_end, IsAskedFitting, asked_line, request_line, Asked, Table, NullProc, left_by, ById, heard, hears, sends, course_at, WINDOW, Act, Told, Untold, Put, Cut, Gave, Silent, Ended, Broke, Closed, Opened, Unopened, SceneState, client_after, sending_of, sends_with_room, cons_head, unanswered_after, heard_in, lines_completed, by_ids, IsNullOrLineFeed, IsHeardOrDiscarded, MeansSyncSteps, InFlight, SyncModel, leaves, turns, under_way_on, IsHeard, IsDiscarded, scene_ends, first_heard, shows, Numbered, Request, down_delivered, requested, with_settled, without, Lines, ActLeads, GiveLeads, IsOneLine, PutLeads, TakesReply, AreSmall, small_left, cons_not_nil}
 use Rattle.gc_lines.proofs.Plain.{plain_line}
-use Rattle.gc_lines.specs.Frames.{rest_behind}
-use Rattle.gc_lines.specs.Lines.{with_end}
-use Rattle.gc_catalogue.specs.Asked.{IsAskedFitting, asked_line}
-use Rattle.gc_catalogue.specs.Texts.{request_line}
-use Rattle.gc_catalogue.specs.declared.asked.Asked.{Asked}
-use Rattle.gc_catalogue.specs.declared.asked.Asked.TheVariants.{Table}
-use Rattle.gc_catalogue.specs.declared.call.Call.TheVariants.{NullProc}
-use Rattle.gc_client.specs.Beginning.{left_by}
-use Rattle.gc_client.specs.OneForOne as client
-use Rattle.gc_client.specs.declared.window.TheConstants.{WINDOW}
-use Rattle.gc_client.specs.Rule.{ById, heard, hears, sends}
 use Rattle.gc_links.specs.declared.link.Moment.{Moment}
-use Rattle.gc_links.specs.Acts.{Act, Told, Untold, Put, Cut, Gave, Silent, Ended, Broke, Closed, Opened, Unopened}
-use Rattle.gc_scenes.specs.SceneState.{SceneState}
-use Rattle.gc_client.specs.OneForOne.{course_at}
-use Rattle.gc_session.specs.Courses.{client_after}
-use Rattle.gc_station.proofs.Booking.{sending_of, sends_with_room}
-use Rattle.gc_station.proofs.Lists.{cons_head, cons_tail}
-use Rattle.gc_station.specs.Beginnings.{unanswered_after}
-use Rattle.gc_station.specs.Begun.{heard_in}
-use Rattle.gc_station.specs.Model.{lines_completed}
-use Rattle.gc_station.specs.Parts as part
-use Rattle.gc_world.specs.Clients.{by_ids}
-use Rattle.gc_theorems.specs.Asking.{IsNullOrLineFeed, IsHeardOrDiscarded, MeansSyncSteps}
-use Rattle.gc_theorems.specs.Begin as begin
-use Rattle.gc_theorems.specs.Begin.{InFlight, SyncModel, leaves, turns}
-use Rattle.gc_theorems.specs.Beginnings.{under_way_on}
-use Rattle.gc_theorems.specs.Field as field
-use Rattle.gc_theorems.specs.Meaning.{IsHeard, IsDiscarded}
-use Rattle.gc_theorems.specs.SceneField.{scene_ends}
-use Rattle.gc_theorems.specs.Shown.{first_heard, shows}
-use Rattle.gc_theorems.specs.World.{Numbered, Request, down_delivered, requested, with_settled, without}
-use Rattle.gc_rehearsal.specs.Carrying.{Lines, ActLeads, GiveLeads, IsOneLine, PutLeads, TakesReply}
+use Rattle.gc_station.proofs.Lists.{cons_tail}
 use Rattle.gc_program_theorems.proofs.Courses.{BeginIsAt, FromBegin, FromClient, Sequel, WorldIsAt, after_move, move_first, steps_move, steps_turn, turn_first}
 use Rattle.gc_program_theorems.proofs.Sides.{SceneWorld}
 use Rattle.gc_program_theorems.proofs.Steps.{Holds, IsLineOf, Lose_down, Lose_up, under_way, holds_one_less, holds_one_more, without_last, holds_dropped}
-use Rattle.gc_theorems.proofs.BeginJoin.{AreSmall, small_left}
-use Rattle.gc_theorems.proofs.BeginWords.{cons_not_nil}
 use Rattle.gc_instrument.proofs.HeardFrames.{lines_of}
+use Rattle.gc_client.specs.OneForOne as client
+use Rattle.gc_station.specs.Parts as part
+use Rattle.gc_theorems.specs.Begin as begin
+use Rattle.gc_theorems.specs.Field as field
 
 -- Lines of bytes.
 

@@ -1,29 +1,14 @@
 -- What happens on the line from a synchronization, or from a client that has synchronized, on; and the same with one thing more
 -- before it.
-use Rattle.std.proofs.Common.{◌≡◌, ◌⊎◌, inl, inr, ℕ, ◌+◌, ◌≤◌, Bool, true, false, if◌then◌else◌, List, [], ◌∷◌, ◌++◌, map, map-id, nat_eq, refl, sym, ◌∙◌, ap, subst, arith, append_assoc}
+use Rattle.gc_program_theorems.proofs.Common.{◌≡◌, ◌⊎◌, inl, inr, ℕ, ◌+◌, ◌≤◌, Bool, true, false, if◌then◌else◌, List, [], ◌∷◌, ◌++◌, map, map-id, nat_eq, refl, sym, ◌∙◌, ap, subst, arith, append_assoc, Asked, WINDOW, ById, SceneState, Part, idle_part, by_ids, AreTurns, IsTurn, SyncModel, UnderWay, begins, leaves, turns, AreFewKilled, ArePossibleIfBegun, AreRuns, Run, after_turns, killed_by, killed_over, killed_unless_begun, left_by_run, left_by_runs, left_if_begun, under_way_on, ids_begun, Move, ArePossible, IsPossible, moved, moves, seen, KeptReplyReads, scene_ends, scene_kept, AreShownAs, shown, shows, Numbered, Exchange, exchange_of_move, exchange_of_turn, exchanges_if_begun, exchanges_of_moves, exchanges_of_runs, exchanges_of_turns, Lines, same_lines, run}
 use mathlib.Core.List.{map-map}
-use Rattle.gc_catalogue.specs.declared.asked.Asked.{Asked}
-use Rattle.gc_client.specs.OneForOne as client
-use Rattle.gc_client.specs.declared.window.TheConstants.{WINDOW}
-use Rattle.gc_client.specs.Rule.{ById}
-use Rattle.gc_scenes.specs.SceneState.{SceneState}
-use Rattle.gc_station.specs.Parts as part
-use Rattle.gc_station.specs.Parts.{Part, idle_part}
-use Rattle.gc_world.specs.Clients.{by_ids}
-use Rattle.gc_theorems.specs.Begin as begin
-use Rattle.gc_theorems.specs.Begin.{AreTurns, IsTurn, SyncModel, UnderWay, begins, leaves, turned, turns}
-use Rattle.gc_theorems.specs.Beginnings.{AreFewKilled, ArePossibleIfBegun, AreRuns, Run, after_turns, killed_by, killed_over, killed_unless_begun, left_by_run, left_by_runs, left_if_begun, under_way_on}
-use Rattle.gc_theorems.specs.Begun.{ids_begun}
-use Rattle.gc_theorems.specs.Field.{Move, ArePossible, IsPossible, moved, moves, seen}
-use Rattle.gc_program_theorems.specs.Exchanges.{Exchange, exchange_of_move, exchange_of_turn, exchanges_if_begun, exchanges_of_moves, exchanges_of_runs, exchanges_of_turns}
-use Rattle.gc_theorems.specs.SceneField.{KeptReplyReads, scene_ends, scene_kept}
-use Rattle.gc_theorems.specs.Shown.{AreShownAs, shown, shows}
-use Rattle.gc_theorems.specs.World.{Numbered}
-use Rattle.gc_rehearsal.specs.Carrying.{Lines}
+use Rattle.gc_theorems.specs.Prelude.{turned}
 use Rattle.gc_program_theorems.proofs.Sides.{SceneWorld, client_move, is_move, is_turn, leaves_turn, turn_answers_none, line_move, move_exchange, move_of, seen_none, shows_none, turn_exchange, turn_of}
 use Rattle.gc_program_theorems.proofs.Steps.{AreSteps, Holds, Step, all_stepped, exchange_of_step, exchanges_of_steps, stepped, under_way}
-use Rattle.gc_theorems.proofs.InARow.{same_lines, run}
 use Rattle.gc_theorems.proofs.InTime.{seen_append}
+use Rattle.gc_client.specs.OneForOne as client
+use Rattle.gc_station.specs.Parts as part
+use Rattle.gc_theorems.specs.Begin as begin
 
 -- in the state b of a synchronization these ids are unanswered, and these lines in flight
 abbrev pub BeginIsAt : SyncModel SceneState → List ℕ → Lines → Type 0

@@ -1,24 +1,11 @@
 -- The rows of a run over a line that damages: the line of each of its replies is own or damaged, so what holds of the rows of a run
 -- that is answered by such lines holds of them.
-use Rattle.std.proofs.Common.{Option}
-use Rattle.gc_instrument.specs.State.{KeptReply}
-use Rattle.gc_station.specs.Answers.{AnswerIsJustified}
-use Rattle.gc_station.proofs.Answers.{answers_true}
-use Rattle.gc_station.proofs.Lists.{all_at}
-use Rattle.gc_theorems.specs.World.{Ends}
-use Rattle.gc_theorems.specs.Instrument.{AnyState, IsAnInstrument}
-use Rattle.gc_theorems.specs.DamagedRuns.{IsRunLocal}
-use Rattle.gc_theorems.proofs.DamagedRuns.{run_local}
+use Rattle.gc_program_theorems.proofs.Common.{Option, KeptReply, AnswerIsJustified, form_at, Reads, answers_true, all_at, Ends, AnyState, IsAnInstrument, IsRunLocal, run_local, HarmedRun, IsHarmedRun, ObjectsAreOwnOrDamaged, RowsAreOwnOrDamaged, RowsByDamagedLinesAreFew, RunsInFieldAreInstances, TablesAreOwnOrDamaged, harmed_program_of, own_or_damaged_lines, acts_in, program_of, records_of_run, scope_of, came_at, one_added}
 use Rattle.gc_theorems.proofs.UndamagedRuns.{is_instance}
-use Rattle.gc_program_theorems.specs.Damaged.{HarmedRun, IsHarmedRun, ObjectsAreOwnOrDamaged, RowsAreOwnOrDamaged, RowsByDamagedLinesAreFew, RunsInFieldAreInstances, TablesAreOwnOrDamaged, harmed_program_of, own_or_damaged_lines}
-use Rattle.gc_program_theorems.specs.Tables.{acts_in, program_of, records_of_run, scope_of}
 use Rattle.gc_program_theorems.proofs.Objected.{objected}
-use Rattle.gc_station.proofs.Moments.{came_at, one_added}
 use Rattle.gc_program_theorems.proofs.Owning.{row_and_fault}
 use Rattle.gc_program_theorems.proofs.Tabled.{tabled}
 use Rattle.gc_program_theorems.proofs.Written.{IsAnswered}
-use Rattle.gc_station.specs.Qualities.{form_at}
-use Rattle.gc_station.specs.Scopes.{Reads}
 
 module _ {State : Type 0} (ends : Ends State) (kept : State → Option KeptReply) (is : IsAnInstrument ends AnyState kept) (reads : Reads) (x : HarmedRun State)
     (was : IsHarmedRun ends kept reads x) where

@@ -1,19 +1,8 @@
 -- The text of each record ends in a line feed.
-use Rattle.std.proofs.Common.{◌≡◌, ℕ, true, false, List, [], ◌∷◌, ◌++◌, refl, ◌∙◌, ap, codes}
+use Rattle.gc_program_theorems.proofs.Common.{◌≡◌, ℕ, true, false, List, [], ◌∷◌, ◌++◌, refl, ◌∙◌, ap, has_feed, whole, feed_behind, whole_behind, stamp_text, Entry, members_after_run, row_fields, string_text, members_text, record_text, ending_text, row_of, field_text, fields_behind_commas, Form, Csv, Columns, Json, Record, Layout, LabelsSeen, entry_in, text_in}
+use Rattle.std.proofs.Common.{codes}
 use Rattle.std.specs.Fmt.{decimal}
-use Rattle.gc_files.specs.Rows.{has_feed, whole}
-use Rattle.gc_files.proofs.Whole.{feed_behind, whole_behind}
-use Rattle.gc_texts.specs.Stamps.{stamp_text}
-use Rattle.gc_rows.specs.Columns.{Entry, members_after_run, row_fields}
-use Rattle.gc_rows.specs.JsonLines.{string_text, members_text}
-use Rattle.gc_rows.specs.Records.{record_text, ending_text}
-use Rattle.gc_rows.specs.Rows.{row_of, field_text, fields_behind_commas}
-use Rattle.gc_rows.specs.declared.record.Form.{Form}
-use Rattle.gc_rows.specs.declared.record.Form.TheVariants.{Lines, Csv, Columns, Json}
-use Rattle.gc_station.specs.Records.{Record}
-use Rattle.gc_options.specs.declared.layout.Layout.{Layout}
-use Rattle.gc_measuring.specs.Labels.{LabelsSeen}
-use Rattle.gc_measuring.specs.Measuring.{entry_in, text_in}
+use Rattle.gc_rows.specs.declared.record.Form.TheVariants.{Lines}
 
 -- bytes that end in a line feed
 record EndsInLineFeed (xs : List ℕ) : Type 0 where

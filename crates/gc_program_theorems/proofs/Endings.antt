@@ -1,15 +1,7 @@
 -- How a command ended, by the word of its outcome.
-use Rattle.std.proofs.Common.{◌≡◌, inl, inr, ℕ, Bool, false, List, [], get_or, Option, Some, is_some, refl, sym, ap, arith}
-use Rattle.std.specs.Prelude.{codes}
-use Rattle.gc_catalogue.specs.declared.answer.Answer.{Answer}
-use Rattle.gc_values.specs.declared.fault.ValueFault.{ValueFault}
-use Rattle.gc_texts.specs.Endings.{End, Answered, Unreadable, Judged, Late, Lost, Skipped, NoValue, Missed, word_of, fault_of, quality_of, quality_text, line_of}
-use Rattle.gc_texts.specs.Judgements.{judgements, IsJudgement}
+use Rattle.gc_program_theorems.proofs.Common.{◌≡◌, inl, inr, ℕ, Bool, false, List, [], get_or, Option, Some, is_some, refl, sym, ap, arith, codes, Answer, ValueFault, End, Answered, Judged, Late, Lost, Skipped, NoValue, Missed, word_of, fault_of, quality_of, quality_text, line_of, judgements, IsJudgement, named_among, no_judgement_word, Quality, fault_field, IsOutcomeOfReply}
+use Rattle.gc_texts.specs.Prelude.{Unreadable}
 use Rattle.gc_texts.specs.declared.judgement.Judgement.{Judgement}
-use Rattle.gc_texts.proofs.Judgements.{named_among, no_judgement_word}
-use Rattle.gc_texts.specs.declared.quality.Quality.{Quality}
-use Rattle.gc_rows.specs.Rows.{fault_field}
-use Rattle.gc_program_theorems.specs.Fields.{IsOutcomeOfReply}
 
 -- the first letter of a word
 abbrev pub first_letter : List ℕ → ℕ

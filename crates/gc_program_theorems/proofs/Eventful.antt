@@ -1,45 +1,14 @@
 -- The eventful run, computed. Which function says what replies say (`reads`) is left open here. `patched` is that function with
 -- the readings of the five replies that answer commands put before it; no other reply of the run is looked at.
-use Rattle.std.proofs.Common.{◌≡◌, inl, ℕ, zero, suc, List, [], ◌∷◌, ◌++◌, Option, Some, None, refl, sym, subst, ap, arith, lit<, lit≤}
-use Rattle.std.specs.Prelude.{codes, map, option_map, take, drop}
+use Rattle.gc_program_theorems.proofs.Common.{◌≡◌, inl, ℕ, zero, suc, List, [], ◌∷◌, ◌++◌, Option, Some, None, refl, sym, subst, ap, arith, lit<, lit≤, codes, header_at, reply_at, rounded, is_near, Asked, ById, WINDOW, is_off_target, Act, Told, SynchronizesAnew, AreChained, Runs, opening, expected_first, Part, idle_part, parts_of, Record, texts_of, RanTo, state_after, AreReadings, Reads, Scope, tally_of, runs-append, Done, by_ids, World, AreTurns, begins, WasMadeOn, ids_begun, points, ArePossible, Move, moved, moves, seen, IsAnInstrument, AnyState, never_kept, AreShownAs, shown, at, replies, IsEventful, acts, acts_until_anew, anew_acts, anew_turns, at_start, commands, executed_moves, first_acts, first_moves, first_stretch, heard_acts, heard_moves, last_acts, last_moves, last_stretch, left_by_first, plan, pointed_reply, records, reporting, runs, scope, sent_acts, sent_moves, sync_acts, sync_turns, tally}
+use Rattle.std.specs.Prelude.{map, option_map, take, drop}
 use Rattle.std.specs.Fmt.{digits}
-use Rattle.gc_lines.specs.Readers.{header_at, reply_at}
 use Rattle.gc_world.proofs.Handing.{reply_heard}
-use Rattle.gc_values.specs.Decimals.{rounded}
-use Rattle.gc_values.specs.Directions.{is_near}
-use Rattle.gc_catalogue.specs.declared.asked.Asked.{Asked}
-use Rattle.gc_client.specs.OneForOne.{Step}
-use Rattle.gc_client.specs.Rule.{ById}
-use Rattle.gc_client.specs.declared.window.TheConstants.{WINDOW}
-use Rattle.gc_texts.specs.Nears.{is_off_target}
-use Rattle.gc_links.specs.Acts.{Act, Told}
-use Rattle.gc_station.specs.Beginnings.{SynchronizesAnew}
-use Rattle.gc_station.specs.Links.{AreChained}
-use Rattle.gc_station.proofs.Going.{runs-append}
-use Rattle.gc_station.specs.Model.{Runs, opening}
-use Rattle.gc_station.specs.NextCommand.{expected_first}
-use Rattle.gc_station.specs.Parts as part
-use Rattle.gc_station.specs.Parts.{Part, idle_part, parts_of}
-use Rattle.gc_station.specs.Records.{Record, texts_of}
-use Rattle.gc_station.specs.Runs.{RanTo, state_after}
-use Rattle.gc_station.specs.Scopes.{AreReadings, Reads, Scope}
-use Rattle.gc_station.specs.Tallies.{tally_of}
-use Rattle.gc_station.specs.declared.cause.Cause.TheVariants.{Done}
-use Rattle.gc_world.specs.Clients.{by_ids}
-use Rattle.gc_theorems.specs.World.{World}
-use Rattle.gc_theorems.specs.Begin.{AreTurns, begins}
-use Rattle.gc_theorems.specs.Begun.{WasMadeOn, ids_begun}
-use Rattle.gc_theorems.specs.ChainWitness.{points}
-use Rattle.gc_theorems.specs.Field.{ArePossible, Move, moved, moves, seen}
-use Rattle.gc_theorems.specs.Instrument.{IsAnInstrument, AnyState, never_kept}
-use Rattle.gc_theorems.specs.Shown.{AreShownAs, shown}
-use Rattle.gc_theorems.specs.Witness.{at, replies}
+use Rattle.gc_client.specs.Prelude.{Step}
 use Rattle.gc_theorems.proofs.Witness.{asked_each, ones_lack_the_word, units}
-use Rattle.gc_program_theorems.specs.Eventful.{IsEventful, acts, acts_until_anew, anew_acts, anew_turns, at_start, commands, executed_moves, first_acts, first_moves}
-use Rattle.gc_program_theorems.specs.Eventful.{first_stretch, heard_acts, heard_moves, last_acts, last_moves, last_stretch, left_by_first, plan, pointed_reply, records, reporting}
-use Rattle.gc_program_theorems.specs.Eventful.{runs, scope, sent_acts, sent_moves, sync_acts, sync_turns, tally}
 use Rattle.gc_program_theorems.proofs.TrueReadings.{patched, patched_same}
 use Rattle.gc_theorems.proofs.Instruments.{keeps_none}
+use Rattle.gc_station.specs.Parts as part
 
 -- `reporting` is an instrument
 reporting_is_instrument : IsAnInstrument reporting AnyState never_kept

@@ -1,8 +1,5 @@
 -- Which records a front of their texts has whole.
-use Rattle.std.proofs.Common.{◌≡◌, ◌⊎◌, inl, inr, ℕ, ◌<◌, List, [], ◌∷◌, ◌++◌, length, refl, sym, ap, ◌∙◌, arith, append_assoc}
-use Rattle.gc_lines.proofs.Lists.{cons_tail}
-use Rattle.gc_station.specs.Records.{Record, texts_of}
-use Rattle.gc_program_theorems.specs.Tables.{IsPartOfNext}
+use Rattle.gc_program_theorems.proofs.Common.{◌≡◌, ◌⊎◌, inl, inr, ℕ, ◌<◌, List, [], ◌∷◌, ◌++◌, length, refl, sym, ap, ◌∙◌, arith, append_assoc, cons_tail, Record, texts_of, IsPartOfNext}
 
 -- one list is split in two ways: then the first part of one begins with that of the other
 pub apart : (a b c d : List ℕ) → a ++ b ≡ c ++ d → ((e : List ℕ) × (c ≡ a ++ e) × (b ≡ e ++ d)) ⊎ ((e : List ℕ) × (a ≡ c ++ e) × (0 < length e))

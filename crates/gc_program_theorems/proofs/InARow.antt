@@ -1,36 +1,13 @@
 -- Stations one after the other over a rehearsed line are stations in a row in the field.
-use Rattle.std.proofs.Common.{◌≡◌, ℕ, suc, ◌≤◌, List, [], ◌∷◌, ◌++◌, length, refl, sym, ◌∙◌, ap, subst, arith, append_assoc}
-use Rattle.std.specs.List.{AllByRecursion}
-use Rattle.gc_catalogue.specs.declared.asked.Asked.{Asked}
-use Rattle.gc_client.specs.OneForOne as client
-use Rattle.gc_client.specs.declared.window.TheConstants.{WINDOW}
-use Rattle.gc_links.specs.Acts.{Act, Put, Gave}
-use Rattle.gc_scenes.specs.SceneState.{SceneState}
-use Rattle.gc_station.proofs.EachRun.{invariant_opening}
-use Rattle.gc_station.proofs.Lists.{cons_head, cons_tail}
-use Rattle.gc_station.specs.Model.{Runs, after_all, opening}
-use Rattle.gc_station.specs.Parts as part
-use Rattle.gc_station.specs.Parts.{parts_of}
-use Rattle.gc_theorems.specs.Begin as begin
-use Rattle.gc_theorems.specs.Begin.{UnderWay, begins, leaves, none_under_way}
-use Rattle.gc_theorems.specs.Beginnings.{HasRisingIds, Run, killed_over, killed_unless_begun, left_by_runs}
-use Rattle.gc_theorems.specs.InARow.{AreInARow}
-use Rattle.gc_theorems.specs.SceneField.{KeptReplyReads, scene_ends, scene_kept}
-use Rattle.gc_theorems.specs.Shown.{AreShownAs}
-use Rattle.gc_theorems.proofs.InARow.{in_a_row, run}
-use Rattle.gc_theorems.proofs.SceneField.{scene_is_an_instrument}
-use Rattle.gc_theorems.proofs.BeginJoin.{word_small}
-use Rattle.gc_rehearsal.specs.Carrying.{Lines, Happening, Acts, ActLeads, CarriesNothing, LeadAll, acts_of}
-use Rattle.gc_program_theorems.specs.Exchanges.{Exchange, exchange_at, exchanges_of, exchanges_of_all, exchanges_of_runs}
-use Rattle.gc_rehearsal.specs.Runs.{RunsAndStops, RehearsedStation, acts_of_all}
-use Rattle.gc_program_theorems.specs.Rehearsals.{FewEndUnbegun, RehearsalsInARowAreFaithful, exchanges_happened, left_at_its_end, none_in_flight, programs}
+use Rattle.gc_program_theorems.proofs.Common.{◌≡◌, ℕ, suc, ◌≤◌, List, [], ◌∷◌, ◌++◌, length, refl, sym, ◌∙◌, ap, subst, arith, append_assoc, AllByRecursion, Asked, WINDOW, Act, Put, Gave, SceneState, invariant_opening, cons_head, Runs, after_all, opening, parts_of, UnderWay, begins, leaves, none_under_way, HasRisingIds, Run, killed_over, killed_unless_begun, left_by_runs, AreInARow, KeptReplyReads, scene_ends, scene_kept, AreShownAs, in_a_row, run, scene_is_an_instrument, word_small, Lines, Happening, Acts, ActLeads, CarriesNothing, LeadAll, acts_of, RunsAndStops, RehearsedStation, acts_of_all, Exchange, exchange_at, exchanges_of, exchanges_of_all, exchanges_of_runs, FewEndUnbegun, RehearsalsInARowAreFaithful, exchanges_happened, left_at_its_end, none_in_flight, programs, some_parts, Has, has_more, cons_not_nil}
+use Rattle.gc_station.proofs.Lists.{cons_tail}
 use Rattle.gc_program_theorems.proofs.Courses.{BeginIsAt, FromBegin, Sequel, after_exchanges, begins_in_flight, few_from, killed_more, sequel}
 use Rattle.gc_program_theorems.proofs.Rehearsed.{OnBegin, begin_happens, first_and_others, first_part, none_kept, other_parts, shows_the_run}
-use Rattle.gc_station.proofs.PartFronts.{some_parts}
 use Rattle.gc_program_theorems.proofs.OnLine.{all_on_line}
 use Rattle.gc_program_theorems.proofs.Steps.{Holds}
-use Rattle.gc_world.proofs.Booked.{Has, has_more}
-use Rattle.gc_theorems.proofs.BeginWords.{cons_not_nil}
+use Rattle.gc_client.specs.OneForOne as client
+use Rattle.gc_station.specs.Parts as part
+use Rattle.gc_theorems.specs.Begin as begin
 
 -- Cutting what happened.
 

@@ -1,20 +1,9 @@
 -- What a row has of an answer, by the quality of its line.
-use Rattle.std.proofs.Common.{◌≡◌, ℕ, List, Option, Some, None, if◌then◌else◌, refl, sym, ap, ◌∙◌, subst}
-use Rattle.gc_lines.specs.Replies.{ReplyFields, IsReply}
-use Rattle.gc_catalogue.specs.declared.answer.Answer.{Answer}
-use Rattle.gc_catalogue.specs.declared.answer.Reading.{Reading}
-use Rattle.gc_catalogue.specs.declared.answer.Reading.TheVariants as reading
-use Rattle.gc_catalogue.specs.declared.asked.Asked.{Asked}
-use Rattle.gc_texts.specs.Zeroed.{as_zero}
+use Rattle.gc_program_theorems.proofs.Common.{◌≡◌, ℕ, List, Option, Some, None, if◌then◌else◌, refl, sym, ap, ◌∙◌, subst, ReplyFields, IsReply, Answer, Reading, Asked, as_zero, Quality, answer_in, IsRefusedReading, IsOfQuality, IsSaid, AreReadings, Reads, zero_said, quality_in, quantity_source}
 use Rattle.gc_texts.specs.declared.codes.Codes.{Codes}
-use Rattle.gc_texts.specs.declared.quality.Quality.{Quality}
-use Rattle.gc_texts.specs.declared.quality.Quality.TheVariants as quality
-use Rattle.gc_station.specs.Qualities.{answer_in, IsRefusedReading, IsOfQuality}
-use Rattle.gc_station.specs.Saying.{IsSaid}
-use Rattle.gc_station.proofs.Saying.{zero_said}
 use Rattle.gc_texts.specs.declared.form.Form.{Form}
-use Rattle.gc_station.specs.Scopes.{AreReadings, Reads}
-use Rattle.gc_program_theorems.specs.Fields.{quality_in, quantity_source}
+use Rattle.gc_catalogue.specs.declared.answer.Reading.TheVariants as reading
+use Rattle.gc_texts.specs.declared.quality.Quality.TheVariants as quality
 
 -- where `answer_in` gives an answer of a reading, the reading is that answer
 pub value_if_some : (told : Reading) (answer : Answer) → answer_in told ≡ Some answer → told ≡ reading.Value answer

@@ -1,40 +1,14 @@
 -- The rows that are left of a run that was killed: what the run's contract says of its acts, and the laws on files of rows, put
 -- together.
-use Rattle.std.proofs.Common.{◌≡◌, ◌⊎◌, ℕ, true, List, [], ◌∷◌, ◌++◌, Option, Some, Result, inl, inr, refl, sym, ◌∙◌, ap, subst, append_assoc}
-use Rattle.std.proofs.lemmas.List.{append_cancel_left}
-use Rattle.std.specs.Io.KnownBytes.{Appends}
-use Rattle.gc_files.specs.Files.{Step}
-use Rattle.gc_files.specs.Rows.{cuts_none, appended, IsFront}
-use Rattle.gc_files.specs.Sinks.{steps_in, taken_in}
-use Rattle.gc_files.proofs.Adding.{appended_two}
-use Rattle.gc_links.specs.Acts.{Act}
-use Rattle.gc_logs.specs.Following.{bytes_in, steps_before}
+use Rattle.gc_program_theorems.proofs.Common.{◌≡◌, ◌⊎◌, ℕ, true, List, [], ◌∷◌, ◌++◌, Option, Some, Result, inl, inr, refl, sym, ◌∙◌, ap, subst, append_assoc, append_cancel_left, Appends, Step, cuts_none, appended, IsFront, steps_in, taken_in, appended_two, Act, bytes_in, steps_before, ReadsClock, KeepsUp, close_at_output, Runs, opening, Record, texts_of, AreReadings, Reads, Scope, Followed, Tally, begun_at, Settings, Stop, Ghosts as Source, PortsSeen, Measures, most_turns, survey_of, Survey, text_by, front_text, RunsAfterFront, same_Some, HasRunOfFile, AppendsAreRuns, EachFileHasItsRows, IsRunOfFile, RunMoment, IsRunMoment, rows_by, AreLeft, RowsOutlastCrashes, RowsOutlastFailures, AreLeftSoFar, IsFileRunSoFar, FileMomentsAreRunsSoFar, file_so_far_at, StationRun, acts_in, acts_measured, records_of_run, scope_of, cuts_first}
 use Rattle.gc_logs.proofs.Leaving.{earlier_files_last}
-use Rattle.gc_station.specs.ActKinds.{ReadsClock}
-use Rattle.gc_station.specs.Keeping.{KeepsUp, close_at_output}
-use Rattle.gc_station.specs.Model.{Runs, opening}
-use Rattle.gc_station.specs.Records.{Record, texts_of}
-use Rattle.gc_station.specs.Scopes.{AreReadings, Reads, Scope}
-use Rattle.gc_logs.specs.declared.following.Followed.{Followed}
-use Rattle.gc_station.specs.declared.tally.Tally.{Tally}
-use Rattle.gc_options.specs.Stations.{begun_at}
-use Rattle.gc_options.specs.Stations as words
-use Rattle.gc_options.specs.declared.settings.Settings.{Settings}
-use Rattle.gc_measuring.specs.declared.stop.Stop.{Stop}
-use Rattle.gc_lines.specs.declared.ports.Source.{Ghosts as Source}
 use Rattle.gc_lines.specs.declared.ports.Sink.{Ghosts as Sink}
-use Rattle.gc_measuring.specs.Measuring.{PortsSeen, Measures, most_turns, survey_of, Survey, text_by, front_text, RunsAfterFront}
-use Rattle.std.proofs.lemmas.Option.{same_Some}
-use Rattle.gc_program_theorems.specs.Lasting.{HasRunOfFile, AppendsAreRuns, EachFileHasItsRows, IsRunOfFile, RunMoment, IsRunMoment, rows_by, AreLeft, RowsOutlastCrashes, RowsOutlastFailures}
-use Rattle.gc_program_theorems.specs.LastingSoFar.{AreLeftSoFar, IsFileRunSoFar}
-use Rattle.gc_program_theorems.specs.RunMoments.{FileMomentsAreRunsSoFar, file_so_far_at}
 use Rattle.gc_program_theorems.proofs.LastingSoFar.{so_far_outlast_crashes, so_far_outlast_failures}
 use Rattle.gc_program_theorems.proofs.RunMoments.{measured_are}
-use Rattle.gc_program_theorems.specs.Tables.{StationRun, acts_in, acts_measured, records_of_run, scope_of}
 use Rattle.gc_program_theorems.proofs.Seen.{IsKeptAt, kept_at, done_at, next_at, seen_at}
 use Rattle.gc_program_theorems.proofs.Taken.{appended_to_known, run_took, written_front}
-use Rattle.gc_files.proofs.Staying.{cuts_first}
 use Rattle.gc_program_theorems.proofs.SoundLabels.{labels_sound}
+use Rattle.gc_options.specs.Stations as words
 
 -- What the clauses say.
 

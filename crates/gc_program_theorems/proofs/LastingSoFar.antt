@@ -1,29 +1,12 @@
 -- The rows that are left of a run that goes on or was killed, at one of its moments: what its acts settle, and the laws on files of rows, put
 -- together.
-use Rattle.std.proofs.Common.{◌≡◌, ℕ, ◌≤◌, Bool, true, false, List, [], ◌∷◌, ◌++◌, take, sym, ◌∙◌, ap, subst, append_assoc}
-use Rattle.std.proofs.lemmas.Bool.{not-true}
-use Rattle.std.specs.Prelude.{not, if◌then◌else◌}
-use Rattle.gc_files.specs.Failing.{Sides, RunEnd, MayEnd, sides_ended, doubt_ended, Event, Ran, feeds, settled, same_sides, doubt_after, ArePossibleEvents, runs_of, IsFound, IsTrusted}
-use Rattle.gc_files.specs.Files.{Step, Life, content, MayBeLeft}
-use Rattle.gc_files.specs.Rows.{whole, opened_table, OpensFile, cuts_none, appended}
-use Rattle.gc_files.specs.Runs.{synced, Run, row_lines, IsRun, HasRows}
-use Rattle.gc_files.specs.Sinks.{steps_in, taken_in}
-use Rattle.gc_files.proofs.Adding.{appended_two}
+use Rattle.gc_program_theorems.proofs.Common.{◌≡◌, ℕ, ◌≤◌, Bool, true, false, List, [], ◌∷◌, ◌++◌, take, sym, ◌∙◌, ap, subst, append_assoc, not-true, not, Sides, RunEnd, MayEnd, sides_ended, doubt_ended, Event, feeds, settled, same_sides, doubt_after, ArePossibleEvents, runs_of, IsFound, IsTrusted, Step, Life, content, MayBeLeft, whole, opened_table, OpensFile, cuts_none, appended, synced, row_lines, IsRun, HasRows, steps_in, taken_in, appended_two, whole_more, Act, bytes_in, steps_before, AreReadings, Reads, text_by, life_begun, sides_begun, AreLeftSoFar, FileRunSoFar, IsFileRunSoFar, RowsSoFarOutlastCrashes, RowsSoFarOutlastFailures, texts_by, records_in, all_pieces, rows_left, whole_rest, run_by, is_run, happen_append, life_append, no_rows_of_none, splits_at_run, possible_events_append, sides_append, runs_of_append}
+use Rattle.std.specs.Prelude.{if◌then◌else◌}
+use Rattle.gc_files.specs.Prelude.{Ran, Run}
 use Rattle.gc_files.proofs.Failing.{tables_outlast_failures}
 use Rattle.gc_files.proofs.Lasting.{tables_last}
-use Rattle.gc_files.proofs.Whole.{whole_more}
-use Rattle.gc_links.specs.Acts.{Act}
-use Rattle.gc_logs.specs.Following.{bytes_in, steps_before}
-use Rattle.gc_station.specs.Scopes.{AreReadings, Reads}
-use Rattle.gc_measuring.specs.Measuring.{text_by}
-use Rattle.gc_program_theorems.specs.Lasting.{life_begun, sides_begun}
-use Rattle.gc_program_theorems.specs.LastingSoFar.{AreLeftSoFar, FileRunSoFar, IsFileRunSoFar, RowsSoFarOutlastCrashes, RowsSoFarOutlastFailures}
-use Rattle.gc_program_theorems.specs.SoFar.{texts_by}
-use Rattle.gc_program_theorems.specs.Tables.{records_in}
 use Rattle.gc_program_theorems.proofs.Ended.{text_whole}
-use Rattle.gc_files.proofs.Pieces.{all_pieces, rows_left, whole_rest}
 use Rattle.gc_program_theorems.proofs.Seen.{texts_whole}
-use Rattle.gc_files.proofs.Staying.{run_by, is_run, happen_append, life_append, no_rows_of_none, splits_at_run, possible_events_append, sides_append, runs_of_append}
 
 module _ {R : Type 0} (reads : Reads) (are : AreReadings reads) (m : FileRunSoFar R) (is : IsFileRunSoFar reads m) where
   -- the rows of what any acts settle end in a line feed, unless there is none

@@ -1,15 +1,5 @@
 -- What is left of the rows of a run that was killed, or whose sync failed, as it is read: whole rows, each its own.
-use Rattle.std.proofs.Common.{◌≡◌, ℕ, Bool, List, sym, ap, ◌∙◌, subst}
-use Rattle.gc_rows.specs.declared.record.Form.TheVariants.{Json}
-use Rattle.gc_station.specs.Scopes.{AreReadings, Reads}
-use Rattle.gc_theorems.specs.Instrument.{AnyState}
-use Rattle.gc_program_theorems.specs.Damaged.{own_or_damaged_lines}
-use Rattle.gc_program_theorems.specs.Lasting.{AreLeft, RunMoment}
-use Rattle.gc_program_theorems.specs.LastingSoFar.{AreLeftSoFar}
-use Rattle.gc_program_theorems.specs.Left.{AreLeftObjects, IsLeftTable, LeftObjectsAreOwnOrDamaged, LeftObjectsAreTheirOwn, LeftTablesAreOwnOrDamaged, LeftTablesAreTheirOwn}
-use Rattle.gc_program_theorems.specs.Objects.{AreTyped}
-use Rattle.gc_program_theorems.specs.RunMoments.{file_so_far_at}
-use Rattle.gc_program_theorems.specs.Tables.{Answers, StationRun, acts_in, own_lines, records_of_run, table_form}
+use Rattle.gc_program_theorems.proofs.Common.{◌≡◌, ℕ, Bool, List, sym, ap, ◌∙◌, subst, Json, AreReadings, Reads, AnyState, own_or_damaged_lines, AreLeft, RunMoment, AreLeftSoFar, AreLeftObjects, IsLeftTable, LeftObjectsAreOwnOrDamaged, LeftObjectsAreTheirOwn, LeftTablesAreOwnOrDamaged, LeftTablesAreTheirOwn, AreTyped, file_so_far_at, Answers, StationRun, acts_in, own_lines, records_of_run, table_form}
 use Rattle.gc_program_theorems.proofs.Damaged.{answered}
 use Rattle.gc_program_theorems.proofs.LeftSoFar.{left_objects, left_table}
 use Rattle.gc_program_theorems.proofs.Written.{IsAnswered, answered_in_field}

@@ -1,31 +1,8 @@
 -- What is left of the rows of a run so far, as it is read: whole rows, each its own.
-use Rattle.std.proofs.Common.{◌≡◌, inl, inr, ℕ, ◌==◌, Bool, true, false, List, [], ◌∷◌, ◌++◌, map, refl, sym, ◌∙◌, ap, subst, arith, if◌then◌else◌}
-use Rattle.std.specs.Prelude.{codes}
-use Rattle.std.specs.List.{AllByRecursion, flat_map, list_any}
-use Rattle.std.proofs.lemmas.Bool.{cases_Bool, cond_both, ne_eqb}
-use Rattle.gc_lines.proofs.Lists.{cons_tail}
-use Rattle.gc_values.proofs.Every.{every_front as all_front}
-use Rattle.gc_files.specs.Rows.{has_feed, whole}
-use Rattle.gc_logs.specs.Following.{bytes_in}
-use Rattle.gc_texts.specs.Cuts.{Lacks}
-use Rattle.gc_texts.specs.Logs.{escaped}
-use Rattle.gc_rows.specs.Columns.{row_fields}
-use Rattle.gc_rows.specs.Records.{record_text}
-use Rattle.gc_rows.specs.Rows.{behind_comma, field_text, fields_behind_commas, is_special, row_of, within_quotes}
-use Rattle.gc_rows.specs.declared.record.Form.{Form}
-use Rattle.gc_rows.specs.declared.record.Form.TheVariants.{Json}
-use Rattle.gc_rows.proofs.Columns.{lacks_both}
-use Rattle.gc_station.specs.Records.{Record, texts_of}
-use Rattle.gc_station.specs.Scopes.{AreReadings, Reads}
-use Rattle.gc_measuring.specs.Measuring.{Survey, text_by}
-use Rattle.gc_links.specs.Acts.{Act}
-use Rattle.gc_program_theorems.specs.LastingSoFar.{AreLeftObjectsSoFar, AreLeftSoFar, FileRunSoFar, IsLeftOfSoFar, IsLeftTableSoFar, LeftObjectsSoFarAreOwnOrDamaged, LeftObjectsSoFarAreTheirOwn, LeftTablesSoFarAreOwnOrDamaged, LeftTablesSoFarAreTheirOwn}
-use Rattle.gc_program_theorems.specs.SoFar.{own_lines_so_far, own_or_damaged_so_far}
-use Rattle.gc_program_theorems.specs.Objects.{AreTyped, IsTyped}
-use Rattle.gc_program_theorems.specs.Tables.{Answers, AreReadAs, records_in, table_form}
+use Rattle.gc_program_theorems.proofs.Common.{◌≡◌, inl, inr, ℕ, Bool, true, false, List, [], ◌∷◌, ◌++◌, map, refl, sym, ◌∙◌, ap, subst, arith, if◌then◌else◌, codes, AllByRecursion, flat_map, list_any, cases_Bool, cond_both, ne_eqb, cons_tail, every_front as all_front, has_feed, whole, bytes_in, Lacks, escaped, row_fields, record_text, behind_comma, field_text, fields_behind_commas, is_special, row_of, within_quotes, Form, Json, lacks_both, Record, texts_of, AreReadings, Reads, Survey, text_by, Act, AreLeftObjectsSoFar, AreLeftSoFar, FileRunSoFar, IsLeftOfSoFar, IsLeftTableSoFar, LeftObjectsSoFarAreOwnOrDamaged, LeftObjectsSoFarAreTheirOwn, LeftTablesSoFarAreOwnOrDamaged, LeftTablesSoFarAreTheirOwn, own_lines_so_far, own_or_damaged_so_far, AreTyped, IsTyped, Answers, AreReadAs, records_in, table_form, feed_behind_first, tail_whole, whole_rest}
+use Rattle.std.proofs.Common.{◌==◌}
 use Rattle.gc_program_theorems.proofs.Objected.{all_unbroken, each_line, line_of_record, objects_one_for_one, one_line}
 use Rattle.gc_program_theorems.proofs.Owning.{in_table}
-use Rattle.gc_files.proofs.Pieces.{feed_behind_first, tail_whole, whole_rest}
 use Rattle.gc_program_theorems.proofs.Reading.{each_reads}
 use Rattle.gc_program_theorems.proofs.Tabled.{one_reads, row, rows_one_for_one}
 use Rattle.gc_program_theorems.proofs.Unbroken.{escaped_lacks, quote_lacks}

@@ -1,3 +1,4 @@
+mod Common
 mod Acted
 mod Courses
 mod Damaged
@@ -11,7 +12,6 @@ mod Lasting
 mod LastingSoFar
 mod Left
 mod LeftSoFar
-mod Nights
 mod Objected
 mod OnLine
 mod Owning

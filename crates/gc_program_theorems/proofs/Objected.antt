@@ -1,54 +1,19 @@
 -- Lines of JSON that a station wrote of a run: what is in the object of an answer is what a line says that may have answered its
 -- command. In the field that line is the object's own.
-use Rattle.std.proofs.Common.{◌≡◌, ℕ, ◌<◌, true, List, [], ◌∷◌, ◌++◌, map, inl, inr, Some, if◌then◌else◌, refl, sym, ap, ◌∙◌, subst, append-nil}
-use Rattle.std.specs.Prelude.{◌&&◌, ◌||◌, not, None, option_map, codes, slice_get, Bool, false, ◌==◌}
-use Rattle.std.specs.List.{AllByRecursion, flat_map}
-use Rattle.std.specs.Str.{bytes_eq}
-use Rattle.std.proofs.lemmas.Bool.{and_parts, cases_Bool, cond_both, false≢true}
-use Rattle.std.proofs.lemmas.Slice.Eq.{bytes_eq-Decides}
+use Rattle.gc_program_theorems.proofs.Common.{◌≡◌, ℕ, ◌<◌, true, List, [], ◌∷◌, ◌++◌, map, inl, inr, Some, if◌then◌else◌, refl, sym, ap, ◌∙◌, subst, append-nil, ◌&&◌, ◌||◌, not, codes, slice_get, ◌==◌, AllByRecursion, flat_map, bytes_eq, and_parts, cases_Bool, cond_both, false≢true, bytes_eq-Decides, every_front as all_front, are_columns, ends_as_text, is_column, is_named, names_of_row, Lacks, DescriptionSeen, described_as, description_seen, line_of, FieldSeen, AreBytes, name_text, stamp_text, Description, lookup, Entry, cells_after_run, cells_if, cells_in, counted_answer, first_columns, items_column, last_columns, members_after_run, object_cells, quantity_cells, run_column, members_text, string_text, HasFieldNames, record_read, HasColumns, IsShown, is_among, text_of, head_text, record_text, procedure_of, Form, Json, each_fit, columns_hold, lookup_behind, object_lookup, records_read_back, Act, Record, texts_of, AreReadings, Reads, AreSound, HasSoundFields, Survey, front_text, text_by, AnyState, description_of, AreObjects, AreTyped, IsObject, IsTyped, ObjectsAreTheirOwn, Answers, AreOneForOne, IsStationRun, StationRun, acts_in, own_lines, records_in, records_of_run, scope_of}
+use Rattle.std.specs.Prelude.{None, option_map, Bool, false}
 use Rattle.std.proofs.lemmas.List.Elements.{All-from_recursion}
 use Rattle.json.specs.Find.{get_member}
-use Rattle.gc_values.proofs.Every.{every_front as all_front}
-use Rattle.gc_texts.specs.ColumnNames.{are_columns, ends_as_text, is_column, is_named, names_of_row}
-use Rattle.gc_texts.specs.Cuts.{Lacks}
-use Rattle.gc_texts.specs.Descriptions.{DescriptionSeen, described_as, description_seen}
-use Rattle.gc_texts.specs.Endings.{line_of}
-use Rattle.gc_texts.specs.Fields.{FieldSeen}
-use Rattle.gc_texts.specs.declared.description.Description.{Description}
-use Rattle.gc_texts.specs.Logs.{AreBytes}
-use Rattle.gc_texts.specs.Names.{name_text}
-use Rattle.gc_texts.specs.Stamps.{stamp_text}
 use Rattle.gc_texts.specs.declared.name.Name.{Name}
-use Rattle.gc_rows.specs.Cells.{lookup}
-use Rattle.gc_rows.specs.Columns.{Entry, cells_after_run, cells_if, cells_in, counted_answer, first_columns, items_column, last_columns, members_after_run, object_cells, quantity_cells, run_column}
-use Rattle.gc_rows.specs.JsonLines.{members_text, string_text}
-use Rattle.gc_rows.specs.Laws.{HasFieldNames, record_read}
-use Rattle.gc_rows.specs.Lookup.{HasColumns, IsShown, is_among, text_of}
-use Rattle.gc_rows.specs.Records.{head_text, record_text}
-use Rattle.gc_rows.specs.declared.record.Form.{Form}
-use Rattle.gc_rows.specs.declared.record.Form.TheVariants.{Json}
-use Rattle.gc_rows.proofs.Fit.{each_fit}
 use Rattle.gc_rows.proofs.JsonLines.{feed_apart, object_reads_back}
-use Rattle.gc_rows.specs.Rows.{procedure_of}
 use Rattle.gc_rows.proofs.Apart.{among_parts, lookup_before}
-use Rattle.gc_rows.proofs.DescribedColumns.{columns_hold}
 use Rattle.gc_rows.proofs.DescribedNames.{column_apart, column_no_text, names_before, names_behind, object_single}
-use Rattle.gc_rows.proofs.Lookup.{lookup_behind, object_lookup, records_read_back}
 use Rattle.gc_rows.proofs.Members.{each_member_plain}
-use Rattle.gc_files.specs.Runs as rows
-use Rattle.gc_links.specs.Acts.{Act}
-use Rattle.gc_station.specs.Records.{Record, texts_of}
-use Rattle.gc_station.specs.Scopes.{AreReadings, Reads}
-use Rattle.gc_measuring.specs.Labels.{AreSound, HasSoundFields}
-use Rattle.gc_measuring.specs.Measuring.{Survey, front_text, text_by}
-use Rattle.gc_theorems.specs.Instrument.{AnyState}
-use Rattle.gc_program_theorems.specs.Fields.{description_of}
-use Rattle.gc_program_theorems.specs.Objects.{AreObjects, AreTyped, IsObject, IsTyped, ObjectsAreTheirOwn}
-use Rattle.gc_program_theorems.specs.Tables.{Answers, AreOneForOne, IsStationRun, StationRun, acts_in, own_lines, records_in, records_of_run, scope_of}
 use Rattle.gc_program_theorems.proofs.Shown.{ShowsAdded, has_its_texts}
 use Rattle.gc_program_theorems.proofs.Taken.{run_took}
 use Rattle.gc_program_theorems.proofs.Unbroken.{line_text, line_unbroken}
 use Rattle.gc_program_theorems.proofs.Written.{HasItsTexts, IsAnswered, all_written, answered_in_field, entry_of, one_for_one, written_by}
+use Rattle.gc_files.specs.Runs as rows
 
 -- An object.
 

@@ -1,29 +1,6 @@
 -- Answers that were made in the field, in runs with the exchanges of a rehearsed line, were made on that line.
-use Rattle.std.proofs.Common.{◌≡◌, ℕ, zero, suc, inl, inr, List, [], ◌∷◌, ◌++◌, map, Some, refl, sym, ◌∙◌, ap, subst}
-use Rattle.std.specs.List.{AllByRecursion}
-use Rattle.std.specs.Prelude.{slice_get}
-use Rattle.std.proofs.lemmas.Option.{none-some, same_Some}
-use Rattle.gc_values.proofs.Every.{every_weaker as all_on}
-use Rattle.gc_catalogue.specs.Asked.{asked_line}
-use Rattle.gc_client.specs.declared.window.TheConstants.{WINDOW}
-use Rattle.gc_scenes.specs.SceneState.{SceneState}
-use Rattle.gc_texts.specs.Tasks.{call_at}
-use Rattle.gc_station.specs.Parts.{occasion_in}
-use Rattle.gc_station.specs.Records.{Record}
-use Rattle.gc_world.proofs.Booked.{Has, has_at, has_more}
-use Rattle.gc_theorems.specs.Begin.{UnderWay, begins, left_by_turns}
-use Rattle.gc_theorems.specs.Beginnings.{AreRuns, ArePossibleIfBegun, Run, after_turns, killed_over, left_by_run, left_by_runs, under_way_on}
-use Rattle.gc_theorems.specs.Begun.{ids_begun}
-use Rattle.gc_theorems.specs.Field.{Move, OnLine}
-use Rattle.gc_theorems.specs.InARow.{AreFaithful, AreInARow}
-use Rattle.gc_theorems.specs.Runs.{IsOwnAnswer, Program, program_parts, program_records}
-use Rattle.gc_theorems.specs.SceneField.{KeptReplyReads, scene_ends, scene_handed, scene_kept}
-use Rattle.gc_theorems.specs.Shown.{Stretch, stretches}
-use Rattle.gc_theorems.specs.World.{Up_deliver}
-use Rattle.gc_program_theorems.specs.Exchanges.{Exchange, exchange_in, exchange_of_front, exchange_of_move, exchanges_if_begun, exchanges_of_all, exchanges_of_moves, exchanges_of_runs, exchanges_of_turns}
+use Rattle.gc_program_theorems.proofs.Common.{◌≡◌, ℕ, zero, suc, inl, inr, List, [], ◌∷◌, ◌++◌, map, Some, refl, sym, ◌∙◌, ap, subst, AllByRecursion, slice_get, none-some, same_Some, every_weaker as all_on, asked_line, WINDOW, SceneState, call_at, occasion_in, Record, Has, has_at, has_more, UnderWay, begins, left_by_turns, AreRuns, ArePossibleIfBegun, Run, after_turns, killed_over, left_by_run, left_by_runs, under_way_on, ids_begun, Move, OnLine, AreFaithful, AreInARow, IsOwnAnswer, Program, program_parts, program_records, KeptReplyReads, scene_ends, scene_handed, scene_kept, Stretch, stretches, Up_deliver, Exchange, exchange_in, exchange_of_front, exchange_of_move, exchanges_if_begun, exchanges_of_all, exchanges_of_moves, exchanges_of_runs, exchanges_of_turns, RehearsedStation, as_program, programs}
 use Rattle.gc_program_theorems.specs.OnLine.{AllAreOnLine, AnswersAreOnLine, IsOwnOnLine}
-use Rattle.gc_rehearsal.specs.Runs.{RehearsedStation}
-use Rattle.gc_program_theorems.specs.Rehearsals.{as_program, programs}
 use Rattle.gc_program_theorems.proofs.Courses.{after_move, after_moves}
 use Rattle.gc_program_theorems.proofs.Sides.{SceneWorld}
 

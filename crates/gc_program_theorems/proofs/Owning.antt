@@ -1,52 +1,9 @@
 -- The rows of a run in the field are their own: what is in a row of an answer was made by the instrument on executing the
 -- very request of the row's cycle and place.
-use Rattle.std.proofs.Common.{◌≡◌, ℕ, ◌<◌, Bool, true, false, List, [], ◌∷◌, length, Option, None, Some, Result, Ok, Err, refl, sym, subst, ap, ◌∙◌, arith}
-use Rattle.std.specs.Prelude.{codes}
-use Rattle.std.specs.List.{AllByRecursion}
-use Rattle.gc_lines.specs.Numbers.{IsSmallNumber}
-use Rattle.gc_lines.specs.Readers.{reply_at}
-use Rattle.gc_lines.specs.Replies.{ReplyFields, IsReply}
+use Rattle.gc_program_theorems.proofs.Common.{◌≡◌, ℕ, ◌<◌, Bool, true, false, List, [], ◌∷◌, length, Option, None, Some, Result, Ok, Err, refl, sym, subst, ap, ◌∙◌, arith, codes, AllByRecursion, IsSmallNumber, reply_at, ReplyFields, IsReply, reply_found, Unreadable as DoesntRead, heard, id_in, KeptReply, ValueFault, End, fault_of, line_of, name_text, Task, record_text, Bytes, Code, field_of, Entry, bytes_content, fault_content, line_content, moment_content, row_fields, row_of, com_of, code_of, fault_field, moment_text, values_of, reply_columns, rows_read_back, Act, AnswerIsJustified, Record, Runs, opening, form_at, IsSaid, AreReadings, Reads, Scope, IsAsRead, each_said, Plan, answers_true, Layout, LabelsSeen, entry_in, text_in, Ends, UnderWay, AnyState, IsOwnAnswer, Program, program_parts, program_records, stretches, run_faithful, column, FieldsSay, IsOwnIfAnswered, IsRowOfReply, RowsAreTheirOwn, SayFault, same_Some, table_form, all_read, came_at}
 use Rattle.gc_lines.specs.declared.fault.LineFault.{LineFault}
-use Rattle.gc_lines.proofs.Replies.{reply_found}
-use Rattle.gc_catalogue.specs.declared.answer.Reading.TheVariants.{Unreadable as DoesntRead}
-use Rattle.gc_client.specs.Rule.{heard, id_in}
-use Rattle.gc_instrument.specs.State.{KeptReply}
-use Rattle.gc_values.specs.declared.fault.ValueFault.{ValueFault}
-use Rattle.gc_texts.specs.Endings.{End, fault_of, line_of}
-use Rattle.gc_texts.specs.Names.{name_text}
-use Rattle.gc_texts.specs.declared.tasks.Task.{Task}
-use Rattle.gc_rows.specs.Records.{record_text}
-use Rattle.gc_rows.specs.Cells.{Bytes, Code, field_of}
-use Rattle.gc_rows.specs.Columns.{Entry, bytes_content, fault_content, line_content, moment_content, row_fields}
-use Rattle.gc_rows.specs.Rows.{row_of, com_of, code_of, fault_field, moment_text, values_of}
-use Rattle.gc_rows.proofs.Columns.{reply_columns}
-use Rattle.gc_rows.proofs.Rows.{rows_read_back}
-use Rattle.gc_links.specs.Acts.{Act}
-use Rattle.gc_station.specs.Answers.{AnswerIsJustified}
-use Rattle.gc_station.specs.Records.{Record}
-use Rattle.gc_station.specs.Model.{Runs, opening}
 use Rattle.gc_texts.specs.declared.form.Form.{Form}
-use Rattle.gc_station.specs.Qualities.{form_at}
-use Rattle.gc_station.specs.Saying.{IsSaid}
-use Rattle.gc_station.proofs.Saying.{each_said}
-use Rattle.gc_station.specs.Scopes.{AreReadings, Reads, Scope}
-use Rattle.gc_station.specs.declared.plan.Plan.{Plan}
-use Rattle.gc_station.proofs.Answers.{answers_true}
-use Rattle.gc_options.specs.declared.layout.Layout.{Layout}
-use Rattle.gc_measuring.specs.Labels.{LabelsSeen}
-use Rattle.gc_measuring.specs.Measuring.{entry_in, text_in}
-use Rattle.gc_theorems.specs.World.{Ends}
-use Rattle.gc_theorems.specs.Begin.{UnderWay}
-use Rattle.gc_theorems.specs.Instrument.{AnyState}
-use Rattle.gc_theorems.specs.Runs.{IsOwnAnswer, Program, program_parts, program_records}
-use Rattle.gc_theorems.specs.Shown.{stretches}
-use Rattle.gc_theorems.proofs.Joining.{run_faithful}
-use Rattle.gc_program_theorems.specs.Rows.{column, FieldsSay, IsOwnIfAnswered, IsRowOfReply, RowsAreTheirOwn, SayFault}
-use Rattle.std.proofs.lemmas.Option.{same_Some}
-use Rattle.gc_program_theorems.specs.Tables.{table_form}
 use Rattle.gc_program_theorems.proofs.Endings.{is_unreadable}
-use Rattle.gc_station.specs.Moments.{IsAsRead}
-use Rattle.gc_station.proofs.Moments.{all_read, came_at}
 
 -- a line from which an id is heard (`heard`) reads as a reply
 pub heard_is_reply : (line : List ℕ) (id : ℕ) → heard line ≡ Some id → (r : ReplyFields) × IsReply line r

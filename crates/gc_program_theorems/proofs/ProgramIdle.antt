@@ -1,36 +1,8 @@
 -- What a station that the program ran has written if its link made no act: a front of what comes before the rows.
-use Rattle.std.proofs.Common.{◌≡◌, inl, inr, ℕ, Bool, List, [], ◌∷◌, ◌++◌, take, drop, Option, Some, None, Result, Err, option_map, refl, sym, ap, ◌∙◌, subst, append-nil}
-use Rattle.std.proofs.lemmas.List.{take-append-drop}
-use Rattle.std.proofs.lemmas.Option.{none-some, same_Some}
-use Rattle.std.specs.Io.KnownBytes.{Appends}
-use Rattle.gc_files.specs.Rows.{IsFront}
-use Rattle.gc_files.specs.declared.past.Past.{Past}
+use Rattle.gc_program_theorems.proofs.Common.{◌≡◌, inl, inr, ℕ, Bool, List, [], ◌∷◌, ◌++◌, take, drop, Option, Some, None, Result, Err, option_map, refl, sym, ap, ◌∙◌, subst, append-nil, take-append-drop, none-some, same_Some, Appends, IsFront, Past, Ghosts as Source, Act, AreSound, labels_of, Measures, RunsAfterFront, front_text, most_turns, survey_of, text_by, ReportsAtSite, Stage, Views, acts_noted, seen_at, with_messages, Stop, Followed, Heard, Standard, Streams, Record, texts_of, Tally, IsTasks, TasksSeen, Output, Layout, begun_at, with_status_line, Settings, Recording, Site, AppendsInto, MeasuresOnto, RecordsLossy, Seeing, rows_noted, seeing_by, Traces, IsFrontOfHead, WritesThereAlone, appended_noted, settings_for, written_by, StationRun, acts_measured, records_in, records_of_run}
 use Rattle.gc_lines.specs.declared.ports.Sink.{Ghosts as Sink}
-use Rattle.gc_lines.specs.declared.ports.Source.{Ghosts as Source}
-use Rattle.gc_links.specs.Acts.{Act}
-use Rattle.gc_measuring.specs.Labels.{AreSound, labels_of}
-use Rattle.gc_measuring.specs.Measuring.{Measures, RunsAfterFront, front_text, most_turns, survey_of, text_by}
-use Rattle.gc_measuring.specs.Telling.{ReportsAtSite, Stage, Views, acts_noted, seen_at, with_messages}
-use Rattle.gc_measuring.specs.declared.stop.Stop.{Stop}
 use Rattle.gc_measuring.specs.declared.stop.Stop.TheVariants.{Run}
-use Rattle.gc_logs.specs.declared.following.Followed.{Followed}
-use Rattle.gc_logs.specs.declared.heard.Heard.{Heard}
-use Rattle.gc_logs.specs.declared.standard.Standard.{Standard}
-use Rattle.gc_logs.specs.declared.streams.Streams.{Streams}
-use Rattle.gc_station.specs.Records.{Record, texts_of}
-use Rattle.gc_station.specs.declared.tally.Tally.{Tally}
-use Rattle.gc_texts.specs.Tasks.{IsTasks, TasksSeen}
-use Rattle.gc_texts.specs.declared.fault.RunFault.TheVariants.{Output}
 use Rattle.gc_options.specs.declared.choice.Choice.{Choice}
-use Rattle.gc_options.specs.declared.layout.Layout.{Layout}
-use Rattle.gc_options.specs.Stations.{begun_at, with_status_line}
-use Rattle.gc_options.specs.declared.settings.Settings.{Settings}
-use Rattle.gc_options.specs.declared.site.Recording.{Recording}
-use Rattle.gc_options.specs.declared.site.Site.{Site}
-use Rattle.gc_console.specs.Stations.{AppendsInto, MeasuresOnto, RecordsLossy, Seeing, rows_noted, seeing_by}
-use Rattle.gc_console.specs.declared.traces.Traces.{Traces}
-use Rattle.gc_program_theorems.specs.Programs.{IsFrontOfHead, WritesThereAlone, appended_noted, settings_for, written_by}
-use Rattle.gc_program_theorems.specs.Tables.{StationRun, acts_measured, records_in, records_of_run}
 use Rattle.gc_program_theorems.proofs.ProgramRuns.{AreNoted, noted_within, told_none}
 use Rattle.gc_program_theorems.proofs.SiteRuns.{noted_is}
 use Rattle.gc_program_theorems.proofs.Taken.{appended_to_known, run_took, written_front}

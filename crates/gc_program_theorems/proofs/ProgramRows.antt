@@ -1,32 +1,8 @@
 -- From the run of a station that the program ran to its rows: of that run each law holds.
-use Rattle.std.proofs.Common.{◌≡◌, inl, inr, ℕ, Bool, true, List, [], ◌∷◌, Option, Some, None, IfSome, sym, ap, ◌∙◌, subst}
-use Rattle.std.proofs.lemmas.Option.{none-some}
-use Rattle.gc_theorems.proofs.Joining.{run_faithful}
-use Rattle.gc_theorems.specs.Instrument.{AnyState}
-use Rattle.gc_theorems.specs.World.{Ends}
-use Rattle.gc_theorems.proofs.DamagedRuns.{run_local}
-use Rattle.gc_instrument.specs.State.{KeptReply}
+use Rattle.gc_program_theorems.proofs.Common.{◌≡◌, inl, inr, ℕ, Bool, true, List, [], ◌∷◌, Option, Some, None, IfSome, sym, ap, ◌∙◌, subst, none-some, run_faithful, AnyState, Ends, run_local, KeptReply, Ghosts as Source, Act, acts_noted, bytes_in, Followed, Standard, ClientJob, Settings, Recording, Site, DoesOver, HasNoRun, Seeing, seeing_by, Opening, Traces, AreFewByDamagedLines, HarmedRun, HasObjectsOwnOrDamaged, HasRowsOwnOrDamaged, HasTableOwnOrDamaged, OfEachHarmedRun, own_or_damaged_lines, IsRunMoment, IsRunOfFile, RunMoment, LeavesObjects, LeavesTable, HasOwnObjects, HasLastingRows, HasTrueRows, HoldsInField, HoldsOverDamage, IsRunOfProgram, ProgramsAreFaithful, ProgramsWithoutActsWriteNoRow, field_run, harmed_run, FieldRun, HasOwnTable, IsStationRun, OfEachFieldRun, StationRun, acts_in, own_lines, program_of, Reads}
 use Rattle.gc_lines.specs.declared.ports.Sink.{Ghosts as Sink}
-use Rattle.gc_lines.specs.declared.ports.Source.{Ghosts as Source}
-use Rattle.gc_links.specs.Acts.{Act}
-use Rattle.gc_measuring.specs.Telling.{acts_noted}
-use Rattle.gc_logs.specs.Following.{bytes_in}
-use Rattle.gc_logs.specs.declared.following.Followed.{Followed}
-use Rattle.gc_logs.specs.declared.standard.Standard.{Standard}
-use Rattle.gc_console.specs.declared.words.ClientJob.{ClientJob}
-use Rattle.gc_options.specs.declared.settings.Settings.{Settings}
-use Rattle.gc_options.specs.declared.site.Recording.{Recording}
-use Rattle.gc_options.specs.declared.site.Site.{Site}
-use Rattle.gc_console.specs.Stations.{DoesOver, HasNoRun, Seeing, seeing_by}
-use Rattle.gc_console.specs.Subcommands.{Opening}
 use Rattle.gc_console.specs.declared.traces.Acted.{Acted}
-use Rattle.gc_console.specs.declared.traces.Traces.{Traces}
-use Rattle.gc_program_theorems.specs.Damaged.{AreFewByDamagedLines, HarmedRun, HasObjectsOwnOrDamaged, HasRowsOwnOrDamaged, HasTableOwnOrDamaged, OfEachHarmedRun, own_or_damaged_lines}
-use Rattle.gc_program_theorems.specs.Lasting.{IsRunMoment, IsRunOfFile, RunMoment}
-use Rattle.gc_program_theorems.specs.Left.{LeavesObjects, LeavesTable}
-use Rattle.gc_program_theorems.specs.Objects.{HasOwnObjects}
-use Rattle.gc_program_theorems.specs.Programs.{HasLastingRows, HasTrueRows, HoldsInField, HoldsOverDamage, IsMomentOf, IsRunOfProgram, ProgramsAreFaithful, ProgramsWithoutActsWriteNoRow, field_run, harmed_run}
-use Rattle.gc_program_theorems.specs.Tables.{FieldRun, HasOwnTable, IsStationRun, OfEachFieldRun, StationRun, acts_in, own_lines, program_of}
+use Rattle.gc_program_theorems.specs.Programs.{IsMomentOf}
 use Rattle.gc_program_theorems.proofs.Damaged.{objects_own_or_damaged, rows_few, rows_own_or_damaged, tables_own_or_damaged}
 use Rattle.gc_program_theorems.proofs.Lasting.{rows_outlast_crashes, rows_outlast_failures}
 use Rattle.gc_program_theorems.proofs.Left.{left_objects_own, left_objects_own_or_damaged, left_tables_own, left_tables_own_or_damaged}
@@ -36,7 +12,6 @@ use Rattle.gc_program_theorems.proofs.ProgramIdle.{wrote_lossy}
 use Rattle.gc_program_theorems.proofs.ProgramRuns.{AreNoted, HasFile, ran_lossy}
 use Rattle.gc_program_theorems.proofs.ProgramWords.{by_words}
 use Rattle.gc_program_theorems.proofs.Tabled.{tables_own}
-use Rattle.gc_station.specs.Scopes.{Reads}
 
 module _ {R : Type 0} (run : StationRun) (is : IsStationRun run) (fresh : run.old.taken ≡ Some []) (headed : run.survey.layout.headed ≡ true) (recording : Recording)
     (filed : HasFile R run recording) where

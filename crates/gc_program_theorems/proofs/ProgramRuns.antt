@@ -1,25 +1,6 @@
 -- The run of a station that the program ran, if its link made any act: by what is noted of its streams, its file and its link.
-use Rattle.std.proofs.Common.{◌≡◌, inl, inr, ℕ, Bool, List, [], ◌∷◌, ◌++◌, Option, Some, None, IfSome, refl, sym, ap, ◌∙◌, subst, append-nil}
-use Rattle.std.proofs.lemmas.Option.{none-some, same_Some}
-use Rattle.std.specs.Io.KnownBytes.{Consumes, IsAtEnd}
-use Rattle.gc_files.specs.Sinks.{asks_sync}
+use Rattle.gc_program_theorems.proofs.Common.{◌≡◌, inl, inr, ℕ, Bool, List, [], ◌∷◌, ◌++◌, Option, Some, None, IfSome, refl, sym, ap, ◌∙◌, subst, append-nil, none-some, same_Some, Consumes, IsAtEnd, asks_sync, Ghosts as Source, Act, acts_noted, bytes_in, path_of, Followed, Heard, Standard, Streams, with_status_line, Settings, Recording, Site, AppendsInto, MeasuresOnto, Records, RecordsLossy, Seeing, seeing_by, Traces, IsRunOfProgram, settings_for, StationRun}
 use Rattle.gc_lines.specs.declared.ports.Sink.{Ghosts as Sink}
-use Rattle.gc_lines.specs.declared.ports.Source.{Ghosts as Source}
-use Rattle.gc_links.specs.Acts.{Act}
-use Rattle.gc_measuring.specs.Telling.{acts_noted}
-use Rattle.gc_logs.specs.Following.{bytes_in, path_of}
-use Rattle.gc_logs.specs.declared.following.Followed.{Followed}
-use Rattle.gc_logs.specs.declared.heard.Heard.{Heard}
-use Rattle.gc_logs.specs.declared.standard.Standard.{Standard}
-use Rattle.gc_logs.specs.declared.streams.Streams.{Streams}
-use Rattle.gc_options.specs.Stations.{with_status_line}
-use Rattle.gc_options.specs.declared.settings.Settings.{Settings}
-use Rattle.gc_options.specs.declared.site.Recording.{Recording}
-use Rattle.gc_options.specs.declared.site.Site.{Site}
-use Rattle.gc_console.specs.Stations.{AppendsInto, MeasuresOnto, Records, RecordsLossy, Seeing, seeing_by}
-use Rattle.gc_console.specs.declared.traces.Traces.{Traces}
-use Rattle.gc_program_theorems.specs.Programs.{IsRunOfProgram, settings_for}
-use Rattle.gc_program_theorems.specs.Tables.{StationRun}
 use Rattle.gc_program_theorems.proofs.SiteRuns.{is_run_of_program, noted_is, ran_at_link, run_of}
 
 -- a text that was read to the end of an input is all that this gives

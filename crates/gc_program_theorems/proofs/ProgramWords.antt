@@ -1,22 +1,9 @@
 -- From the words of a command line to the station that they ask for, if they ask for one.
-use Rattle.std.proofs.Common.{◌≡◌, ◌⊎◌, inl, inr, ℕ, Bool, true, false, List, Option, Result, Ok, refl}
+use Rattle.gc_program_theorems.proofs.Common.{◌≡◌, ◌⊎◌, inl, inr, ℕ, Bool, true, false, List, Option, Result, Ok, refl, are_open, Standard, IsJobOfWords, DoesAsked, DoesProgram, DoesJob, DoesOver, HasNoRun, RecordsLossy, Seeing, Opening, ClientJob, with_status_line, Settings, Recording, Site, Traces, AskForStation}
 use Rattle.std.specs.declared.io.ErrorKind.{ErrorKind}
-use Rattle.gc_logs.specs.Streams.{are_open}
-use Rattle.gc_logs.specs.declared.standard.Standard.{Standard}
-use Rattle.gc_console.specs.Program.{IsJobOfWords}
-use Rattle.gc_console.specs.declared.words.ClientJob.{ClientJob}
-use Rattle.gc_console.specs.declared.words.ClientJob.TheVariants as client
 use Rattle.gc_console.specs.declared.words.Job.{Job}
+use Rattle.gc_console.specs.declared.words.ClientJob.TheVariants as client
 use Rattle.gc_console.specs.declared.words.Job.TheVariants as job
-use Rattle.gc_options.specs.Stations.{with_status_line}
-use Rattle.gc_options.specs.declared.settings.Settings.{Settings}
-use Rattle.gc_options.specs.declared.site.Recording.{Recording}
-use Rattle.gc_options.specs.declared.site.Site.{Site}
-use Rattle.gc_console.specs.Programs.{DoesAsked, DoesProgram}
-use Rattle.gc_console.specs.Stations.{DoesJob, DoesOver, HasNoRun, RecordsLossy, Seeing}
-use Rattle.gc_console.specs.Subcommands.{Opening}
-use Rattle.gc_console.specs.declared.traces.Traces.{Traces}
-use Rattle.gc_program_theorems.specs.Programs.{AskForStation}
 
 module _ {S T F K E M A X : Type 0} (seeing : Seeing S T F K M) (shown : E → Option (List ℕ)) (standard : Standard) (begun : Opening) (texts : A → List (List ℕ))
     (kind : X → ErrorKind) (words : Result A X) (traces : Traces) (status : ℕ) where

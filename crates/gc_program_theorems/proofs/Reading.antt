@@ -1,24 +1,15 @@
 -- Texts of comma-separated values, one after the other, are read as their rows, one after the other: by the reader of the
 -- toolchain.
-use Rattle.std.proofs.Common.{◌≡◌, ℕ, zero, suc, ◌+◌, ◌<◌, Bool, true, false, cond, List, [], ◌∷◌, ◌++◌, length, map, Option, None, Some, refl, sym, ap, subst, ◌∙◌, arith, append_assoc}
-use Rattle.std.specs.Prelude.{◌==◌, ◌&&◌}
-use Rattle.std.specs.List.{flat_map}
-use Rattle.std.proofs.lemmas.Bool.{cond_both, false≢true}
+use Rattle.gc_program_theorems.proofs.Common.{◌≡◌, ℕ, zero, suc, ◌+◌, ◌<◌, Bool, true, false, cond, List, [], ◌∷◌, ◌++◌, length, map, Option, None, Some, refl, sym, ap, subst, ◌∙◌, arith, append_assoc, ◌==◌, ◌&&◌, flat_map, cond_both, false≢true, escaped, row_of, rows_read_back, same_Some, AreReadAs, number_of}
 use Rattle.csv.specs.Machine.{Read, field_after, fields_after, after_end, ends_at_end, ends_with, in_field, is_byte, is_end, line_feed, next_record, start_field, start_record, step}
 use Rattle.csv.specs.Reading.{default_config, records, records_from, records_next}
 use Rattle.csv.specs.declared.parser.Action.{Action}
-use Rattle.csv.specs.declared.parser.Action.TheVariants as act
 use Rattle.csv.specs.declared.parser.Config.{Config}
 use Rattle.csv.specs.declared.parser.State.{State}
-use Rattle.csv.specs.declared.parser.State.TheVariants as st
 use Rattle.csv.specs.declared.parser.Terminator.{Terminator}
+use Rattle.csv.specs.declared.parser.Action.TheVariants as act
+use Rattle.csv.specs.declared.parser.State.TheVariants as st
 use Rattle.csv.specs.declared.parser.Terminator.TheVariants as term
-use Rattle.gc_texts.specs.Logs.{escaped}
-use Rattle.gc_rows.specs.Rows.{row_of}
-use Rattle.gc_rows.proofs.Rows.{rows_read_back}
-use Rattle.std.proofs.lemmas.Option.{same_Some}
-use Rattle.gc_program_theorems.specs.Tables.{AreReadAs}
-use Rattle.gc_values.specs.Boolean.{number_of}
 
 -- Each read of a record leaves fewer reads.
 

@@ -1,61 +1,23 @@
 -- A run of a station over a rehearsed line is one in the field: what happens on the line are turns and moves that show it.
-use Rattle.std.proofs.Common.{◌≡◌, ◌⊎◌, inl, inr, ℕ, ◌<◌, ◌&&◌, ◌||◌, not, Bool, true, false, if◌then◌else◌, List, [], ◌∷◌, ◌++◌, length, Option, Some, None, refl, sym, ◌∙◌, ap, subst, append-nil, append_assoc}
-use Rattle.gc_catalogue.specs.Asked.{IsAskedFitting, asked_line}
-use Rattle.gc_catalogue.specs.declared.asked.Asked.{Asked}
-use Rattle.gc_client.specs.OneForOne as client
-use Rattle.gc_client.specs.OneForOne.{Wanted, course_at}
-use Rattle.gc_client.specs.Rule.{ById, fresh}
-use Rattle.gc_session.specs.Exchange.{is_none_left}
-use Rattle.gc_links.specs.Acts.{Act, Told, Untold, Put, Cut, Gave, Silent, Ended, Broke, Closed, Opened, Unopened}
-use Rattle.gc_scenes.specs.SceneState.{SceneState}
-use Rattle.gc_texts.specs.declared.tasks.Task.{Task}
-use Rattle.gc_session.specs.Courses.{client_after}
-use Rattle.gc_station.specs.declared.plan.Plan.{Plan}
-use Rattle.gc_station.specs.Beginnings.{unanswered_after}
-use Rattle.gc_station.specs.Begun.{heard_in}
-use Rattle.gc_station.specs.Deciding.{has_begun}
-use Rattle.gc_station.specs.Marks.{occasion_of}
-use Rattle.gc_station.specs.Model.{Model, Performs, Runs, action_at, after, after_all, losing, moved, opening, waiting_of, with_progress}
-use Rattle.gc_station.specs.Parts as part
-use Rattle.gc_station.specs.Parts.{MarksAsk, MarkAsks, Part, sync_part, client_part, in_front, idle_part, parts_of, put_part}
-use Rattle.gc_station.specs.Progressing.{is_over, loses_all, turned}
+use Rattle.gc_program_theorems.proofs.Common.{◌≡◌, ◌⊎◌, inl, inr, ℕ, ◌<◌, Bool, true, false, if◌then◌else◌, List, [], ◌∷◌, ◌++◌, length, Option, Some, None, refl, sym, ◌∙◌, ap, subst, append-nil, append_assoc, IsAskedFitting, asked_line, Asked, Wanted, course_at, ById, fresh, is_none_left, client_after, Act, Told, Untold, Put, Cut, Gave, Silent, Ended, Broke, Closed, Opened, Unopened, SceneState, Task, Plan, unanswered_after, heard_in, has_begun, occasion_of, Model, Performs, Runs, action_at, after, after_all, losing, opening, waiting_of, with_progress, MarksAsk, MarkAsks, Part, sync_part, client_part, in_front, idle_part, parts_of, put_part, is_over, loses_all, turned, sends_with_room, sent_by, invariant_after, invariant_opening, HasSome, some_parts, all_at, begins, leaves, none_under_way, MeansSyncSteps, under_way_on, ids_begun, IsInField, IsMeant, IsHeard, IsDiscarded, KeptReplyReads, scene_ends, scene_kept, AreShownAs, ReadsWithItsId, run_faithful, scene_is_an_instrument, AreSmall, word_small, cons_not_nil, Lines, Happening, Acts, ActLeads, Leads, PutLeads, LeadAll, acts_of, AreAskable, IsAskable, Exchange, exchange_at, exchanges_of, RehearsalsAreFaithful, as_program, exchanges_happened, none_in_flight, Has, run}
+use Rattle.std.proofs.Common.{◌&&◌, ◌||◌, not}
+use Rattle.gc_station.specs.Prelude.{moved}
 use Rattle.gc_station.proofs.Asked.{FirstHasNoSyncSteps, begun_if_nothing_lost, first_part_no_sync_steps, word_empty}
-use Rattle.gc_station.proofs.Booking.{sends_with_room, sent_by}
-use Rattle.gc_station.proofs.EachRun.{invariant_after, invariant_opening}
 use Rattle.gc_station.proofs.Facts.{action_for}
 use Rattle.gc_station.proofs.Invariant.{Invariant}
 use Rattle.gc_station.proofs.Meant.{IsPutByClient, put_by_client}
-use Rattle.gc_station.proofs.PartFronts.{HasSome, some_parts}
 use Rattle.gc_station.proofs.Parting.{keeps_new_client, leads}
 use Rattle.gc_station.proofs.Turns.{no_act_once_over}
-use Rattle.gc_station.proofs.Lists.{all_at}
 use Rattle.gc_station.proofs.Beginnings.{word_if_resynchronizing}
-use Rattle.gc_theorems.specs.Begin as begin
-use Rattle.gc_theorems.specs.Begin.{begins, leaves, none_under_way}
-use Rattle.gc_theorems.specs.Asking.{MeansSyncSteps}
-use Rattle.gc_theorems.specs.Beginnings.{under_way_on}
-use Rattle.gc_theorems.specs.Begun.{ids_begun}
-use Rattle.gc_theorems.specs.Runs.{IsInField, IsMeant}
-use Rattle.gc_theorems.specs.Meaning.{IsHeard, IsDiscarded}
-use Rattle.gc_theorems.specs.SceneField.{KeptReplyReads, scene_ends, scene_kept}
-use Rattle.gc_world.specs.Exchange.{ReadsWithItsId}
-use Rattle.gc_theorems.specs.Shown.{AreShownAs}
-use Rattle.gc_theorems.proofs.Joining.{run_faithful}
 use Rattle.gc_theorems.proofs.Meant.{is_meant}
-use Rattle.gc_theorems.proofs.SceneField.{scene_is_an_instrument}
-use Rattle.gc_theorems.proofs.BeginJoin.{AreSmall, word_small}
-use Rattle.gc_theorems.proofs.BeginWords.{cons_not_nil}
-use Rattle.gc_rehearsal.specs.Carrying.{Lines, Happening, Acts, ActLeads, Leads, PutLeads, LeadAll, acts_of}
-use Rattle.gc_program_theorems.specs.Exchanges.{Exchange, exchange_at, exchanges_of}
-use Rattle.gc_rehearsal.specs.Askable.{AreAskable, IsAskable}
-use Rattle.gc_program_theorems.specs.Rehearsals.{RehearsalsAreFaithful, as_program, exchanges_happened, none_in_flight}
 use Rattle.gc_program_theorems.proofs.Acted.{MovesTo, TurnsTo, feed_no_line, left_ids_are_small, moves_gave, moves_moment, moves_none, moves_sends, same_line, turns_act}
 use Rattle.gc_program_theorems.proofs.Courses.{BeginIsAt, FromBegin, FromClient, Sequel, WorldIsAt, after_exchanges, begins_in_flight, begun_from, begun_in_flight, ended_from, ends_client_idly, ends_begin, ends_client, sequel, steps_move, steps_turn}
 use Rattle.gc_program_theorems.proofs.OnLine.{answers_on_line}
 use Rattle.gc_program_theorems.proofs.Sides.{SceneWorld}
-use Rattle.gc_world.proofs.Booked.{Has}
 use Rattle.gc_program_theorems.proofs.Steps.{Holds, happens_by_steps}
-use Rattle.gc_theorems.proofs.InARow.{run}
+use Rattle.gc_client.specs.OneForOne as client
+use Rattle.gc_station.specs.Parts as part
+use Rattle.gc_theorems.specs.Begin as begin
 
 -- The parts of acts, by the first one and the others.
 

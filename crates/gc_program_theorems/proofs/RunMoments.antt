@@ -1,34 +1,8 @@
 -- The moments of a run that returned are runs so far; and each run so far is one that returns, if it is given as many turns as it made acts.
 -- A turn is what was seen at an act.
-use Rattle.std.proofs.Common.{◌≡◌, inl, inr, ℕ, List, [], ◌∷◌, ◌++◌, length, take, drop, Option, Some, Result, Ok, Err, refl, sym, ap, ◌∙◌, subst, append_assoc, append-nil}
-use Rattle.std.proofs.lemmas.Grind.{flat_map-append}
-use Rattle.std.proofs.lemmas.List.{append_cancel_left, take-append-drop}
-use Rattle.std.proofs.lemmas.Option.{same_Some}
-use Rattle.std.specs.Io.KnownBytes.{Appends}
-use Rattle.gc_catalogue.proofs.Joining.{without_last}
-use Rattle.gc_files.specs.Rows.{IsFront}
-use Rattle.gc_links.specs.Acts.{Act, AddsActs, Closed}
-use Rattle.gc_texts.specs.declared.fault.RunFault.{RunFault}
-use Rattle.gc_texts.specs.declared.fault.RunFault.TheVariants.{Output}
-use Rattle.gc_texts.specs.declared.tasks.Task.{Task}
-use Rattle.gc_station.specs.FirstActs.{with_turns}
-use Rattle.gc_station.specs.Keeping.{AreKept, IsKept, KeepsUp, Snapshot, close_at_output}
-use Rattle.gc_station.specs.Model.{Runs, opening}
-use Rattle.gc_station.specs.Records.{Record, WritesPart, texts_of}
-use Rattle.gc_station.specs.Runs.{Ran, state_after}
-use Rattle.gc_station.specs.Scopes.{AreReadings, Reads, Scope}
-use Rattle.gc_station.specs.Tallies.{tally_of}
-use Rattle.gc_station.specs.declared.plan.Plan.{Plan}
-use Rattle.gc_station.specs.declared.tally.Tally.{Tally}
+use Rattle.gc_program_theorems.proofs.Common.{◌≡◌, inl, inr, ℕ, List, [], ◌∷◌, ◌++◌, length, take, drop, Option, Some, Result, Ok, Err, refl, sym, ap, ◌∙◌, subst, append_assoc, append-nil, flat_map-append, append_cancel_left, take-append-drop, same_Some, Appends, without_last, IsFront, Act, AddsActs, Closed, RunFault, Output, Task, with_turns, AreKept, IsKept, KeepsUp, Snapshot, close_at_output, Runs, opening, Record, WritesPart, texts_of, Ran, state_after, AreReadings, Reads, Scope, tally_of, Plan, Tally, runs_front, records_stay, Survey, front_text, text_by, end_of_run, IsMomentOf, MomentsAreRunsSoFar, ReturnedRunsAreRunsSoFar, RunMomentSeen, RunsSoFarReturn, so_far_at, taken_next, IsRunSoFar, before_last, texts_by, StationRun, acts_in, acts_measured, records_in, scope_of}
 use Rattle.gc_station.proofs.FirstActs.{first_acts_are_a_run}
-use Rattle.gc_station.proofs.Going.{runs_front}
-use Rattle.gc_station.proofs.SentAt.{records_stay}
-use Rattle.gc_measuring.specs.Measuring.{Survey, front_text, text_by}
-use Rattle.gc_measuring.specs.Stops.{end_of_run}
 use Rattle.gc_measuring.specs.declared.stop.Stop.TheVariants.{Run}
-use Rattle.gc_program_theorems.specs.RunMoments.{IsMomentOf, MomentsAreRunsSoFar, ReturnedRunsAreRunsSoFar, RunMomentSeen, RunsSoFarReturn, so_far_at, taken_next}
-use Rattle.gc_program_theorems.specs.SoFar.{IsRunSoFar, before_last, texts_by}
-use Rattle.gc_program_theorems.specs.Tables.{StationRun, acts_in, acts_measured, records_in, scope_of}
 use Rattle.gc_program_theorems.proofs.SoFar.{news_grew}
 use Rattle.gc_program_theorems.proofs.Taken.{appended_to_known, run_took, written_front}
 

@@ -1,16 +1,5 @@
 -- What the contract of a run says of one of its turns (what was seen at an act).
-use Rattle.std.proofs.Common.{◌≡◌, ℕ, List, [], ◌∷◌, ◌++◌, Option, Some, refl, sym, ◌∙◌, ap, subst, append_assoc, append-nil}
-use Rattle.std.proofs.lemmas.List.{append_cancel_left}
-use Rattle.std.specs.Io.KnownBytes.{Appends}
-use Rattle.gc_files.specs.Rows.{whole}
-use Rattle.gc_files.proofs.Whole.{whole_more}
-use Rattle.gc_links.specs.Acts.{Act, AddsActs}
-use Rattle.gc_texts.specs.declared.tasks.Task.{Task}
-use Rattle.gc_station.specs.Keeping.{Snapshot, IsKept, AreKept}
-use Rattle.gc_station.specs.Records.{Record, texts_of}
-use Rattle.gc_station.specs.Runs.{state_after}
-use Rattle.gc_station.specs.Scopes.{Scope}
-use Rattle.gc_station.specs.declared.plan.Plan.{Plan}
+use Rattle.gc_program_theorems.proofs.Common.{◌≡◌, ℕ, List, [], ◌∷◌, ◌++◌, Option, Some, refl, sym, ◌∙◌, ap, subst, append_assoc, append-nil, append_cancel_left, Appends, whole, whole_more, Act, AddsActs, Task, Snapshot, IsKept, AreKept, Record, texts_of, state_after, Scope, Plan}
 
 -- Texts.
 

@@ -1,28 +1,9 @@
 -- What a row has of a request: of a command that sets the clock, it asked for the moment that is under `sent`; and the line that is
 -- under `request`, which an act of the run put, is its line.
-use Rattle.std.proofs.Common.{◌≡◌, ◌<◌, ◌%◌, ℕ, Bool, true, false, List, [], Option, Some, None, if◌then◌else◌, refl, sym, ap, arith, ◌∙◌}
-use Rattle.std.specs.Prelude.{codes, is_some, slice_get}
-use Rattle.gc_catalogue.specs.Asked.{asked_line, is_of_table}
-use Rattle.gc_catalogue.specs.declared.asked.Asked.{Asked}
-use Rattle.gc_catalogue.specs.declared.asked.Asked.TheVariants.{Table, Raw}
-use Rattle.gc_catalogue.specs.declared.call.Call.TheVariants.{SetDate}
-use Rattle.gc_links.specs.Acts.{Act}
-use Rattle.gc_texts.specs.Logs.{escaped}
-use Rattle.gc_texts.specs.Stamps.{date_time}
-use Rattle.gc_texts.specs.Tasks.{made_at}
+use Rattle.gc_program_theorems.proofs.Common.{◌≡◌, ◌<◌, ◌%◌, ℕ, Bool, true, false, List, [], Option, Some, None, if◌then◌else◌, refl, sym, ap, arith, ◌∙◌, codes, slice_get, asked_line, is_of_table, Asked, Table, Raw, SetDate, Act, escaped, date_time, made_at, Task, moment_text, request_sent, went_out, Record, HasItsRequest, IsOfItsRequest, request_of, command_sent, Scope, IsOfItsTask, Plan, same_Some, IsSetTo}
+use Rattle.std.specs.Prelude.{is_some}
 use Rattle.gc_texts.specs.declared.occasion.Occasion.{Occasion}
-use Rattle.gc_texts.specs.declared.tasks.Task.{Task}
 use Rattle.gc_texts.specs.declared.wish.Wish.{Wish}
-use Rattle.gc_rows.specs.Rows.{moment_text, request_sent}
-use Rattle.gc_station.specs.Parts.{went_out}
-use Rattle.gc_station.specs.Records.{Record}
-use Rattle.gc_station.specs.Requested.{HasItsRequest, IsOfItsRequest, request_of}
-use Rattle.gc_station.specs.Requests.{command_sent}
-use Rattle.gc_station.specs.Scopes.{Scope}
-use Rattle.gc_station.specs.Tasked.{IsOfItsTask}
-use Rattle.gc_station.specs.declared.plan.Plan.{Plan}
-use Rattle.std.proofs.lemmas.Option.{same_Some}
-use Rattle.gc_program_theorems.specs.Fields.{IsSetTo}
 
 -- a call of the table that is made anew when it is sent is the one that sets the clock to that moment
 made_of_table : (first : ℕ) (occasion : Occasion) (asked : Asked) → is_of_table asked ≡ true → made_at first occasion asked ≡ Table (SetDate (date_time occasion.utc))

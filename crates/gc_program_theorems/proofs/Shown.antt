@@ -1,50 +1,14 @@
 -- What is under each name in a row or an object of a record: one proof for both, by the record's cells.
-use Rattle.std.proofs.Common.{◌≡◌, ℕ, Bool, true, false, inl, inr, List, [], ◌∷◌, ◌++◌, map, Option, Some, None, refl, sym, ap, ◌∙◌, subst}
-use Rattle.std.specs.Prelude.{codes, not}
-use Rattle.std.specs.List.{AllByRecursion, list_all}
-use Rattle.std.proofs.lemmas.Bool.{and_parts, false≢true, not-true}
-use Rattle.gc_values.specs.declared.fault.ValueFault.{ValueFault}
-use Rattle.gc_lines.specs.Replies.{ReplyFields}
-use Rattle.gc_catalogue.specs.Answers.{answer_fields}
-use Rattle.gc_catalogue.specs.Asked.{IsAskedReading}
-use Rattle.gc_catalogue.specs.declared.answer.Answer.{Answer}
-use Rattle.gc_catalogue.specs.declared.answer.Reading.{Reading}
-use Rattle.gc_catalogue.specs.declared.answer.Reading.TheVariants as reading
-use Rattle.gc_catalogue.specs.declared.asked.Asked.{Asked}
-use Rattle.gc_catalogue.specs.declared.asked.Asked.TheVariants.{Table, Raw}
-use Rattle.gc_texts.specs.Endings.{End, Answered, Unreadable, Judged, Late, Lost, Skipped, NoValue, Missed, word_of, fault_of, line_of, quality_of, quality_text}
-use Rattle.gc_texts.specs.ColumnNames.{is_named}
-use Rattle.gc_texts.specs.Descriptions.{DescriptionSeen}
-use Rattle.gc_texts.specs.Fields.{is_name_byte}
-use Rattle.gc_texts.specs.Judgements.{judgement_word}
-use Rattle.gc_texts.specs.Logs.{escaped}
-use Rattle.gc_texts.proofs.Judgements.{of_each}
+use Rattle.gc_program_theorems.proofs.Common.{◌≡◌, ℕ, Bool, true, false, inl, inr, List, [], ◌∷◌, ◌++◌, map, Option, Some, None, refl, sym, ap, ◌∙◌, subst, codes, not, AllByRecursion, list_all, and_parts, false≢true, not-true, ValueFault, ReplyFields, answer_fields, IsAskedReading, Answer, Reading, Asked, Table, Raw, End, Answered, Judged, Late, Lost, Skipped, NoValue, Missed, word_of, fault_of, line_of, quality_of, quality_text, is_named, DescriptionSeen, is_name_byte, judgement_word, escaped, of_each, Quality, Bytes, Cell, Code, Content, Whole, cell, lookup, names_of, Column, bytes_content, cells_if, cells_in, counted_answer, end_cells, fault_content, first_columns, items_column, last_columns, line_content, line_sent, moment_content, quantity_cells, quantity_columns, run_column, answer_kinds, IsDescribedAnswer, described_value, items_of, value_text, values_read, IsKnownName, IsShown, is_among, column_of, quantity_names, code_of, com_of, fault_field, moment_text, value_texts, values_of, read_shown, from_shown, lookup_among, lookup_behind, answer_in, form_at, IsSaid, Record, all_at, Survey, IsAdded, IsOutside, IsPlain, IsQuantity, description_of, quantity_in, shown_as, under}
+use Rattle.gc_texts.specs.Prelude.{Unreadable}
 use Rattle.gc_texts.specs.declared.form.Form.{Form}
 use Rattle.gc_catalogue.specs.declared.raw.RawCall.{RawCall}
-use Rattle.gc_texts.specs.declared.quality.Quality.{Quality}
-use Rattle.gc_texts.specs.declared.quality.Quality.TheVariants as quality
-use Rattle.gc_rows.specs.Cells.{Bytes, Cell, Code, Content, Whole, cell, lookup, names_of}
-use Rattle.gc_rows.specs.Columns.{Column, bytes_content, cells_if, cells_in, counted_answer, end_cells, fault_content, first_columns, items_column, last_columns, line_content, line_sent, moment_content, quantity_cells, quantity_columns, run_column}
-use Rattle.gc_rows.specs.DescribedCells.{answer_kinds}
-use Rattle.gc_rows.specs.DescribedColumns.{IsDescribedAnswer, described_value}
-use Rattle.gc_rows.specs.Items.{items_of}
-use Rattle.gc_rows.specs.NamedFields.{value_text}
-use Rattle.gc_rows.specs.ValueReading.{values_read}
-use Rattle.gc_rows.proofs.DescribedColumns.{read_shown}
-use Rattle.gc_rows.specs.Lookup.{IsKnownName, IsShown, is_among}
-use Rattle.gc_rows.specs.Quantities.{column_of, quantity_names}
-use Rattle.gc_rows.specs.Rows.{code_of, com_of, fault_field, moment_text, value_texts, values_of}
-use Rattle.gc_rows.proofs.Lookup.{from_shown, lookup_among, lookup_behind}
 use Rattle.gc_rows.proofs.ProcedureQuantities.{quantities_under_their_names}
-use Rattle.gc_station.specs.Qualities.{answer_in, form_at}
-use Rattle.gc_station.specs.Saying.{IsSaid}
-use Rattle.gc_station.specs.Records.{Record}
-use Rattle.gc_station.proofs.Lists.{all_at}
-use Rattle.gc_measuring.specs.Measuring.{Survey}
-use Rattle.gc_program_theorems.specs.Fields.{IsAdded, IsOutside, IsPlain, IsQuantity, description_of, quantity_in, shown_as, under}
 use Rattle.gc_program_theorems.proofs.Judged.{no_value_if_none, value_if_some}
 use Rattle.gc_program_theorems.proofs.SoundLabels.{bytes_stay}
 use Rattle.gc_program_theorems.proofs.Written.{HasItsTexts, entry_of}
+use Rattle.gc_catalogue.specs.declared.answer.Reading.TheVariants as reading
+use Rattle.gc_texts.specs.declared.quality.Quality.TheVariants as quality
 
 -- Texts.
 

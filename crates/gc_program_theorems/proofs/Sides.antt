@@ -1,26 +1,13 @@
 -- Steps of the line before and after the end of a synchronization: as turns while a station synchronizes, and as moves once it
 -- has.
-use Rattle.std.proofs.Common.{◌≡◌, ℕ, Bool, true, false, List, [], ◌∷◌, length, map, nat_lt, refl, sym, ◌∙◌, ap}
-use Rattle.std.proofs.lemmas.Bool.{ltb-false}
-use Rattle.std.proofs.lemmas.List.{map-append}
-use Rattle.gc_catalogue.specs.declared.asked.Asked.{Asked}
-use Rattle.gc_client.specs.declared.window.TheConstants.{WINDOW}
-use Rattle.gc_client.specs.Rule.{ById}
-use Rattle.gc_scenes.specs.SceneState.{SceneState}
-use Rattle.gc_world.specs.Clients.{by_ids}
+use Rattle.gc_program_theorems.proofs.Common.{◌≡◌, ℕ, Bool, true, false, List, [], ◌∷◌, length, map, refl, sym, ◌∙◌, ap, ltb-false, map-append, Asked, WINDOW, ById, SceneState, by_ids, InFlight, SyncModel, IsTurn, leaves, turns, under_way_on, Move, IsPossible, moves, seen, KeptReplyReads, scene_ends, scene_handed, scene_kept, shows, Numbered, Request, Wire, World, without, doubled, up_delivered, with_up, with_down, exchange_of_move, exchange_of_turn}
+use Rattle.std.proofs.Common.{nat_lt}
 use Rattle.gc_world.proofs.Queues.{without_map, doubled_map, without_past, doubled_past}
-use Rattle.gc_theorems.specs.Begin as begin
-use Rattle.gc_theorems.specs.Begin.{InFlight, SyncModel, IsTurn, leaves, turns}
-use Rattle.gc_theorems.specs.Beginnings.{under_way_on}
-use Rattle.gc_theorems.specs.Field as field
-use Rattle.gc_theorems.specs.Field.{Move, IsPossible, moves, seen}
-use Rattle.gc_theorems.specs.SceneField.{KeptReplyReads, scene_ends, scene_handed, scene_kept}
-use Rattle.gc_theorems.specs.Shown.{shows}
-use Rattle.gc_theorems.specs.World as world
-use Rattle.gc_theorems.specs.World.{Numbered, Request, Wire, World, without, doubled, up_delivered, with_up, with_down}
-use Rattle.gc_program_theorems.specs.Exchanges.{exchange_of_move, exchange_of_turn}
 use Rattle.gc_program_theorems.proofs.Steps.{Step, Reach, Lose_up, Repeat_up, Lose_down, Repeat_down, Start, Change, IsStep, exchange_of_step, under_way, reached, stepped}
 use Rattle.gc_theorems.proofs.Shown.{left_reaches}
+use Rattle.gc_theorems.specs.Begin as begin
+use Rattle.gc_theorems.specs.Field as field
+use Rattle.gc_theorems.specs.World as world
 
 -- While a station synchronizes.
 

@@ -1,33 +1,6 @@
 -- A run of a station at a site, whose link made an act, as a run of the program.
-use Rattle.std.proofs.Common.{◌≡◌, inl, inr, ℕ, Bool, List, [], ◌∷◌, ◌++◌, map, Option, Some, None, Result, Ok, Err, option_map, refl, sym, ap, ◌∙◌, subst, append-nil}
-use Rattle.std.proofs.lemmas.Option.{none-some, same_Some}
-use Rattle.std.specs.List.{AllByRecursion}
-use Rattle.std.specs.Io.KnownBytes.{Consumes, IsAtEnd}
-use Rattle.gc_files.specs.declared.past.Past.{Past}
-use Rattle.gc_links.specs.Acts.{Act}
-use Rattle.gc_measuring.specs.Measuring.{Measures, ReportsEndOfRun, RunsAfterFront, most_turns, survey_of}
-use Rattle.gc_measuring.specs.TaskTexts.{GivesTasks, HasTasks}
-use Rattle.gc_measuring.specs.Telling.{MeasuresAtLink, ReportsAtSite, Stage, Views, acts_noted, seen_at, with_messages}
-use Rattle.gc_measuring.specs.declared.stop.Stop.{Stop}
-use Rattle.gc_logs.specs.declared.standard.Standard.{Standard}
-use Rattle.gc_logs.specs.declared.streams.Streams.{Streams}
-use Rattle.gc_station.specs.declared.tally.Tally.{Tally}
-use Rattle.gc_catalogue.specs.declared.asked.Asked.{Asked}
-use Rattle.gc_catalogue.specs.declared.asked.Asked.TheVariants.{Table, Raw}
-use Rattle.gc_texts.specs.Tasks.{TasksSeen, form_of_asked, placed}
-use Rattle.gc_texts.specs.declared.description.Description.{Description}
+use Rattle.gc_program_theorems.proofs.Common.{◌≡◌, inl, inr, ℕ, Bool, List, [], ◌∷◌, ◌++◌, map, Option, Some, None, Result, Ok, Err, option_map, refl, sym, ap, ◌∙◌, subst, append-nil, none-some, same_Some, AllByRecursion, Consumes, IsAtEnd, Past, Act, Measures, ReportsEndOfRun, RunsAfterFront, most_turns, survey_of, GivesTasks, HasTasks, MeasuresAtLink, ReportsAtSite, Stage, Views, acts_noted, seen_at, with_messages, Stop, Standard, Streams, Tally, Asked, Table, Raw, TasksSeen, form_of_asked, placed, input_of, Description, Task, begun_at, Settings, Recording, Site, ActsAt, rows_noted, stage_after, stage_before, Traces, IsPlain, IsRunOfProgram, WritesThereAlone, appended_noted, settings_for, status_of, written_by, StationRun}
 use Rattle.gc_texts.specs.declared.near.Near.{Near}
-use Rattle.gc_texts.specs.declared.tasks.Task.{Task}
-use Rattle.gc_texts.specs.WholeTexts.{input_of}
-use Rattle.gc_options.specs.Stations.{begun_at}
-use Rattle.gc_options.specs.declared.settings.Settings.{Settings}
-use Rattle.gc_options.specs.declared.site.Recording.{Recording}
-use Rattle.gc_options.specs.declared.site.Site.{Site}
-use Rattle.gc_console.specs.Stations.{ActsAt, rows_noted, stage_after, stage_before}
-use Rattle.gc_console.specs.declared.traces.Traces.{Traces}
-use Rattle.gc_program_theorems.specs.Fields.{IsPlain}
-use Rattle.gc_program_theorems.specs.Programs.{IsRunOfProgram, WritesThereAlone, appended_noted, settings_for, status_of, written_by}
-use Rattle.gc_program_theorems.specs.Tables.{StationRun}
 use Rattle.gc_program_theorems.proofs.SoundLabels.{labels_sound}
 
 -- What comes out of single facts.

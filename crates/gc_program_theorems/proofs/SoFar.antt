@@ -1,29 +1,5 @@
 -- What a run has written so far, at any of its moments: rows that are its own.
-use Rattle.std.proofs.Common.{◌≡◌, ℕ, ◌-◌, Bool, List, ◌++◌, length, drop, map, Option, refl, sym, ap, ◌∙◌, subst, append_assoc, append-nil}
-use Rattle.std.proofs.lemmas.Grind.{flat_map-append}
-use Rattle.std.proofs.lemmas.List.{append_cancel_left, take-append-drop}
-use Rattle.gc_instrument.specs.State.{KeptReply}
-use Rattle.gc_links.specs.Acts.{Act}
-use Rattle.gc_rows.specs.declared.record.Form.TheVariants.{Json}
-use Rattle.gc_station.specs.Records.{Grew, Record, texts_of}
-use Rattle.gc_station.specs.Qualities.{form_at}
-use Rattle.gc_station.specs.Scopes.{AreReadings, Reads}
-use Rattle.gc_station.specs.Answers.{AnswerIsJustified}
-use Rattle.gc_station.proofs.Answers.{answers_true}
-use Rattle.gc_station.proofs.Lists.{all_at}
-use Rattle.gc_station.proofs.Moments.{came_at, one_added}
-use Rattle.gc_station.proofs.SentAt.{records_stay}
-use Rattle.gc_measuring.specs.Measuring.{Survey, front_text, text_by}
-use Rattle.gc_theorems.specs.World.{Ends}
-use Rattle.gc_theorems.specs.Instrument.{AnyState, IsAnInstrument}
-use Rattle.gc_theorems.specs.Runs.{IsOwnAnswer}
-use Rattle.gc_theorems.specs.Shown.{stretches}
-use Rattle.gc_theorems.proofs.Joining.{run_faithful}
-use Rattle.gc_theorems.proofs.DamagedRuns.{run_local}
-use Rattle.gc_program_theorems.specs.Damaged.{harmed_program_of}
-use Rattle.gc_program_theorems.specs.Objects.{AreTyped}
-use Rattle.gc_program_theorems.specs.SoFar.{AreObjectsSoFar, AreWrittenSoFar, FieldRunSoFar, HarmedRunSoFar, IsFieldRunSoFar, IsHarmedRunSoFar, IsRunSoFar, IsTableSoFar, ObjectsSoFarAreOwnOrDamaged, ObjectsSoFarAreTheirOwn, RowsSoFarAreOwnOrDamaged, RowsSoFarByDamagedLinesAreFew, RunSoFar, TablesSoFarAreOwnOrDamaged, TablesSoFarAreTheirOwn, before_last, own_lines_so_far, own_or_damaged_so_far, records_so_far, texts_by}
-use Rattle.gc_program_theorems.specs.Tables.{Answers, head_rows, parts_in, program_of, records_in, scope_of, table_form}
+use Rattle.gc_program_theorems.proofs.Common.{◌≡◌, ℕ, ◌-◌, Bool, List, ◌++◌, length, drop, map, Option, refl, sym, ap, ◌∙◌, subst, append_assoc, append-nil, flat_map-append, append_cancel_left, take-append-drop, KeptReply, Act, Json, Grew, Record, texts_of, form_at, AreReadings, Reads, AnswerIsJustified, answers_true, all_at, came_at, one_added, records_stay, Survey, front_text, text_by, Ends, AnyState, IsAnInstrument, IsOwnAnswer, stretches, run_faithful, run_local, harmed_program_of, AreTyped, AreObjectsSoFar, AreWrittenSoFar, FieldRunSoFar, HarmedRunSoFar, IsFieldRunSoFar, IsHarmedRunSoFar, IsRunSoFar, IsTableSoFar, ObjectsSoFarAreOwnOrDamaged, ObjectsSoFarAreTheirOwn, RowsSoFarAreOwnOrDamaged, RowsSoFarByDamagedLinesAreFew, RunSoFar, TablesSoFarAreOwnOrDamaged, TablesSoFarAreTheirOwn, before_last, own_lines_so_far, own_or_damaged_so_far, records_so_far, texts_by, Answers, head_rows, parts_in, program_of, records_in, scope_of, table_form}
 use Rattle.gc_program_theorems.proofs.Fronts.{front_has_whole}
 use Rattle.gc_program_theorems.proofs.Objected.{each_line, line_of_record, no_front, objects_one_for_one, one_line, written_unbroken}
 use Rattle.gc_program_theorems.proofs.Owning.{row_and_fault}

@@ -1,24 +1,10 @@
 -- The labels of a station's text are sound.
-use Rattle.std.proofs.Common.{◌≡◌, ◌<◌, ℕ, Bool, true, false, List, [], ◌∷◌, ◌++◌, length, map, inl, inr, refl, sym, ap, arith, ◌∙◌, subst}
-use Rattle.std.specs.Prelude.{◌==◌, ◌&&◌, ◌||◌, not, nat_lt}
-use Rattle.std.specs.List.{AllByRecursion, list_all}
-use Rattle.std.specs.Str.{bytes_eq}
-use Rattle.std.proofs.lemmas.Bool.{and_from, and_parts, cases_Bool, eqb-true, false≢true, lt-ltb, ltb-true, ne_eqb, not-true}
-use Rattle.std.proofs.lemmas.Slice.Eq.{bytes_eq-Decides}
+use Rattle.gc_program_theorems.proofs.Common.{◌≡◌, ◌<◌, ℕ, Bool, true, false, List, [], ◌∷◌, ◌++◌, length, map, inl, inr, refl, sym, ap, arith, ◌∙◌, subst, ◌==◌, ◌&&◌, ◌||◌, not, nat_lt, AllByRecursion, list_all, bytes_eq, and_from, and_parts, cases_Bool, eqb-true, false≢true, lt-ltb, ltb-true, ne_eqb, not-true, bytes_eq-Decides, cons_tail, AreSound, HasSoundFields, labels_of, are_new, quantity_names, are_columns, is_column, is_name_of_row, is_named, names_of_row, FieldSeen, HaveNames, field_seen, is_field_name, is_name_byte, is_small_letter, escaped, is_unescaped, fresh_names, has_column, is_fresh, is_new_column, with_columns, IsTasks, TasksSeen, Description}
 use Rattle.arrayvec.specs.ArrayVec.{ArrayVec}
-use Rattle.gc_lines.proofs.Lists.{cons_head, cons_tail}
-use Rattle.gc_measuring.specs.Labels.{AreSound, HasSoundFields, labels_of}
-use Rattle.gc_rows.specs.DescribedColumns.{are_new}
-use Rattle.gc_rows.specs.Lookup as rows
-use Rattle.gc_rows.specs.Quantities.{quantity_names}
-use Rattle.gc_texts.specs.ColumnNames.{are_columns, is_column, is_name_of_row, is_named, names_of_row}
-use Rattle.gc_texts.specs.Fields.{FieldSeen, HaveNames, field_seen, is_field_name, is_name_byte, is_small_letter}
-use Rattle.gc_texts.specs.Logs.{escaped, is_unescaped}
-use Rattle.gc_texts.specs.NewColumns.{fresh_names, has_column, is_fresh, is_new_column, with_columns}
-use Rattle.gc_texts.specs.Tasks.{IsTasks, TasksSeen}
-use Rattle.gc_texts.specs.declared.description.Description.{Description}
+use Rattle.gc_lines.proofs.Lists.{cons_head}
 use Rattle.gc_texts.specs.declared.field.Field.{Field}
 use Rattle.gc_texts.proofs.DescribedTexts.{HasSoundValues, descriptions_sound}
+use Rattle.gc_rows.specs.Lookup as rows
 
 -- descriptions of a text have sound fields
 fields_sound : (described : List Description) → AllByRecursion HasSoundValues described → AllByRecursion HasSoundFields described

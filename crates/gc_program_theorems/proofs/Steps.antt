@@ -1,23 +1,7 @@
 -- What happens on a rehearsed line, as steps of what is in flight in the field: requests with their ids, replies, and the
 -- instrument.
-use Rattle.std.proofs.Common.{◌≡◌, inl, inr, ℕ, zero, suc, ◌<◌, List, [], ◌∷◌, ◌++◌, length, Option, Some, refl, sym, ◌∙◌, ap, subst}
-use Rattle.std.specs.List.{AllByRecursion, AllZip}
-use Rattle.gc_links.specs.Acts.{Act}
-use Rattle.gc_catalogue.specs.Asked.{asked_line, IsAskedFitting}
-use Rattle.gc_catalogue.specs.declared.asked.Asked.{Asked}
-use Rattle.gc_catalogue.specs.declared.asked.Asked.TheVariants.{Table, Raw}
+use Rattle.gc_program_theorems.proofs.Common.{◌≡◌, inl, inr, ℕ, zero, suc, ◌<◌, List, [], ◌∷◌, ◌++◌, length, Option, Some, refl, sym, ◌∙◌, ap, subst, AllByRecursion, AllZip, Act, asked_line, IsAskedFitting, Asked, Table, Raw, IsPlayed, SceneState, scene_restarted, at_moment, UnderWay, MayBecome, KeptReplyReads, scene_handed, scene_kept, Request, without, doubled, scene_is_an_instrument, Lines, Happening, Acts, Reaches, Restarts, Passes, Repeats_up, Repeats_down, Loses_up, Loses_down, Loses_front, HasReached, IsOneLine, IsSentOrLost, Leads, TakesReply, Exchange, exchange_at, exchange_in, exchange_of_front, all_append, every_behind as all_behind}
 use Rattle.gc_scenes.proofs.Turns.{one_reply}
-use Rattle.gc_scenes.specs.SceneReplying.{IsPlayed}
-use Rattle.gc_scenes.specs.SceneState.{SceneState, scene_restarted, at_moment}
-use Rattle.gc_theorems.specs.Begin.{UnderWay}
-use Rattle.gc_theorems.specs.Instrument.{MayBecome}
-use Rattle.gc_theorems.specs.SceneField.{KeptReplyReads, scene_handed, scene_kept}
-use Rattle.gc_theorems.specs.World.{Request, without, doubled}
-use Rattle.gc_theorems.proofs.SceneField.{scene_is_an_instrument}
-use Rattle.gc_rehearsal.specs.Carrying.{Lines, Happening, Acts, Reaches, Restarts, Passes, Repeats_up, Repeats_down, Loses_up, Loses_down, Loses_front, HasReached, IsOneLine, IsSentOrLost, Leads, TakesReply}
-use Rattle.gc_program_theorems.specs.Exchanges.{Exchange, exchange_at, exchange_in, exchange_of_front}
-use Rattle.gc_lines.proofs.Lists.{all_append}
-use Rattle.gc_values.proofs.Every.{every_behind as all_behind}
 
 -- What is in flight.
 

@@ -1,29 +1,8 @@
 -- A table that a station wrote of a run: what is in a row of an answer is what a line says that may have answered its command. In the
 -- field that line is the row's own.
-use Rattle.std.proofs.Common.{◌≡◌, ℕ, Bool, true, false, List, [], ◌∷◌, ◌++◌, map, Some, if◌then◌else◌, sym, ap, ◌∙◌, subst, arith, append_assoc}
-use Rattle.std.specs.Prelude.{◌||◌, slice_get}
-use Rattle.std.specs.Str.{bytes_eq}
+use Rattle.gc_program_theorems.proofs.Common.{◌≡◌, ℕ, Bool, true, false, List, [], ◌∷◌, ◌++◌, map, Some, if◌then◌else◌, sym, ap, ◌∙◌, subst, arith, append_assoc, ◌||◌, slice_get, bytes_eq, false≢true, map-append, escaped, last_columns, row_fields, first_names, head_text, header, record_text, row_of, IsShown, is_among, quantity_names, Form, added_follow, columns_hold, fixed_found, records_read_back, Act, Record, texts_of, AreReadings, Reads, AreSound, Survey, front_text, text_by, AnyState, IsRowBy, under, Answers, AreOneForOne, AreReadAs, IsStationRun, IsTable, StationRun, TablesAreTheirOwn, acts_in, head_rows, own_lines, records_in, scope_of, table_form}
 use Rattle.std.proofs.Math.Bool.{or-true}
-use Rattle.std.proofs.lemmas.Bool.{false≢true}
-use Rattle.std.proofs.lemmas.List.{map-append}
 use Rattle.std.proofs.lemmas.List.Folds.{list_any-append}
-use Rattle.gc_texts.specs.Logs.{escaped}
-use Rattle.gc_rows.specs.Columns.{last_columns, row_fields}
-use Rattle.gc_rows.specs.Records.{first_names, head_text, header, record_text}
-use Rattle.gc_rows.specs.Rows.{row_of}
-use Rattle.gc_rows.specs.declared.record.Form.{Form}
-use Rattle.gc_rows.specs.Lookup.{IsShown, is_among}
-use Rattle.gc_rows.specs.Quantities.{quantity_names}
-use Rattle.gc_rows.proofs.DescribedColumns.{added_follow, columns_hold, fixed_found}
-use Rattle.gc_rows.proofs.Lookup.{records_read_back}
-use Rattle.gc_links.specs.Acts.{Act}
-use Rattle.gc_station.specs.Records.{Record, texts_of}
-use Rattle.gc_station.specs.Scopes.{AreReadings, Reads}
-use Rattle.gc_measuring.specs.Labels.{AreSound}
-use Rattle.gc_measuring.specs.Measuring.{Survey, front_text, text_by}
-use Rattle.gc_theorems.specs.Instrument.{AnyState}
-use Rattle.gc_program_theorems.specs.Fields.{IsRowBy, under}
-use Rattle.gc_program_theorems.specs.Tables.{Answers, AreOneForOne, AreReadAs, IsStationRun, IsTable, StationRun, TablesAreTheirOwn, acts_in, head_rows, own_lines, records_in, scope_of, table_form}
 use Rattle.gc_program_theorems.proofs.Owning.{in_table, two_fields}
 use Rattle.gc_program_theorems.proofs.Reading.{both_read, each_reads, none_read, row_reads}
 use Rattle.gc_program_theorems.proofs.Shown.{ShowsAdded, ShowsCells, has_its_texts}

@@ -1,24 +1,6 @@
 -- What a sink took of a run, and which acts and records were its own.
-use Rattle.std.proofs.Common.{◌≡◌, inl, inr, ℕ, List, [], ◌∷◌, ◌++◌, take, drop, Option, Some, None, Result, Ok, Err, refl, sym, ap, ◌∙◌, subst, arith, append_assoc, append-nil}
-use Rattle.std.specs.Io.KnownBytes.{Appends}
-use Rattle.std.proofs.lemmas.List.{length-drop, take-append-drop}
-use Rattle.gc_texts.specs.declared.fault.RunFault.{RunFault}
-use Rattle.gc_texts.specs.declared.fault.RunFault.TheVariants.{Output}
-use Rattle.gc_texts.specs.declared.tasks.Task.{Task}
-use Rattle.gc_files.specs.Rows.{IsFront}
-use Rattle.gc_links.specs.Acts.{Act, Closed}
-use Rattle.gc_station.specs.Records.{Record, texts_of, WritesPart}
-use Rattle.gc_station.specs.Runs.{Ran, state_after}
-use Rattle.gc_station.specs.Scopes.{AreReadings, Reads, Scope}
-use Rattle.gc_station.specs.declared.plan.Plan.{Plan}
-use Rattle.gc_station.specs.declared.tally.Tally.{Tally}
-use Rattle.gc_measuring.specs.Measuring.{front_text, text_by}
-use Rattle.gc_measuring.specs.Stops.{end_of_run}
-use Rattle.gc_measuring.specs.declared.stop.Stop.{Stop}
+use Rattle.gc_program_theorems.proofs.Common.{◌≡◌, inl, inr, ℕ, List, [], ◌∷◌, ◌++◌, take, drop, Option, Some, None, Result, Ok, Err, refl, sym, ap, ◌∙◌, subst, arith, append_assoc, append-nil, Appends, length-drop, take-append-drop, RunFault, Output, Task, IsFront, Act, Closed, Record, texts_of, WritesPart, Ran, state_after, AreReadings, Reads, Scope, Plan, Tally, front_text, text_by, end_of_run, Stop, AreWritten, IsPartOfNext, IsStationRun, StationRun, acts_measured, records_in, records_of_run, scope_of, without_last, flat_map-append}
 use Rattle.gc_measuring.specs.declared.stop.Stop.TheVariants.{Run}
-use Rattle.gc_program_theorems.specs.Tables.{AreWritten, IsPartOfNext, IsStationRun, StationRun, acts_measured, records_in, records_of_run, scope_of}
-use Rattle.gc_catalogue.proofs.Joining.{without_last}
-use Rattle.std.proofs.lemmas.Grind.{flat_map-append}
 
 -- what is appended to known bytes comes after them
 pub appended_to_known : (start bytes : List ℕ) (has : Option (List ℕ)) → Appends (Some start) has bytes → has ≡ Some (start ++ bytes)

@@ -1,36 +1,18 @@
 -- What the replies of the eventful run say. A function that gives what each reply says is the same as `patched`, which gives it
 -- for these five without looking at their bytes: so the run can be computed with that one.
-use Rattle.std.proofs.Common.{◌≡◌, ℕ, Bool, true, false, List, [], ◌∷◌, Option, Some, None, Ok, refl, sym, ap, ◌∙◌, arith}
+use Rattle.gc_program_theorems.proofs.Common.{◌≡◌, ℕ, Bool, true, false, List, [], ◌∷◌, Option, Some, None, Ok, refl, sym, ap, ◌∙◌, arith, ints, codes, pos, reply_found, header_at, reply_at, ReplyFields, decimal, rounded, AreParams, faulty_items, wrong_count, answer_fields, call_fields, Answer, Reading, Value, Unreadable, Asked, Table, InstrumentNo, Position, SimpleMea, ReadsBy, IsSaid, AreReadings, Reads, at_target, off_target_reply, empty_reply, measured_reply, numbered_reply, pointed_reply}
 use Rattle.std.proofs.Math.Path.{fun_ext}
-use Rattle.std.proofs.lemmas.Int.{ints}
 use Rattle.std.specs.Cmp.Lexicographic.{pointwise, same_text}
 use Rattle.std.specs.Fmt.{digits}
-use Rattle.std.specs.Prelude.{codes, if◌then◌else◌, nat_eq, pos}
-use Rattle.gc_lines.proofs.Replies.{reply_found}
-use Rattle.gc_lines.specs.Readers.{header_at, reply_at}
-use Rattle.gc_lines.specs.Replies.{ReplyFields}
+use Rattle.std.specs.Prelude.{if◌then◌else◌, nat_eq}
 use Rattle.gc_values.proofs.ListLaws.{written_reads}
 use Rattle.gc_values.proofs.PlainLists.{no_params}
-use Rattle.gc_values.specs.Decimals.{decimal, rounded}
-use Rattle.gc_values.specs.Lists.{AreParams, faulty_items, wrong_count}
 use Rattle.gc_values.specs.declared.fault.ValueFault.TheVariants.{Count}
-use Rattle.gc_values.specs.declared.value.Value.TheVariants as value
-use Rattle.gc_catalogue.specs.Answers.{answer_fields}
-use Rattle.gc_catalogue.specs.Calls.{call_fields}
-use Rattle.gc_catalogue.specs.declared.answer.Answer.{Answer}
 use Rattle.gc_catalogue.specs.declared.answer.Answer.TheVariants.{Long, Measured, Nothing}
-use Rattle.gc_catalogue.specs.declared.answer.Reading.{Reading}
-use Rattle.gc_catalogue.specs.declared.answer.Shape.TheVariants as shape
-use Rattle.gc_catalogue.specs.declared.answer.Reading.TheVariants.{Value, Unreadable}
-use Rattle.gc_catalogue.specs.declared.asked.Asked.{Asked}
 use Rattle.gc_catalogue.specs.declared.call.Call.{Call}
-use Rattle.gc_catalogue.specs.declared.asked.Asked.TheVariants.{Table}
-use Rattle.gc_catalogue.specs.declared.call.Call.TheVariants.{InstrumentNo, Position, SimpleMea}
-use Rattle.gc_client.specs.Settlements.{ReadsBy}
-use Rattle.gc_station.specs.Saying.{IsSaid}
-use Rattle.gc_station.specs.Scopes.{AreReadings, Reads}
 use Rattle.gc_texts.specs.declared.form.Form.{Form}
-use Rattle.gc_program_theorems.specs.Eventful.{at_target, off_target_reply, empty_reply, measured_reply, numbered_reply, pointed_reply}
+use Rattle.gc_values.specs.declared.value.Value.TheVariants as value
+use Rattle.gc_catalogue.specs.declared.answer.Shape.TheVariants as shape
 
 -- what the reply to command 2 says
 abbrev off_target_answer : Answer

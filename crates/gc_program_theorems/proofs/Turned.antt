@@ -1,19 +1,6 @@
 -- What is seen at each act of the eventful run: it is the same whatever function says what replies say.
-use Rattle.std.proofs.Common.{◌≡◌, ℕ, List, [], ◌∷◌, ◌++◌, Some, true, refl, sym, ◌∙◌, ap, subst}
+use Rattle.gc_program_theorems.proofs.Common.{◌≡◌, ℕ, List, [], ◌∷◌, ◌++◌, Some, true, refl, sym, ◌∙◌, ap, subst, header_at, reply_at, rounded, is_near, ComFault, is_off_target, Act, AreKept, KeepsUp, Snapshot, Model, after, opening, Record, texts_of, state_after, AreReadings, Reads, after_all-append, acts, commands, plan, scope}
 use Rattle.std.specs.Fmt.{digits}
-use Rattle.gc_lines.specs.Readers.{header_at, reply_at}
-use Rattle.gc_values.specs.Decimals.{rounded}
-use Rattle.gc_values.specs.Directions.{is_near}
-use Rattle.gc_catalogue.specs.declared.answer.Reading.TheVariants.{ComFault}
-use Rattle.gc_texts.specs.Nears.{is_off_target}
-use Rattle.gc_links.specs.Acts.{Act}
-use Rattle.gc_station.specs.Keeping.{AreKept, KeepsUp, Snapshot}
-use Rattle.gc_station.specs.Model.{Model, after, opening}
-use Rattle.gc_station.specs.Records.{Record, texts_of}
-use Rattle.gc_station.specs.Runs.{state_after}
-use Rattle.gc_station.specs.Scopes.{AreReadings, Reads}
-use Rattle.gc_station.proofs.Going.{after_all-append}
-use Rattle.gc_program_theorems.specs.Eventful.{acts, commands, plan, scope}
 use Rattle.gc_program_theorems.proofs.Eventful.{all_run}
 use Rattle.gc_program_theorems.proofs.TrueReadings.{patched, patched_same}
 

@@ -1,20 +1,8 @@
 -- The records of the eventful run lie in the types of the program: so its lines of JSON are their own, too.
-use Rattle.std.proofs.Common.{◌≡◌, ◌<◌, ◌^◌, ℕ, Bool, true, List, [], ◌∷◌, Option, Some, None, Ok, refl, arith, lit<}
-use Rattle.std.proofs.lemmas.Bool.{ltb-true, and_parts}
-use Rattle.std.proofs.lemmas.Int.{ints}
+use Rattle.gc_program_theorems.proofs.Common.{◌≡◌, ◌<◌, ◌^◌, ℕ, Bool, true, List, [], ◌∷◌, Option, Some, None, Ok, refl, arith, lit<, ltb-true, and_parts, ints, AllByRecursion, list_all, codes, nat_lt, ◌&&◌, reply_found, header_at, reply_at, IsEndOfBytes, IsReplyOfBytes, Json, Record, chained_record, off_target_reply, empty_reply, measured_reply, number_record, numbered_reply, pointed_reply, points_record, records, AreTyped, IsTyped, survey}
 use Rattle.std.proofs.lemmas.List.Sums.{AllPass-from_list_all}
 use Rattle.std.specs.Fmt.{digits}
-use Rattle.std.specs.List.{AllByRecursion, list_all}
 use Rattle.std.specs.Option.{IfSome}
-use Rattle.std.specs.Prelude.{codes, nat_lt, ◌&&◌}
-use Rattle.gc_lines.proofs.Replies.{reply_found}
-use Rattle.gc_lines.specs.Readers.{header_at, reply_at}
-use Rattle.gc_rows.specs.Laws.{IsEndOfBytes, IsReplyOfBytes}
-use Rattle.gc_rows.specs.declared.record.Form.TheVariants.{Json}
-use Rattle.gc_station.specs.Records.{Record}
-use Rattle.gc_program_theorems.specs.Eventful.{chained_record, off_target_reply, empty_reply, measured_reply, number_record, numbered_reply, pointed_reply, points_record, records}
-use Rattle.gc_program_theorems.specs.Objects.{AreTyped, IsTyped}
-use Rattle.gc_program_theorems.specs.Witness.{survey}
 use Rattle.gc_program_theorems.proofs.TrueReadings.{replied}
 
 -- a line of bytes that reads as a reply with both codes 0 is a reply of bytes

@@ -1,19 +1,9 @@
 -- A line of JSON has no line feed within.
-use Rattle.std.proofs.Common.{◌≡◌, ◌≢◌, ℕ, ◌+◌, ◌/◌, ◌%◌, ◌==◌, ◌||◌, Bool, true, false, List, [], ◌∷◌, ◌++◌, subst, arith}
-use Rattle.std.specs.Prelude.{codes, nat_lt}
-use Rattle.std.specs.List.{AllByRecursion, flat_map}
-use Rattle.std.proofs.lemmas.Bool.{cond_both}
-use Rattle.gc_values.specs.declared.value.Value.TheVariants as value
-use Rattle.gc_texts.specs.Cuts.{Lacks}
-use Rattle.gc_texts.specs.Logs.{escape, escaped, hex_digit, is_unescaped}
-use Rattle.gc_texts.specs.Stamps.{stamp_text}
-use Rattle.gc_rows.specs.Cells.{Blank, Bytes, Cell, Code, Content, Items, Moment, Quantity, Whole, members_in, members_of}
-use Rattle.gc_rows.specs.JsonLines.{Member, Text, Number, Texts, behind_backslash, comma_where, list_text, member_text, members_text, string_text, strings_text, without_zeros}
-use Rattle.gc_rows.proofs.Fit.{AreFit, IsFit}
-use Rattle.gc_rows.specs.Laws.{ArePlainMembers, IsPlainName}
-use Rattle.gc_rows.proofs.Columns.{lacks_both}
+use Rattle.gc_program_theorems.proofs.Common.{◌≡◌, ◌≢◌, ℕ, ◌+◌, ◌/◌, ◌%◌, Bool, true, false, List, [], ◌∷◌, ◌++◌, subst, arith, codes, nat_lt, AllByRecursion, flat_map, cond_both, Lacks, escape, escaped, hex_digit, is_unescaped, stamp_text, Blank, Bytes, Cell, Code, Content, Items, Moment, Quantity, Whole, members_in, members_of, Member, Text, Number, Texts, behind_backslash, comma_where, list_text, member_text, members_text, string_text, strings_text, without_zeros, ArePlainMembers, IsPlainName, AreFit, IsFit, lacks_both}
+use Rattle.std.proofs.Common.{◌==◌, ◌||◌}
 use Rattle.gc_station.proofs.Lists.{all_append}
 use Rattle.gc_rows.proofs.Plain.{NeedsNoEscape, boolean_plain, decimal_plain, double_plain, number_plain, signed_plain, zeros_gone}
+use Rattle.gc_values.specs.declared.value.Value.TheVariants as value
 
 -- Texts.
 

@@ -1,29 +1,14 @@
 -- The rows of the eventful run, computed, are their own: what is in a row of an answer was made by the instrument on
 -- executing the very request of the row's cycle and place.
-use Rattle.std.proofs.Common.{List, [], Some, Ok, false, refl, subst, sym}
+use Rattle.gc_program_theorems.proofs.Common.{List, [], Some, Ok, false, refl, subst, sym, AllByRecursion, Form, Json, days_after, Snapshot, Record, AreReadings, Reads, Done, RunsAfterFront, text_in, AnyState, never_kept, acts, at_start, off_target_reply, empty_reply, measured_reply, numbered_reply, pointed_reply, program, tally, reporting, IsOwnIfAnswered, IsFieldRun, table_form, no_labels, HasOwnRows, SomeRowIsItsOwn, survey, table_layout, layout_in, ports_at, run_in, taken, AreTyped}
 use Rattle.std.specs.Fmt.{digits}
-use Rattle.std.specs.List.{AllByRecursion}
-use Rattle.gc_rows.specs.declared.record.Form.{Form}
-use Rattle.gc_rows.specs.declared.record.Form.TheVariants.{Json}
-use Rattle.gc_texts.specs.Stamps.{days_after}
-use Rattle.gc_station.specs.Keeping.{Snapshot}
-use Rattle.gc_station.specs.declared.cause.Cause.TheVariants.{Done}
-use Rattle.gc_station.specs.Records.{Record}
-use Rattle.gc_station.specs.Scopes.{AreReadings, Reads}
 use Rattle.gc_station.proofs.Readings.{for_readings}
-use Rattle.gc_measuring.specs.Measuring.{RunsAfterFront, text_in}
-use Rattle.gc_theorems.specs.Instrument.{AnyState, never_kept}
-use Rattle.gc_program_theorems.specs.Eventful.{acts, at_start, off_target_reply, empty_reply, measured_reply, numbered_reply, pointed_reply, program, tally, reporting}
-use Rattle.gc_program_theorems.specs.Rows.{IsOwnIfAnswered}
-use Rattle.gc_program_theorems.specs.Tables.{IsFieldRun, table_form}
-use Rattle.gc_program_theorems.specs.Witness.{no_labels, HasOwnRows, SomeRowIsItsOwn, survey, table_layout, layout_in, ports_at, run_in, taken}
 use Rattle.gc_program_theorems.proofs.Eventful.{eventful, ran_whole}
 use Rattle.gc_program_theorems.proofs.Owning.{rows_own}
 use Rattle.gc_program_theorems.proofs.Tabled.{tables_own}
 use Rattle.gc_program_theorems.proofs.Turned.{keeps_whole, turns}
 use Rattle.gc_program_theorems.proofs.Typed.{records_are_typed}
 use Rattle.gc_program_theorems.proofs.Objected.{objects_own}
-use Rattle.gc_program_theorems.specs.Objects.{AreTyped}
 
 -- the row of each of these records whose command a reply in time ended is its own
 abbrev EachHasOwnRow : Reads → List Record → Type 0

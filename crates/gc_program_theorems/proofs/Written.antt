@@ -1,54 +1,10 @@
 -- The row of a record, or its object, is its own: one proof for both, over the text under each name.
-use Rattle.std.proofs.Common.{◌≡◌, ℕ, Bool, true, List, [], ◌++◌, map, Option, Some, sym, ap, ◌∙◌, subst}
-use Rattle.std.specs.Prelude.{codes, slice_get}
-use Rattle.std.specs.List.{AllByRecursion}
-use Rattle.gc_lines.specs.Numbers.{IsSmallNumber}
-use Rattle.gc_lines.specs.Replies.{ReplyFields, IsReply}
-use Rattle.gc_lines.proofs.Lists.{get_more}
-use Rattle.gc_values.proofs.Every.{every_front as all_front}
-use Rattle.gc_catalogue.specs.declared.answer.Answer.{Answer}
-use Rattle.gc_catalogue.specs.declared.answer.Reading.{Reading}
-use Rattle.gc_catalogue.specs.declared.answer.Reading.TheVariants.{Unreadable as DoesntRead}
-use Rattle.gc_instrument.specs.State.{KeptReply}
-use Rattle.gc_texts.specs.Endings.{End, Answered, word_of, fault_of, quality_of, quality_text, line_of}
-use Rattle.gc_texts.specs.Logs.{escaped}
-use Rattle.gc_texts.specs.Qualities.{quality_word}
-use Rattle.gc_texts.specs.declared.quality.Quality.{Quality}
-use Rattle.gc_rows.specs.Columns.{Entry}
-use Rattle.gc_rows.specs.Rows.{code_of, com_of, fault_field, values_of}
-use Rattle.gc_rows.proofs.Columns.{reply_columns}
-use Rattle.gc_links.specs.Acts.{Act}
-use Rattle.gc_station.specs.Answers.{AnswerIsJustified}
-use Rattle.gc_station.specs.Model.{Runs, opening}
-use Rattle.gc_station.specs.Requested.{IsOfItsRequest}
-use Rattle.gc_station.specs.Qualities.{IsAsListed, IsOfQuality, accepted_at, answer_in, form_at, quality_as, twice_at}
-use Rattle.gc_station.specs.Saying.{IsSaid}
-use Rattle.gc_station.proofs.Saying.{each_said}
-use Rattle.gc_station.specs.Records.{Record}
-use Rattle.gc_station.specs.Scopes.{AreReadings, Reads}
-use Rattle.gc_station.specs.Tasked.{IsOfItsTask}
-use Rattle.gc_station.proofs.Answers.{answers_true}
-use Rattle.gc_station.proofs.EachRun.{of_tasks}
-use Rattle.gc_station.proofs.Lists.{all_at}
+use Rattle.gc_program_theorems.proofs.Common.{◌≡◌, ℕ, Bool, true, List, [], ◌++◌, map, Option, Some, sym, ap, ◌∙◌, subst, codes, slice_get, AllByRecursion, IsSmallNumber, ReplyFields, IsReply, get_more, every_front as all_front, Answer, Reading, Unreadable as DoesntRead, KeptReply, End, Answered, word_of, fault_of, quality_of, quality_text, line_of, escaped, quality_word, Quality, Entry, code_of, com_of, fault_field, values_of, reply_columns, Act, AnswerIsJustified, Runs, opening, IsOfItsRequest, IsAsListed, IsOfQuality, accepted_at, answer_in, form_at, quality_as, twice_at, IsSaid, Record, AreReadings, Reads, IsOfItsTask, HasItsMoment, IsAsRead, each_said, answers_true, of_tasks, all_at, AreSound, Survey, entry_in, Ends, IsAnInstrument, AnyState, IsOwnAnswer, stretches, run_faithful, length-map, same_Some, IsAdded, IsOutside, IsPlain, IsQuantity, IsRowBy, description_of, IsRowOf, IsOutcomeOfReply, HasReply, quality_in, quantity_in, quantity_source, shown_as, Answers, AreOneForOne, FieldRun, IsFieldRun, acts_in, own_lines, parts_of_run, program_of, records_in, records_of_run, scope_of, came_at, one_added}
 use Rattle.gc_station.proofs.Nearly.{qualities_as_listed}
 use Rattle.gc_station.proofs.Requested.{one_requested}
-use Rattle.gc_measuring.specs.Labels.{AreSound}
-use Rattle.gc_measuring.specs.Measuring.{Survey, entry_in}
-use Rattle.gc_theorems.specs.World.{Ends}
-use Rattle.gc_theorems.specs.Instrument.{IsAnInstrument, AnyState}
-use Rattle.gc_theorems.specs.Runs.{IsOwnAnswer}
-use Rattle.gc_theorems.specs.Shown.{stretches}
-use Rattle.gc_theorems.proofs.Joining.{run_faithful}
 use Rattle.gc_world.proofs.Places.{get_seen}
-use Rattle.std.proofs.lemmas.List.{length-map}
-use Rattle.std.proofs.lemmas.Option.{same_Some}
-use Rattle.gc_program_theorems.specs.Fields.{IsAdded, IsOutside, IsPlain, IsQuantity, IsRowBy, description_of, IsRowOf, IsOutcomeOfReply, HasReply, quality_in, quantity_in, quantity_source, shown_as}
-use Rattle.gc_program_theorems.specs.Tables.{Answers, AreOneForOne, FieldRun, IsFieldRun, acts_in, own_lines, parts_of_run, program_of, records_in, records_of_run, scope_of}
-use Rattle.gc_station.specs.Moments.{HasItsMoment}
 use Rattle.gc_program_theorems.proofs.Endings.{is_answered, is_unreadable, reply_ended, without_fault, without_quality}
 use Rattle.gc_program_theorems.proofs.Judged.{judged}
-use Rattle.gc_station.specs.Moments.{IsAsRead}
-use Rattle.gc_station.proofs.Moments.{came_at, one_added}
 use Rattle.gc_program_theorems.proofs.Owning.{heard_is_reply}
 use Rattle.gc_program_theorems.proofs.Setting.{asked_by, never_sent, set_to}
 

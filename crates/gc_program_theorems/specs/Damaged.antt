@@ -1,22 +1,7 @@
 -- What a station wrote of a run over a line that damages, as it is read: this project's own. It is a table, or lines of JSON, as of a
 -- run in the field (`Tables`, `Objects`); but the line that answered a record is own or damaged (`HasItsAnswer` of gc_theorems).
+use Rattle.gc_program_theorems.specs.Common.{AllByRecursion, KeptReply, Json, Act, line_of, Record, form_at, ForEachReadings, Reads, CameAt, Survey, Ends, UnderWay, AnyState, OfAnyInstrument, TreatsRawsAlike, AreFewRecordsByDamagedLines, AreOfTable, HarmedProgram, HasItsAnswer, IsInHarmedField, sent_until, HarmedStretch, HasDamageApart, undamaged_stretches}
 use Rattle.std.specs.Prelude.{◌≡◌, ◌⊎◌, ℕ, Bool, List, Option, Some, slice_get}
-use Rattle.std.specs.List.{AllByRecursion}
-use Rattle.gc_instrument.specs.State.{KeptReply}
-use Rattle.gc_rows.specs.declared.record.Form.TheVariants.{Json}
-use Rattle.gc_links.specs.Acts.{Act}
-use Rattle.gc_texts.specs.Endings.{line_of}
-use Rattle.gc_station.specs.Records.{Record}
-use Rattle.gc_station.specs.Qualities.{form_at}
-use Rattle.gc_station.specs.Scopes.{ForEachReadings, Reads}
-use Rattle.gc_measuring.specs.Measuring.{Survey}
-use Rattle.gc_theorems.specs.World.{Ends}
-use Rattle.gc_theorems.specs.Begin.{UnderWay}
-use Rattle.gc_theorems.specs.Instrument.{AnyState, OfAnyInstrument, TreatsRawsAlike}
-use Rattle.gc_theorems.specs.DamagedRuns.{AreFewRecordsByDamagedLines, AreOfTable, HarmedProgram, HasItsAnswer, IsInHarmedField, sent_until}
-use Rattle.gc_theorems.specs.Stretches.{HarmedStretch, HasDamageApart}
-use Rattle.gc_theorems.specs.UndamagedRuns.{undamaged_stretches}
-use Rattle.gc_station.specs.Moments.{CameAt}
 use Rattle.gc_program_theorems.specs.Objects.{AreObjects, AreTyped}
 use Rattle.gc_program_theorems.specs.Rows.{IsRowOfReply, SayFault}
 use Rattle.gc_program_theorems.specs.Tables.{Answers, FieldRun, IsStationRun, IsTable, OfEachFieldRun, StationRun, acts_in, parts_of_run, records_of_run, scope_of, table_form}

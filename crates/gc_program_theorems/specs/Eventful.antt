@@ -3,48 +3,19 @@
 -- command may end. Of its three cycles the second is missed. In the first one the reply to the first command of a chain is
 -- lost, and so the second one is skipped; the reply to the third command is late; then six requests have timed out, and the
 -- station resynchronizes, with requests and a reply of before in flight. In the third both commands of the chain are answered.
+use Rattle.gc_program_theorems.specs.Common.{flat_map, with_end, Answer, Asked, Table, InstrumentNo, NullProc, WINDOW, judged_one_more, none_judged, End, Fine, Task, Act, Told, Put, Cut, Gave, Silent, Ended, Broke, Closed, Opened, Unopened, SynchronizesAnew, AreChained, Record, Reads, Scope, tally_of, Tally, Ends, Up_deliver, Up_lose, Up_repeat, Down_lose, Down_repeat, SyncTurn, Asks, Reaches, UnderWay, left_by_turns, Run, left_by_run, put_all, send_all, WasMadeOn, hz, v, points, reads_all, first_reply, tells_its_state, Move, Sends, Tells, Foreign, OnLine, Anew, Changes, IsAnInstrument, AnyState, never_kept, plain_task, IsInField, NoActFollows, Program, program_records, world, Stretch, null_lines, at, cycle_begun, null_answered, null_exchanged, null_reply, eight_answered, exchanged, plan_of_width, replies, run_and_end}
 use Rattle.std.specs.Prelude.{◌≡◌, ℕ, suc, ◌+◌, Bool, true, false, List, [], ◌∷◌, ◌++◌, ◌==◌, if◌then◌else◌, codes, drop, map, pos, refl, replicate, Option, Some, None}
-use Rattle.std.specs.List.{flat_map}
-use Rattle.gc_lines.specs.Lines.{with_end}
-use Rattle.gc_values.specs.Decimals.{decimal}
+use Rattle.gc_values.specs.Prelude.{decimal}
 use Rattle.gc_values.specs.declared.decimal.Decimal.{Decimal}
 use Rattle.gc_values.specs.declared.fault.ValueFault.TheVariants.{Count}
-use Rattle.gc_catalogue.specs.declared.answer.Answer.{Answer}
 use Rattle.gc_catalogue.specs.declared.answer.Answer.TheVariants.{Nothing, Long, Measured}
-use Rattle.gc_catalogue.specs.declared.asked.Asked.{Asked}
-use Rattle.gc_catalogue.specs.declared.asked.Asked.TheVariants.{Table}
-use Rattle.gc_catalogue.specs.declared.call.Call.TheVariants.{InstrumentNo, NullProc}
-use Rattle.gc_client.specs.declared.window.TheConstants.{WINDOW}
-use Rattle.gc_texts.specs.Endings as end
-use Rattle.gc_texts.specs.Judgements.{judged_one_more, none_judged}
 use Rattle.gc_texts.specs.declared.judgement.Judgement.TheVariants.{OffTarget}
-use Rattle.gc_texts.specs.Endings.{End}
 use Rattle.gc_texts.specs.declared.near.Near.{Near}
-use Rattle.gc_texts.specs.declared.quality.Quality.TheVariants.{Fine}
-use Rattle.gc_texts.specs.declared.tasks.Task.{Task}
-use Rattle.gc_texts.specs.declared.turn.Turn as command
-use Rattle.gc_links.specs.Acts.{Act, Told, Put, Cut, Gave, Silent, Ended, Broke, Closed, Opened, Unopened}
-use Rattle.gc_station.specs.Beginnings.{SynchronizesAnew}
-use Rattle.gc_station.specs.Links.{AreChained}
-use Rattle.gc_station.specs.Records.{Record}
-use Rattle.gc_station.specs.Scopes.{Reads, Scope}
-use Rattle.gc_station.specs.Tallies.{tally_of}
 use Rattle.gc_station.specs.declared.plan.Plan.{Plan}
-use Rattle.gc_station.specs.declared.tally.Tally.{Tally}
-use Rattle.gc_theorems.specs.World.{Ends, Up_deliver, Up_lose, Up_repeat, Down_lose, Down_repeat}
+use Rattle.gc_theorems.specs.Field.{Comes}
+use Rattle.gc_texts.specs.Endings as end
+use Rattle.gc_texts.specs.declared.turn.Turn as command
 use Rattle.gc_theorems.specs.Begin as turn
-use Rattle.gc_theorems.specs.Begin.{SyncTurn, Asks, Reaches, UnderWay, left_by_turns}
-use Rattle.gc_theorems.specs.Beginnings.{Run, left_by_run}
-use Rattle.gc_theorems.specs.BeginsAnew.{put_all, send_all}
-use Rattle.gc_theorems.specs.Begun.{WasMadeOn}
-use Rattle.gc_theorems.specs.ChainWitness.{hz, v, points, reads_all, first_reply}
-use Rattle.gc_theorems.specs.Drifting.{tells_its_state}
-use Rattle.gc_theorems.specs.Field.{Move, Sends, Tells, Comes, Foreign, OnLine, Anew, Changes}
-use Rattle.gc_theorems.specs.Instrument.{IsAnInstrument, AnyState, never_kept}
-use Rattle.gc_theorems.specs.Plain.{plain_task}
-use Rattle.gc_theorems.specs.Runs.{IsInField, NoActFollows, Program, program_records, world}
-use Rattle.gc_theorems.specs.Shown.{Stretch}
-use Rattle.gc_theorems.specs.Witness.{null_lines, at, cycle_begun, null_answered, null_exchanged, null_reply, eight_answered, exchanged, plan_of_width, replies, run_and_end}
 
 -- The instrument.
 

@@ -1,22 +1,12 @@
 -- What an instrument did, this project's own: each request that reached it, with the state in which it found the instrument, the state
 -- that it left, and the reply. So what happens on a rehearsed line and runs in the field are compared by what the instrument did.
+use Rattle.gc_program_theorems.specs.Common.{asked_line, WINDOW, SceneState, SyncModel, SyncTurn, UnderWay, begins, leaves, turns, Run, after_turns, left_by_run, left_by_runs, under_way_on, ids_begun, Move, moves, scene_ends, scene_handed, Request, World, ById, Asked, Happening, LeadAll, Leads, Lines}
 use Rattle.std.specs.Prelude.{ℕ, List, [], ◌∷◌, ◌++◌, Option, Some}
-use Rattle.gc_catalogue.specs.Asked.{asked_line}
-use Rattle.gc_client.specs.declared.window.TheConstants.{WINDOW}
-use Rattle.gc_scenes.specs.SceneState.{SceneState}
-use Rattle.gc_world.specs.Clients.{by_ids}
+use Rattle.gc_world.specs.Prelude.{by_ids}
+use Rattle.gc_rehearsal.specs.Prelude.{Reaches}
 use Rattle.gc_theorems.specs.Begin as begin
-use Rattle.gc_theorems.specs.Begin.{SyncModel, SyncTurn, UnderWay, begins, leaves, turns}
-use Rattle.gc_theorems.specs.Beginnings.{Run, after_turns, left_by_run, left_by_runs, under_way_on}
-use Rattle.gc_theorems.specs.Begun.{ids_begun}
 use Rattle.gc_theorems.specs.Field as field
-use Rattle.gc_theorems.specs.Field.{Move, moves}
-use Rattle.gc_theorems.specs.SceneField.{scene_ends, scene_handed}
 use Rattle.gc_theorems.specs.World as world
-use Rattle.gc_theorems.specs.World.{Request, World}
-use Rattle.gc_client.specs.Rule.{ById}
-use Rattle.gc_catalogue.specs.declared.asked.Asked.{Asked}
-use Rattle.gc_rehearsal.specs.Carrying.{Happening, LeadAll, Leads, Lines, Reaches}
 
 -- a request reached the instrument: its line, the instrument's state before and after, and the reply, if it made one
 pub record Exchange : Type 0 where

@@ -1,51 +1,15 @@
 -- What is in a row of a table, or in an object, under each name: this project's own. Both are given by the function from a name
 -- to the text under it, so that one definition serves both. Where the line of a row's reply comes from is left to a parameter.
+use Rattle.gc_program_theorems.specs.Common.{decimal, IsSmallNumber, ReplyFields, IsReply, call_fields, is_of_table, Asked, Table, Raw, SetDate, Answer, IsJudgement, lists_code, is_named, DescriptionSeen, described_as, description_seen, fault_of, word_of, escaped, name_text, quality_word, date_time, stamp_text, Fine, Warning, Unconfirmed, Refused, Task, described_value, is_among, value_text, fault_field, moment_text, procedure_of, request_sent, value_texts, quantity_names, quantities_returned, went_out, accepted_at, form_at, quality_as, twice_at, IsSaid, Record, HasItsRequest, request_of, Scope, CameAt, HasItsMoment, Act, Survey, value_fault_number, ValueFault}
 use Rattle.std.specs.Prelude.{◌≡◌, ◌⊎◌, ℕ, Bool, true, false, List, [], Option, None, Some, option_map, if◌then◌else◌, slice_get, codes}
-use Rattle.std.specs.Fmt.{decimal}
-use Rattle.gc_lines.specs.Numbers.{IsSmallNumber}
-use Rattle.gc_lines.specs.Replies.{ReplyFields, IsReply}
-use Rattle.gc_catalogue.specs.Calls.{call_fields}
 use Rattle.gc_catalogue.specs.declared.answer.Reading.{Reading}
-use Rattle.gc_catalogue.specs.declared.answer.Reading.TheVariants as reading
-use Rattle.gc_catalogue.specs.declared.asked.Asked.{Asked}
-use Rattle.gc_catalogue.specs.declared.asked.Asked.TheVariants.{Table, Raw}
-use Rattle.gc_catalogue.specs.declared.call.Call.TheVariants.{SetDate}
-use Rattle.gc_catalogue.specs.declared.answer.Answer.{Answer}
-use Rattle.gc_texts.specs.Judgements.{IsJudgement}
 use Rattle.gc_texts.specs.declared.judgement.Judgement.{Judgement}
-use Rattle.gc_texts.specs.Codes.{lists_code}
-use Rattle.gc_texts.specs.ColumnNames.{is_named}
-use Rattle.gc_texts.specs.Descriptions.{DescriptionSeen, described_as, description_seen}
-use Rattle.gc_texts.specs.Endings.{fault_of, word_of}
-use Rattle.gc_texts.specs.Logs.{escaped}
-use Rattle.gc_texts.specs.Names.{name_text}
-use Rattle.gc_texts.specs.Qualities.{quality_word}
-use Rattle.gc_texts.specs.Stamps.{date_time, stamp_text}
 use Rattle.gc_texts.specs.declared.agree.Twice.{Twice}
 use Rattle.gc_texts.specs.declared.codes.Codes.{Codes}
 use Rattle.gc_texts.specs.declared.form.Form.{Form}
 use Rattle.gc_texts.specs.declared.quality.Quality.{Quality}
-use Rattle.gc_texts.specs.declared.quality.Quality.TheVariants.{Fine, Warning, Unconfirmed, Refused}
-use Rattle.gc_texts.specs.declared.tasks.Task.{Task}
+use Rattle.gc_catalogue.specs.declared.answer.Reading.TheVariants as reading
 pub use Rattle.gc_rows.specs.Lookup.{under}
-use Rattle.gc_rows.specs.DescribedColumns.{described_value}
-use Rattle.gc_catalogue.specs.Asked.{is_of_table}
-use Rattle.gc_rows.specs.Lookup.{is_among}
-use Rattle.gc_rows.specs.NamedFields.{value_text}
-use Rattle.gc_rows.specs.Rows.{fault_field, moment_text, procedure_of, request_sent, value_texts}
-use Rattle.gc_rows.specs.Quantities.{quantity_names}
-use Rattle.gc_rows.specs.ProcedureQuantities.{quantities_returned}
-use Rattle.gc_station.specs.Parts.{went_out}
-use Rattle.gc_station.specs.Qualities.{accepted_at, form_at, quality_as, twice_at}
-use Rattle.gc_station.specs.Saying.{IsSaid}
-use Rattle.gc_station.specs.Records.{Record}
-use Rattle.gc_station.specs.Requested.{HasItsRequest, request_of}
-use Rattle.gc_station.specs.Scopes.{Scope}
-use Rattle.gc_links.specs.Acts.{Act}
-use Rattle.gc_measuring.specs.Measuring.{Survey}
-use Rattle.gc_station.specs.Moments.{CameAt, HasItsMoment}
-use Rattle.gc_values.specs.ValueFault.{value_fault_number}
-use Rattle.gc_values.specs.declared.fault.ValueFault.{ValueFault}
 
 -- the row says of its record's command, however that ended, when the request was sent and when the command ended, the cycle, the
 -- place of the turn, the target, the procedure, the outcome, and the number of the fault of an unreadable reply. Nothing is under

@@ -1,23 +1,10 @@
 -- What is left of the rows of a run that was killed, over crashes of the machine, or after a sync that failed: this project's
 -- own.
+use Rattle.gc_program_theorems.specs.Common.{Sides, RunEnd, MayEnd, sides_ended, doubt_ended, Event, settled, same_sides, sides_after, doubt_after, ArePossibleEvents, runs_of, IsFound, IsTrusted, Step, Life, content, later_by, MayBeLeft, opened_table, OpensFile, IsFront, whole, IsHead, Happen, life_after, rows_of, AreRowCounts, steps_in, taken_in, is_durable, asks_sync, Act, EarlierFilesLast, bytes_in, steps_before, Followed, ReadsClock, Snapshot, texts_of, ForEachReadings, Reads, Survey, text_by, AppendingRun, ReportsAppended, views_by, Settings}
 use Rattle.std.specs.Prelude.{◌≡◌, ◌⊎◌, ℕ, Bool, true, false, List, [], ◌∷◌, ◌++◌, Option, Some}
-use Rattle.gc_files.specs.Failing.{Sides, RunEnd, MayEnd, sides_ended, doubt_ended, Event, settled, same_sides, sides_after, doubt_after, ArePossibleEvents, runs_of, IsFound, IsTrusted}
-use Rattle.gc_files.specs.Files.{Step, Life, content, later_by, MayBeLeft}
-use Rattle.gc_files.specs.Rows.{opened_table, OpensFile, IsFront, whole}
-use Rattle.gc_files.specs.Runs.{Run, IsHead, Happen, life_after, rows_of, AreRowCounts}
-use Rattle.gc_files.specs.Sinks.{steps_in, taken_in, is_durable, asks_sync}
-use Rattle.gc_links.specs.Acts.{Act}
+use Rattle.gc_files.specs.Prelude.{Run}
 use Rattle.gc_lines.specs.declared.ports.Source.{Ghosts as Source}
 use Rattle.gc_lines.specs.declared.ports.Sink.{Ghosts as Sink}
-use Rattle.gc_logs.specs.Following.{EarlierFilesLast, bytes_in, steps_before}
-use Rattle.gc_logs.specs.declared.following.Followed.{Followed}
-use Rattle.gc_station.specs.ActKinds.{ReadsClock}
-use Rattle.gc_station.specs.Keeping.{Snapshot}
-use Rattle.gc_station.specs.Records.{texts_of}
-use Rattle.gc_station.specs.Scopes.{ForEachReadings, Reads}
-use Rattle.gc_measuring.specs.Measuring.{Survey, text_by}
-use Rattle.gc_measuring.specs.Telling.{AppendingRun, ReportsAppended, views_by}
-use Rattle.gc_options.specs.declared.settings.Settings.{Settings}
 use Rattle.gc_program_theorems.specs.Tables.{IsStationRun, StationRun, acts_in, records_in}
 
 -- a run of a file, as clause `told` of `append_at` says it of the file that it hands back: a run of a station (`IsStationRun`),

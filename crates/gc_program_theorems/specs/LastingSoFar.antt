@@ -1,29 +1,13 @@
 -- What is left of the rows of a run that goes on, or was killed, over crashes of the machine, or after a sync that failed: this project's
 -- own. The run is taken at one of its moments, whether it ever ends or not.
+use Rattle.gc_program_theorems.specs.Common.{AllByRecursion, runs_of, Step, IsFront, appended, cuts_none, opened_table, whole, AreRowCounts, rows_of, asks_sync, is_durable, steps_in, taken_in, Act, bytes_in, Followed, Lacks, header, Json, Runs, opening, Record, texts_of, ForEachReadings, Reads, AreSound, Survey, text_by}
 use Rattle.std.specs.Prelude.{◌≡◌, ℕ, Bool, true, List, ◌++◌}
-use Rattle.std.specs.List.{AllByRecursion}
-use Rattle.gc_files.specs.Failing.{runs_of}
-use Rattle.gc_files.specs.Files.{Step}
-use Rattle.gc_files.specs.Rows.{IsFront, appended, cuts_none, opened_table, whole}
-use Rattle.gc_files.specs.Runs.{AreRowCounts, rows_of}
-use Rattle.gc_files.specs.Runs as rows
-use Rattle.gc_files.specs.Sinks.{asks_sync, is_durable, steps_in, taken_in}
-use Rattle.gc_links.specs.Acts.{Act}
-use Rattle.gc_logs.specs.Following.{bytes_in}
-use Rattle.gc_logs.specs.declared.following.Followed.{Followed}
-use Rattle.gc_texts.specs.Cuts.{Lacks}
-use Rattle.gc_rows.specs.Records.{header}
-use Rattle.gc_rows.specs.declared.record.Form.TheVariants.{Json}
-use Rattle.gc_station.specs.Model.{Runs, opening}
-use Rattle.gc_station.specs.Records.{Record, texts_of}
-use Rattle.gc_station.specs.Scopes.{ForEachReadings, Reads}
-use Rattle.gc_measuring.specs.Labels.{AreSound}
-use Rattle.gc_measuring.specs.Measuring.{Survey, text_by}
 use Rattle.gc_program_theorems.specs.Fields.{IsRowBy, under}
 use Rattle.gc_program_theorems.specs.Lasting.{CrashHistory, FileHistory, IsCrashHistory, IsFileHistory}
 use Rattle.gc_program_theorems.specs.Objects.{AreTyped, IsObject}
 use Rattle.gc_program_theorems.specs.SoFar.{OfEachHarmedRunSoFar, OfEachRunSoFar, own_lines_so_far, own_or_damaged_so_far, records_so_far, texts_by}
 use Rattle.gc_program_theorems.specs.Tables.{Answers, AreOneForOne, AreReadAs, records_in, scope_of, table_form}
+use Rattle.gc_files.specs.Runs as rows
 
 -- a run that appends to a file, at one of its moments: what it measures, and the acts that were made by this moment; the acts that were made
 -- before one of them, at which all that the file had taken lasted (`done`), and the file as it was then; and the calls that this file has had

@@ -1,22 +1,13 @@
 -- What is left of a run's rows after a crash or a failed sync, as it is read: this project's own. `AreLeft` says which bytes are left. If
 -- the run wrote into files before this one, a reader reads those first; else the bytes that are left are read as they are.
+use Rattle.gc_program_theorems.specs.Common.{AllByRecursion, taken_in, bytes_in, header, Json, Record, texts_of, Reads, Lacks, text_by, AnyState}
 use Rattle.std.specs.Prelude.{◌≡◌, ℕ, Bool, List, ◌++◌}
-use Rattle.std.specs.List.{AllByRecursion}
-use Rattle.gc_files.specs.Runs as rows
-use Rattle.gc_files.specs.Sinks.{taken_in}
-use Rattle.gc_logs.specs.Following.{bytes_in}
-use Rattle.gc_rows.specs.Records.{header}
-use Rattle.gc_rows.specs.declared.record.Form.TheVariants.{Json}
-use Rattle.gc_station.specs.Records.{Record, texts_of}
-use Rattle.gc_texts.specs.Cuts.{Lacks}
-use Rattle.gc_measuring.specs.Measuring.{text_by}
-use Rattle.gc_theorems.specs.Instrument.{AnyState}
 use Rattle.gc_program_theorems.specs.Damaged.{OfEachHarmedRun, own_or_damaged_lines}
 use Rattle.gc_program_theorems.specs.Fields.{IsRowBy, under}
 use Rattle.gc_program_theorems.specs.Lasting.{AreLeft, RunMoment}
 use Rattle.gc_program_theorems.specs.Objects.{AreTyped, IsObject}
 use Rattle.gc_program_theorems.specs.Tables.{Answers, AreOneForOne, AreReadAs, OfEachFieldRun, StationRun, acts_in, own_lines, records_of_run, scope_of, table_form}
-use Rattle.gc_station.specs.Scopes.{Reads}
+use Rattle.gc_files.specs.Runs as rows
 
 -- `left` is what is left of a run after a moment: with what went into files before this one, it is the texts of the first ones of the
 -- run's records, each whole

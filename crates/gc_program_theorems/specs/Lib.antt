@@ -1,3 +1,4 @@
+mod Common
 pub mod Damaged
 pub mod Eventful
 pub mod Exchanges

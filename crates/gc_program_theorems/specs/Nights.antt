@@ -1,9 +1,6 @@
 -- What holds of the nights of a rehearsal, this project's own: all runs of a station over a rehearsed line, one after the other.
+use Rattle.gc_program_theorems.specs.Common.{Act, Task, HasComeTo, IsOfLine, Lines, AreRuns, AreRunsUnlessAltered, acts_of_all}
 use Rattle.std.specs.Prelude.{◌≡◌, Bool, false, List, [], Option, Some}
-use Rattle.gc_links.specs.Acts.{Act}
-use Rattle.gc_texts.specs.declared.tasks.Task.{Task}
-use Rattle.gc_rehearsal.specs.Carrying.{HasComeTo, IsOfLine, Lines}
-use Rattle.gc_rehearsal.specs.Runs.{AreRuns, AreRunsUnlessAltered, acts_of_all}
 use Rattle.gc_program_theorems.specs.Rehearsals.{AreRehearsed, FewEndUnbegun}
 
 -- runs of a station with these commands, one after the other, made these acts, which are those of a line that keeps order. And

@@ -1,26 +1,15 @@
 -- What a station wrote of a run as lines of JSON, as they are read: this project's own. Texts are taken to be
 -- bytes, and numbers to have 64 bits, as those of the program do.
+use Rattle.gc_program_theorems.specs.Common.{AllByRecursion, KeptReply, Lacks, AreBytes, IsEndOfBytes, FitsIn64Bits, Json, Act, Record, Reads, Scope, Survey, when_of, Ends, AnyState}
 use Rattle.std.specs.Prelude.{◌≡◌, ℕ, ◌<◌, ◌^◌, true, List, ◌++◌, Option, Some}
-use Rattle.std.specs.List.{AllByRecursion}
 use Rattle.json.specs.Find.{get_member}
-use Rattle.json.specs.Json as json
 use Rattle.json.specs.Json.{document}
-use Rattle.gc_instrument.specs.State.{KeptReply}
-use Rattle.gc_files.specs.Runs as rows
-use Rattle.gc_texts.specs.Cuts.{Lacks}
-use Rattle.gc_texts.specs.Logs.{AreBytes}
 use Rattle.gc_texts.specs.declared.name.Name.{Name}
-use Rattle.gc_rows.specs.Laws.{IsEndOfBytes, FitsIn64Bits}
-pub use Rattle.gc_rows.specs.Lookup.{text_of}
-use Rattle.gc_rows.specs.declared.record.Form.TheVariants.{Json}
-use Rattle.gc_links.specs.Acts.{Act}
-use Rattle.gc_station.specs.Records.{Record}
-use Rattle.gc_station.specs.Scopes.{Reads, Scope}
-use Rattle.gc_measuring.specs.Measuring.{Survey, when_of}
-use Rattle.gc_theorems.specs.World.{Ends}
-use Rattle.gc_theorems.specs.Instrument.{AnyState}
 use Rattle.gc_program_theorems.specs.Fields.{IsRowBy}
 use Rattle.gc_program_theorems.specs.Tables.{Answers, AreOneForOne, AreWrittenIn, FieldRun, OfEachFieldRun, StationRun, acts_in, own_lines, records_of_run, scope_of}
+use Rattle.json.specs.Json as json
+use Rattle.gc_files.specs.Runs as rows
+pub use Rattle.gc_rows.specs.Lookup.{text_of}
 
 -- the record, of a run that began at the moment `run`, is in the types of the program: the numbers that are written of it have 64
 -- bits, and its texts are bytes

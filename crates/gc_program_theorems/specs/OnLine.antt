@@ -1,25 +1,6 @@
 -- Answers that were made on a rehearsed line, this project's own.
+use Rattle.gc_program_theorems.specs.Common.{AllByRecursion, asked_line, Asked, ById, WINDOW, SceneState, line_of, call_at, Task, Part, occasion_in, Record, UnderWay, left_by_runs, ids_begun, Move, WasMadeFrom, wire_behind, IsItsOwn, Program, program_parts, program_records, KeptReplyReads, scene_ends, scene_kept, Stretch, stretches, World}
 use Rattle.std.specs.Prelude.{◌≡◌, ℕ, ◌+◌, List, [], ◌∷◌, Some, slice_get}
-use Rattle.std.specs.List.{AllByRecursion}
-use Rattle.gc_catalogue.specs.Asked.{asked_line}
-use Rattle.gc_catalogue.specs.declared.asked.Asked.{Asked}
-use Rattle.gc_client.specs.Rule.{ById}
-use Rattle.gc_client.specs.declared.window.TheConstants.{WINDOW}
-use Rattle.gc_scenes.specs.SceneState.{SceneState}
-use Rattle.gc_texts.specs.Endings.{line_of}
-use Rattle.gc_texts.specs.Tasks.{call_at}
-use Rattle.gc_texts.specs.declared.tasks.Task.{Task}
-use Rattle.gc_station.specs.Parts.{Part, occasion_in}
-use Rattle.gc_station.specs.Records.{Record}
-use Rattle.gc_theorems.specs.Begin.{UnderWay}
-use Rattle.gc_theorems.specs.Beginnings.{left_by_runs}
-use Rattle.gc_theorems.specs.Begun.{ids_begun}
-use Rattle.gc_theorems.specs.Field.{Move}
-use Rattle.gc_theorems.specs.Made.{WasMadeFrom, wire_behind}
-use Rattle.gc_theorems.specs.Runs.{IsItsOwn, Program, program_parts, program_records}
-use Rattle.gc_theorems.specs.SceneField.{KeptReplyReads, scene_ends, scene_kept}
-use Rattle.gc_theorems.specs.Shown.{Stretch, stretches}
-use Rattle.gc_theorems.specs.World.{World}
 use Rattle.gc_program_theorems.specs.Exchanges.{Exchange}
 
 -- the line that was made on executing this request (`made`) was made so on the rehearsed line: among these exchanges, which are those

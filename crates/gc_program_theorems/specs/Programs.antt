@@ -1,43 +1,14 @@
 -- What a command line that asks for a station brings about, from the words to the rows: this project's own. `traces` is what was noted of
 -- a run of the program, and `status` is its exit status.
+use Rattle.gc_program_theorems.specs.Common.{AllByRecursion, UnderWay, AnyState, OfAnyInstrument, IsInField, IsRunFaithful, Ends, IsInHarmedField, IsRunLocal, HarmedStretch, IsFront, asks_sync, KeptReply, Act, labels_of, front_text, most_turns, survey_of, HasTasks, acts_noted, began_noted, Stop, path_of, are_open, Followed, ForEachReadings, Reads, Tally, IsTasks, TasksSeen, Layout, Settings}
 use Rattle.std.specs.Prelude.{◌≡◌, ◌⊎◌, ℕ, Bool, List, [], ◌∷◌, Option, Some, None, Result, Ok, Err, true, IfSome}
-use Rattle.std.specs.List.{AllByRecursion}
 use Rattle.std.specs.declared.io.ErrorKind.{ErrorKind}
-use Rattle.gc_console.specs.Programs.{DoesProgram}
-use Rattle.gc_console.specs.Stations.{ActsAt, HasNoRun, Seeing, rows_noted}
-use Rattle.gc_console.specs.Subcommands.{Opening}
+use Rattle.gc_console.specs.Prelude.{DoesProgram, ActsAt, HasNoRun, Seeing, rows_noted, Opening, IsJobOfWords}
 use Rattle.gc_console.specs.declared.traces.Traces.{Traces}
-use Rattle.gc_theorems.specs.Begin.{UnderWay}
-use Rattle.gc_theorems.specs.Beginnings as field
-use Rattle.gc_theorems.specs.Instrument.{AnyState, OfAnyInstrument}
-use Rattle.gc_theorems.specs.Runs.{IsInField, IsRunFaithful}
-use Rattle.gc_theorems.specs.World.{Ends}
-use Rattle.gc_files.specs.Rows.{IsFront}
-use Rattle.gc_files.specs.Sinks.{asks_sync}
 use Rattle.gc_files.specs.declared.past.Past.{Past}
-use Rattle.gc_theorems.specs.DamagedRuns.{IsInHarmedField, IsRunLocal}
-use Rattle.gc_theorems.specs.Stretches.{HarmedStretch}
-use Rattle.gc_instrument.specs.State.{KeptReply}
-use Rattle.gc_links.specs.Acts.{Act}
-use Rattle.gc_measuring.specs.Labels.{labels_of}
-use Rattle.gc_measuring.specs.Measuring.{front_text, most_turns, survey_of}
-use Rattle.gc_measuring.specs.TaskTexts.{HasTasks}
-use Rattle.gc_measuring.specs.Telling.{acts_noted, began_noted}
-use Rattle.gc_measuring.specs.declared.stop.Stop.{Stop}
-use Rattle.gc_logs.specs.Following.{path_of}
-use Rattle.gc_logs.specs.Streams.{are_open}
-use Rattle.gc_logs.specs.declared.following.Followed.{Followed}
 use Rattle.gc_logs.specs.declared.standard.Standard.{Standard}
-use Rattle.gc_station.specs.Scopes.{ForEachReadings, Reads}
-use Rattle.gc_station.specs.declared.tally.Tally.{Tally}
-use Rattle.gc_console.specs.Program.{IsJobOfWords}
-use Rattle.gc_console.specs.declared.words.ClientJob.TheVariants as client
-use Rattle.gc_console.specs.declared.words.Job.TheVariants as job
-use Rattle.gc_texts.specs.Tasks.{IsTasks, TasksSeen}
 use Rattle.gc_options.specs.declared.choice.Choice.{Choice}
-use Rattle.gc_options.specs.declared.layout.Layout.{Layout}
-use Rattle.gc_options.specs.Stations.{begun_at, for_file, with_status_line}
-use Rattle.gc_options.specs.declared.settings.Settings.{Settings}
+use Rattle.gc_options.specs.Prelude.{begun_at, for_file, with_status_line}
 use Rattle.gc_options.specs.declared.site.Recording.{Recording}
 use Rattle.gc_options.specs.declared.site.Site.{Site}
 use Rattle.gc_program_theorems.specs.Fields.{IsPlain}
@@ -47,6 +18,9 @@ use Rattle.gc_program_theorems.specs.Left.{LeavesObjects, LeavesTable}
 use Rattle.gc_program_theorems.specs.Objects.{HasOwnObjects}
 use Rattle.gc_program_theorems.specs.Rows.{IsOwnIfAnswered}
 use Rattle.gc_program_theorems.specs.Tables.{FieldRun, HasOwnTable, IsStationRun, StationRun, acts_in, own_lines, program_of, records_of_run, table_form}
+use Rattle.gc_theorems.specs.Beginnings as field
+use Rattle.gc_console.specs.declared.words.ClientJob.TheVariants as client
+use Rattle.gc_console.specs.declared.words.Job.TheVariants as job
 
 -- The run of a station.
 

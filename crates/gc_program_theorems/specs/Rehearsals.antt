@@ -1,19 +1,7 @@
 -- What holds of a station over a rehearsed line, this project's own. A rehearsed line is one in memory with the instrument of a
 -- scene at its end; nothing is assumed of which lines it loses, repeats and holds.
+use Rattle.gc_program_theorems.specs.Common.{AllByRecursion, Act, SceneState, Runs, opening, state_after, none_under_way, Run, killed_unless_begun, AreFaithful, AreInARow, IsInField, IsRunFaithful, Program, KeptReplyReads, scene_ends, scene_kept, HasComeTo, Lines, AreAskable, RehearsedStation, RunsAndStops, acts_of_all}
 use Rattle.std.specs.Prelude.{◌≡◌, ℕ, ◌≤◌, List, [], ◌∷◌, ◌++◌, length}
-use Rattle.std.specs.List.{AllByRecursion}
-use Rattle.gc_links.specs.Acts.{Act}
-use Rattle.gc_scenes.specs.SceneState.{SceneState}
-use Rattle.gc_station.specs.Model.{Runs, opening}
-use Rattle.gc_station.specs.Runs.{state_after}
-use Rattle.gc_theorems.specs.Begin.{none_under_way}
-use Rattle.gc_theorems.specs.Beginnings.{Run, killed_unless_begun}
-use Rattle.gc_theorems.specs.InARow.{AreFaithful, AreInARow}
-use Rattle.gc_theorems.specs.Runs.{IsInField, IsRunFaithful, Program}
-use Rattle.gc_theorems.specs.SceneField.{KeptReplyReads, scene_ends, scene_kept}
-use Rattle.gc_rehearsal.specs.Carrying.{HasComeTo, Lines}
-use Rattle.gc_rehearsal.specs.Askable.{AreAskable}
-use Rattle.gc_rehearsal.specs.Runs.{RehearsedStation, RunsAndStops, acts_of_all}
 use Rattle.gc_program_theorems.specs.Exchanges.{Exchange, exchanges_of, exchanges_of_all, exchanges_of_runs}
 use Rattle.gc_program_theorems.specs.OnLine.{AllAreOnLine, AnswersAreOnLine}
 

@@ -1,36 +1,13 @@
 -- The rows of a station in the field, this project's own: what is in the columns of a row of an answer was made by the
 -- instrument on executing the very request of that row's cycle and place. A part is what a station sees of its run from one
 -- synchronization to the next, and a stretch what happens on the line meanwhile, once it has synchronized.
+use Rattle.gc_program_theorems.specs.Common.{decimal, AllByRecursion, value_fault_number, ValueFault, KeptReply, line_of, name_text, stamp_text, ReadsBackAs, row_of, ReplyFields, IsReply, Record, form_at, IsSaid, AreReadings, CameAt, Layout, LabelsSeen, text_in, Ends, UnderWay, OfAnyInstrument, IsInField, IsItsOwn, Program, program_parts, program_records, stretches}
 use Rattle.std.specs.Prelude.{◌≡◌, ℕ, Bool, List, Option, Some, codes}
-use Rattle.std.specs.Fmt.{decimal}
-use Rattle.std.specs.List.{AllByRecursion}
-use Rattle.gc_values.specs.ValueFault.{value_fault_number}
-use Rattle.gc_values.specs.declared.fault.ValueFault.{ValueFault}
 use Rattle.gc_catalogue.specs.declared.answer.Reading.TheVariants.{Unreadable}
-use Rattle.gc_instrument.specs.State.{KeptReply}
-use Rattle.gc_texts.specs.Endings.{line_of}
-use Rattle.gc_texts.specs.Names.{name_text}
-use Rattle.gc_texts.specs.Stamps.{stamp_text}
 use Rattle.gc_texts.specs.declared.form.Form.{Form}
-use Rattle.gc_rows.specs.Laws.{ReadsBackAs}
-use Rattle.gc_rows.specs.Records as rows
-use Rattle.gc_rows.specs.Rows.{row_of}
-use Rattle.gc_lines.specs.Replies.{ReplyFields, IsReply}
-use Rattle.gc_station.specs.Records.{Record}
-use Rattle.gc_station.specs.Qualities.{form_at}
-use Rattle.gc_station.specs.Saying.{IsSaid}
-use Rattle.gc_station.specs.Scopes.{AreReadings}
-use Rattle.gc_options.specs.declared.layout.Layout.{Layout}
-use Rattle.gc_measuring.specs.Labels.{LabelsSeen}
-use Rattle.gc_measuring.specs.Measuring.{text_in}
-use Rattle.gc_theorems.specs.World.{Ends}
-use Rattle.gc_theorems.specs.Begin.{UnderWay}
-use Rattle.gc_theorems.specs.Instrument.{OfAnyInstrument}
-use Rattle.gc_theorems.specs.Runs.{IsInField, IsItsOwn, Program, program_parts, program_records}
-use Rattle.gc_theorems.specs.Shown.{stretches}
 use Rattle.gc_program_theorems.specs.Fields.{SaysCodes, SaysCommand, under}
-use Rattle.gc_station.specs.Moments.{CameAt}
 use Rattle.gc_program_theorems.specs.Tables.{table_form}
+use Rattle.gc_rows.specs.Records as rows
 
 -- the field in the column of this name, of a row with these fields; `name` is that of one of the first thirteen columns
 abbrev pub column : List ℕ → List (List ℕ) → List ℕ

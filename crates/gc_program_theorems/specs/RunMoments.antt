@@ -1,15 +1,8 @@
 -- The moments of a run that returned, and what they are: runs so far; and how a run so far goes on to be one that returns: this project's
 -- own.
+use Rattle.gc_program_theorems.specs.Common.{IsFront, Act, Closed, with_turns, Snapshot, RanTo, ForEachReadings, Reads, Tally, front_text, text_by}
 use Rattle.std.specs.Prelude.{◌≡◌, ◌⊎◌, ℕ, ◌≤◌, List, [], ◌∷◌, ◌++◌, length, Option, Some}
-use Rattle.gc_files.specs.Rows.{IsFront}
-use Rattle.gc_links.specs.Acts.{Act, Closed}
-use Rattle.gc_station.specs.FirstActs.{with_turns}
-use Rattle.gc_station.specs.Keeping.{Snapshot}
-use Rattle.gc_station.specs.Runs.{RanTo}
-use Rattle.gc_station.specs.Scopes.{ForEachReadings, Reads}
 use Rattle.gc_station.specs.declared.cause.Cause.{Cause}
-use Rattle.gc_station.specs.declared.tally.Tally.{Tally}
-use Rattle.gc_measuring.specs.Measuring.{front_text, text_by}
 use Rattle.gc_program_theorems.specs.Lasting.{IsRunMoment, RunMoment}
 use Rattle.gc_program_theorems.specs.LastingSoFar.{FileRunSoFar, IsFileRunSoFar}
 use Rattle.gc_program_theorems.specs.SoFar.{IsRunSoFar, RunSoFar}

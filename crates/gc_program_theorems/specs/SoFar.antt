@@ -1,36 +1,15 @@
 -- A run of a station at one of its moments, whether it ever ends or not, and what it has written by then, as that is read: this project's
 -- own. A run that goes on is one, and so is a run that was killed. The bytes are those that its sink has taken: what comes before the
 -- records, and texts of records in order.
+use Rattle.gc_program_theorems.specs.Common.{AllByRecursion, KeptReply, IsFront, Act, Lacks, line_of, header, Json, Runs, opening, CameAt, Grew, Record, texts_of, form_at, ForEachReadings, Reads, AreSound, Survey, front_text, text_by, Ends, UnderWay, AnyState, OfAnyInstrument, IsInField, IsItsOwn, stretches, AreFewRecordsByDamagedLines, HasItsAnswer, IsInHarmedField, sent_until, HarmedStretch}
 use Rattle.std.specs.Prelude.{◌≡◌, ℕ, ◌-◌, Bool, List, ◌++◌, length, take, Option, Some, slice_get}
-use Rattle.std.specs.List.{AllByRecursion}
-use Rattle.gc_instrument.specs.State.{KeptReply}
-use Rattle.gc_files.specs.Rows.{IsFront}
-use Rattle.gc_files.specs.Runs as rows
-use Rattle.gc_links.specs.Acts.{Act}
-use Rattle.gc_texts.specs.Cuts.{Lacks}
-use Rattle.gc_texts.specs.Endings.{line_of}
-use Rattle.gc_rows.specs.Records.{header}
-use Rattle.gc_rows.specs.declared.record.Form.TheVariants.{Json}
-use Rattle.gc_station.specs.Model.{Runs, opening}
-use Rattle.gc_station.specs.Moments.{CameAt}
-use Rattle.gc_station.specs.Records.{Grew, Record, texts_of}
-use Rattle.gc_station.specs.Qualities.{form_at}
-use Rattle.gc_station.specs.Scopes.{ForEachReadings, Reads}
-use Rattle.gc_measuring.specs.Labels.{AreSound}
-use Rattle.gc_measuring.specs.Measuring.{Survey, front_text, text_by}
-use Rattle.gc_theorems.specs.World.{Ends}
-use Rattle.gc_theorems.specs.Begin.{UnderWay}
-use Rattle.gc_theorems.specs.Beginnings as field
-use Rattle.gc_theorems.specs.Instrument.{AnyState, OfAnyInstrument}
-use Rattle.gc_theorems.specs.Runs.{IsInField, IsItsOwn}
-use Rattle.gc_theorems.specs.Shown.{stretches}
-use Rattle.gc_theorems.specs.DamagedRuns.{AreFewRecordsByDamagedLines, HasItsAnswer, IsInHarmedField, sent_until}
-use Rattle.gc_theorems.specs.Stretches.{HarmedStretch}
 use Rattle.gc_program_theorems.specs.Damaged.{harmed_program_of}
 use Rattle.gc_program_theorems.specs.Fields.{IsRowBy, under}
 use Rattle.gc_program_theorems.specs.Objects.{AreTyped, IsObject}
 use Rattle.gc_program_theorems.specs.Rows.{IsRowOfReply, SayFault}
 use Rattle.gc_program_theorems.specs.Tables.{Answers, AreOneForOne, AreReadAs, IsPartOfNext, head_rows, parts_in, program_of, records_in, scope_of, table_form}
+use Rattle.gc_files.specs.Runs as rows
+use Rattle.gc_theorems.specs.Beginnings as field
 
 -- a run at one of its moments: what it measures, the bytes that its sink had taken before it, the acts that were made by this moment, and
 -- the bytes that the sink has taken by then

@@ -1,32 +1,13 @@
 -- What a station wrote of a run, as it is read: this project's own. The bytes are those that a sink took of a run, as the clauses
 -- of `measure_at` and `append_at` have it: what comes before the records, and their texts in order. A part is what a station sees
 -- of its run from one synchronization to the next, and a stretch what happens on the line meanwhile, once it has synchronized.
+use Rattle.gc_program_theorems.specs.Common.{KeptReply, header, Form, Csv, Columns, Act, parts, Part, Record, state_after, ForEachReadings, Reads, Scope, watched_of, Tally, AreSound, Survey, PortsSeen, RunsAfterFront, text_by, Stop, Ends, UnderWay, AnyState, OfAnyInstrument, IsInField, IsItsOwn, Program, stretches}
 use Rattle.std.specs.Prelude.{◌≡◌, ℕ, ◌-◌, ◌<◌, Bool, true, false, List, [], ◌∷◌, ◌++◌, length, take, Option, Some, Result, Err, if◌then◌else◌, slice_get}
 use Rattle.csv.specs.Reading.{default_config, records}
-use Rattle.gc_instrument.specs.State.{KeptReply}
 use Rattle.gc_texts.specs.declared.fault.RunFault.TheVariants.{Output}
-use Rattle.gc_rows.specs.Records.{header}
-use Rattle.gc_rows.specs.declared.record.Form.{Form}
-use Rattle.gc_rows.specs.declared.record.Form.TheVariants.{Csv, Columns}
-use Rattle.gc_links.specs.Acts.{Act}
-use Rattle.gc_station.specs.Links.{parts}
-use Rattle.gc_station.specs.Parts.{Part}
-use Rattle.gc_station.specs.Records.{Record}
-use Rattle.gc_station.specs.Runs.{state_after}
-use Rattle.gc_station.specs.Scopes.{ForEachReadings, Reads, Scope}
-use Rattle.gc_station.specs.Watching.{watched_of}
-use Rattle.gc_station.specs.declared.tally.Tally.{Tally}
-use Rattle.gc_measuring.specs.Labels.{AreSound}
-use Rattle.gc_measuring.specs.Measuring.{Survey, PortsSeen, RunsAfterFront, text_by}
-use Rattle.gc_measuring.specs.declared.stop.Stop.{Stop}
 use Rattle.gc_measuring.specs.declared.stop.Stop.TheVariants.{Run}
-use Rattle.gc_theorems.specs.World.{Ends}
-use Rattle.gc_theorems.specs.Begin.{UnderWay}
-use Rattle.gc_theorems.specs.Beginnings as field
-use Rattle.gc_theorems.specs.Instrument.{AnyState, OfAnyInstrument}
-use Rattle.gc_theorems.specs.Runs.{IsInField, IsItsOwn, Program}
-use Rattle.gc_theorems.specs.Shown.{stretches}
 use Rattle.gc_program_theorems.specs.Fields.{under, IsRowBy}
+use Rattle.gc_theorems.specs.Beginnings as field
 
 -- A run.
 

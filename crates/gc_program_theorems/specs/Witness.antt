@@ -1,17 +1,7 @@
 -- A run in the field with rows of answers: all that is asked in the law on rows holds of it at once.
+use Rattle.gc_program_theorems.specs.Common.{Form, Csv, Json, Act, Snapshot, Record, texts_of, ForEachAndSomeReadings, Reads, Layout, LabelsSeen, Survey, PortsSeen, RunsAfterFront, text_in, AnyState, never_kept}
 use Rattle.std.specs.Prelude.{◌≡◌, ℕ, Bool, true, false, List, [], Some, None, Ok, codes}
-use Rattle.gc_rows.specs.declared.record.Form.{Form}
-use Rattle.gc_rows.specs.declared.record.Form.TheVariants.{Csv, Json}
-use Rattle.gc_links.specs.Acts.{Act}
-use Rattle.gc_station.specs.Keeping.{Snapshot}
-use Rattle.gc_station.specs.Records.{Record, texts_of}
-use Rattle.gc_station.specs.Scopes.{ForEachAndSomeReadings, Reads}
-use Rattle.gc_options.specs.declared.layout.Layout.{Layout}
-use Rattle.gc_measuring.specs.Labels.{LabelsSeen}
-use Rattle.gc_measuring.specs.Measuring.{Survey, PortsSeen, RunsAfterFront, text_in}
-use Rattle.gc_theorems.specs.Instrument.{AnyState, never_kept}
-use Rattle.gc_program_theorems.specs.Eventful.{IsEventful, acts, at_start, commands, plan, program, records, reporting, runs, tally}
-use Rattle.gc_program_theorems.specs.Eventful.{chained_record, off_target_record, off_target_reply, empty_reply, measured_reply, number_record, numbered_reply, pointed_reply, points_record, unreadable_record}
+use Rattle.gc_program_theorems.specs.Eventful.{IsEventful, acts, at_start, commands, plan, program, records, reporting, runs, tally, chained_record, off_target_record, off_target_reply, empty_reply, measured_reply, number_record, numbered_reply, pointed_reply, points_record, unreadable_record}
 use Rattle.gc_program_theorems.specs.Rows.{IsRowOfLine}
 use Rattle.gc_program_theorems.specs.Objects.{AreOwnObjects}
 use Rattle.gc_program_theorems.specs.Tables.{FieldRun, IsOwnTable, table_form}

@@ -1,14 +1,11 @@
 -- What commands ask: their numbers lie in their types, and so do those of the date that a clock is set to, whatever the moment
 -- is; and a request with values of files may be asked for, as any may.
-use Rattle.std.proofs.Common.{ℕ, ◌≤◌, ◌/◌, min, arith}
-use Rattle.gc_catalogue.specs.Asked.{IsAskedFitting}
+use Rattle.gc_rehearsal.proofs.Common.{ℕ, ◌≤◌, ◌/◌, min, arith, date_of, date_time, Task, IsAskable}
+use Rattle.gc_catalogue.specs.Prelude.{IsAskedFitting}
 use Rattle.gc_catalogue.specs.declared.asked.Asked.TheVariants.{Table}
 use Rattle.gc_catalogue.specs.declared.call.Call.TheVariants.{SetDate}
-use Rattle.gc_texts.specs.Stamps.{date_of, date_time}
-use Rattle.gc_texts.specs.declared.tasks.Task.{Task}
 use Rattle.gc_texts.proofs.LogStamps.{date_within}
 use Rattle.gc_texts.proofs.TaskMoments.{at_any_moment}
-use Rattle.gc_rehearsal.specs.Askable.{IsAskable}
 
 -- the numbers of the call that sets the date to a moment lie in their types
 date_fits : (utc : ℕ) → IsAskedFitting (Table (SetDate (date_time utc)))

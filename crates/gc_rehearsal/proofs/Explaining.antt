@@ -1,12 +1,7 @@
 -- How rows are explained, one after the other. A row is here its claim.
-use Rattle.std.proofs.Common.{◌≡◌, ℕ, ◌+◌, ◌≤◌, Bool, true, false, if◌then◌else◌, List, ◌∷◌, length, drop, get_or, inl, inr, Option, Some, refl, subst, sym, ap, ◌∙◌, arith}
-use Rattle.std.specs.Prelude.{slice_get}
-use Rattle.std.proofs.lemmas.List.{drop_all, drop_more}
-use Rattle.std.proofs.lemmas.Option.{slice_get_within, slice_get-get_or}
+use Rattle.gc_rehearsal.proofs.Common.{◌≡◌, ℕ, ◌+◌, ◌≤◌, Bool, true, false, if◌then◌else◌, List, ◌∷◌, length, drop, get_or, inl, inr, Option, Some, refl, subst, sym, ap, ◌∙◌, arith, slice_get, drop_all, drop_more, slice_get_within, slice_get-get_or, Claim, Truth}
 use Rattle.gc_rehearsal.specs.Explained.{AreExplained, ExplainsRow, doubt_of}
-use Rattle.gc_rehearsal.specs.declared.claim.Claim.{Claim}
 use Rattle.gc_rehearsal.specs.declared.explained.FalseRows.{FalseRows}
-use Rattle.gc_rehearsal.specs.declared.truth.Truth.{Truth}
 
 -- the rows from place `rows` on are the one at that place and those behind it
 rows_left : (claims : List Claim) (rows : ℕ) (claim : Claim) → slice_get claims rows ≡ Some claim → drop rows claims ≡ claim ∷ drop (rows + 1) claims

@@ -1,17 +1,9 @@
 -- The events on a line, and one more. That acts have come to lines (`HasComeTo`) says that they are the acts of events which lead
 -- to these lines.
-use Rattle.std.proofs.Common.{◌≡◌, inl, inr, ℕ, Bool, true, false, List, [], ◌∷◌, ◌++◌, None, refl, sym, ◌∙◌, ap, subst}
-use Rattle.std.specs.Prelude.{IfSome}
-use Rattle.std.proofs.lemmas.List.{map_push, append-nil}
-use Rattle.gc_lines.specs.Lines.{with_end}
-use Rattle.gc_links.specs.Acts.{Act, Put, Gave}
+use Rattle.gc_rehearsal.proofs.Common.{◌≡◌, inl, inr, ℕ, Bool, true, false, List, [], ◌∷◌, ◌++◌, None, refl, sym, ◌∙◌, ap, subst, IfSome, map_push, with_end, Act, Put, Gave, SceneState, scene_restarted, at_moment, Lines, Happening, Acts, Reaches, Restarts, Passes, Repeats_up, Repeats_down, Loses_up, Loses_down, Loses_front, ActLeads, CarriesNothing, Leads, LeadAll, acts_of, HasComeTo, told, texts, lines_of, MayAddLine, MayRepeat, MayHandOver, Flight}
+use Rattle.std.proofs.lemmas.List.{append-nil}
 use Rattle.gc_links.specs.declared.link.Moment.{Moment}
-use Rattle.gc_scenes.specs.SceneState.{SceneState, scene_restarted, at_moment}
-use Rattle.gc_rehearsal.specs.Carrying.{Lines, Happening, Acts, Reaches, Restarts, Passes, Repeats_up, Repeats_down, Loses_up, Loses_down, Loses_front, ActLeads, CarriesNothing, Leads, LeadAll, acts_of, HasComeTo}
-use Rattle.gc_rehearsal.specs.Inside.{told}
-use Rattle.gc_rehearsal.specs.Queues.{texts, lines_of, MayAddLine, MayRepeat, MayHandOver}
 use Rattle.gc_rehearsal.specs.declared.carried.Traffic.{Traffic}
-use Rattle.gc_rehearsal.specs.declared.flight.Flight.{Flight}
 
 -- where the events `hs` lead from `l` to `m`, and one more leads from `m` to `n`, all of them lead from `l` to `n`
 lead_one_more : (hs : List Happening) (h : Happening) (l m n : Lines) → LeadAll l hs m → Leads m h n → LeadAll l (hs ++ h ∷ []) n

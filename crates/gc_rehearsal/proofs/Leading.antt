@@ -1,7 +1,5 @@
 -- How far the reading of a text has come, line by line. `left` is what is unread.
-use Rattle.std.proofs.Common.{◌≡◌, ℕ, ◌+◌, ◌≤◌, List, [], ◌∷◌, ◌++◌, length, Option, Some, refl, ap, sym, subst, ◌∙◌, arith, append_assoc, length-append}
-use Rattle.gc_texts.specs.LineForms.{CutsLine, text_lines}
-use Rattle.gc_texts.proofs.TextLines.{lines_left, much_left, lines-cut, left_falls}
+use Rattle.gc_rehearsal.proofs.Common.{◌≡◌, ℕ, ◌+◌, ◌≤◌, List, [], ◌∷◌, ◌++◌, length, Option, Some, refl, ap, sym, subst, ◌∙◌, arith, append_assoc, length-append, CutsLine, text_lines, lines_left, much_left, lines-cut, left_falls}
 use Rattle.gc_rehearsal.specs.Rules.{no_rules, Leads, LeadAll, IsFaultyRule, IsFirstFaultyRule}
 use Rattle.gc_rehearsal.specs.declared.rule.RuleFault.{RuleFault}
 use Rattle.gc_rehearsal.specs.declared.rules.Rules.{Rules}

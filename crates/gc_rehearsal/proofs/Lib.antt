@@ -1,3 +1,4 @@
+mod Common
 mod Asked
 mod Explaining
 pub mod Happened

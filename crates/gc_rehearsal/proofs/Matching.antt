@@ -1,12 +1,7 @@
 -- How rows are compared with the replies that came, one after the other. A row is here its claim, and a reply its truth. Rows are
 -- true by replies where `AreTrue` holds of the two lists.
-use Rattle.std.proofs.Common.{◌≡◌, ℕ, zero, suc, ◌+◌, ◌<◌, ◌≤◌, List, [], ◌∷◌, length, drop, get_or, inl, inr, Option, Some, refl, subst, sym, ap, ◌∙◌}
-use Rattle.std.specs.Prelude.{◌↔◌, slice_get}
-use Rattle.std.proofs.lemmas.List.{drop_all, drop_more}
-use Rattle.std.proofs.lemmas.Option.{slice_get_within, slice_get-get_or}
+use Rattle.gc_rehearsal.proofs.Common.{◌≡◌, ℕ, zero, suc, ◌+◌, ◌<◌, ◌≤◌, List, [], ◌∷◌, length, drop, get_or, inl, inr, Option, Some, refl, subst, sym, ap, ◌∙◌, ◌↔◌, slice_get, drop_all, drop_more, slice_get_within, slice_get-get_or, Claim, Truth}
 use Rattle.gc_rehearsal.specs.Claims.{SpeaksOf, IsTrueAt, MatchesNext, AreTrue}
-use Rattle.gc_rehearsal.specs.declared.claim.Claim.{Claim}
-use Rattle.gc_rehearsal.specs.declared.truth.Truth.{Truth}
 
 -- rows that are true by replies are also true by these with one more reply before them
 true_by_one_more : (claims : List Claim) (truth : Truth) (truths : List Truth) → AreTrue claims truths → AreTrue claims (truth ∷ truths)

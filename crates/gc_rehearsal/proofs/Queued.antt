@@ -1,11 +1,7 @@
 -- What the functions of a queue of lines find: the line in bytes that end in CR LF, and the last line of the queue.
-use Rattle.std.proofs.Common.{◌≡◌, inl, inr, ℕ, suc, ◌-◌, ◌<◌, true, List, [], ◌∷◌, ◌++◌, drop, length, take, get_or, nat_eq, sym, ◌∙◌, ap, arith}
+use Rattle.gc_rehearsal.proofs.Common.{◌≡◌, inl, inr, ℕ, suc, ◌-◌, ◌<◌, true, List, [], ◌∷◌, ◌++◌, drop, length, take, get_or, nat_eq, sym, ◌∙◌, ap, arith, map_push, take-append-drop, with_end, MayAdd, MayRepeat, texts, Flight}
 use Rattle.std.proofs.Math.Seq.{take-length, take-suc}
-use Rattle.std.proofs.lemmas.List.{map_push, take-append-drop}
 use Rattle.std.specs.Cmp.Lexicographic.{pointwise, same_text}
-use Rattle.gc_lines.specs.Lines.{with_end}
-use Rattle.gc_rehearsal.specs.Queues.{MayAdd, MayRepeat, texts}
-use Rattle.gc_rehearsal.specs.declared.flight.Flight.{Flight}
 
 -- bytes that end in CR LF are the line before these two bytes, with its CR LF
 pub line_found : (bytes line : List ℕ)

@@ -1,22 +1,11 @@
 -- Runs of a station, one after the other.
-use Rattle.std.proofs.Common.{◌≡◌, ℕ, Bool, true, false, List, [], ◌∷◌, ◌++◌, Option, None, Some, Result, Ok, Err, inl, inr, refl, sym, ap, subst, ◌∙◌, append_assoc, append-nil}
-use Rattle.std.specs.List.{AllByRecursion}
-use Rattle.std.specs.Prelude.{IfSome}
+use Rattle.gc_rehearsal.proofs.Common.{◌≡◌, ℕ, Bool, true, false, List, [], ◌∷◌, ◌++◌, Option, None, Some, Result, Ok, Err, inl, inr, refl, sym, ap, subst, ◌∙◌, append_assoc, append-nil, AllByRecursion, IfSome, Act, Closed, IsOfLine, CarriesNothing, told, Task, AreAskable, RehearsedStation, IsRunOf, AreRuns, AddRuns, AreRunsUnlessAltered, acts_of_all}
 use Rattle.gc_station.proofs.Lists.{all_append}
-use Rattle.gc_links.specs.Acts.{Act, Closed}
-use Rattle.gc_rehearsal.specs.Carrying.{IsOfLine, CarriesNothing}
-use Rattle.gc_rehearsal.specs.Inside.{told}
-use Rattle.gc_station.specs.Model.{Runs, opening}
-use Rattle.gc_station.specs.Records.{Record}
-use Rattle.gc_station.specs.Runs.{Ran}
-use Rattle.gc_station.specs.Scopes.{Scope}
+use Rattle.gc_station.specs.Prelude.{Runs, opening, Record, Ran, Scope}
 use Rattle.gc_station.specs.declared.plan.Plan.{Plan}
 use Rattle.gc_station.specs.declared.tally.Tally.{Tally}
 use Rattle.gc_texts.specs.declared.fault.RunFault.{RunFault}
 use Rattle.gc_texts.specs.declared.fault.RunFault.TheVariants.{Output}
-use Rattle.gc_texts.specs.declared.tasks.Task.{Task}
-use Rattle.gc_rehearsal.specs.Askable.{AreAskable}
-use Rattle.gc_rehearsal.specs.Runs.{RehearsedStation, IsRunOf, AreRuns, AddRuns, AreRunsUnlessAltered, acts_of_all}
 
 -- where the acts before and after are the same, they are those of no run at all (`AddRuns`)
 pub no_runs : (commands : List Task) (acts : Option (List Act)) → AddRuns commands acts acts

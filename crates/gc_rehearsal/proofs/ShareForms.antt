@@ -1,8 +1,5 @@
 -- Which words are percentages. A word is cut at its first point (byte 46) in one way, so that it is one percentage at most.
-use Rattle.std.proofs.Common.{◌≡◌, ℕ, ◌<◌, ◌+◌, ◌*◌, List, length, inl, inr, Option, None, Some, subst, arith}
-use Rattle.gc_rehearsal.specs.Shares.{IsShare, IsParts, IsPlaces, AreThousandths}
-use Rattle.gc_texts.specs.Cuts.{Cuts}
-use Rattle.gc_texts.specs.Procedures.{IsNumber}
+use Rattle.gc_rehearsal.proofs.Common.{◌≡◌, ℕ, ◌<◌, ◌+◌, ◌*◌, List, length, inl, inr, Option, None, Some, subst, arith, IsShare, IsParts, IsPlaces, AreThousandths, Cuts, IsNumber}
 use Rattle.gc_texts.proofs.Cutting.{cut_once}
 use Rattle.gc_texts.proofs.Procedures.{one_number}
 

@@ -1,8 +1,8 @@
 -- Commands of which each asks what is allowed, this project's own.
 use Rattle.std.specs.Prelude.{List}
 use Rattle.std.specs.List.{AllByRecursion}
-use Rattle.gc_catalogue.specs.Asked.{IsAskedFitting}
-use Rattle.gc_texts.specs.Tasks.{call_at}
+use Rattle.gc_catalogue.specs.Prelude.{IsAskedFitting}
+use Rattle.gc_texts.specs.Prelude.{call_at}
 use Rattle.gc_texts.specs.declared.tasks.Task.{Task}
 use Rattle.gc_texts.specs.declared.occasion.Occasion.{Occasion}
 

@@ -2,10 +2,9 @@
 -- the line without its CR LF. Each line arrives whole or not at all, and after those that were sent before it; one that comes
 -- twice comes the second time directly after the first.
 use Rattle.std.specs.Prelude.{◌≡◌, ◌⊎◌, ℕ, ◌≤◌, List, [], ◌∷◌, ◌++◌, length, Option, Some, None}
-use Rattle.gc_lines.specs.Lines.{IsPlain, with_end}
-use Rattle.gc_links.specs.Acts.{Act, Put, Gave}
-use Rattle.gc_scenes.specs.SceneReplying.{IsPlayed}
-use Rattle.gc_scenes.specs.SceneState.{SceneState, scene_restarted, at_moment}
+use Rattle.gc_lines.specs.Prelude.{IsPlain, with_end}
+use Rattle.gc_links.specs.Prelude.{Act, Put, Gave}
+use Rattle.gc_scenes.specs.Prelude.{IsPlayed, SceneState, scene_restarted, at_moment}
 
 -- the lines in flight up and down, the one that was sent first in front, and the instrument
 pub record Lines : Type 0 where

@@ -1,7 +1,7 @@
 -- What it means that rows are true: this project's own. A claim is what a row says of a reply, and a truth is a reply that came, with the
 -- request on whose execution the instrument made it.
 use Rattle.std.specs.Prelude.{◌≡◌, ◌↔◌, ℕ, ◌+◌, ◌<◌, ◌⊎◌, Bool, true, false, List, [], ◌∷◌, slice_get, Some, IfSome, is_some, Result, Ok, Err, if◌then◌else◌, nat_eq}
-use Rattle.gc_catalogue.specs.Asked.{asked_line, procedure_of}
+use Rattle.gc_catalogue.specs.Prelude.{asked_line, procedure_of}
 use Rattle.gc_catalogue.specs.declared.asked.Asked.{Asked}
 use Rattle.gc_rehearsal.specs.declared.book.Seen.{Seen}
 use Rattle.gc_rehearsal.specs.declared.claim.Claim.{Claim}
@@ -9,8 +9,7 @@ use Rattle.gc_rehearsal.specs.declared.halt.FalseRow.{FalseRow}
 use Rattle.gc_rehearsal.specs.declared.halt.Halt.{Halt}
 use Rattle.gc_rehearsal.specs.declared.halt.Halt.TheVariants.{Fault, Untrue}
 use Rattle.gc_rehearsal.specs.declared.truth.Truth.{Truth}
-use Rattle.gc_texts.specs.Endings.{End, Answered, Unreadable, Judged, Late}
-use Rattle.gc_texts.specs.Judgements.{leaves_doubt}
+use Rattle.gc_texts.specs.Prelude.{End, Answered, Unreadable, Judged, Late, leaves_doubt}
 use Rattle.gc_texts.specs.declared.fault.RunFault.TheVariants.{Memory}
 use Rattle.gc_texts.specs.declared.quality.Quality.TheVariants.{Unconfirmed}
 use Rattle.gc_texts.specs.declared.wish.Wish.{Wish}

@@ -1,6 +1,6 @@
 -- Not cited by theorems: how contracts see the fields of `Carried`.
 use Rattle.std.specs.Prelude.{◌≡◌, Bool, true, false, List, Option, None, Some}
-use Rattle.gc_links.specs.Acts.{Act}
+use Rattle.gc_links.specs.Prelude.{Act}
 use Rattle.gc_rehearsal.specs.Carrying.{Lines, HasComeTo}
 use Rattle.gc_rehearsal.specs.Queues.{lines_of}
 use Rattle.gc_rehearsal.specs.declared.carried.Carried.TheInside.{Inside}

@@ -1,3 +1,4 @@
+pub mod Prelude
 pub mod Altering
 pub mod Askable
 pub mod Carrying

@@ -1,6 +1,6 @@
 -- Not cited by theorems: what the functions of a queue do to the lines in it, the one that was sent first in front.
 use Rattle.std.specs.Prelude.{◌≡◌, ◌⊎◌, ℕ, List, [], ◌∷◌, ◌++◌, map, Some}
-use Rattle.gc_lines.specs.Lines.{with_end}
+use Rattle.gc_lines.specs.Prelude.{with_end}
 use Rattle.gc_rehearsal.specs.Carrying.{HasPlayed, IsRepeated, Lines, IsSentOrLost}
 use Rattle.gc_rehearsal.specs.declared.carried.Traffic.{Traffic}
 use Rattle.gc_rehearsal.specs.declared.flight.Flight.{Flight}

@@ -1,6 +1,6 @@
 -- Not cited by theorems: the result of a read of a rehearsed line.
 use Rattle.std.specs.Prelude.{◌≡◌, ℕ, List, [], ◌∷◌, Option, Some, None}
-use Rattle.gc_links.specs.Acts.{Act, AddsActs, CameWithin, read_act}
+use Rattle.gc_links.specs.Prelude.{Act, AddsActs, CameWithin, read_act}
 use Rattle.gc_links.specs.declared.link.Came.{Came}
 
 -- a read with this result adds one act to those before. If it gave bytes, they are at least one, and no more than `buf` has room

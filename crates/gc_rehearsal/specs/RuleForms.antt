@@ -1,6 +1,6 @@
 -- The rule that a line of a text says: this project's own.
 use Rattle.std.specs.Prelude.{◌≡◌, ℕ, ◌≤◌, List, codes}
-use Rattle.gc_texts.specs.Procedures.{IsNumber}
+use Rattle.gc_texts.specs.Prelude.{IsNumber}
 use Rattle.gc_rehearsal.specs.Shares.{IsShare, whole_share}
 use Rattle.gc_rehearsal.specs.Spaced.{front_word, other_words, IsBlank}
 use Rattle.gc_rehearsal.specs.declared.frequency.Frequency.{Frequency}

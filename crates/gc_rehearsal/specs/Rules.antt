@@ -1,7 +1,6 @@
 -- The rules of a text together: this project's own.
 use Rattle.std.specs.Prelude.{◌≡◌, ℕ, ◌+◌, ◌⊎◌, List, [], ◌∷◌, ◌++◌, length, get_or, slice_set, Option, None, Some}
-use Rattle.gc_texts.specs.Cuts.{before}
-use Rattle.gc_texts.specs.LineForms.{text_lines}
+use Rattle.gc_texts.specs.Prelude.{before, text_lines}
 use Rattle.gc_rehearsal.specs.RuleForms.{place_of, IsRule, IsNoRule}
 use Rattle.gc_rehearsal.specs.Spaced.{IsBlank}
 use Rattle.gc_rehearsal.specs.declared.frequency.Frequency.{Frequency}

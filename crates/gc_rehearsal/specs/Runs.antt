@@ -2,10 +2,9 @@
 -- line, with its result.
 use Rattle.std.specs.Prelude.{◌≡◌, Bool, false, List, [], ◌∷◌, ◌++◌, Option, None, Some}
 use Rattle.std.specs.List.{AllByRecursion}
-use Rattle.gc_links.specs.Acts.{Act}
+use Rattle.gc_links.specs.Prelude.{Act}
 use Rattle.gc_rehearsal.specs.Carrying.{CarriesNothing, IsOfLine}
-use Rattle.gc_station.specs.Model.{Runs, opening}
-use Rattle.gc_station.specs.Scopes.{Scope}
+use Rattle.gc_station.specs.Prelude.{Runs, opening, Scope}
 use Rattle.gc_station.specs.declared.plan.Plan.{Plan}
 use Rattle.gc_texts.specs.declared.tasks.Task.{Task}
 use Rattle.gc_rehearsal.specs.Askable.{AreAskable}

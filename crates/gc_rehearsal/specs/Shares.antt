@@ -1,7 +1,6 @@
 -- Percentages from 0 to 100 with at most three decimals, in thousandths: this project's own.
 use Rattle.std.specs.Prelude.{◌≡◌, ℕ, ◌+◌, ◌*◌, ◌≤◌, ◌⊎◌, List, length, Option, None, Some}
-use Rattle.gc_texts.specs.Cuts.{Cuts}
-use Rattle.gc_texts.specs.Procedures.{IsNumber}
+use Rattle.gc_texts.specs.Prelude.{Cuts, IsNumber}
 
 -- the share that is all: 100 percent, in thousandths of a percent. This project's own
 abbrev pub whole_share : ℕ

@@ -1,8 +1,7 @@
 -- Words with any number of spaces (byte 32) before each: this project's own.
 use Rattle.std.specs.Prelude.{◌≡◌, ℕ, List, []}
-use Rattle.gc_values.specs.Pieces.{without_front_spaces}
-use Rattle.gc_texts.specs.Cuts.{behind}
-use Rattle.gc_texts.specs.Words.{first_word}
+use Rattle.gc_values.specs.Prelude.{without_front_spaces}
+use Rattle.gc_texts.specs.Prelude.{behind, first_word}
 
 -- the first word of a text, after any spaces; empty where it has none
 abbrev pub front_word : List ℕ → List ℕ

@@ -1,16 +1,6 @@
 -- Names that are apart from each other: what is looked up under one of them is in one part of a record's cells.
-use Rattle.std.proofs.Common.{◌≡◌, ◌++◌, ◌∷◌, ◌∙◌, [], ℕ, List, Bool, true, false, inl, inr, if◌then◌else◌, refl, sym, ap}
-use Rattle.std.specs.Prelude.{◌||◌, codes, not}
-use Rattle.std.specs.List.{list_all}
-use Rattle.std.specs.Str.{bytes_eq}
-use Rattle.std.proofs.lemmas.Bool.{and_from, and_parts, cases_Bool, false≢true, not-true, or_from, or_parts}
+use Rattle.gc_rows.proofs.Common.{◌≡◌, ◌++◌, ◌∷◌, ◌∙◌, [], ℕ, List, Bool, true, false, inl, inr, if◌then◌else◌, refl, sym, ap, ◌||◌, codes, not, list_all, bytes_eq, and_from, and_parts, cases_Bool, false≢true, not-true, or_from, or_parts, list_any-append, bytes_eq-Decides, ends_is, ends_as_text, Blank, Cell, lookup, names_of, are_distinct, is_among, is_apart, is_single}
 use Rattle.std.proofs.lemmas.Bool.Decides.{Decides-eqb}
-use Rattle.std.proofs.lemmas.List.Folds.{list_any-append}
-use Rattle.std.proofs.lemmas.Slice.Eq.{bytes_eq-Decides, ends_is}
-use Rattle.gc_texts.specs.ColumnNames.{ends_as_text}
-use Rattle.gc_rows.specs.Cells.{Blank, Cell, lookup, names_of}
-use Rattle.gc_rows.specs.DescribedColumns.{are_distinct}
-use Rattle.gc_rows.specs.Lookup.{is_among, is_apart, is_single}
 
 -- two equal names are among the same
 same_among : (key name : List ℕ) (names : List (List ℕ)) → bytes_eq name key ≡ true → is_among key names ≡ is_among name names

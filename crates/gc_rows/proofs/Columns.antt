@@ -1,18 +1,8 @@
 -- The columns of a record. A mark is a byte that ends a field, as a comma (44) or a colon (58): what comes before the first
 -- mark of a text and after it, and what that is in the lines of requests and replies.
-use Rattle.std.proofs.Common.{◌≡◌, ◌≢◌, ℕ, ◌+◌, ◌<◌, List, [], ◌∷◌, ◌++◌, Option, Some, None, inl, inr, ◌⊎◌, IfSome, sym, ap, subst, ◌∙◌, arith, append_assoc, append-nil}
-use Rattle.std.specs.Str.Parse.{AllDigits}
+use Rattle.gc_rows.proofs.Common.{◌≡◌, ◌≢◌, ℕ, ◌+◌, ◌<◌, List, [], ◌∷◌, ◌++◌, Option, Some, None, inl, inr, ◌⊎◌, IfSome, sym, ap, subst, ◌∙◌, arith, append_assoc, append-nil, AllDigits, digit_from_value, every_append, Lacks, before, behind, id_text, IsSmallNumber, EndsCode, ColumnsAreFields, com_of}
 use Rattle.std.specs.Int.{IsInRange}
-use Rattle.std.proofs.lemmas.Str.Parse.{digit_from_value}
-use Rattle.gc_values.proofs.Every.{every_append}
-use Rattle.gc_texts.specs.Cuts.{Lacks}
-use Rattle.gc_lines.specs.Headers.{id_text}
-use Rattle.gc_lines.specs.Numbers.{IsSmallNumber}
-use Rattle.gc_lines.specs.Replies.{EndsCode}
 use Rattle.gc_texts.proofs.Fronts.{before_mark, behind_mark, before_none, behind_none}
-use Rattle.gc_rows.specs.Laws.{ColumnsAreFields}
-use Rattle.gc_texts.specs.Cuts.{before, behind}
-use Rattle.gc_rows.specs.Rows.{com_of}
 
 -- a byte d that is a digit, from 48 to 57, isn't equal to a mark below 48 or above 57
 digit_is_no_mark : (d mark : ℕ) → d ≡ mark → IsInRange 48 57 d → mark < 48 ⊎ 57 < mark → ⊥

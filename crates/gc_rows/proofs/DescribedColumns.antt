@@ -1,34 +1,6 @@
 -- Under each column that a description names stands the value of this name, and the added columns follow the table's.
-use Rattle.std.proofs.Common.{◌≡◌, ◌++◌, ◌∷◌, ◌∙◌, [], ℕ, List, Bool, true, false, Option, Some, None, ◌⊎◌, inl, inr, map, drop, get_or, refl, sym, ap, subst}
-use Rattle.std.specs.Prelude.{◌&&◌, ◌||◌, codes, if◌then◌else◌, not}
-use Rattle.std.specs.List.{list_all}
-use Rattle.std.specs.Str.{bytes_eq}
-use Rattle.std.proofs.lemmas.Bool.{and_from, and_parts, cases_Bool, false≢true, not-true}
-use Rattle.std.proofs.lemmas.List.{map-append}
-use Rattle.std.proofs.lemmas.List.Folds.{list_any-append}
-use Rattle.std.proofs.lemmas.Slice.Eq.{bytes_eq-Decides}
-use Rattle.json.specs.Find.{get_member}
-use Rattle.gc_catalogue.specs.declared.asked.Asked.{Asked}
-use Rattle.gc_catalogue.specs.declared.asked.Asked.TheVariants.{Table, Raw}
-use Rattle.gc_values.specs.declared.value.Value.{Value}
-use Rattle.gc_texts.specs.ColumnNames.{are_columns, ends_as_text, is_column, is_named, names_of_row}
-use Rattle.gc_texts.specs.Descriptions.{DescriptionSeen}
-use Rattle.gc_texts.specs.Endings.{line_of}
-use Rattle.gc_texts.specs.Fields.{FieldSeen}
-use Rattle.gc_texts.specs.Logs.{escaped}
-use Rattle.gc_texts.specs.Measured.{value_under}
-use Rattle.gc_rows.specs.Cells.{Cell, Content, Quantity, cell, lookup, names_of}
-use Rattle.gc_rows.specs.Columns.{Column, Entry, cells_if, cells_in, cells_named, counted_answer, described_part, first_columns, items_column, last_columns, members_after_run, named_cells, new_columns, object_cells, object_columns, quantity_cells, row_columns, row_fields, run_column, table_columns}
-use Rattle.gc_rows.specs.DescribedCells.{answer_kinds, cells_of_values, field_cells, field_cells_if}
-use Rattle.gc_rows.specs.DescribedColumns.{AddedColumnsFollow, DescribedColumnsHoldTheirValues, IsDescribedAnswer, are_distinct, are_new, described_value, value_if}
-use Rattle.gc_rows.specs.Items.{items_of}
-use Rattle.gc_rows.specs.Laws.{record_read}
-use Rattle.gc_rows.specs.Lookup.{HasColumns, IsKnownName, IsShown, is_among, text_of, under}
-use Rattle.gc_rows.specs.NamedFields.{value_text}
-use Rattle.gc_rows.specs.Quantities.{quantity_names}
-use Rattle.gc_rows.specs.Records.{first_names, header}
-use Rattle.gc_rows.specs.Rows.{values_of}
-use Rattle.gc_rows.specs.ValueReading.{values_read}
+use Rattle.gc_rows.proofs.Common.{◌≡◌, ◌++◌, ◌∷◌, ◌∙◌, [], ℕ, List, Bool, true, false, Option, Some, None, ◌⊎◌, inl, inr, map, drop, get_or, refl, sym, ap, subst, ◌&&◌, ◌||◌, codes, not, list_all, bytes_eq, and_from, and_parts, cases_Bool, false≢true, not-true, map-append, list_any-append, bytes_eq-Decides, get_member, Asked, Table, Raw, Value, are_columns, ends_as_text, is_column, is_named, names_of_row, DescriptionSeen, line_of, FieldSeen, escaped, value_under, Cell, Content, Quantity, cell, lookup, names_of, Column, Entry, cells_if, cells_in, cells_named, counted_answer, described_part, first_columns, items_column, last_columns, members_after_run, named_cells, new_columns, object_cells, object_columns, quantity_cells, row_columns, row_fields, run_column, table_columns, answer_kinds, cells_of_values, field_cells, field_cells_if, AddedColumnsFollow, DescribedColumnsHoldTheirValues, IsDescribedAnswer, are_distinct, are_new, described_value, value_if, items_of, record_read, HasColumns, IsKnownName, IsShown, is_among, text_of, under, value_text, quantity_names, first_names, header, values_of, values_read}
+use Rattle.std.specs.Prelude.{if◌then◌else◌}
 use Rattle.gc_rows.proofs.Apart.{among_parts, apart_both, apart_turned, are_apart, distinct_both, lookup_before, lookup_without, not_among}
 use Rattle.gc_rows.proofs.DescribedNames.{column_apart, column_no_text, names_before, names_behind, object_single, quantities_suit}
 use Rattle.gc_rows.proofs.Finding.{lookup_among, lookup_behind, object_lookup, row_lookup, names_in}

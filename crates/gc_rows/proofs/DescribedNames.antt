@@ -1,25 +1,5 @@
 -- The names of an object's cells: no two are the same, if the columns of a description may be those of one answer.
-use Rattle.std.proofs.Common.{◌≡◌, ◌++◌, ◌∷◌, ◌∙◌, [], ℕ, List, true, false, Option, Some, None, inl, inr, map, drop, refl, sym, ap}
-use Rattle.std.specs.Prelude.{◌&&◌, not}
-use Rattle.std.specs.Str.{bytes_eq}
-use Rattle.std.proofs.lemmas.Bool.{and_from, and_parts, cases_Bool, false≢true, not-true, or_from, or_parts}
-use Rattle.std.proofs.lemmas.List.{map-append}
-use Rattle.gc_catalogue.specs.declared.answer.Answer.{Answer}
-use Rattle.gc_catalogue.specs.declared.asked.Asked.{Asked}
-use Rattle.gc_catalogue.specs.declared.asked.Asked.TheVariants.{Table, Raw}
-use Rattle.gc_values.specs.declared.value.Value.{Value}
-use Rattle.gc_texts.specs.ColumnNames.{are_columns, ends_as_text, is_column, is_name_of_row, is_named, names_of_row}
-use Rattle.gc_texts.specs.Descriptions.{DescriptionSeen}
-use Rattle.gc_texts.specs.Endings.{line_of}
-use Rattle.gc_texts.specs.Fields.{FieldSeen}
-use Rattle.gc_rows.specs.Cells.{Cell, names_of}
-use Rattle.gc_rows.specs.Columns.{Entry, cells_if, cells_in, counted_answer, first_columns, items_column, last_columns, object_cells, quantity_cells, run_column}
-use Rattle.gc_rows.specs.DescribedCells.{answer_kinds, cells_of_values, field_cells, field_cells_if}
-use Rattle.gc_rows.specs.DescribedColumns.{are_distinct}
-use Rattle.gc_rows.specs.Items.{items_of}
-use Rattle.gc_rows.specs.Lookup.{HasColumns, is_among, is_single}
-use Rattle.gc_rows.specs.Rows.{values_of}
-use Rattle.gc_rows.specs.ValueReading.{values_read}
+use Rattle.gc_rows.proofs.Common.{◌≡◌, ◌++◌, ◌∷◌, ◌∙◌, [], ℕ, List, true, false, Option, Some, None, inl, inr, map, drop, refl, sym, ap, ◌&&◌, not, bytes_eq, and_from, and_parts, cases_Bool, false≢true, not-true, or_from, or_parts, map-append, Answer, Asked, Table, Raw, Value, are_columns, ends_as_text, is_column, is_name_of_row, is_named, names_of_row, DescriptionSeen, line_of, FieldSeen, Cell, names_of, Entry, cells_if, cells_in, counted_answer, first_columns, items_column, last_columns, object_cells, quantity_cells, run_column, answer_kinds, cells_of_values, field_cells, field_cells_if, are_distinct, items_of, HasColumns, is_among, is_single, values_of, values_read}
 use Rattle.gc_rows.proofs.Apart.{among_parts, apart_both, apart_turned, are_apart, distinct_both, distinct_single}
 use Rattle.gc_rows.proofs.Spreading.{each_spread}
 

@@ -1,11 +1,5 @@
 -- The members of an answer to a described procedure, which the code writes one after the other.
-use Rattle.std.proofs.Common.{◌≡◌, ◌++◌, ◌∷◌, ◌∙◌, ℕ, ◌+◌, List, append_assoc, drop, sym, ap}
-use Rattle.std.proofs.lemmas.Grind.{flat_map-append}
-use Rattle.gc_values.specs.declared.value.Value.{Value}
-use Rattle.gc_texts.specs.Fields.{FieldSeen}
-use Rattle.gc_rows.specs.Cells.{Quantity, cell, members_of}
-use Rattle.gc_rows.specs.DescribedCells.{field_cells}
-use Rattle.gc_rows.specs.JsonLines.{member_text, members_text, value_members}
+use Rattle.gc_rows.proofs.Common.{◌≡◌, ◌++◌, ◌∷◌, ◌∙◌, ℕ, ◌+◌, List, append_assoc, drop, sym, ap, flat_map-append, Value, FieldSeen, Quantity, cell, members_of, field_cells, member_text, members_text, value_members}
 
 module _ (fs : List FieldSeen) (vs : List Value) (items : List (List ℕ)) (k : ℕ) (f : FieldSeen) (v : Value) (item : List ℕ)
     (field : drop k fs ≡ f ∷ drop (k + 1) fs) (value : drop k vs ≡ v ∷ drop (k + 1) vs) (came : drop k items ≡ item ∷ drop (k + 1) items) where

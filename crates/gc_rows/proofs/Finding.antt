@@ -1,25 +1,9 @@
 -- What a reader gets under a name in a row or an object of cells is what the cell of this name holds: two lemmas, one for each fold, by
 -- the kinds of content. A member is a name with its value; of members with one name the last is found.
-use Rattle.std.proofs.Common.{◌≡◌, ◌++◌, ◌∷◌, ◌∙◌, [], ℕ, ◌+◌, List, Bool, Option, Some, None, true, false, cond, inl, inr, if◌then◌else◌, refl, sym, ap, subst, map}
-use Rattle.std.specs.Prelude.{◌||◌, ◌&&◌, codes, not}
-use Rattle.std.specs.Str.{bytes_eq}
-use Rattle.std.proofs.lemmas.Bool.{and_parts, cases_Bool, not-true, or_parts}
-use Rattle.std.proofs.lemmas.Slice.Eq.{bytes_eq-Decides}
-use Rattle.json.specs.Find.{get_member, later_or}
-use Rattle.json.specs.Json as json
-use Rattle.gc_values.specs.declared.value.Value.{Value}
-use Rattle.gc_values.specs.declared.value.Value.TheVariants as value
-use Rattle.gc_texts.specs.Cuts.{before, behind}
-use Rattle.gc_texts.specs.Logs.{escaped}
-use Rattle.gc_lines.specs.Numbers.{IsSmallNumber}
-use Rattle.gc_rows.specs.Cells.{Blank, Bytes, Cell, Code, Content, Items, Moment, Quantity, Whole, cell, field_of, fields_of, lookup, members_in, members_of, names_of}
-use Rattle.gc_rows.specs.Columns.{Column, Entry, cells_from, cells_in, value_cells}
-use Rattle.gc_rows.specs.JsonLines.{Member, Text, Number, Texts}
-use Rattle.gc_rows.specs.Laws.{members_read, texts_read}
-use Rattle.gc_rows.specs.Lookup.{IsShown, is_among, is_apart, is_single, text_of, under}
-use Rattle.gc_rows.specs.ProcedureQuantities.{names_from, names_if}
-use Rattle.gc_rows.specs.Quantities.{quantity_name, quantity_text}
+use Rattle.gc_rows.proofs.Common.{◌≡◌, ◌++◌, ◌∷◌, ◌∙◌, [], ℕ, ◌+◌, List, Bool, Option, Some, None, true, false, cond, inl, inr, if◌then◌else◌, refl, sym, ap, subst, map, ◌||◌, ◌&&◌, codes, not, bytes_eq, and_parts, cases_Bool, not-true, or_parts, bytes_eq-Decides, get_member, later_or, Value, before, behind, escaped, IsSmallNumber, Blank, Bytes, Cell, Code, Content, Items, Moment, Quantity, Whole, cell, field_of, fields_of, lookup, members_in, members_of, names_of, Column, Entry, cells_from, cells_in, value_cells, Member, Text, Number, Texts, members_read, texts_read, IsShown, is_among, is_apart, is_single, text_of, under, names_from, names_if, quantity_name, quantity_text}
 use Rattle.gc_rows.proofs.Plain.{boolean_plain, code_plain, decimal_plain, double_plain, signed_plain, stamp_plain, zeros_gone}
+use Rattle.json.specs.Json as json
+use Rattle.gc_values.specs.declared.value.Value.TheVariants as value
 
 -- A row.
 

@@ -1,49 +1,15 @@
 -- What the cells of a record hold can be written and read back, where its numbers have at most 64 bits, and its texts are of bytes.
-use Rattle.std.proofs.Common.{◌≡◌, ◌<◌, ◌^◌, ◌%◌, ◌==◌, ◌++◌, ◌∷◌, [], ℕ, ◌+◌, List, Bool, true, Option, Some, None, IfSome, drop, get_or, length, inl, inr, refl, subst, sym, arith}
-use Rattle.std.specs.Prelude.{nat_lt, not, ◌&&◌}
-use Rattle.std.specs.List.{AllByRecursion}
-use Rattle.std.proofs.lemmas.Bool.{cond_both}
-use Rattle.gc_catalogue.specs.Answers.{answer_fields}
-use Rattle.gc_catalogue.specs.declared.answer.Answer.{Answer}
-use Rattle.gc_catalogue.specs.declared.answer.Answer.TheVariants.{Nothing, Short, Version, Long, Name, Date, Temperature, Place, Height, Angles, Measured, MeasuredMode}
-use Rattle.gc_catalogue.specs.declared.asked.Asked.{Asked}
-use Rattle.gc_catalogue.specs.declared.asked.Asked.TheVariants.{Table, Raw}
+use Rattle.gc_rows.proofs.Common.{◌≡◌, ◌<◌, ◌^◌, ◌%◌, ◌==◌, ◌++◌, ◌∷◌, [], ℕ, ◌+◌, List, Bool, true, Option, Some, None, IfSome, drop, get_or, length, inl, inr, refl, subst, sym, arith, nat_lt, not, ◌&&◌, AllByRecursion, cond_both, answer_fields, Answer, Nothing, Short, Version, Long, Name, Date, Temperature, Place, Height, Angles, Measured, MeasuredMode, Asked, Table, Raw, all_append, IsItem, quotes, value_fault_number, ValueFault, Spelling, Range, OpenQuote, TooMany, Count, Kind, Value, IsSmallNumber, item_is_value, before, behind, DescriptionSeen, judgement_word, End, Answered, Unreadable, Judged, Late, Lost, Skipped, NoValue, Missed, word_of, fault_of, line_of, quality_of, quality_text, FieldSeen, KindsSeen, AreBytes, IsOfBytes, bytes_by_recursion, bytes_by_places, Blank, Bytes, Cell, Code, Content, Items, Moment, Quantity, Whole, Entry, answer_of, bytes_content, cells_after_run, cells_from, cells_if, cells_in, counted_answer, fault_content, first_columns, items_column, items_if_any, last_columns, line_content, line_sent, moment_content, quantity_cells, split_content, value_cells, answer_kinds, cells_of_values, field_cells, field_cells_if, items_if, items_of, IsReplyOfBytes, IsAnswerOfBytes, IsEndOfBytes, FitsIn64Bits, column_of, items_as, suits_count, values_of_items, values_read, values_with, com_of, code_of, values_of, procedure_of, request_sent}
 use Rattle.gc_catalogue.proofs.RequestBytes.{request_lines_are_of_bytes}
 use Rattle.gc_catalogue.proofs.Table.{number_fits}
-use Rattle.gc_lines.proofs.Lists.{all_append}
-use Rattle.gc_values.specs.Item.{IsItem}
-use Rattle.gc_values.specs.Params.{quotes}
-use Rattle.gc_values.specs.ValueFault.{value_fault_number}
-use Rattle.gc_values.specs.declared.fault.ValueFault.{ValueFault}
-use Rattle.gc_values.specs.declared.fault.ValueFault.TheVariants.{Spelling, Range, OpenQuote, TooMany, Count}
-use Rattle.gc_values.specs.declared.value.Kind.{Kind}
-use Rattle.gc_values.specs.declared.value.Value.{Value}
-use Rattle.gc_values.specs.declared.value.Value.TheVariants as value
-use Rattle.gc_lines.specs.Numbers.{IsSmallNumber}
-use Rattle.gc_values.proofs.ItemLaws.{item_is_value}
-use Rattle.gc_texts.specs.Cuts.{before, behind}
-use Rattle.gc_texts.specs.Descriptions.{DescriptionSeen}
-use Rattle.gc_texts.specs.Judgements.{judgement_word}
 use Rattle.gc_texts.proofs.Judgements.{of_each}
-use Rattle.gc_texts.specs.Endings.{End, Answered, Unreadable, Judged, Late, Lost, Skipped, NoValue, Missed, word_of, fault_of, line_of, quality_of, quality_text}
-use Rattle.gc_texts.specs.Fields.{FieldSeen}
-use Rattle.gc_texts.specs.KindLists.{KindsSeen}
-use Rattle.gc_texts.specs.Logs.{AreBytes}
 use Rattle.gc_texts.specs.declared.quality.Quality.{Quality}
 use Rattle.gc_texts.specs.declared.quality.Quality.TheVariants.{Fine, Warning, Unconfirmed, Refused}
-use Rattle.gc_texts.proofs.Logs.{IsOfBytes, bytes_by_recursion, bytes_by_places}
-use Rattle.gc_rows.specs.Cells.{Blank, Bytes, Cell, Code, Content, Items, Moment, Quantity, Whole}
-use Rattle.gc_rows.specs.Columns.{Entry, answer_of, bytes_content, cells_after_run, cells_from, cells_if, cells_in, counted_answer, fault_content, first_columns, items_column, items_if_any, last_columns, line_content, line_sent, moment_content, quantity_cells, split_content, value_cells}
-use Rattle.gc_rows.specs.DescribedCells.{answer_kinds, cells_of_values, field_cells, field_cells_if}
-use Rattle.gc_rows.specs.Items.{items_if, items_of}
-use Rattle.gc_rows.specs.Laws.{IsReplyOfBytes, IsAnswerOfBytes, IsEndOfBytes, FitsIn64Bits}
-use Rattle.gc_rows.specs.Quantities.{column_of}
-use Rattle.gc_rows.specs.ValueReading.{items_as, suits_count, values_of_items, values_read, values_with}
-use Rattle.gc_rows.specs.Rows.{com_of, code_of, values_of, procedure_of, request_sent}
 use Rattle.gc_rows.proofs.Columns.{reply_columns}
 use Rattle.gc_rows.proofs.Items.{AreTextsOfBytes, items_bytes}
 use Rattle.gc_rows.proofs.PlainNames.{is_plain_name, plain_bytes}
 use Rattle.gc_rows.proofs.ValueReading.{value_or_none}
+use Rattle.gc_values.specs.declared.value.Value.TheVariants as value
 
 -- what a value holds is below 256, if it is a byte, and so is each byte of a text; of any other value nothing is asked
 abbrev pub HoldsBytes : Value → Type 0

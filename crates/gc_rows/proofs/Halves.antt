@@ -1,6 +1,5 @@
 -- How long the two parts are into which a text is cut at its first mark.
-use Rattle.std.proofs.Common.{◌+◌, ◌≤◌, ◌==◌, ℕ, Bool, true, false, List, [], ◌∷◌, length, cond, arith, lit≤}
-use Rattle.gc_texts.specs.Cuts.{before, behind}
+use Rattle.gc_rows.proofs.Common.{◌+◌, ◌≤◌, ◌==◌, ℕ, Bool, true, false, List, [], ◌∷◌, length, cond, arith, lit≤, before, behind}
 
 -- what is before the mark and what is behind it are together no longer than the text
 pub parts_short : (mark : ℕ) (bs : List ℕ) → length (before mark bs) + length (behind mark bs) ≤ length bs

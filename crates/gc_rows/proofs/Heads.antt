@@ -1,12 +1,6 @@
 -- The row of the names of a wide row's columns.
-use Rattle.std.proofs.Common.{◌≡◌, ◌++◌, ◌∙◌, List, ℕ, append_assoc, map, sym, ap}
-use Rattle.std.specs.Prelude.{codes, true}
-use Rattle.std.proofs.lemmas.Grind.{flat_map-append}
-use Rattle.std.proofs.lemmas.List.{map-append}
-use Rattle.gc_rows.specs.Columns.{Column, first_columns, last_columns, new_columns}
-use Rattle.gc_rows.specs.Quantities.{quantity_names}
-use Rattle.gc_rows.specs.Records.{header}
-use Rattle.gc_rows.specs.Rows.{behind_comma, field_text, fields_behind_commas, row_of}
+use Rattle.gc_rows.proofs.Common.{◌≡◌, ◌++◌, ◌∙◌, List, ℕ, append_assoc, map, sym, ap, codes, flat_map-append, map-append, Column, first_columns, last_columns, new_columns, quantity_names, header, behind_comma, field_text, fields_behind_commas, row_of}
+use Rattle.std.specs.Prelude.{true}
 use Rattle.gc_rows.proofs.DescribedColumns.{column_names}
 
 -- the names between `run` and the quantities, and those behind them

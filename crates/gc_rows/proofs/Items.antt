@@ -1,20 +1,9 @@
 -- The items of a reply's values are those of the grammar: a text that is parameters joined by commas, with any spaces round
 -- each, has these parameters as its items.
-use Rattle.std.proofs.Common.{◌≡◌, ◌<◌, ◌≤◌, ◌+◌, ◌%◌, ◌==◌, ◌⊎◌, inl, inr, ℕ, zero, suc, List, [], ◌∷◌, ◌++◌, length, get_or, take, map, replicate, Bool, true, false, cond, Some, None, refl, sym, ap, ◌∙◌, subst, arith, append_assoc, append-nil}
-use Rattle.std.specs.Prelude.{not, ◌&&◌}
-use Rattle.std.specs.List.{AllByRecursion, onto_first}
-use Rattle.std.proofs.lemmas.Bool.{ne_eqb, eqb-true, eq-eqb, cond_both, lt-ltb, le-ltb, false≢true, false_from_ne_true}
-use Rattle.gc_values.specs.Params.{quotes, quoted_after, AreSpaces, HasCommasInQuotes, IsParam, IsPadded, ArePieces, joined, IsParams, total_length}
-use Rattle.gc_values.specs.declared.fault.ValueFault.{ValueFault}
-use Rattle.gc_values.specs.declared.fault.ValueFault.TheVariants.{OpenQuote, TooMany}
-use Rattle.gc_values.proofs.ItemBytes.{total_length_next, total_length_front}
+use Rattle.gc_rows.proofs.Common.{◌≡◌, ◌<◌, ◌≤◌, ◌+◌, ◌%◌, ◌==◌, ◌⊎◌, inl, inr, ℕ, zero, suc, List, [], ◌∷◌, ◌++◌, length, get_or, take, map, replicate, Bool, true, false, cond, Some, None, refl, sym, ap, ◌∙◌, subst, arith, append_assoc, append-nil, not, ◌&&◌, AllByRecursion, onto_first, ne_eqb, eqb-true, eq-eqb, cond_both, lt-ltb, le-ltb, false≢true, false_from_ne_true, quotes, quoted_after, AreSpaces, HasCommasInQuotes, IsParam, IsPadded, ArePieces, joined, IsParams, total_length, without_front_spaces, put_before, without_end_spaces, ValueFault, OpenQuote, TooMany, total_length_next, total_length_front, IsOfBytes, trimmed, comma_pieces, is_blank, items_of, items_if, split_items, ItemsAreTheGrammars}
 use Rattle.gc_values.proofs.ParamLists.{pieces_of, params_even}
 use Rattle.gc_values.proofs.Quotes.{IsPiece, quotes-append, quotes-cons}
 use Rattle.gc_values.proofs.Trimming.{param_is_trimmed, trimmed_from_both_ends}
-use Rattle.gc_values.specs.Pieces.{without_front_spaces, put_before, without_end_spaces}
-use Rattle.gc_texts.proofs.Logs.{IsOfBytes}
-use Rattle.gc_rows.specs.Items.{trimmed, comma_pieces, is_blank, items_of, items_if, split_items}
-use Rattle.gc_rows.specs.Laws.{ItemsAreTheGrammars}
 
 -- Spaces at the ends.
 

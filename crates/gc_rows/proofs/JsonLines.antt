@@ -1,26 +1,13 @@
 -- Lines of JSON: the members of one, and what a reader of JSON makes of it. `escape` and `print` are those of the library's
 -- writer of JSON, and `document` is its reader.
-use Rattle.std.proofs.Common.{◌≡◌, ◌<◌, ◌≤◌, ◌^◌, ◌==◌, ◌++◌, ◌∷◌, ◌∙◌, [], ℕ, ◌+◌, suc, List, length, drop, get_or, Bool, Some, true, false, inl, inr, refl, sym, ap, subst, arith, append_assoc}
-use Rattle.std.specs.Prelude.{◌||◌, codes, max, nat_lt}
-use Rattle.std.specs.List.{AllByRecursion, flat_map}
-use Rattle.std.proofs.Math.Nat.{zero-max}
-use Rattle.std.proofs.lemmas.Bool.{cases_Bool, lt-ltb}
-use Rattle.std.proofs.lemmas.List.{drop_more}
-use Rattle.std.proofs.lemmas.List.Elements.{recursion_from_All}
-use Rattle.gc_values.proofs.Every.{every_weaker as all_on}
-use Rattle.json.specs.Json as json
+use Rattle.gc_rows.proofs.Common.{◌≡◌, ◌<◌, ◌≤◌, ◌^◌, ◌==◌, ◌++◌, ◌∷◌, ◌∙◌, [], ℕ, ◌+◌, suc, List, length, drop, get_or, Bool, Some, true, false, inl, inr, refl, sym, ap, subst, arith, append_assoc, ◌||◌, codes, max, nat_lt, AllByRecursion, flat_map, zero-max, cases_Bool, lt-ltb, drop_more, recursion_from_All, every_weaker as all_on, print, Member, Text, Number, Texts, behind_backslash, string_text, comma_where, strings_text, list_text, members_text, IsPlainName, ArePlainMembers, texts_read, members_read, record_read, JsonLinesReadBack, escaped, AreBytes, IsPrintableByte, stamp_text, IsOfBytes, bytes_by_recursion, bytes_by_places, escaped_prints, stamp_prints}
 use Rattle.json.specs.Json.{document}
-use Rattle.json.specs.Print.{escape, escape_byte, print, print_from}
+use Rattle.json.specs.Print.{escape, escape_byte, print_from}
 use Rattle.json.specs.Token.{Token, end_array}
 use Rattle.json.specs.Tree.{ItemsHaveNumbers, MembersHaveNumbers, items_depth, items_tokens, json_tokens, members_depth, members_tokens}
 use Rattle.json.proofs.Printed.Strings.{escape_byte_plain}
 use Rattle.json.proofs.Printed.Trees.{document-print}
-use Rattle.gc_rows.specs.JsonLines.{Member, Text, Number, Texts, behind_backslash, string_text, comma_where, strings_text, list_text, members_text}
-use Rattle.gc_rows.specs.Laws.{IsPlainName, ArePlainMembers, texts_read, members_read, record_read, JsonLinesReadBack}
-use Rattle.gc_texts.specs.Logs.{escaped, AreBytes, IsPrintableByte}
-use Rattle.gc_texts.specs.Stamps.{stamp_text}
-use Rattle.gc_texts.proofs.Logs.{IsOfBytes, bytes_by_recursion, bytes_by_places}
-use Rattle.gc_texts.proofs.LogStamps.{escaped_prints, stamp_prints}
+use Rattle.json.specs.Json as json
 
 -- a double quote and a backslash are escaped as a writer of JSON escapes them
 marked_as_json : (b : ℕ) → IsPrintableByte b → ((b == 34) || (b == 92)) ≡ true → behind_backslash b ≡ escape_byte b

@@ -1,3 +1,4 @@
+mod Common
 pub mod Columns
 pub mod Plain
 pub mod PlainNames

@@ -1,9 +1,5 @@
 -- What a reader gets of a record under a name is what the record's cell of this name holds.
-use Rattle.std.proofs.Common.{map, refl, subst, sym}
-use Rattle.gc_texts.specs.Logs.{escaped}
-use Rattle.gc_rows.specs.Cells.{fields_of, lookup}
-use Rattle.gc_rows.specs.Columns.{cells_in, object_cells, row_columns}
-use Rattle.gc_rows.specs.Lookup.{IsShown, RecordsReadBack, under}
+use Rattle.gc_rows.proofs.Common.{map, refl, subst, sym, escaped, fields_of, lookup, cells_in, object_cells, row_columns, IsShown, RecordsReadBack, under}
 use Rattle.gc_rows.proofs.DescribedColumns.{known_found, known_no_text, object_at}
 use Rattle.gc_rows.proofs.DescribedNames.{object_single}
 pub use Rattle.gc_rows.proofs.Finding.{find, from_shown, lookup_among, lookup_behind, names_in, object_lookup, row_lookup}

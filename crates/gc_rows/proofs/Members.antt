@@ -1,50 +1,16 @@
 -- The members of a record's line are plain (`IsPlainMember`): their names are plain, their texts hold bytes, and their numbers
 -- are JSON's.
-use Rattle.std.proofs.Common.{◌≡◌, ◌<◌, ◌≤◌, ◌≢◌, ◌==◌, ◌++◌, ◌∷◌, ◌∙◌, [], ℕ, ◌+◌, List, Bool, true, false, cond, inl, inr, Option, Some, None, length, drop, get_or, option_and_then, refl, sym, ap, subst, arith, append-nil}
-use Rattle.std.specs.Prelude.{codes, nat_lt, ◌&&◌}
+use Rattle.gc_rows.proofs.Common.{◌≡◌, ◌<◌, ◌≤◌, ◌≢◌, ◌==◌, ◌++◌, ◌∷◌, ◌∙◌, [], ℕ, ◌+◌, List, Bool, true, false, cond, inl, inr, Option, Some, None, length, drop, get_or, option_and_then, refl, sym, ap, subst, arith, append-nil, codes, nat_lt, ◌&&◌, decimal, AllByRecursion, list_all, prefix_len, AllDigits, cases_Bool, cond_both, eqb-true, eq-eqb, ltb-true, ne_eqb, false≢true, le-leb, and_from, and_parts, drop_at, IsNumber, boolean_text, AreDigits, signed_text, written, IsWholePart, HasWholeForm, HasDecimalForm, minus_where, Value, every_weaker as all_on, whole_text_once, decimal_text_once, all_append, answer_fields, Answer, Asked, Table, Raw, DescriptionSeen, line_of, FieldSeen, HaveNames, is_field_name, is_name_byte, is_small_letter, AreBytes, IsOfBytes, bytes_by_places, Blank, Bytes, Cell, Code, Content, Items, Moment, Quantity, Whole, members_in, members_of, names_of, cells_after_run, cells_from, cells_if, cells_in, counted_answer, first_columns, items_column, last_columns, quantity_cells, answer_kinds, cells_of_values, field_cells, field_cells_if, items_of, Text, Number, without_zeros, value_members, HasFieldNames, IsPlainName, IsPlainMember, ArePlainMembers, RecordsHavePlainMembers, column_of, values_of, values_read}
 use Rattle.std.specs.Char.{is_ascii_digit}
-use Rattle.std.specs.Fmt.{decimal}
-use Rattle.std.specs.List.{AllByRecursion, list_all, prefix_len}
-use Rattle.std.specs.Str.Parse.{AllDigits}
-use Rattle.std.proofs.lemmas.Bool.{cases_Bool, cond_both, eqb-true, eq-eqb, ltb-true, ne_eqb, false≢true, le-leb, and_from, and_parts}
-use Rattle.std.proofs.lemmas.List.{drop_at}
-use Rattle.json.specs.Print.{IsNumber}
 use Rattle.json.specs.Word.{head, after_digits, after_whole, after_fraction, after_exponent, after_number}
 use Rattle.json.proofs.Printed.Decimals.{IsNumber-decimal}
-use Rattle.gc_values.specs.Boolean.{boolean_text}
-use Rattle.gc_values.specs.Digits.{AreDigits}
-use Rattle.gc_values.specs.Whole.{signed_text}
-use Rattle.gc_values.specs.Written.{written}
-use Rattle.gc_values.specs.WrittenForm.{IsWholePart, HasWholeForm, HasDecimalForm, minus_where}
-use Rattle.gc_values.specs.declared.value.Value.{Value}
-use Rattle.gc_values.specs.declared.value.Value.TheVariants as value
-use Rattle.gc_values.proofs.Every.{every_weaker as all_on}
-use Rattle.gc_values.proofs.OneText.{whole_text_once, decimal_text_once}
-use Rattle.gc_lines.proofs.Lists.{all_append}
-use Rattle.gc_catalogue.specs.Answers.{answer_fields}
-use Rattle.gc_catalogue.specs.declared.answer.Answer.{Answer}
-use Rattle.gc_catalogue.specs.declared.asked.Asked.{Asked}
-use Rattle.gc_catalogue.specs.declared.asked.Asked.TheVariants.{Table, Raw}
-use Rattle.gc_texts.specs.Descriptions.{DescriptionSeen}
-use Rattle.gc_texts.specs.Endings.{line_of}
-use Rattle.gc_texts.specs.Fields.{FieldSeen, HaveNames, is_field_name, is_name_byte, is_small_letter}
-use Rattle.gc_texts.specs.Logs.{AreBytes}
-use Rattle.gc_texts.proofs.Logs.{IsOfBytes, bytes_by_places}
-use Rattle.gc_rows.specs.Cells.{Blank, Bytes, Cell, Code, Content, Items, Moment, Quantity, Whole, members_in, members_of, names_of}
-use Rattle.gc_rows.specs.Columns.{cells_after_run, cells_from, cells_if, cells_in, counted_answer, first_columns, items_column, last_columns, quantity_cells}
-use Rattle.gc_rows.specs.DescribedCells.{answer_kinds, cells_of_values, field_cells, field_cells_if}
-use Rattle.gc_rows.specs.Items.{items_of}
-use Rattle.gc_rows.specs.JsonLines.{Text, Number, without_zeros, value_members}
-use Rattle.gc_rows.specs.Laws.{HasFieldNames, IsPlainName, IsPlainMember, ArePlainMembers, RecordsHavePlainMembers}
-use Rattle.gc_rows.specs.Quantities.{column_of}
-use Rattle.gc_rows.specs.Rows.{values_of}
-use Rattle.gc_rows.specs.ValueReading.{values_read}
 use Rattle.gc_rows.proofs.Fit.{AreFit, HoldsBytes, IsFit, each_fit}
 use Rattle.gc_rows.proofs.Items.{AreTextsOfBytes}
 use Rattle.gc_rows.proofs.JsonLines.{stamp_bytes}
 use Rattle.gc_rows.proofs.Plain.{same_digits}
 use Rattle.gc_rows.proofs.PlainNames.{are_plain_names, is_plain_name, plain_name, text_name_plain}
 use Rattle.gc_rows.proofs.Spreading.{each_spread}
+use Rattle.gc_values.specs.declared.value.Value.TheVariants as value
 
 -- if no digit follows the digits `ds`, the run of digits at the front of `ds` and `rest` is as long as `ds`
 digits_run : (ds rest : List ℕ) → AreDigits ds → prefix_len is_ascii_digit rest ≡ 0 → prefix_len is_ascii_digit (ds ++ rest) ≡ length ds

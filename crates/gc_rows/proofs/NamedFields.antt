@@ -1,24 +1,5 @@
 -- The fields under names: the code writes them one after the other, and the definitions look them up among the cells of an answer.
-use Rattle.std.proofs.Common.{◌≡◌, ◌<◌, ◌++◌, ◌∷◌, ◌∙◌, [], ℕ, ◌+◌, List, true, Option, Some, None, inl, inr, append_assoc, length, map, drop, replicate, refl, sym, ap, arith}
-use Rattle.std.specs.List.{flat_map}
-use Rattle.std.specs.Str.{bytes_eq}
-use Rattle.std.proofs.lemmas.Bool.{cases_Bool}
-use Rattle.std.proofs.lemmas.List.{drop_more, length-append, map-append}
-use Rattle.gc_catalogue.specs.declared.answer.Answer.{Answer}
-use Rattle.gc_catalogue.specs.declared.asked.Asked.{Asked}
-use Rattle.gc_catalogue.specs.declared.asked.Asked.TheVariants.{Table, Raw}
-use Rattle.gc_values.specs.declared.value.Value.{Value}
-use Rattle.gc_texts.specs.Descriptions.{DescriptionSeen}
-use Rattle.gc_texts.specs.Endings.{End, line_of}
-use Rattle.gc_texts.specs.Fields.{FieldSeen}
-use Rattle.gc_texts.specs.Measured.{value_under}
-use Rattle.gc_rows.specs.Cells.{field_of, fields_of, lookup}
-use Rattle.gc_rows.specs.Columns.{Entry, answer_cells, cells_if, cells_in, counted_answer, described_part, end_cells, named_cells, new_columns, quantity_cells}
-use Rattle.gc_rows.specs.DescribedCells.{field_cells}
-use Rattle.gc_rows.specs.NamedFields.{answer_fields_in, fields_asked, named_fields, quantity_fields, text_under, value_text}
-use Rattle.gc_rows.specs.Quantities.{quantity_name, quantity_names}
-use Rattle.gc_rows.specs.Rows.{answer_columns, behind_comma, fields_behind_commas, values_of}
-use Rattle.gc_rows.specs.declared.quantity.TheConstants.{QUANTITIES}
+use Rattle.gc_rows.proofs.Common.{◌≡◌, ◌<◌, ◌++◌, ◌∷◌, ◌∙◌, [], ℕ, ◌+◌, List, true, Option, Some, None, inl, inr, append_assoc, length, map, drop, replicate, refl, sym, ap, arith, flat_map, bytes_eq, cases_Bool, drop_more, length-append, map-append, Answer, Asked, Table, Raw, Value, DescriptionSeen, End, line_of, FieldSeen, value_under, field_of, fields_of, lookup, Entry, answer_cells, cells_if, cells_in, counted_answer, described_part, end_cells, named_cells, new_columns, quantity_cells, field_cells, answer_fields_in, fields_asked, named_fields, quantity_fields, text_under, value_text, quantity_name, quantity_names, answer_columns, behind_comma, fields_behind_commas, values_of, QUANTITIES}
 use Rattle.gc_rows.proofs.Spreading.{each_spread}
 
 -- texts of names, each written as a field after a comma

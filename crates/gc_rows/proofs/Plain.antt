@@ -1,29 +1,9 @@
 -- Numbers and moments appear unchanged in a field: the escapes of a field (`escaped`) change nothing in them. A code without its zeros
 -- is the same number.
-use Rattle.std.proofs.Common.{◌≡◌, ℕ, Bool, zero, suc, ◌+◌, ◌/◌, ◌%◌, ◌<◌, ◌≤◌, true, false, cond, List, [], ◌∷◌, ◌++◌, Option, Some, None, refl, ap, ◌∙◌, arith}
-use Rattle.std.specs.Prelude.{◌==◌, ◌&&◌, codes, nat_lt, not}
-use Rattle.std.specs.Fmt.{decimal, digit_glyph, digits, digits_onto}
-use Rattle.std.specs.Str.Parse.{AllDigits}
-use Rattle.std.proofs.Math.Nat.{div-add-mod}
-use Rattle.std.proofs.lemmas.Bool.{and_from, cond_both, lt-ltb, ne_eqb}
-use Rattle.std.proofs.lemmas.Grind.{flat_map-append}
-use Rattle.gc_values.specs.Digits.{AreDigits}
-use Rattle.gc_texts.specs.Logs.{escape, escaped, hex_digit}
-use Rattle.gc_texts.specs.Stamps.{date_of, date_text, stamp_text, three_digits, time_text, two_digits}
-use Rattle.gc_rows.specs.Rows.{moment_text}
-use Rattle.gc_texts.proofs.LogStamps.{date_within}
-use Rattle.std.proofs.Common.{ℤ, sym, subst}
-use Rattle.std.proofs.lemmas.Bool.{eqb-true}
-use Rattle.std.proofs.lemmas.Str.Parse.{digit_from_value}
-use Rattle.gc_lines.specs.Numbers.{IsSmallNumber}
-use Rattle.gc_values.specs.Whole.{signed_text}
-use Rattle.gc_values.specs.Written.{written}
-use Rattle.gc_values.specs.WrittenForm.{HasDecimalForm, HasWholeForm, minus_where}
-use Rattle.gc_values.specs.declared.decimal.Decimal.{Decimal}
+use Rattle.gc_rows.proofs.Common.{◌≡◌, ℕ, Bool, zero, suc, ◌+◌, ◌/◌, ◌%◌, ◌<◌, ◌≤◌, true, false, cond, List, [], ◌∷◌, ◌++◌, Option, Some, None, refl, ap, ◌∙◌, arith, ℤ, sym, subst, ◌&&◌, codes, nat_lt, not, decimal, digit_glyph, digits_onto, AllDigits, div-add-mod, and_from, cond_both, lt-ltb, ne_eqb, eqb-true, flat_map-append, AreDigits, signed_text, written, HasDecimalForm, HasWholeForm, minus_where, escape, escaped, hex_digit, date_of, date_text, stamp_text, three_digits, time_text, two_digits, moment_text, date_within, digit_from_value, IsSmallNumber, Decimal, whole_text_once, decimal_text_once, without_zeros, quantity_text}
+use Rattle.std.specs.Prelude.{◌==◌}
+use Rattle.std.specs.Fmt.{digits}
 use Rattle.gc_values.specs.declared.value.Value.TheVariants as value
-use Rattle.gc_values.proofs.OneText.{whole_text_once, decimal_text_once}
-use Rattle.gc_rows.specs.JsonLines.{without_zeros}
-use Rattle.gc_rows.specs.Quantities.{quantity_text}
 
 -- escaping changes nothing in this text
 abbrev pub NeedsNoEscape : List ℕ → Type 0

@@ -1,10 +1,5 @@
 -- Plain names: a test that shows that a name or a word appears unchanged in a string of JSON.
-use Rattle.std.proofs.Common.{◌≡◌, ◌≢◌, ◌≤◌, ◌==◌, ◌++◌, ◌∷◌, [], ℕ, List, Bool, true, refl, arith}
-use Rattle.std.specs.Prelude.{codes, nat_lt, not, ◌&&◌}
-use Rattle.std.proofs.lemmas.Bool.{and_parts, eqb-false, ltb-true, not-true}
-use Rattle.gc_lines.proofs.Lists.{all_append}
-use Rattle.gc_rows.specs.Laws.{IsPlainName}
-use Rattle.gc_texts.proofs.Logs.{IsOfBytes}
+use Rattle.gc_rows.proofs.Common.{◌≡◌, ◌≢◌, ◌≤◌, ◌==◌, ◌++◌, ◌∷◌, [], ℕ, List, Bool, true, refl, arith, codes, nat_lt, not, ◌&&◌, and_parts, eqb-false, ltb-true, not-true, all_append, IsPlainName, IsOfBytes}
 
 -- whether a byte may occur in a plain name: printable ASCII other than the double quote and the backslash
 abbrev pub is_plain_name_byte : ℕ → Bool

@@ -1,11 +1,5 @@
 -- The values of an answer are under their names, and a row has as many fields as its header.
-use Rattle.std.proofs.Common.{length, refl, sym, ap, ◌∙◌}
-use Rattle.std.proofs.lemmas.List.{length-map}
-use Rattle.gc_catalogue.specs.declared.answer.Answer.TheVariants.{Nothing, Short, Version, Long, Name, Date, Temperature, Place, Height, Angles, Measured, MeasuredMode}
-use Rattle.gc_catalogue.specs.declared.call.Call.TheVariants.{NullProc, SetPrecision, GetPrecision, ComVersion, InstrumentNo, InstrumentName, SetDate, GetDate, IntTemp, CsvVersion, DoMeasure, GetStation, SetStation, GetHeight, SetHeight, GetFace, GetAngle, SimpleMea, QuickDist, SetPrism, GetPrism, MeasDistance, Position, ChangeFace, FineAdjust}
-use Rattle.gc_rows.specs.Cells.{field_of}
-use Rattle.gc_rows.specs.Columns.{cells_in, row_columns}
-use Rattle.gc_rows.specs.ProcedureQuantities.{QuantitiesHaveTheirNames, WholesHaveTheirNames, RowsFillTheirColumns}
+use Rattle.gc_rows.proofs.Common.{length, refl, sym, ap, ◌∙◌, length-map, Nothing, Short, Version, Long, Name, Date, Temperature, Place, Height, Angles, Measured, MeasuredMode, NullProc, SetPrecision, GetPrecision, ComVersion, InstrumentNo, InstrumentName, SetDate, GetDate, IntTemp, CsvVersion, DoMeasure, GetStation, SetStation, GetHeight, SetHeight, GetFace, GetAngle, SimpleMea, QuickDist, SetPrism, GetPrism, MeasDistance, Position, ChangeFace, FineAdjust, field_of, cells_in, row_columns, QuantitiesHaveTheirNames, WholesHaveTheirNames, RowsFillTheirColumns}
 use Rattle.gc_rows.proofs.Lookup.{names_in}
 
 -- the law: the values of an answer are under the names of the quantities that its procedure returns

@@ -1,11 +1,5 @@
 -- How many values and items there are of parameters that are read by kinds.
-use Rattle.std.proofs.Common.{◌≡◌, ◌≤◌, ◌∷◌, ◌∙◌, [], ℕ, suc, List, Bool, true, false, cond, Option, Some, None, IfSome, inl, inr, length, refl, sym, ap, subst, arith}
-use Rattle.std.proofs.lemmas.Bool.{cases_Bool, eqb-true, leb-true}
-use Rattle.gc_values.specs.declared.value.Kind.{Kind}
-use Rattle.gc_values.specs.declared.value.Value.{Value}
-use Rattle.gc_texts.specs.KindLists.{KindsSeen}
-use Rattle.gc_rows.specs.Items.{split_items}
-use Rattle.gc_rows.specs.ValueReading.{items_as, suits_count, value_in, values_of_items, values_read, values_with}
+use Rattle.gc_rows.proofs.Common.{◌≡◌, ◌≤◌, ◌∷◌, ◌∙◌, [], ℕ, suc, List, Bool, true, false, cond, Option, Some, None, IfSome, inl, inr, length, refl, sym, ap, subst, arith, cases_Bool, eqb-true, leb-true, Kind, Value, KindsSeen, split_items, items_as, suits_count, value_in, values_of_items, values_read, values_with}
 
 -- items are read as one value of each kind, if they are
 as_many : (ks : List Kind) (items : List (List ℕ)) → IfSome (items_as ks items) (λ vs. length vs ≡ length ks)

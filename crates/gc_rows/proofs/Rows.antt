@@ -1,26 +1,12 @@
 -- Rows: the fields of one, and what a reader of comma-separated values makes of it. The writer and the reader of
 -- comma-separated values are the library's.
-use Rattle.std.proofs.Common.{◌≡◌, ◌==◌, ◌<◌, ◌++◌, ◌∷◌, ◌∙◌, [], ℕ, zero, suc, ◌-◌, List, Bool, true, false, inl, inr, refl, sym, ap, arith, append_assoc, length, map, replicate}
-use Rattle.std.specs.Prelude.{◌||◌}
-use Rattle.std.specs.List.{All, AllByRecursion, flat_map, list_any}
-use Rattle.std.proofs.lemmas.Grind.{flat_map-append}
-use Rattle.std.proofs.lemmas.Bool.{cases_Bool, cond_both, eqb-true}
-use Rattle.std.proofs.lemmas.List.{length-map}
-use Rattle.std.proofs.lemmas.List.Elements.{recursion_from_All, All-from_recursion, All-append}
+use Rattle.gc_rows.proofs.Common.{◌≡◌, ◌==◌, ◌<◌, ◌++◌, ◌∷◌, ◌∙◌, [], ℕ, zero, suc, ◌-◌, List, Bool, true, false, inl, inr, refl, sym, ap, arith, append_assoc, length, map, replicate, ◌||◌, All, AllByRecursion, flat_map, list_any, flat_map-append, cases_Bool, cond_both, eqb-true, length-map, recursion_from_All, All-from_recursion, All-append, QUANTITIES, ReadsBackAs, RowsReadBack, RowsArePrintable, escaped, AreBytes, IsPrintable, IsPrintableByte, quantity_text, is_special, within_quotes, csv_field, field_text, behind_comma, fields_behind_commas, row_of, spread, value_behind_comma, Value, escaped_prints, bytes_by_recursion, escaped_injective}
 use Rattle.csv.specs.Machine.{next_record}
 use Rattle.csv.specs.Reading.{default_config, records_from}
-use Rattle.csv.specs.Writing as csv
 use Rattle.csv.specs.Writing.{default_writer, fields_text, is_blank, needs_byte, row_text}
 use Rattle.csv.specs.declared.parser.State.TheVariants.{StartRecord}
 use Rattle.csv.proofs.RoundTrip.{read-write-many}
-use Rattle.gc_rows.specs.declared.quantity.TheConstants.{QUANTITIES}
-use Rattle.gc_rows.specs.Laws.{ReadsBackAs, RowsReadBack, RowsArePrintable}
-use Rattle.gc_texts.specs.Logs.{escaped, AreBytes, IsPrintable, IsPrintableByte}
-use Rattle.gc_rows.specs.Quantities.{quantity_text}
-use Rattle.gc_rows.specs.Rows.{is_special, within_quotes, csv_field, field_text, behind_comma, fields_behind_commas, row_of, spread, value_behind_comma}
-use Rattle.gc_values.specs.declared.value.Value.{Value}
-use Rattle.gc_texts.proofs.LogStamps.{escaped_prints}
-use Rattle.gc_texts.proofs.Logs.{bytes_by_recursion, escaped_injective}
+use Rattle.csv.specs.Writing as csv
 
 -- after `front`, the texts of the items of three lists, one list after the other, are those of the lists joined
 pub three_written : {X : Type 0} (text : X → List ℕ) (front : List ℕ) (xs ys zs : List X)

@@ -1,26 +1,10 @@
 -- The code writes the quantities of an answer by their places. In a row and in an object that gives the same as the cells of the
 -- quantities, by their names.
-use Rattle.std.proofs.Common.{◌≡◌, Bool, true, ◌++◌, ◌∙◌, [], ◌∷◌, List, ℕ, Option, map, ap, append_assoc, refl, sym}
-use Rattle.std.specs.Prelude.{codes}
-use Rattle.std.proofs.lemmas.Grind.{flat_map-append}
-use Rattle.std.proofs.lemmas.List.{map-append}
-use Rattle.gc_catalogue.specs.Answers.{answer_fields}
-use Rattle.gc_catalogue.specs.declared.answer.Answer.{Answer}
-use Rattle.gc_catalogue.specs.declared.answer.Answer.TheVariants.{Nothing, Short, Version, Long, Name, Date, Temperature, Place, Height, Angles, Measured, MeasuredMode}
+use Rattle.gc_rows.proofs.Common.{◌≡◌, Bool, true, ◌++◌, ◌∙◌, [], ◌∷◌, List, ℕ, Option, map, ap, append_assoc, refl, sym, codes, flat_map-append, map-append, answer_fields, Answer, Nothing, Short, Version, Long, Name, Date, Temperature, Place, Height, Angles, Measured, MeasuredMode, GetFace, GetPrism, GetPrecision, InstrumentNo, Value, stamp_text, names_of_row, Cell, cell, field_of, fields_of, members_in, members_of, names_of, Entry, all_quantities, cells_from, cells_in, first_columns, item_content, items_column, last_columns, members_after_run, quantity_cells, quantity_columns, row_fields, are_distinct, Member, column_of, column_of_whole, quantity_text, columns_from}
 use Rattle.gc_catalogue.specs.declared.call.Call.{Call}
-use Rattle.gc_catalogue.specs.declared.call.Call.TheVariants.{GetFace, GetPrism, GetPrecision, InstrumentNo}
-use Rattle.gc_values.specs.declared.value.Value.{Value}
-use Rattle.gc_values.specs.declared.value.Value.TheVariants as value
-use Rattle.gc_texts.specs.Stamps.{stamp_text}
-use Rattle.gc_texts.specs.ColumnNames.{names_of_row}
-use Rattle.gc_rows.specs.Cells.{Cell, cell, field_of, fields_of, members_in, members_of, names_of}
-use Rattle.gc_rows.specs.Columns.{Entry, all_quantities, cells_from, cells_in, first_columns, item_content, items_column, last_columns, members_after_run, quantity_cells, quantity_columns, row_fields}
-use Rattle.gc_rows.specs.DescribedColumns.{are_distinct}
-use Rattle.gc_rows.specs.JsonLines.{Member}
-use Rattle.gc_rows.specs.Quantities.{column_of, column_of_whole, quantity_text}
-use Rattle.gc_rows.specs.Rows.{columns_from}
 use Rattle.gc_rows.proofs.Apart.{are_apart}
 use Rattle.gc_rows.proofs.PlainNames.{are_plain_names}
+use Rattle.gc_values.specs.declared.value.Value.TheVariants as value
 
 -- the cells of all quantities, of values from this column on, have the fields that the code writes; `came` are the values as the reply's
 -- line wrote them. The names of the values' cells are plain and distinct, and none of them is a row's

@@ -1,39 +1,16 @@
 -- `values_read` gives what the tables of kinds say: values where parameters have them, and none where they have a fault.
-use Rattle.std.proofs.Common.{◌≡◌, ◌≢◌, ◌<◌, ◌==◌, ◌%◌, ℕ, zero, suc, ◌+◌, ◌*◌, ◌^◌, Bool, true, false, cond, List, [], ◌∷◌, ◌++◌, length, ℤ, pos, negsuc, unsigned_abs, Option, Some, None, option_map, refl, sym, ap, ◌∙◌, subst, ◌⊎◌, inl, inr, arith}
-use Rattle.std.specs.Prelude.{◌&&◌, ◌||◌, nat_le, nat_lt, not}
-use Rattle.std.specs.List.{list_all}
-use Rattle.std.proofs.lemmas.Bool.{and_from, and_parts, cases_Bool, cases_eq, eq-eqb, eqb-false, false≢true, le-leb, leb-true, lt-ltb, ltb-true, ne_eqb, or_parts}
+use Rattle.gc_rows.proofs.Common.{◌≡◌, ◌≢◌, ◌<◌, ◌==◌, ◌%◌, ℕ, zero, suc, ◌+◌, ◌*◌, ◌^◌, Bool, true, false, cond, List, [], ◌∷◌, ◌++◌, length, ℤ, pos, negsuc, unsigned_abs, Option, Some, None, option_map, refl, sym, ap, ◌∙◌, subst, ◌⊎◌, inl, inr, arith, ◌&&◌, ◌||◌, nat_le, nat_lt, not, list_all, and_from, and_parts, cases_Bool, cases_eq, eq-eqb, eqb-false, false≢true, le-leb, leb-true, lt-ltb, ltb-true, ne_eqb, or_parts, NamesBoolean, IsByte, CutsDigits, CutsFraction, CutsSign, ReadsNumeral, StartsNoDigit, SpellsDecimal, AreDigits, IsDigit, number, Fraction, IsRounded, is_decimal, signed, IsItem, IsItemFault, kind_of, FirstFault, half_up, half_up_rounds, ten_pow_pos, Absent, Exponent, IsExponent, IsExponentDigits, Minus, Plus, Sign, downs, exponent_text, fraction_digits, is_minus, mark, sign_text, parts_value, ups, AreStringBytes, IsTextItem, IsBetween, NamesWhole, Placed, stripped, Decimal, ValueFault, Kind, Value, item_has_no_fault, AreOfKinds, BeginAs, IsItemsMisfit, IsKindsFault, KindsSeen, SuitsCount, faulty_item, faulty_items, open_quote, too_many, wrong_count, Powers, are_digits, before_quote, behind_digits, behind_fraction, behind_point, behind_sign, between, boolean_of, byte_in, byte_of, decimal_if, decimal_in, decimal_of, digits_in_front, exponent_in, has_minus, is_between, is_digit, items_as, powers, powers_of, rounded_decimal, short_text, suits_count, text_in, value_in, values_of_items, values_read, values_with, whole_if, whole_in}
 use Rattle.std.proofs.lemmas.Int.{ints}
 use Rattle.hex.specs.Hex.{hex_digit_value}
-use Rattle.gc_values.specs.Boolean.{NamesBoolean}
-use Rattle.gc_values.specs.Byte.{IsByte}
-use Rattle.gc_values.specs.Cut.{CutsDigits, CutsFraction, CutsSign, ReadsNumeral, StartsNoDigit}
-use Rattle.gc_values.specs.Decimals.{SpellsDecimal, decimal}
-use Rattle.gc_values.specs.Digits.{AreDigits, IsDigit, number}
-use Rattle.gc_values.specs.Fraction.{Fraction, IsRounded, is_decimal, signed}
-use Rattle.gc_values.specs.Item.{IsItem, IsItemFault, kind_of}
-use Rattle.gc_values.specs.Lists.{FirstFault}
-use Rattle.gc_values.specs.Nearest.{half_up}
-use Rattle.gc_values.specs.RoundedFacts.{half_up_rounds, ten_pow_pos}
-use Rattle.gc_values.specs.Spelling.{Absent, Exponent, IsExponent, IsExponentDigits, Minus, Plus, Sign, downs, exponent_text, fraction_digits, is_minus, mark, sign_text, parts_value, ups}
-use Rattle.gc_values.specs.Text.{AreStringBytes, IsTextItem}
-use Rattle.gc_values.specs.Whole.{IsBetween, NamesWhole}
-use Rattle.gc_values.specs.Zeros.{Placed, stripped}
-use Rattle.gc_values.specs.declared.decimal.Decimal.{Decimal}
-use Rattle.gc_values.specs.declared.fault.ValueFault.{ValueFault}
-use Rattle.gc_values.specs.declared.value.Kind.{Kind}
-use Rattle.gc_values.specs.declared.value.Kind.TheVariants as kind
-use Rattle.gc_values.specs.declared.value.Value.{Value}
-use Rattle.gc_values.specs.declared.value.Value.TheVariants as value
+use Rattle.gc_values.specs.Prelude.{decimal}
 use Rattle.gc_values.proofs.DecimalLemmas.{same_decimal}
 use Rattle.gc_values.proofs.Rounded.{rounded_from, rounds_to_one, stripped_is}
 use Rattle.gc_values.proofs.Unique.{Cut, cut_is_numeral, digits_no_sign, numeral_of, same_parts, sign_once}
 use Rattle.gc_values.proofs.WholeLemmas.{rest_names_from_text, text_names_from_rest}
-use Rattle.gc_values.proofs.ItemLaws.{item_has_no_fault}
-use Rattle.gc_texts.specs.KindLists.{AreOfKinds, BeginAs, IsItemsMisfit, IsKindsFault, KindsSeen, SuitsCount, faulty_item, faulty_items, open_quote, too_many, wrong_count}
 use Rattle.gc_rows.specs.ReadValues.{ValuesAreRead}
-use Rattle.gc_rows.specs.ValueReading.{Powers, are_digits, before_quote, behind_digits, behind_fraction, behind_point, behind_sign, between, boolean_of, byte_in, byte_of, decimal_if, decimal_in, decimal_of, digits_in_front, exponent_in, has_minus, is_between, is_digit, items_as, powers, powers_of, rounded_decimal, short_text, suits_count, text_in, value_in, values_of_items, values_read, values_with, whole_if, whole_in}
 use Rattle.gc_rows.proofs.Items.{few_are_split, many_are_none, open_is_none}
+use Rattle.gc_values.specs.declared.value.Kind.TheVariants as kind
+use Rattle.gc_values.specs.declared.value.Value.TheVariants as value
 
 -- Digits and signs.
 

@@ -1,17 +1,13 @@
 -- Cells: a record is one list of named cells. A row is one fold over this list, and an object another. A blank cell is an empty field,
 -- and no member.
+use Rattle.gc_rows.specs.Common.{decimal, AllByRecursion, flat_map, bytes_eq, Value, stamp_text}
 use Rattle.std.specs.Prelude.{ℕ, ◌+◌, ◌*◌, ◌≤◌, List, [], ◌∷◌, length, map, if◌then◌else◌}
-use Rattle.std.specs.Fmt.{decimal}
-use Rattle.std.specs.List.{AllByRecursion, flat_map}
-use Rattle.std.specs.Str.{bytes_eq}
-use Rattle.gc_values.specs.declared.value.Value.{Value}
-use Rattle.gc_texts.specs.Stamps.{stamp_text}
 use Rattle.gc_rows.specs.JsonLines.{Member, Text, Number, Texts, without_zeros, value_members}
 use Rattle.gc_rows.specs.Quantities.{quantity_text}
 use Rattle.gc_rows.specs.declared.cell.Cell.{Cell as CodeCell}
 use Rattle.gc_rows.specs.declared.cell.Content.{Content as CodeContent}
-use Rattle.gc_rows.specs.declared.cell.Content.TheVariants as code
 use Rattle.gc_rows.specs.declared.cell.TheConstants.{MOMENT_ROOM, NUMBER_ROOM, NAME_ROOM}
+use Rattle.gc_rows.specs.declared.cell.Content.TheVariants as code
 
 -- what a cell holds
 pub data Content : Type 0 where

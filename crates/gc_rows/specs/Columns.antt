@@ -1,16 +1,7 @@
 -- Columns: the names under which a record holds something, in their order, and what it holds under each. They are the columns of a
 -- row and the members of an object, and this project's own.
+use Rattle.gc_rows.specs.Common.{answer_fields, Answer, Asked, Table, Raw, value_fault_number, ValueFault, Value, before, behind, DescriptionSeen, description_seen, End, Answered, ending_seen, word_of, fault_of, line_of, quality_of, quality_text}
 use Rattle.std.specs.Prelude.{ℕ, ◌+◌, Bool, true, false, List, [], ◌∷◌, ◌++◌, map, Option, Some, None, option_map, codes}
-use Rattle.gc_catalogue.specs.Answers.{answer_fields}
-use Rattle.gc_catalogue.specs.declared.answer.Answer.{Answer}
-use Rattle.gc_catalogue.specs.declared.asked.Asked.{Asked}
-use Rattle.gc_catalogue.specs.declared.asked.Asked.TheVariants.{Table, Raw}
-use Rattle.gc_values.specs.ValueFault.{value_fault_number}
-use Rattle.gc_values.specs.declared.fault.ValueFault.{ValueFault}
-use Rattle.gc_values.specs.declared.value.Value.{Value}
-use Rattle.gc_texts.specs.Cuts.{before, behind}
-use Rattle.gc_texts.specs.Descriptions.{DescriptionSeen, description_seen}
-use Rattle.gc_texts.specs.Endings.{End, Answered, ending_seen, word_of, fault_of, line_of, quality_of, quality_text}
 use Rattle.gc_texts.specs.declared.quality.Quality.{Quality}
 use Rattle.gc_texts.specs.declared.quality.Quality.TheVariants.{Unconfirmed}
 use Rattle.gc_texts.specs.declared.wish.Wish.{Wish}

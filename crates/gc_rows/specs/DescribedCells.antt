@@ -1,9 +1,6 @@
 -- The cells of an answer to a described procedure: each value that its description names, under this name. This project's own.
+use Rattle.gc_rows.specs.Common.{Value, DescriptionSeen, FieldSeen, KindsSeen, kinds_of_fields}
 use Rattle.std.specs.Prelude.{ℕ, List, [], ◌∷◌, drop, Option, Some, None, get_or}
-use Rattle.gc_values.specs.declared.value.Value.{Value}
-use Rattle.gc_texts.specs.Descriptions.{DescriptionSeen}
-use Rattle.gc_texts.specs.Fields.{FieldSeen}
-use Rattle.gc_texts.specs.KindLists.{KindsSeen, kinds_of_fields}
 use Rattle.gc_rows.specs.Cells.{Cell, Content, Blank, Quantity, cell}
 use Rattle.gc_rows.specs.Items.{items_of}
 use Rattle.gc_rows.specs.ValueReading.{values_read}

@@ -1,18 +1,7 @@
 -- What is under the columns that descriptions name: this project's own.
+use Rattle.gc_rows.specs.Common.{list_all, get_member, Answer, Table, Raw, Call, Value, are_columns, is_named, names_of_row, DescriptionSeen, line_of, FieldSeen, escaped, value_under}
 use Rattle.std.specs.Prelude.{◌≡◌, ℕ, ◌&&◌, Bool, true, not, List, [], ◌∷◌, ◌++◌, map, Option, Some, None}
-use Rattle.std.specs.List.{list_all}
-use Rattle.json.specs.Find.{get_member}
-use Rattle.gc_catalogue.specs.declared.answer.Answer.{Answer}
-use Rattle.gc_catalogue.specs.declared.asked.Asked.TheVariants.{Table, Raw}
-use Rattle.gc_catalogue.specs.declared.call.Call.{Call}
 use Rattle.gc_catalogue.specs.declared.raw.RawCall.{RawCall}
-use Rattle.gc_values.specs.declared.value.Value.{Value}
-use Rattle.gc_texts.specs.ColumnNames.{are_columns, is_named, names_of_row}
-use Rattle.gc_texts.specs.Descriptions.{DescriptionSeen}
-use Rattle.gc_texts.specs.Endings.{line_of}
-use Rattle.gc_texts.specs.Fields.{FieldSeen}
-use Rattle.gc_texts.specs.Logs.{escaped}
-use Rattle.gc_texts.specs.Measured.{value_under}
 use Rattle.gc_rows.specs.Columns.{Entry, counted_answer, last_columns, members_after_run, row_fields}
 use Rattle.gc_rows.specs.DescribedCells.{answer_kinds}
 use Rattle.gc_rows.specs.Laws.{record_read}

@@ -1,10 +1,8 @@
 -- The items of a reply's values: what lies between the commas, if these aren't within double quotes, without the spaces round
 -- it. Commas and strings in double quotes are those of the GeoCOM manual's chapter on the ASCII protocol; the spaces and the
 -- limit of 16 are this project's own.
+use Rattle.gc_rows.specs.Common.{list_all, onto_first, quotes, quoted_after, without_front_spaces, without_end_spaces}
 use Rattle.std.specs.Prelude.{ℕ, ◌%◌, ◌==◌, ◌&&◌, Bool, false, not, nat_lt, List, [], ◌∷◌, length, map, Option, Some, None, if◌then◌else◌}
-use Rattle.std.specs.List.{list_all, onto_first}
-use Rattle.gc_values.specs.Params.{quotes, quoted_after}
-use Rattle.gc_values.specs.Pieces.{without_front_spaces, without_end_spaces}
 
 -- a text without the spaces at both ends
 abbrev pub trimmed : List ℕ → List ℕ

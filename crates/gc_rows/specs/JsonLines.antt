@@ -1,13 +1,10 @@
 -- Lines of JSON: a record as one object, whose members' names are this project's own. A string is printable ASCII: other bytes
 -- are written as `\x` and two digits, and so is a backslash, as in a row; and then each backslash and each double quote comes
 -- after a backslash.
+use Rattle.gc_rows.specs.Common.{flat_map, Value, escaped, stamp_text}
 use Rattle.std.specs.Prelude.{ℕ, ◌==◌, ◌||◌, Bool, true, false, List, [], ◌∷◌, ◌++◌, if◌then◌else◌, codes}
-use Rattle.std.specs.List.{flat_map}
-use Rattle.gc_values.specs.declared.value.Value.{Value}
-use Rattle.gc_values.specs.declared.value.Value.TheVariants as value
-use Rattle.gc_texts.specs.Logs.{escaped}
 use Rattle.gc_rows.specs.Quantities.{quantity_text}
-use Rattle.gc_texts.specs.Stamps.{stamp_text}
+use Rattle.gc_values.specs.declared.value.Value.TheVariants as value
 
 -- a printable byte as it is written in a string: a double quote and a backslash after a backslash, any other unchanged
 abbrev pub behind_backslash : ℕ → List ℕ

@@ -1,30 +1,20 @@
 -- Laws of the rows: this project's own, as the rows are.
+use Rattle.gc_rows.specs.Common.{AllByRecursion, flat_map, DescriptionSeen, End, line_of, HaveNames, AreBytes, escaped, IsPrintable, stamp_text, IsFittingAnswer, Answer, IsSmallNumber, ReplyFields, IsReply, IsParams}
 use Rattle.std.specs.Prelude.{◌≡◌, ◌≢◌, ◌<◌, ◌≤◌, ◌^◌, ℕ, List, [], ◌∷◌, ◌++◌, length, map, true, false, Option, Some, IfSome, codes}
-use Rattle.std.specs.List.{AllByRecursion, flat_map}
 use Rattle.csv.specs.Machine.{next_record}
 use Rattle.csv.specs.Reading.{default_config, records_from}
-use Rattle.json.specs.Json as json
 use Rattle.json.specs.Json.{document}
 use Rattle.json.specs.Print.{IsNumber}
 use Rattle.csv.specs.declared.parser.State.TheVariants.{StartRecord}
-use Rattle.gc_texts.specs.Descriptions.{DescriptionSeen}
-use Rattle.gc_texts.specs.Endings.{End, line_of}
-use Rattle.gc_texts.specs.Fields.{HaveNames}
-use Rattle.gc_catalogue.specs.Answers.{IsFittingAnswer}
-use Rattle.gc_catalogue.specs.declared.answer.Answer.{Answer}
-use Rattle.gc_catalogue.specs.declared.answer.Answer.TheVariants as answers
-use Rattle.gc_lines.specs.Numbers.{IsSmallNumber}
-use Rattle.gc_values.specs.Params.{IsParams}
-use Rattle.gc_lines.specs.Replies.{ReplyFields, IsReply}
 use Rattle.gc_rows.specs.Records.{head_text, header}
 use Rattle.gc_rows.specs.Items.{items_of}
 use Rattle.gc_rows.specs.JsonLines.{Member, Text, Number, Texts, json_line}
 use Rattle.gc_rows.specs.Columns.{Entry, answer_of, members_after_run}
 use Rattle.gc_rows.specs.Rows.{com_of, code_of, values_of, row_of}
 use Rattle.gc_rows.specs.declared.record.Form.TheVariants.{Csv, Columns}
-use Rattle.gc_texts.specs.Logs.{AreBytes, escaped, IsPrintable}
-use Rattle.gc_texts.specs.Stamps.{stamp_text}
 use Rattle.gc_rows.specs.declared.when.When.{When}
+use Rattle.json.specs.Json as json
+use Rattle.gc_catalogue.specs.declared.answer.Answer.TheVariants as answers
 
 -- the columns cut from a reply's line give its fields: `rc_com` and `rc` are the numbers of the reply's codes in digits, and `values` its
 -- values as they are

@@ -1,3 +1,5 @@
+mod Common
+pub mod Prelude
 pub mod Quantities
 pub mod Items
 pub mod ValueReading

@@ -1,20 +1,12 @@
 -- What a reader gets of a record: under each name, what the record's cell of this name holds. This project's own.
+use Rattle.gc_rows.specs.Common.{decimal, list_all, list_any, bytes_eq, get_member, IsSmallNumber, escaped, stamp_text, are_columns, names_of_row, DescriptionSeen}
 use Rattle.std.specs.Prelude.{◌≡◌, ◌⊎◌, ℕ, ◌&&◌, Bool, true, not, List, [], ◌∷◌, ◌++◌, map, Option, None, Some, if◌then◌else◌, codes}
-use Rattle.std.specs.Fmt.{decimal}
-use Rattle.std.specs.List.{list_all, list_any}
-use Rattle.std.specs.Str.{bytes_eq}
-use Rattle.json.specs.Find.{get_member}
-use Rattle.json.specs.Json as json
-use Rattle.gc_lines.specs.Numbers.{IsSmallNumber}
-use Rattle.gc_texts.specs.Logs.{escaped}
-use Rattle.gc_texts.specs.Stamps.{stamp_text}
-use Rattle.gc_texts.specs.ColumnNames.{are_columns, names_of_row}
-use Rattle.gc_texts.specs.Descriptions.{DescriptionSeen}
 use Rattle.gc_rows.specs.Cells.{Content, Blank, Bytes, Moment, Whole, Code, Quantity, Items, lookup, names_of}
 use Rattle.gc_rows.specs.Columns.{Entry, cells_in, members_after_run, object_cells, object_columns, row_columns, row_fields}
 use Rattle.gc_rows.specs.Laws.{record_read}
 use Rattle.gc_rows.specs.Quantities.{quantity_names, quantity_text}
 use Rattle.gc_rows.specs.Records.{header}
+use Rattle.json.specs.Json as json
 
 -- the field that is under a name, in a row whose fields are under these names; an empty one if there is no such name or
 -- no field for it

@@ -1,12 +1,6 @@
 -- The fields of a row under names, of which each shows what the cell of its name holds.
+use Rattle.gc_rows.specs.Common.{Answer, Asked, Table, Raw, Value, DescriptionSeen, FieldSeen, value_under}
 use Rattle.std.specs.Prelude.{ℕ, Bool, ◌++◌, List, [], length, map, replicate, Option, Some, None}
-use Rattle.gc_catalogue.specs.declared.answer.Answer.{Answer}
-use Rattle.gc_catalogue.specs.declared.asked.Asked.{Asked}
-use Rattle.gc_catalogue.specs.declared.asked.Asked.TheVariants.{Table, Raw}
-use Rattle.gc_values.specs.declared.value.Value.{Value}
-use Rattle.gc_texts.specs.Descriptions.{DescriptionSeen}
-use Rattle.gc_texts.specs.Fields.{FieldSeen}
-use Rattle.gc_texts.specs.Measured.{value_under}
 use Rattle.gc_rows.specs.Cells.{Cell, field_of, fields_of, lookup}
 use Rattle.gc_rows.specs.Columns.{Entry, cells_in, quantity_columns, raw_cells}
 use Rattle.gc_rows.specs.Quantities.{quantity_names, quantity_text}

@@ -1,11 +1,7 @@
 -- Which quantities a procedure returns, and how many fields a row has. A procedure's number and what it returns are those of the manual's
 -- procedure tables; the names are this project's own.
+use Rattle.gc_rows.specs.Common.{answer_fields, IsAnswerOf, call_fields, Answer, Call, Value}
 use Rattle.std.specs.Prelude.{◌≡◌, ℕ, ◌+◌, ◌==◌, ◌||◌, Bool, List, [], ◌∷◌, ◌++◌, length, Option, Some, None, IfSome, if◌then◌else◌, codes}
-use Rattle.gc_catalogue.specs.Answers.{answer_fields, IsAnswerOf}
-use Rattle.gc_catalogue.specs.Calls.{call_fields}
-use Rattle.gc_catalogue.specs.declared.answer.Answer.{Answer}
-use Rattle.gc_catalogue.specs.declared.call.Call.{Call}
-use Rattle.gc_values.specs.declared.value.Value.{Value}
 use Rattle.gc_rows.specs.Quantities.{column_of, column_of_whole, quantity_name}
 use Rattle.gc_rows.specs.Records.{header}
 use Rattle.gc_rows.specs.Columns.{Entry, row_fields}

@@ -1,13 +1,9 @@
 -- Quantities: the values of an answer, each as a text, and the columns in which they are. Their names and their order are this
 -- project's own, and their units the manual's: angles in radians, lengths in metres, a temperature in degrees Celsius.
+use Rattle.gc_rows.specs.Common.{decimal, Answer, Call, text, Value}
 use Rattle.std.specs.Prelude.{ℕ, List, [], ◌∷◌, Option, Some, None, get_or, codes}
-use Rattle.std.specs.Fmt.{decimal}
-use Rattle.gc_catalogue.specs.declared.answer.Answer.{Answer}
 use Rattle.gc_catalogue.specs.declared.answer.Answer.TheVariants.{Nothing, Short, Version, Long, Name, Date, Temperature, Place, Height, Angles, Measured, MeasuredMode}
-use Rattle.gc_catalogue.specs.declared.call.Call.{Call}
 use Rattle.gc_catalogue.specs.declared.call.Call.TheVariants.{GetFace, GetPrism, GetPrecision, InstrumentNo}
-use Rattle.gc_values.specs.Item.{text}
-use Rattle.gc_values.specs.declared.value.Value.{Value}
 use Rattle.gc_values.specs.declared.value.Value.TheVariants as value
 
 -- the names of the quantities, in the order of their columns

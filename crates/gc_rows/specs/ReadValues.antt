@@ -1,8 +1,6 @@
 -- What is read of parameters by kinds is what the tables of kinds say.
+use Rattle.gc_rows.specs.Common.{ValueFault, Value, AreOfKinds, IsKindsFault, KindsSeen}
 use Rattle.std.specs.Prelude.{◌≡◌, ℕ, List, Some, None}
-use Rattle.gc_values.specs.declared.fault.ValueFault.{ValueFault}
-use Rattle.gc_values.specs.declared.value.Value.{Value}
-use Rattle.gc_texts.specs.KindLists.{AreOfKinds, IsKindsFault, KindsSeen}
 use Rattle.gc_rows.specs.ValueReading.{values_read}
 
 -- parameters that have values of the kinds are read as these, and ones that have a fault aren't read

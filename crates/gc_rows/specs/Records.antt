@@ -1,18 +1,13 @@
 -- Records: how a command ended, with its moments, as a line, as a row of comma-separated values, or as a line of JSON. The words are
 -- this project's own.
+use Rattle.gc_rows.specs.Common.{decimal, value_fault_number, ValueFault, End, word_of, fault_of, line_of, escaped, stamp_text}
 use Rattle.std.specs.Prelude.{ℕ, Bool, true, false, List, [], ◌∷◌, ◌++◌, map, Option, None, Some, codes}
-use Rattle.std.specs.Fmt.{decimal}
-use Rattle.gc_values.specs.ValueFault.{value_fault_number}
-use Rattle.gc_values.specs.declared.fault.ValueFault.{ValueFault}
 use Rattle.gc_rows.specs.declared.record.EndedCommand.{EndedCommand}
 use Rattle.gc_rows.specs.declared.record.Form.{Form}
 use Rattle.gc_rows.specs.declared.record.Form.TheVariants.{Lines, Csv, Columns, Json}
-use Rattle.gc_texts.specs.Endings.{End, word_of, fault_of, line_of}
 use Rattle.gc_rows.specs.Columns.{Entry, entry_seen, run_column, first_columns, row_columns, row_fields, members_after_run}
 use Rattle.gc_rows.specs.JsonLines.{json_line}
-use Rattle.gc_texts.specs.Logs.{escaped}
 use Rattle.gc_rows.specs.Rows.{row_of}
-use Rattle.gc_texts.specs.Stamps.{stamp_text}
 
 -- a space and the number of a fault; empty if there is no fault
 abbrev pub spaced_fault : Option ValueFault → List ℕ

@@ -1,22 +1,11 @@
 -- Rows: a record as a row of comma-separated values. How a field is quoted is RFC 4180's. Each field is printable ASCII: other
 -- bytes are written as `\x` and two digits, and so is a backslash.
+use Rattle.gc_rows.specs.Common.{decimal, flat_map, list_any, answer_fields, Answer, Asked, Call, Value, value_fault_number, ValueFault, before, behind, escaped, stamp_text}
 use Rattle.std.specs.Prelude.{ℕ, ◌≡◌, ◌+◌, ◌-◌, ◌%◌, ◌≤◌, ◌==◌, ◌||◌, Bool, List, [], ◌∷◌, ◌++◌, length, map, replicate, Option, Some, None, if◌then◌else◌, codes}
-use Rattle.std.specs.Fmt.{decimal}
-use Rattle.std.specs.List.{flat_map, list_any}
-use Rattle.gc_catalogue.specs.Answers.{answer_fields}
-pub use Rattle.gc_catalogue.specs.Asked.{asked_line, procedure_of}
-use Rattle.gc_catalogue.specs.declared.answer.Answer.{Answer}
-use Rattle.gc_catalogue.specs.declared.asked.Asked.{Asked}
-use Rattle.gc_catalogue.specs.declared.call.Call.{Call}
-use Rattle.gc_values.specs.declared.value.Value.{Value}
-use Rattle.gc_values.specs.ValueFault.{value_fault_number}
-use Rattle.gc_values.specs.declared.fault.ValueFault.{ValueFault}
 use Rattle.gc_rows.specs.declared.cell.ReplyTexts.{ReplyTexts}
-use Rattle.gc_texts.specs.Cuts.{before, behind}
-use Rattle.gc_texts.specs.Logs.{escaped}
 use Rattle.gc_rows.specs.declared.quantity.TheConstants.{QUANTITIES}
 use Rattle.gc_rows.specs.Quantities.{column_of, quantity_text}
-use Rattle.gc_texts.specs.Stamps.{stamp_text}
+pub use Rattle.gc_catalogue.specs.Asked.{asked_line, procedure_of}
 
 -- RC_COM of a reply's line `%R1P,RC_COM,ID:RC,VALUES`, as it is written. The id and the values may be missing
 abbrev pub com_of : List ℕ → List ℕ

@@ -1,20 +1,14 @@
 -- Parameters as values of given kinds, computed: what the tables of kinds (`IsItem`, `AreOfKinds`) say as relations. A record is a
 -- function of what it is written of, and so is what it has of a described procedure's answer.
+use Rattle.gc_rows.specs.Common.{list_all, number, is_decimal, signed, half_up, Placed, stripped, Value, KindsSeen}
 use Rattle.std.specs.Prelude.{◌≡◌, ℕ, zero, suc, ◌+◌, ◌*◌, ◌^◌, ◌==◌, ◌&&◌, ◌||◌, Bool, true, false, nat_le, nat_lt, List, [], ◌∷◌, ◌++◌, length, Option, Some, None, option_map, if◌then◌else◌, ℤ, pos, negsuc, refl}
-use Rattle.std.specs.List.{list_all}
 use Rattle.hex.specs.Hex.{hex_digit_value}
-use Rattle.gc_values.specs.Decimals.{decimal}
-use Rattle.gc_values.specs.Digits.{number}
-use Rattle.gc_values.specs.Fraction.{is_decimal, signed}
-use Rattle.gc_values.specs.Nearest.{half_up}
-use Rattle.gc_values.specs.Zeros.{Placed, stripped}
+use Rattle.gc_values.specs.Prelude.{decimal}
 use Rattle.gc_values.specs.declared.decimal.Decimal.{Decimal}
 use Rattle.gc_values.specs.declared.value.Kind.{Kind}
-use Rattle.gc_values.specs.declared.value.Kind.TheVariants as kind
-use Rattle.gc_values.specs.declared.value.Value.{Value}
-use Rattle.gc_values.specs.declared.value.Value.TheVariants as value
-use Rattle.gc_texts.specs.KindLists.{KindsSeen}
 use Rattle.gc_rows.specs.Items.{split_items}
+use Rattle.gc_values.specs.declared.value.Kind.TheVariants as kind
+use Rattle.gc_values.specs.declared.value.Value.TheVariants as value
 
 -- Digits and signs.
 

@@ -1,28 +1,11 @@
 -- What holds of each outcome with ways of real instruments, and that without ways it is that of the execution table.
-use Rattle.std.proofs.Common.{◌≡◌, ℕ, ℤ, ◌<◌, ◌&&◌, Bool, true, false, cond, Option, Some, None, refl, sym, ap, ◌∙◌, subst, lit<}
+use Rattle.gc_scenes.proofs.Common.{◌≡◌, ℕ, ℤ, ◌<◌, ◌&&◌, Bool, true, false, cond, Option, Some, None, refl, sym, ap, ◌∙◌, subst, lit<, cond_both, Decimal, Answer, Call, DateTime, Executed, Gives, exec, done, distance_outcome, measured_outcome, adjusted, pointed, unmeasured, with_kept, executed_with, State, KeptReply, Pointing, Target, exec_outcome, executes_apart, distance_apart, adjusted_apart, acted, acted_faceless, aimed, dated, faced, pointed_over, outcome, clock_shows, seen_by, SceneState, seeing, scene_of, no_ways, nearest}
 use Rattle.std.specs.Prelude.{pos}
 use Rattle.std.specs.Ordering.{int_eq}
-use Rattle.std.proofs.lemmas.Bool.{cond_both}
-use Rattle.gc_values.specs.declared.decimal.Decimal.{Decimal}
-use Rattle.gc_catalogue.specs.declared.answer.Answer.{Answer}
-use Rattle.gc_catalogue.specs.declared.answer.Answer.TheVariants as answer
-use Rattle.gc_catalogue.specs.declared.call.Call.{Call}
-use Rattle.gc_catalogue.specs.declared.call.Call.TheVariants as call
-use Rattle.gc_catalogue.specs.declared.call.DateTime.{DateTime}
-use Rattle.gc_instrument.specs.Execution.{Executed, Gives, exec, done, distance_outcome, measured_outcome, adjusted, pointed, unmeasured}
-use Rattle.gc_instrument.specs.Replying.{with_kept, executed_with}
-use Rattle.gc_instrument.specs.State.{State, KeptReply}
-use Rattle.gc_instrument.specs.declared.pointing.Pointing.{Pointing}
-use Rattle.gc_instrument.specs.declared.target.Target.{Target}
-use Rattle.gc_instrument.proofs.Executions.{exec_outcome}
-use Rattle.gc_instrument.proofs.Keeping.{executes_apart, distance_apart, adjusted_apart}
-use Rattle.gc_scenes.specs.Acting.{acted, acted_faceless, aimed, dated, faced, pointed_over}
-use Rattle.gc_scenes.specs.SceneExecution.{outcome, clock_shows, seen_by}
-use Rattle.gc_scenes.specs.SceneState.{SceneState, seeing}
-use Rattle.gc_scenes.specs.Seen.{scene_of}
-use Rattle.gc_scenes.specs.Ways.{no_ways, nearest}
 use Rattle.gc_scenes.specs.declared.instrument.SceneInstrument.TheInside.{Inside}
 use Rattle.gc_scenes.specs.declared.ways.Ways.{Ways}
+use Rattle.gc_catalogue.specs.declared.answer.Answer.TheVariants as answer
+use Rattle.gc_catalogue.specs.declared.call.Call.TheVariants as call
 
 -- the outcome, with the face by the vertical angle if the instrument has both faces' angles (true)
 abbrev faced_outcome : (faces : Bool) → Executed → Executed

@@ -1,13 +1,7 @@
 -- The return code of a call has 16 bits, whatever faults the scene has.
-use Rattle.std.proofs.Common.{◌≡◌, ℕ, ◌<◌, List, Option, Some, None, refl, subst}
-use Rattle.std.specs.Prelude.{find, option_map}
+use Rattle.gc_scenes.proofs.Common.{◌≡◌, ℕ, ◌<◌, List, Option, Some, None, refl, subst, find, option_map, Call, fault_of, is_due, plays, unless_faulted, SceneState, Fault}
 use Rattle.std.proofs.lemmas.Option.{same_Some}
-use Rattle.gc_catalogue.specs.declared.call.Call.{Call}
 use Rattle.gc_scenes.proofs.Acted.{outcome_sound}
-use Rattle.gc_scenes.specs.Rules.{fault_of, is_due}
-use Rattle.gc_scenes.specs.SceneExecution.{plays, unless_faulted}
-use Rattle.gc_scenes.specs.SceneState.{SceneState}
-use Rattle.gc_scenes.specs.declared.rules.Fault.{Fault}
 
 -- the code of a fault, if there is one, is below 65536
 code_bound : (o : Option Fault) (code : ℕ) → option_map (λ f. f.rc) o ≡ Some code → code < 65536

@@ -1,29 +1,9 @@
 -- The execution table is the instance without rules.
-use Rattle.std.proofs.Common.{◌≡◌, ℕ, ◌≤◌, Bool, true, false, not, ◌&&◌, nat_le, cond, List, [], ◌∷◌, Option, Some, None, refl, sym, ap, ◌∙◌, subst, arith}
-use Rattle.std.specs.Prelude.{unwrap_or}
-use borrow.Author.Tests.{leb-true}
-use Rattle.gc_lines.specs.Requests.{RequestFields}
-use Rattle.gc_catalogue.specs.declared.call.Call.{Call}
-use Rattle.gc_catalogue.specs.declared.fault.CallFault.TheVariants.{Unknown, Parameters}
-use Rattle.gc_instrument.specs.Execution.{Executed, exec}
-use Rattle.gc_instrument.specs.Replying as table
-use Rattle.gc_instrument.specs.Replying.{kept_line, kept_after, with_kept, executed_line, refusal_line}
-use Rattle.gc_instrument.specs.State.{State, KeptReply}
-use Rattle.gc_instrument.specs.Targets.{is_at}
-use Rattle.gc_instrument.specs.declared.pointing.Pointing.{Pointing}
-use Rattle.gc_instrument.specs.declared.target.Target.{Target}
-use Rattle.gc_instrument.proofs.Executions.{exec_outcome}
-use Rattle.gc_instrument.proofs.Keeping.{kept_stays}
-use Rattle.gc_scenes.specs.Laws.{still, all_still, ruleless, TableIsTheInstance}
-use Rattle.gc_scenes.specs.Rules.{seen, drifted, moved_by, is_clear}
-use Rattle.gc_scenes.specs.SceneExecution.{Played, plays, played_of, outcome, after_call, look_of, is_measurement}
-use Rattle.gc_scenes.specs.SceneReplying.{silent, answers, AnswersRequest, names_call, names_none, unreadable, IsHanded, again_or_played, handed_call, handed_raw, holding}
-use Rattle.gc_scenes.specs.SceneState.{seeing}
-use Rattle.gc_scenes.specs.Acting.{acted_faceless}
-use Rattle.gc_scenes.specs.Ways.{no_ways}
+use Rattle.gc_scenes.proofs.Common.{◌≡◌, ℕ, ◌≤◌, Bool, true, false, not, ◌&&◌, nat_le, cond, List, [], ◌∷◌, Option, Some, None, refl, sym, ap, ◌∙◌, subst, arith, unwrap_or, leb-true, RequestFields, Call, Unknown, Parameters, Executed, exec, kept_line, kept_after, with_kept, executed_line, refusal_line, State, KeptReply, is_at, Pointing, Target, exec_outcome, kept_stays, still, all_still, ruleless, TableIsTheInstance, seen, drifted, moved_by, is_clear, Played, plays, played_of, outcome, after_call, look_of, is_measurement, silent, answers, AnswersRequest, names_call, names_none, unreadable, IsHanded, again_or_played, handed_call, handed_raw, holding, seeing, acted_faceless, no_ways}
 use Rattle.gc_scenes.specs.declared.rules.Prism.{Prism}
 use Rattle.gc_scenes.specs.declared.rules.Sight.{Sight}
 use Rattle.gc_scenes.proofs.Acted.{table_without_ways}
+use Rattle.gc_instrument.specs.Replying as table
 
 -- no number is at least 1 and at most 0
 no_look_from_1_to_0 : (look : ℕ) (a b : Bool) → nat_le 1 look ≡ a → nat_le look 0 ≡ b → not (a && b) ≡ true

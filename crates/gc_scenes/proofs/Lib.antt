@@ -1,3 +1,4 @@
+mod Common
 pub mod Plain
 pub mod Acted
 pub mod Codes

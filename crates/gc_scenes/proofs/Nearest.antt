@@ -1,13 +1,8 @@
 -- The target that is aimed at is the nearest one.
-use Rattle.std.proofs.Common.{◌≡◌, ◌≤◌, ◌<◌, Bool, true, false, nat_le, cond, List, [], ◌∷◌, ◌++◌, Option, Some, None, refl, sym, ap, ◌∙◌, subst, append_assoc, append-nil, arith}
+use Rattle.gc_scenes.proofs.Common.{◌≡◌, ◌≤◌, ◌<◌, Bool, true, false, nat_le, cond, List, [], ◌∷◌, ◌++◌, Option, Some, None, refl, sym, ap, ◌∙◌, subst, append_assoc, append-nil, arith, leb-true, leb-false, Pointing, Target, IsNearest, IsFarOff, IsAimedAt, NearestIsNearest, apart, window, nearer, nearest_of}
 use Rattle.std.specs.List.{AllByRecursion}
-use borrow.Author.Tests.{leb-true, leb-false}
 use Rattle.gc_lines.proofs.Lists.{all_append}
 use Rattle.gc_values.proofs.Every.{every_weaker as all_on}
-use Rattle.gc_instrument.specs.declared.pointing.Pointing.{Pointing}
-use Rattle.gc_instrument.specs.declared.target.Target.{Target}
-use Rattle.gc_scenes.specs.Laws.{IsNearest, IsFarOff, IsAimedAt, NearestIsNearest}
-use Rattle.gc_scenes.specs.Ways.{apart, window, nearer, nearest_of}
 
 module _ (there : Pointing) where
   -- where none of the targets `done` is within the window, the next target is aimed at if it is within the window (`b`), and

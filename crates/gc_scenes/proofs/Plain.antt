@@ -1,24 +1,11 @@
 -- The replies of a scene's instrument are plain: they have neither CR nor LF.
-use Rattle.std.proofs.Common.{◌≡◌, ℕ, ◌<◌, Bool, true, false, List, [], Option, Some, None, refl, sym, subst, lit<, eqb}
-use Rattle.std.specs.Prelude.{IfSome, option_map, unwrap_or}
-use Rattle.std.proofs.lemmas.Bool.{cond_both}
+use Rattle.gc_scenes.proofs.Common.{◌≡◌, ℕ, ◌<◌, Bool, true, false, List, [], Option, Some, None, refl, sym, subst, lit<, eqb, IfSome, option_map, unwrap_or, cond_both, AppendsAnswer, AnswersLines, RepliesTo, MayBeId, IsPlainByte, IsPlain, reply_text, kept_line, kept_after, KeptReply, IsPlainKept, scripted_params, AnswersPlainly, IsPlayed, silent, answers, SceneState}
 use Rattle.std.proofs.lemmas.List.Elements.{All-from_recursion}
 use Rattle.gc_lines.proofs.Plain.{reply_plain}
-use Rattle.gc_lines.specs.Answering.{AppendsAnswer}
-use Rattle.gc_lines.specs.AnsweringLines.{AnswersLines, RepliesTo}
-use Rattle.gc_lines.specs.Headers.{MayBeId}
-use Rattle.gc_lines.specs.Lines.{IsPlainByte, IsPlain}
-use Rattle.gc_lines.specs.Replies.{reply_text}
 use Rattle.gc_lines.specs.declared.frame.Frame.{Frame}
 use Rattle.gc_lines.specs.declared.frame.Frame.TheVariants.{Line, Cleared, Overlong, More}
 use Rattle.gc_catalogue.specs.declared.raw.RawCall.{RawCall}
-use Rattle.gc_instrument.specs.Replying.{kept_line, kept_after}
-use Rattle.gc_instrument.specs.Seen.{IsPlainKept}
-use Rattle.gc_instrument.specs.State.{KeptReply}
-use Rattle.gc_scenes.specs.Params.{scripted_params}
-use Rattle.gc_scenes.specs.SceneReplying.{AnswersPlainly, IsPlayed, silent, answers}
 use Rattle.gc_scenes.specs.SceneServing.{PlaysFrame}
-use Rattle.gc_scenes.specs.SceneState.{SceneState}
 
 -- Lines.
 

@@ -1,24 +1,6 @@
 -- What the code appends for a request is what the definitions give.
-use Rattle.std.proofs.Common.{◌≡◌, ℕ, ◌<◌, List, [], ◌++◌, Some, None, Option, refl, sym, ap, ◌∙◌, subst, lit<}
-use Rattle.std.specs.Prelude.{option_map, unwrap_or}
-use Rattle.gc_lines.specs.Answering.{AppendsText}
-use Rattle.gc_lines.specs.Lines.{IsPlain}
-use Rattle.gc_lines.specs.Requests.{RequestFields}
-use Rattle.gc_values.specs.declared.fault.ValueFault.{ValueFault}
-use Rattle.gc_catalogue.specs.Calls.{IsCall, IsRefusal}
-use Rattle.gc_catalogue.specs.Texts.{reply_line}
-use Rattle.gc_catalogue.specs.declared.answer.Answer.{Answer}
-use Rattle.gc_catalogue.specs.declared.call.Call.{Call}
-use Rattle.gc_catalogue.specs.declared.fault.CallFault.TheVariants.{Unknown, Parameters}
-use Rattle.gc_instrument.specs.Execution.{Executed}
-use Rattle.gc_instrument.specs.Replying.{refusal_line, reply_id}
-use Rattle.gc_scenes.specs.Appending.{AppendsHanded, AppendsPlayed}
-use Rattle.gc_scenes.specs.Rules.{fault_of, scripted_reply, noisy, noise_after}
-use Rattle.gc_scenes.specs.SceneExecution.{Played, HasCodeAndAnswer, plays, outcome, after_call, replied_answer, played_call, played_raw, unless_faulted_raw, scripted_played, counting, faulted_raw}
-use Rattle.gc_scenes.specs.SceneReplying.{names_call, unreadable, AnswersPlainly, resent_line, again_or_played, handed_call, handed_raw, played_or_refused, holding, kept_if_repeating, played_line}
-use Rattle.gc_scenes.specs.SceneState.{SceneState}
+use Rattle.gc_scenes.proofs.Common.{◌≡◌, ℕ, ◌<◌, List, [], ◌++◌, Some, None, Option, refl, sym, ap, ◌∙◌, subst, lit<, option_map, unwrap_or, AppendsText, IsPlain, RequestFields, ValueFault, IsCall, IsRefusal, reply_line, Answer, Call, Unknown, Parameters, Executed, refusal_line, reply_id, AppendsHanded, AppendsPlayed, fault_of, scripted_reply, noisy, noise_after, Played, HasCodeAndAnswer, plays, outcome, after_call, replied_answer, played_call, played_raw, unless_faulted_raw, scripted_played, counting, faulted_raw, names_call, unreadable, AnswersPlainly, resent_line, again_or_played, handed_call, handed_raw, played_or_refused, holding, kept_if_repeating, played_line, SceneState, Scripted}
 use Rattle.gc_scenes.specs.declared.rules.Noise.{Noise}
-use Rattle.gc_scenes.specs.declared.rules.Scripted.{Scripted}
 use Rattle.gc_scenes.proofs.Plain.{line_plain, nothing_plain}
 
 -- A request that is answered again, or for the first time.

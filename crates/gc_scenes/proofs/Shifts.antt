@@ -1,13 +1,7 @@
 -- What the code of shifts computes, in whole numbers that 128 bits hold.
-use Rattle.std.proofs.Common.{◌≡◌, ℕ, ◌*◌, ◌^◌, ◌≤◌, Bool, true, false, ℤ, pos, ◌+ℤ◌, ◌*ℤ◌, unsigned_abs, refl, sym, ap, ◌∙◌, subst, arith}
-use borrow.Author.Tests.{leb-true, le-leb}
-use Rattle.std.proofs.lemmas.Bool.{false≢true}
+use Rattle.gc_scenes.proofs.Common.{◌≡◌, ℕ, ◌*◌, ◌^◌, ◌≤◌, Bool, true, false, ℤ, pos, ◌+ℤ◌, ◌*ℤ◌, unsigned_abs, refl, sym, ap, ◌∙◌, subst, arith, leb-true, le-leb, false≢true, Decimal}
 use Rattle.std.proofs.lemmas.Int.{ints}
-use Rattle.gc_values.specs.Decimals.{units}
-use Rattle.gc_values.specs.Fraction.{SameValue, IsInRange, Fraction, is_negative, signed}
-use Rattle.gc_values.specs.RoundedFacts.{stripped_is}
-use Rattle.gc_values.specs.Zeros.{stripped}
-use Rattle.gc_values.specs.declared.decimal.Decimal.{Decimal}
+use Rattle.gc_values.specs.Prelude.{units, SameValue, IsInRange, Fraction, is_negative, signed, stripped_is, stripped}
 use Rattle.gc_values.proofs.DecimalLaws.{rounding_unique}
 use Rattle.gc_values.proofs.NearLemmas.{as_i128, as_i128_same}
 use Rattle.gc_values.proofs.Rounded.{exact_rounds}

@@ -1,14 +1,8 @@
 -- What an instrument whose replies take time does with a line.
-use Rattle.std.proofs.Common.{◌≡◌, ℕ, List, Some, None, Result, Ok, Err, true, false, refl, sym, ◌∙◌, ap, subst}
-use Rattle.gc_lines.specs.Answering.{AppendsAnswer}
-use Rattle.gc_lines.specs.Headers.{GivesEach}
-use Rattle.gc_lines.specs.Requests.{RequestFields, IsRequest}
+use Rattle.gc_scenes.proofs.Common.{◌≡◌, ℕ, List, Some, None, Result, Ok, Err, true, false, refl, sym, ◌∙◌, ap, subst, AppendsAnswer, GivesEach, RequestFields, IsRequest, faulty_is_no_request, StartingState, StartsOrPlays, later, SlowState, HearsLine, replies, TakesUp, IsDelay, delay_of, scene_then, taken_up}
 use Rattle.gc_lines.specs.declared.fault.LineFault.{LineFault}
 use Rattle.gc_lines.specs.declared.request.Request.{Request}
-use Rattle.gc_lines.proofs.AnsweringLines.{faulty_is_no_request}
-use Rattle.gc_scenes.specs.Starting.{StartingState, StartsOrPlays}
-use Rattle.gc_catalogue.specs.Moments.{later}
-use Rattle.gc_scenes.specs.Slow.{SlowState, HearsLine, silent, replies, TakesUp, IsDelay, delay_of, scene_then, taken_up}
+use Rattle.gc_scenes.specs.Slow.{silent}
 use Rattle.gc_scenes.specs.declared.delay.Delay.{Delay}
 
 -- the delay of the request that a line reads as is the delay of the line. The premise about `view` is the contract of the reading

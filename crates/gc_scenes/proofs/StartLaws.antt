@@ -1,14 +1,8 @@
 -- What holds of an instrument that starts anew at some requests.
-use Rattle.std.proofs.Common.{◌≡◌, ℕ, List, Option, Some, None, true, false, slice_index, refl, sym, ◌∙◌, ap, arith}
-use Rattle.std.proofs.lemmas.Bool.{true≢false}
-use Rattle.gc_lines.specs.AnsweringLines.{HasOneReply, silent, answers}
-use Rattle.gc_lines.specs.Replies.{ReplyFields, IsReply}
-use Rattle.gc_lines.specs.Requests.{RequestFields, IsRequest}
+use Rattle.gc_scenes.proofs.Common.{◌≡◌, ℕ, List, Option, Some, None, true, false, slice_index, refl, sym, ◌∙◌, ap, arith, true≢false, HasOneReply, ReplyFields, IsReply, RequestFields, IsRequest, StartsAnew, without_starts, IsPlayed, SceneState, scene_restarted, StartingState, StartsOrPlays, ignores, starts, is_start_due, counting_starts, starting_restarted, sign_on}
+use Rattle.gc_lines.specs.Prelude.{silent, answers}
 use Rattle.gc_lines.proofs.Requests.{one_request}
-use Rattle.gc_scenes.specs.Laws.{StartsAnew, without_starts}
-use Rattle.gc_scenes.specs.SceneReplying.{IsPlayed}
-use Rattle.gc_scenes.specs.SceneState.{SceneState, scene_restarted}
-use Rattle.gc_scenes.specs.Starting.{StartingState, StartsOrPlays, ignores, starts, plays, is_start_due, counting_starts, starting_restarted, sign_on}
+use Rattle.gc_scenes.specs.Starting.{plays}
 use Rattle.gc_scenes.proofs.Turns.{one_reply}
 
 -- a start isn't due and not due at one request

@@ -1,12 +1,6 @@
 -- What an instrument that starts anew at some requests does with a line.
-use Rattle.std.proofs.Common.{◌≡◌, ℕ, List, ◌++◌, Option, Some, None, Bool, true, false, refl, sym, ◌∙◌, ap, subst}
-use Rattle.gc_lines.specs.Answering.{AppendsAnswer}
-use Rattle.gc_lines.specs.Requests.{RequestFields, IsRequest}
-use Rattle.gc_scenes.specs.Rules.{counted}
-use Rattle.gc_scenes.specs.SceneReplying.{IsPlayed}
-use Rattle.gc_scenes.specs.SceneState.{SceneState, scene_restarted}
-use Rattle.gc_scenes.specs.Starting.{StartingState, StartsOrPlays, starts, plays, is_start_due, sign_on}
-use Rattle.gc_scenes.specs.declared.rules.Fault.{Fault}
+use Rattle.gc_scenes.proofs.Common.{◌≡◌, ℕ, List, ◌++◌, Option, Some, None, Bool, true, false, refl, sym, ◌∙◌, ap, subst, AppendsAnswer, RequestFields, IsRequest, counted, IsPlayed, SceneState, scene_restarted, StartingState, StartsOrPlays, starts, is_start_due, sign_on, Fault}
+use Rattle.gc_scenes.specs.Starting.{plays}
 
 -- Here the instrument gets a line. `v` equals the state `s` before it, `scene` is the scene's instrument after it, `counts` are the
 -- starts that have counted a request of this procedure, and `due` says whether a start was due at that.

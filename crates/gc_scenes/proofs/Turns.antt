@@ -1,16 +1,6 @@
 -- A state and a line determine the state after the line and the reply.
-use Rattle.std.proofs.Common.{◌≡◌, List, ℕ, sym, ap, ◌∙◌, subst}
-use Rattle.gc_lines.specs.Requests.{RequestFields}
-use Rattle.gc_lines.proofs.AnsweringLines.{replies_once}
-use Rattle.gc_values.specs.declared.fault.ValueFault.{ValueFault}
+use Rattle.gc_scenes.proofs.Common.{◌≡◌, List, ℕ, sym, ap, ◌∙◌, subst, RequestFields, replies_once, ValueFault, Call, CallFault, Unknown, Parameters, Handed, refusal_line, reply_id, OneReply, AnswersRequest, names_call, names_none, unreadable, IsHanded, handed_call, handed_raw, SceneState}
 use Rattle.gc_catalogue.proofs.CallLaws.{one_call, one_refusal, no_refusal}
-use Rattle.gc_catalogue.specs.declared.call.Call.{Call}
-use Rattle.gc_catalogue.specs.declared.fault.CallFault.{CallFault}
-use Rattle.gc_catalogue.specs.declared.fault.CallFault.TheVariants.{Unknown, Parameters}
-use Rattle.gc_instrument.specs.Replying.{Handed, refusal_line, reply_id}
-use Rattle.gc_scenes.specs.Laws.{OneReply}
-use Rattle.gc_scenes.specs.SceneReplying.{AnswersRequest, names_call, names_none, unreadable, IsHanded, handed_call, handed_raw}
-use Rattle.gc_scenes.specs.SceneState.{SceneState}
 
 -- states and replies that are those of `h` are equal
 one_handed : (h : Handed SceneState) (t u : SceneState) (x y : List ℕ) → IsHanded h t x → IsHanded h u y → (t ≡ u) × (x ≡ y)

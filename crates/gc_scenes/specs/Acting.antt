@@ -1,16 +1,11 @@
 -- What a call does to the instrument of a scene with its ways of real instruments, over the targets of a state. Where no way
 -- changes a call's outcome, it is that of the execution table. This project's own, from memory.
+use Rattle.gc_scenes.specs.Common.{int_eq, Decimal, Call, DateTime, Executed, exec, done, measured_outcome, adjusted, pointed, unmeasured, State}
 use Rattle.std.specs.Prelude.{pos, ◌&&◌, Bool, true, false, Option, Some, None, if◌then◌else◌}
-use Rattle.std.specs.Ordering.{int_eq}
-use Rattle.gc_values.specs.declared.decimal.Decimal.{Decimal}
-use Rattle.gc_catalogue.specs.declared.answer.Answer.TheVariants as answer
-use Rattle.gc_catalogue.specs.declared.call.Call.{Call}
-use Rattle.gc_catalogue.specs.declared.call.Call.TheVariants as call
-use Rattle.gc_catalogue.specs.declared.call.DateTime.{DateTime}
-use Rattle.gc_instrument.specs.Execution.{Executed, exec, done, measured_outcome, adjusted, pointed, unmeasured}
-use Rattle.gc_instrument.specs.State.{State}
 use Rattle.gc_scenes.specs.Ways.{nearest, other_hz, other_v, face_at}
 use Rattle.gc_scenes.specs.declared.ways.Ways.{Ways}
+use Rattle.gc_catalogue.specs.declared.answer.Answer.TheVariants as answer
+use Rattle.gc_catalogue.specs.declared.call.Call.TheVariants as call
 
 -- the outcome of asking for the date: the date that a running clock shows, or that of the state if no clock runs (`None`)
 abbrev pub dated : (now : Option DateTime) → State → Executed

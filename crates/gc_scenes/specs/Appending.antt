@@ -1,7 +1,6 @@
 -- What the code appends for a request: this project's own. `number` is an id; `old` and `new` are the bytes before and after.
+use Rattle.gc_scenes.specs.Common.{IsPlain, Handed}
 use Rattle.std.specs.Prelude.{◌≡◌, ℕ, true, List, ◌++◌}
-use Rattle.gc_lines.specs.Lines.{IsPlain}
-use Rattle.gc_instrument.specs.Replying.{Handed}
 use Rattle.gc_scenes.specs.SceneExecution.{Played}
 use Rattle.gc_scenes.specs.SceneReplying.{played_line}
 use Rattle.gc_scenes.specs.SceneState.{SceneState}

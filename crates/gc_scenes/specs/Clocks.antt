@@ -1,7 +1,6 @@
 -- A clock that runs from the date that it was set to: this project's own, by the Gregorian calendar.
+use Rattle.gc_scenes.specs.Common.{month_days, DateTime}
 use Rattle.std.specs.Prelude.{ℕ, ℤ, pos, suc, zero, ◌+◌, ◌-◌, ◌*◌, ◌/◌, ◌%◌, ◌+ℤ◌, nat_lt, int_le, unsigned_abs, if◌then◌else◌}
-use Rattle.gc_catalogue.specs.Calendar.{month_days}
-use Rattle.gc_catalogue.specs.declared.call.DateTime.{DateTime}
 use Rattle.gc_scenes.specs.declared.clock.Clock.{Clock}
 
 -- the next year; from 9999 on a year is followed by itself

@@ -1,18 +1,13 @@
 -- What is claimed of the definitions themselves: this project's own.
+use Rattle.gc_scenes.specs.Common.{HasOneReply, ReplyFields, IsReply, RequestFields, IsRequest, State, Pointing, Target}
 use Rattle.std.specs.Prelude.{◌≡◌, ◌<◌, ◌≤◌, ℕ, List, [], ◌∷◌, ◌++◌, map, true, Option, Some, None}
 use Rattle.std.specs.List.{AllByRecursion}
-use Rattle.gc_lines.specs.AnsweringLines.{HasOneReply}
-use Rattle.gc_lines.specs.Replies.{ReplyFields, IsReply}
-use Rattle.gc_lines.specs.Requests.{RequestFields, IsRequest}
-use Rattle.gc_instrument.specs.Replying as table
-use Rattle.gc_instrument.specs.State.{State}
-use Rattle.gc_instrument.specs.declared.pointing.Pointing.{Pointing}
-use Rattle.gc_instrument.specs.declared.target.Target.{Target}
 use Rattle.gc_scenes.specs.Ways.{no_ways, apart, window, nearest}
 use Rattle.gc_scenes.specs.SceneReplying.{IsPlayed}
 use Rattle.gc_scenes.specs.SceneState.{SceneState, scene_restarted, seeing}
 use Rattle.gc_scenes.specs.Starting.{StartingState, StartsOrPlays, is_start_due, sign_on}
 use Rattle.gc_scenes.specs.declared.rules.Prism.{Prism}
+use Rattle.gc_instrument.specs.Replying as table
 
 -- a target that never moves and is never hidden
 abbrev pub still : Target → Prism

@@ -1,3 +1,5 @@
+mod Common
+pub mod Prelude
 pub mod Params
 pub mod Shifting
 pub mod ShiftedFacts

@@ -1,12 +1,7 @@
 -- What each rule of a scene does to targets, to requests and to answers: this project's own. A look is a measurement or a search.
 -- `rpc` is a procedure's number.
+use Rattle.gc_scenes.specs.Common.{units, Decimal, Answer, is_at, Target}
 use Rattle.std.specs.Prelude.{ℕ, ◌+◌, ◌-◌, ◌==◌, ◌&&◌, not, Bool, true, false, List, [], ◌∷◌, Option, Some, None, nat_le, nat_lt, if◌then◌else◌, min, find, map, option_map}
-use Rattle.gc_values.specs.Decimals.{units}
-use Rattle.gc_values.specs.declared.decimal.Decimal.{Decimal}
-use Rattle.gc_catalogue.specs.declared.answer.Answer.{Answer}
-use Rattle.gc_catalogue.specs.declared.answer.Answer.TheVariants as answer
-use Rattle.gc_instrument.specs.Targets.{is_at}
-use Rattle.gc_instrument.specs.declared.target.Target.{Target}
 use Rattle.gc_scenes.specs.Shifting.{shifted, next, deviation}
 use Rattle.gc_scenes.specs.Ways.{target_in_face}
 use Rattle.gc_scenes.specs.declared.rules.Prism.{Prism}
@@ -15,6 +10,7 @@ use Rattle.gc_scenes.specs.declared.rules.Fault.{Fault}
 use Rattle.gc_scenes.specs.declared.rules.Scripted.{Scripted}
 use Rattle.gc_scenes.specs.declared.rules.Sight.{Sight}
 use Rattle.gc_scenes.specs.declared.rules.Noise.{Noise}
+use Rattle.gc_catalogue.specs.declared.answer.Answer.TheVariants as answer
 
 -- one more, but at most the greatest number of 32 bits
 abbrev pub one_more : ℕ → ℕ

@@ -1,20 +1,8 @@
 -- What a call does to the instrument of a scene: the execution table over the targets that aren't hidden, with the instrument's
 -- ways of real instruments, and then the scene's rules. This project's own. `rpc` is a procedure's number, `rc` a return code.
+use Rattle.gc_scenes.specs.Common.{int_eq, zero, Decimal, answer_params, Answer, Call, DateTime, Executed, Gives, first_at, Pointing, Target}
 use Rattle.std.specs.Prelude.{ℕ, pos, ◌==◌, ◌&&◌, ◌||◌, Bool, true, false, List, [], Option, Some, None, unwrap_or, if◌then◌else◌}
 use Rattle.std.specs.Option.{option_map}
-use Rattle.std.specs.Ordering.{int_eq}
-use Rattle.gc_values.specs.Decimals.{zero}
-use Rattle.gc_values.specs.declared.decimal.Decimal.{Decimal}
-use Rattle.gc_catalogue.specs.Texts.{answer_params}
-use Rattle.gc_catalogue.specs.declared.answer.Answer.{Answer}
-use Rattle.gc_catalogue.specs.declared.answer.Answer.TheVariants as answer
-use Rattle.gc_catalogue.specs.declared.call.Call.{Call}
-use Rattle.gc_catalogue.specs.declared.call.Call.TheVariants as call
-use Rattle.gc_catalogue.specs.declared.call.DateTime.{DateTime}
-use Rattle.gc_instrument.specs.Execution.{Executed, Gives}
-use Rattle.gc_instrument.specs.Targets.{first_at}
-use Rattle.gc_instrument.specs.declared.pointing.Pointing.{Pointing}
-use Rattle.gc_instrument.specs.declared.target.Target.{Target}
 use Rattle.gc_scenes.specs.Acting.{acted}
 use Rattle.gc_scenes.specs.Clocks.{shown_at}
 use Rattle.gc_scenes.specs.Params.{scripted_params}
@@ -24,6 +12,8 @@ use Rattle.gc_scenes.specs.Ways.{is_turned, is_warning, has_distance, valued}
 use Rattle.gc_scenes.specs.declared.clock.Clock.{Clock}
 use Rattle.gc_scenes.specs.declared.rules.Scripted.{Scripted}
 use Rattle.gc_scenes.specs.declared.rules.Sight.{Sight}
+use Rattle.gc_catalogue.specs.declared.answer.Answer.TheVariants as answer
+use Rattle.gc_catalogue.specs.declared.call.Call.TheVariants as call
 
 -- whether the call measures a distance; TMC_GetSimpleMea doesn't: it answers the one that was measured last
 abbrev pub is_measurement : Call → Bool

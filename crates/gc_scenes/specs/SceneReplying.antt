@@ -1,20 +1,13 @@
 -- The reply of a scene's instrument to a line: this project's own. The communication codes are the manual's. A parameter `number`
 -- is an id, `rpc` a procedure's number, and `rc` a return code.
+use Rattle.gc_scenes.specs.Common.{RepliesTo, IsPlain, reply_text, RequestFields, IsCall, IsRefusal, Call, Handed, kept_line, kept_after, with_kept, refusal_line, reply_id, KeptReply}
 use Rattle.std.specs.Prelude.{◌≡◌, ℕ, List, true, false, Option, Some, None, unwrap_or, if◌then◌else◌}
-use Rattle.gc_lines.specs.AnsweringLines.{RepliesTo}
-pub use Rattle.gc_lines.specs.AnsweringLines.{silent, answers}
-use Rattle.gc_lines.specs.Lines.{IsPlain}
-use Rattle.gc_lines.specs.Replies.{reply_text}
-use Rattle.gc_lines.specs.Requests.{RequestFields}
 use Rattle.gc_values.specs.declared.fault.ValueFault.{ValueFault}
-use Rattle.gc_catalogue.specs.Calls.{IsCall, IsRefusal}
-use Rattle.gc_catalogue.specs.declared.call.Call.{Call}
 use Rattle.gc_catalogue.specs.declared.fault.CallFault.TheVariants.{Unknown, Parameters}
-use Rattle.gc_instrument.specs.Replying.{Handed, kept_line, kept_after, with_kept, refusal_line, reply_id}
-use Rattle.gc_instrument.specs.State.{KeptReply}
 use Rattle.gc_scenes.specs.SceneExecution.{Played, played_call, played_raw, scripted_played, counting}
 use Rattle.gc_scenes.specs.SceneState.{SceneState}
 use Rattle.gc_scenes.specs.declared.replying.Fresh.{Fresh}
+pub use Rattle.gc_lines.specs.AnsweringLines.{silent, answers}
 use Rattle.gc_scenes.specs.declared.replying.Fresh.TheVariants as fresh
 
 -- the reply line with this id, this return code and these parameters

@@ -1,9 +1,6 @@
 -- What serving with a scene's instrument writes, and how it ends: this project's own.
+use Rattle.gc_scenes.specs.Common.{AnswersFrames, IsRunOverPorts, Ports, AnswersLines, frames, Frame}
 use Rattle.std.specs.Prelude.{ℕ, List, Option, Result}
-use Rattle.gc_lines.specs.Answering.{AnswersFrames, IsRunOverPorts, Ports}
-use Rattle.gc_lines.specs.AnsweringLines.{AnswersLines}
-use Rattle.gc_lines.specs.Frames.{frames}
-use Rattle.gc_lines.specs.declared.frame.Frame.{Frame}
 use Rattle.gc_lines.specs.declared.served.Served.{Served}
 use Rattle.gc_lines.specs.declared.served.ServeFault.{ServeFault}
 use Rattle.gc_scenes.specs.SceneReplying.{IsPlayed}

@@ -1,7 +1,6 @@
 -- The state of the instrument of a scene: this project's own.
+use Rattle.gc_scenes.specs.Common.{State, restarted, Target}
 use Rattle.std.specs.Prelude.{ℕ, Bool, List, Option}
-use Rattle.gc_instrument.specs.State.{State, restarted}
-use Rattle.gc_instrument.specs.declared.target.Target.{Target}
 use Rattle.gc_scenes.specs.declared.rules.Prism.{Prism}
 use Rattle.gc_scenes.specs.declared.rules.Fault.{Fault}
 use Rattle.gc_scenes.specs.declared.rules.Scripted.{Scripted}

@@ -1,6 +1,6 @@
 -- What a contract sees of a scene's instrument: this project's own.
+use Rattle.gc_scenes.specs.Common.{with_kept}
 use Rattle.std.specs.Prelude.{[]}
-use Rattle.gc_instrument.specs.Replying.{with_kept}
 use Rattle.gc_instrument.specs.Seen.{IsPlainKept}
 use Rattle.gc_scenes.specs.SceneState.{SceneState, seeing}
 use Rattle.gc_scenes.specs.declared.instrument.SceneInstrument.TheInside.{Inside}

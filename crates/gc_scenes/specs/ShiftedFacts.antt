@@ -1,9 +1,7 @@
 -- For the definition of `of_units`: the facts that a decimal contains, of the one whose value is m units of 10^-24.
+use Rattle.gc_scenes.specs.Common.{signed, IsInRange, IsCanonical, stripped_is, zeros_in_range, unsigned_abs-signed, stripped}
 use Rattle.std.proofs.Common.{◌≡◌, ℕ, ◌*◌, ◌%◌, ◌^◌, ◌≤◌, Bool, true, nat_le, sym, ap, ◌∙◌, subst}
 use borrow.Author.Tests.{leb-true}
-use Rattle.gc_values.specs.Fraction.{signed, IsInRange, IsCanonical}
-use Rattle.gc_values.specs.RoundedFacts.{stripped_is, zeros_in_range, unsigned_abs-signed}
-use Rattle.gc_values.specs.Zeros.{stripped}
 
 -- the decimal of m units (`stripped`) has at most 24 places
 pub stripped_has_few_places : (m : ℕ) → (stripped m 24).places ≤ 24

@@ -1,9 +1,6 @@
 -- A decimal moved by units of 10^-24, and the generator whose numbers make the noise: this project's own.
+use Rattle.gc_scenes.specs.Common.{units, is_negative, signed, stripped, Decimal}
 use Rattle.std.specs.Prelude.{◌≡◌, refl, ℕ, ℤ, ◌+◌, ◌*◌, ◌/◌, ◌%◌, ◌^◌, ◌==◌, ◌+ℤ◌, Bool, true, false, nat_le, unsigned_abs}
-use Rattle.gc_values.specs.Decimals.{units}
-use Rattle.gc_values.specs.Fraction.{is_negative, signed}
-use Rattle.gc_values.specs.Zeros.{stripped}
-use Rattle.gc_values.specs.declared.decimal.Decimal.{Decimal}
 use Rattle.gc_scenes.specs.ShiftedFacts.{stripped_has_few_places, stripped_is_in_range, stripped_is_canonical}
 
 -- whether z units of 10^-24 are in a decimal's range

@@ -1,10 +1,7 @@
 -- An instrument whose replies take time: this project's own. Moments are milliseconds on one clock; only their differences count.
 -- `rpc` is a procedure's number.
+use Rattle.gc_scenes.specs.Common.{AnswersLines, RequestFields, IsRequest, Frame, later}
 use Rattle.std.specs.Prelude.{◌≡◌, ℕ, ◌<◌, ◌≤◌, ◌==◌, Bool, true, List, Option, Some, None, if◌then◌else◌, max, fold}
-use Rattle.gc_lines.specs.AnsweringLines.{AnswersLines}
-use Rattle.gc_lines.specs.Requests.{RequestFields, IsRequest}
-use Rattle.gc_lines.specs.declared.frame.Frame.{Frame}
-use Rattle.gc_catalogue.specs.Moments.{later}
 use Rattle.gc_scenes.specs.Starting.{StartingState, StartsOrPlays, starting_restarted, starting_at}
 use Rattle.gc_scenes.specs.declared.delay.Delay.{Delay}
 

@@ -1,7 +1,7 @@
 -- An instrument that starts anew at some requests: this project's own. The sign-on line is from memory, and was compared with no
 -- instrument. `rpc` is a procedure's number.
+use Rattle.gc_scenes.specs.Common.{RequestFields, IsRequest, IsNoRequest}
 use Rattle.std.specs.Prelude.{◌≡◌, ℕ, Bool, true, false, List, Option, Some, None, codes, find, is_some}
-use Rattle.gc_lines.specs.Requests.{RequestFields, IsRequest, IsNoRequest}
 use Rattle.gc_scenes.specs.Rules.{counted, is_due}
 use Rattle.gc_scenes.specs.SceneReplying.{IsPlayed}
 use Rattle.gc_scenes.specs.SceneState.{SceneState, scene_restarted, at_moment}

@@ -1,21 +1,14 @@
 -- The ways of real instruments that a scene's instrument may have, each by itself: this project's own, from memory, and no
 -- statement about an instrument. Angles are whole numbers of units, 10^-24 radians each.
+use Rattle.gc_scenes.specs.Common.{units, half_turn, turn, signed, Decimal, Answer, Call, Pointing, Target}
 use Rattle.std.specs.Prelude.{ℕ, ℤ, ◌-◌, ◌%◌, ◌==◌, ◌&&◌, ◌||◌, ◌+ℤ◌, ◌-ℤ◌, Bool, true, false, List, [], ◌∷◌, Option, Some, None, nat_le, int_le, int_lt, unsigned_abs, if◌then◌else◌, min, max}
-use Rattle.gc_values.specs.Decimals.{units}
-use Rattle.gc_values.specs.Directions.{half_turn, turn}
-use Rattle.gc_values.specs.Fraction.{signed}
-use Rattle.gc_values.specs.declared.decimal.Decimal.{Decimal}
-use Rattle.gc_catalogue.specs.declared.answer.Answer.{Answer}
-use Rattle.gc_catalogue.specs.declared.answer.Answer.TheVariants as answer
-use Rattle.gc_catalogue.specs.declared.call.Call.{Call}
-use Rattle.gc_catalogue.specs.declared.call.Call.TheVariants as call
 use Rattle.gc_instrument.specs.declared.face.Face.{Face}
 use Rattle.gc_instrument.specs.declared.face.Face.TheVariants.{Normal, Turned}
-use Rattle.gc_instrument.specs.declared.pointing.Pointing.{Pointing}
-use Rattle.gc_instrument.specs.declared.target.Target.{Target}
 use Rattle.gc_scenes.specs.Shifting.{shifted}
 use Rattle.gc_scenes.specs.declared.ways.Ways.{Ways}
 use Rattle.gc_scenes.specs.declared.ways.Way.{Way}
+use Rattle.gc_catalogue.specs.declared.answer.Answer.TheVariants as answer
+use Rattle.gc_catalogue.specs.declared.call.Call.TheVariants as call
 use Rattle.gc_scenes.specs.declared.ways.Way.TheVariants as way
 
 -- none of the ways

@@ -1,20 +1,8 @@
 -- How many requests a client sent after the last call of the table that a reply ended. A course is what a client has sent and settled so
 -- far, and the client after that. `CountsBehind` says that a count is right for a course.
-use Rattle.std.proofs.Common.{◌≡◌, ℕ, zero, suc, ◌+◌, ◌-◌, ◌<◌, ◌≤◌, Bool, true, false, List, [], ◌∷◌, ◌++◌, length, map, Option, Some, None, refl, sym, ap, ◌∙◌, subst, arith, if◌then◌else◌, nat_lt}
+use Rattle.gc_session.proofs.Common.{◌≡◌, ℕ, zero, suc, ◌+◌, ◌-◌, ◌<◌, ◌≤◌, Bool, true, false, List, [], ◌∷◌, ◌++◌, length, map, Option, Some, None, refl, sym, ap, ◌∙◌, subst, arith, if◌then◌else◌, nat_lt, ltb-true, cond_both, ltb-false, get_more, is_of_table, Asked, Course, Step, Send, Hear, Expire, Restart, sent_on, course_after, of_settled, of_pending, AccountsForSends, ById, Sending, Settlement, Lost, Late, Answered, heard, hears, hears_line, settles_at, settle, settled_by_line, sends, restarts, Pending, WINDOW, length-settle, one_more_in_window, IsRepliedTableCall, IsNearTheTable, is_some_of_table, ends_with_table}
 use Rattle.std.specs.Prelude.{slice_get}
-use Rattle.std.proofs.lemmas.Bool.{ltb-true, cond_both, ltb-false}
 use Rattle.std.proofs.lemmas.List.{length-map, length-append}
-use Rattle.gc_lines.proofs.Lists.{get_more}
-use Rattle.gc_catalogue.specs.Asked.{is_of_table}
-use Rattle.gc_catalogue.specs.declared.asked.Asked.{Asked}
-use Rattle.gc_client.specs.OneForOne.{Course, Step, Send, Hear, Expire, Restart, sent_on, course_after, of_settled, of_pending, AccountsForSends}
-use Rattle.gc_client.specs.Rule.{ById, Sending, Settlement, Lost, Late, Answered, heard, hears, hears_line, settles_at, settle, settled_by_line, sends, restarts}
-use Rattle.gc_client.specs.declared.pending.Pending.{Pending}
-use Rattle.gc_client.specs.declared.window.TheConstants.{WINDOW}
-use Rattle.gc_client.proofs.OneForOne.{length-settle}
-use Rattle.gc_session.specs.Exchange.{one_more_in_window}
-use Rattle.gc_session.specs.Laws.{IsRepliedTableCall, IsNearTheTable}
-use Rattle.gc_session.specs.Lines.{is_some_of_table, ends_with_table}
 
 -- the count after one step of this client, if it was `b` before: how many requests were sent, up to seven, after the last call of the
 -- table that a reply ended

@@ -1,24 +1,7 @@
 -- What the calls of a session's caller bring about: each is events of the session's client, which may come there, and which bring the client
 -- to where the session has it after the call.
-use Rattle.std.proofs.Common.{◌≡◌, ◌≢◌, ℕ, ◌+◌, ◌<◌, Bool, true, false, if◌then◌else◌, nat_eq, List, [], ◌∷◌, ◌++◌, length, filter, Option, Some, None, refl, sym, ap, ◌∙◌, subst, arith, append_assoc, append-nil}
-use Rattle.std.specs.List.{AllByRecursion}
-use Rattle.std.proofs.lemmas.Bool.Decides.{nat_tests}
+use Rattle.gc_session.proofs.Common.{◌≡◌, ◌≢◌, ℕ, ◌+◌, ◌<◌, Bool, true, false, if◌then◌else◌, nat_eq, List, [], ◌∷◌, ◌++◌, length, filter, Option, Some, None, refl, sym, ap, ◌∙◌, subst, arith, append_assoc, append-nil, AllByRecursion, nat_tests, all_append, Asked, the_word, left_by, Course, Step, Send, Hear, Expire, Restart, Wanted, begun, course_at, course_after, course, sent_on, AccountsForSends, ById, Settlement, Sending, fresh, heard, hears_line, sends, send_unless_full, expires, restarts, WINDOW, accounts_for_sends, Exchange, OWN, client_stepped, client_after, ClientEvent, Null, Came, Stepped, left_by_step, has_begun, is_none_left, one_more_in_window, ended_last, IsNearTheTable, IsNullIfOwn, last_ended, last_ended_at, is_of_caller, calls_for_renewal, ends_with_table, client_sent}
 use Rattle.std.proofs.lemmas.List.Elements.{filter-append}
-use Rattle.gc_lines.proofs.Lists.{all_append}
-use Rattle.gc_catalogue.specs.declared.asked.Asked.{Asked}
-use Rattle.gc_client.specs.Beginning.{the_word, left_by}
-use Rattle.gc_client.specs.OneForOne.{Course, Step, Send, Hear, Expire, Restart, Wanted, begun, course_at, course_after, course, sent_on, AccountsForSends}
-use Rattle.gc_client.specs.Rule.{ById, Settlement, Sending, fresh, heard, hears_line, sends, send_unless_full, expires, restarts}
-use Rattle.gc_client.specs.declared.window.TheConstants.{WINDOW}
-use Rattle.gc_client.proofs.OneForOne.{accounts_for_sends}
-use Rattle.gc_session.specs.declared.exchange.Exchange.{Exchange}
-use Rattle.gc_session.specs.declared.session.TheConstants.{OWN}
-use Rattle.gc_session.specs.Courses.{client_stepped, client_after}
-use Rattle.gc_session.specs.Events.{ClientEvent, Null, Came, Stepped, left_by_step}
-use Rattle.gc_session.specs.Exchange.{has_begun, is_none_left, one_more_in_window, ended_last}
-use Rattle.gc_session.specs.Laws.{IsNearTheTable, IsNullIfOwn, last_ended, last_ended_at, is_of_caller}
-use Rattle.gc_session.specs.Lines.{calls_for_renewal, ends_with_table}
-use Rattle.gc_session.specs.Sessions.{client_sent}
 use Rattle.gc_session.proofs.Behind.{CountsBehind, behind_step, counts_step, counts_one_more, near_by_count}
 use Rattle.gc_session.proofs.Courses.{course_of, course_append, sent_client, client_of, course_client}
 use Rattle.gc_session.proofs.Places.{Place, moved, moved_all, moved_append, since_after, Along, along_both}

@@ -1,34 +1,15 @@
 -- What each call of a session's caller brings about, and what any calls do.
-use Rattle.std.proofs.Common.{◌≡◌, ◌≢◌, ℕ, ◌&&◌, Bool, true, false, not, if◌then◌else◌, nat_eq, List, [], ◌∷◌, refl, sym, ap, ◌∙◌, subst, arith, ◌||◌}
-use Rattle.std.proofs.lemmas.Bool.{or_parts, and_parts}
-use Rattle.std.proofs.lemmas.Bool.Decides.{nat_tests}
-use Rattle.gc_catalogue.specs.declared.asked.Asked.{Asked}
+use Rattle.gc_session.proofs.Common.{◌≡◌, ◌≢◌, ℕ, ◌&&◌, Bool, true, false, not, if◌then◌else◌, nat_eq, List, [], ◌∷◌, refl, sym, ap, ◌∙◌, subst, arith, ◌||◌, or_parts, and_parts, nat_tests, Asked, Wanted, Hear, ById, Settlement, expires, hears_line, Exchange, Next, OWN, Settings, Want, Phase, Standing, is_sign_on, Call, Steps, Asks, Comes, Hears, Opens, Closes, Restarts, after, after_all, settles, settled_all, moment_events, next_events, ask_events, line_events, anew_events, events_of, events_all, ClientEvent, Stepped, has_begun, later, calls_for_renewal, taken_if, taken_by, taken_all, Session, opening, attended, timed, is_up, met_in, quieted, connected, unconnected, with_standing, sign_on_noted, at_step, next_of, done, settled_by, takes, may_send, asked_if, line_came_in, line_heard_if, settled_in, begun_anew, anew_settles, phase_anew}
 use Rattle.gc_catalogue.specs.declared.asked.Asked.TheVariants.{Table}
 use Rattle.gc_catalogue.specs.declared.call.Call.TheVariants.{NullProc}
-use Rattle.gc_client.specs.OneForOne.{Wanted, Hear}
-use Rattle.gc_client.specs.Rule.{ById, Settlement, expires, hears_line}
-use Rattle.gc_session.specs.declared.exchange.Exchange.{Exchange}
-use Rattle.gc_session.specs.declared.next.Next.{Next}
-use Rattle.gc_session.specs.declared.next.Next.TheVariants as next
-use Rattle.gc_session.specs.declared.session.TheConstants.{OWN}
-use Rattle.gc_session.specs.declared.settings.Settings.{Settings}
-use Rattle.gc_session.specs.declared.settings.Want.{Want}
 use Rattle.gc_session.specs.declared.settings.Want.TheVariants.{Send}
-use Rattle.gc_session.specs.declared.standing.Phase.{Phase}
-use Rattle.gc_session.specs.declared.standing.Phase.TheVariants as phase
-use Rattle.gc_session.specs.declared.standing.Standing.{Standing}
-use Rattle.gc_texts.specs.SignOns.{is_sign_on}
-use Rattle.gc_session.specs.Calls.{Call, Steps, Asks, Comes, Hears, Opens, Closes, Restarts, after, after_all, settles, settled_all, moment_events, next_events, ask_events, line_events, anew_events, events_of, events_all}
-use Rattle.gc_session.specs.Events.{ClientEvent, Stepped}
-use Rattle.gc_session.specs.Exchange as exchange
-use Rattle.gc_session.specs.Exchange.{has_begun, later}
-use Rattle.gc_session.specs.Lines.{calls_for_renewal}
-use Rattle.gc_session.specs.Laws.{taken_if, taken_by, taken_all}
-use Rattle.gc_session.specs.Sessions.{Session, opening, attended, timed, is_up, met_in, quieted, connected, unconnected, with_standing, sign_on_noted, at_step, next_of, done, settled_by, takes, may_send, asked_if, line_came_in, line_heard_if, settled_in, begun_anew, anew_settles, phase_anew}
 use Rattle.gc_session.proofs.Brings.{Fits, Brings, brings_both, Keeps, keeps_all, keeps_both, brings_none, brings_null, brings_came, brings_moment, brings_hear, brings_restart, brings_renewal, brings_send}
 use Rattle.gc_session.proofs.Nexts.{HoldsAt, next_holds}
 use Rattle.gc_session.proofs.Places.{Place, the_start, moved_all}
 use Rattle.gc_session.proofs.Walk.{attended_along, quieted_along}
+use Rattle.gc_session.specs.declared.next.Next.TheVariants as next
+use Rattle.gc_session.specs.declared.standing.Phase.TheVariants as phase
+use Rattle.gc_session.specs.Exchange as exchange
 
 -- Moments.
 

@@ -1,12 +1,7 @@
 -- What is next of a client on a connection that is ready is one of its choices: what is so of each that may be taken is so of it.
-use Rattle.std.proofs.Common.{◌≡◌, ℕ, ◌+◌, ◌<◌, ◌&&◌, true, false, not, nat_eq, nat_lt}
-use Rattle.std.proofs.lemmas.Bool.{and_parts, cond_both, eqb-true, ltb-true, not-true}
-use Rattle.gc_client.specs.declared.window.TheConstants.{WINDOW}
+use Rattle.gc_session.proofs.Common.{◌≡◌, ℕ, ◌+◌, ◌<◌, ◌&&◌, true, false, not, nat_eq, nat_lt, and_parts, cond_both, eqb-true, ltb-true, not-true, WINDOW, Exchange, has_room, is_near, may_ask, is_line_dead, next_waiting, next_room, next_flush, next_to_send, next_synchronizing}
 use Rattle.gc_session.specs.declared.choices.Choices.{Choices}
-use Rattle.gc_session.specs.declared.exchange.Exchange.{Exchange}
 use Rattle.gc_session.specs.declared.load.Load.{Load}
-use Rattle.gc_session.specs.Exchange.{has_room, is_near, may_ask}
-use Rattle.gc_session.specs.Choices.{is_line_dead, next_waiting, next_room, next_flush, next_to_send, next_synchronizing}
 
 -- where there is room, each of its tests holds
 pub room_of : (width all current : ℕ) (x : Exchange) → has_room width all current x ≡ true

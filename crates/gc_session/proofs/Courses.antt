@@ -1,11 +1,5 @@
 -- Courses: what a client has sent and settled so far, and the client after that.
-use Rattle.std.proofs.Common.{◌≡◌, ℕ, List, [], ◌∷◌, ◌++◌, Option, Some, None, refl, sym, ap, ◌∙◌}
-use Rattle.gc_catalogue.specs.declared.asked.Asked.{Asked}
-use Rattle.gc_client.specs.OneForOne.{Course, Step, Send, Hear, Expire, Restart, begun, course_at, course_after, course, sent_on}
-use Rattle.gc_client.specs.Rule.{ById, Sending, sends}
-use Rattle.gc_client.specs.declared.window.TheConstants.{WINDOW}
-use Rattle.gc_session.specs.Courses.{client_stepped, client_after}
-use Rattle.gc_session.specs.Sessions.{client_sent}
+use Rattle.gc_session.proofs.Common.{◌≡◌, ℕ, List, [], ◌∷◌, ◌++◌, Option, Some, None, refl, sym, ap, ◌∙◌, Asked, Course, Step, Send, Hear, Expire, Restart, begun, course_at, course_after, course, sent_on, ById, Sending, sends, WINDOW, client_stepped, client_after, client_sent}
 
 -- the course of a new client over these steps
 abbrev pub course_of : List (Step Asked) → Course Asked

@@ -1,22 +1,10 @@
 -- From when the quiet time counts: as long as the clock doesn't go back, from no earlier than the line feed of a connection, and than what
 -- came last.
-use Rattle.std.proofs.Common.{◌≡◌, ℕ, ◌-◌, ◌≤◌, ◌&&◌, Bool, true, false, if◌then◌else◌, min, List, [], ◌∷◌, refl, sym, ap, ◌∙◌, subst, arith}
-use Rattle.std.proofs.lemmas.Bool.{and_parts}
-use Rattle.std.proofs.lemmas.Bool.Decides.{nat_tests}
-use Rattle.gc_catalogue.specs.declared.asked.Asked.{Asked}
-use Rattle.gc_texts.specs.SignOns.{is_sign_on}
-use Rattle.gc_session.specs.declared.next.Next.{Next}
-use Rattle.gc_session.specs.declared.next.Next.TheVariants as next
-use Rattle.gc_session.specs.declared.settings.Want.{Want}
-use Rattle.gc_session.specs.declared.standing.Phase.{Phase}
-use Rattle.gc_session.specs.declared.standing.Phase.TheVariants as phase
-use Rattle.gc_session.specs.declared.standing.Standing.{Standing}
-use Rattle.gc_session.specs.Calls.{Call, Steps, Asks, Comes, Hears, Opens, Closes, Restarts, after, after_all}
-use Rattle.gc_session.specs.Exchange as exchange
-use Rattle.gc_session.specs.Exchange.{has_begun, is_past}
-use Rattle.gc_session.specs.Laws.{moment_of, moment_after, GoesForward, came_at, last_came, ConnectionsAreDrained}
-use Rattle.gc_session.specs.Sessions.{Session, attended, timed, quieted_in, at_step, next_of, next_in, done, stepped, takes, with_standing, sign_on_noted, asked_if, begun_anew, is_up, met_in, wanted_of, all_of}
+use Rattle.gc_session.proofs.Common.{◌≡◌, ℕ, ◌-◌, ◌≤◌, ◌&&◌, Bool, true, false, if◌then◌else◌, min, List, [], ◌∷◌, refl, sym, ap, ◌∙◌, subst, arith, and_parts, nat_tests, Asked, is_sign_on, Next, Want, Phase, Standing, Call, Steps, Asks, Comes, Hears, Opens, Closes, Restarts, after, after_all, has_begun, is_past, moment_of, moment_after, GoesForward, came_at, last_came, ConnectionsAreDrained, Session, attended, timed, quieted_in, at_step, next_of, next_in, done, stepped, takes, with_standing, sign_on_noted, asked_if, begun_anew, is_up, met_in, wanted_of, all_of}
 use Rattle.gc_session.proofs.Walk.{attended_along, line_along, quieted_along}
+use Rattle.gc_session.specs.declared.next.Next.TheVariants as next
+use Rattle.gc_session.specs.declared.standing.Phase.TheVariants as phase
+use Rattle.gc_session.specs.Exchange as exchange
 
 -- the moment from which the quiet time counts
 abbrev since_of : Session → ℕ

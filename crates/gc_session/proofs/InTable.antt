@@ -1,18 +1,7 @@
 -- Events that ask for nothing but calls of the table; and calls on a session whose events are such.
-use Rattle.std.proofs.Common.{◌≡◌, ℕ, Bool, true, false, if◌then◌else◌, List, [], ◌∷◌, refl}
-use Rattle.std.specs.List.{AllByRecursion}
-use Rattle.gc_lines.proofs.Lists.{all_append}
-use Rattle.gc_catalogue.specs.Asked.{is_of_table}
-use Rattle.gc_catalogue.specs.declared.asked.Asked.{Asked}
+use Rattle.gc_session.proofs.Common.{◌≡◌, ℕ, Bool, true, false, if◌then◌else◌, List, [], ◌∷◌, refl, AllByRecursion, all_append, is_of_table, Asked, is_sign_on, Call, Steps, Asks, Comes, Hears, Opens, Closes, Restarts, AsksTheTable, after, anew_events, ask_events, events_all, events_of, line_events, moment_events, next_events, ClientEvent, Stepped, has_begun, later, Session, at_step, next_of, takes, Next, Phase}
 use Rattle.gc_client.specs.OneForOne as one
-use Rattle.gc_texts.specs.SignOns.{is_sign_on}
-use Rattle.gc_session.specs.Calls.{Call, Steps, Asks, Comes, Hears, Opens, Closes, Restarts, AsksTheTable, after, anew_events, ask_events, events_all, events_of, line_events, moment_events, next_events}
-use Rattle.gc_session.specs.Events.{ClientEvent, Stepped}
-use Rattle.gc_session.specs.Exchange.{has_begun, later}
-use Rattle.gc_session.specs.Sessions.{Session, at_step, next_of, takes}
-use Rattle.gc_session.specs.declared.next.Next.{Next}
 use Rattle.gc_session.specs.declared.next.Next.TheVariants as next
-use Rattle.gc_session.specs.declared.standing.Phase.{Phase}
 use Rattle.gc_session.specs.declared.standing.Phase.TheVariants as phase
 
 -- the event asks for nothing but a call of the table

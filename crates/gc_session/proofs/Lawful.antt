@@ -1,17 +1,5 @@
 -- The laws of any calls on a new session, from where their events bring its client.
-use Rattle.std.proofs.Common.{◌≡◌, ℕ, ◌+◌, ◌<◌, List, ◌∷◌, ◌++◌, length, map, filter, refl, sym, ap, ◌∙◌, subst}
-use Rattle.std.specs.List.{AllByRecursion}
-use Rattle.gc_catalogue.specs.declared.asked.Asked.{Asked}
-use Rattle.gc_client.specs.OneForOne.{Course, Step, Send, Wanted, begun, course, of_settled, of_pending}
-use Rattle.gc_client.specs.Rule.{ById, fresh}
-use Rattle.gc_client.specs.declared.window.TheConstants.{WINDOW}
-use Rattle.gc_client.proofs.OneForOne.{accounts_for_sends}
-use Rattle.gc_session.specs.declared.settings.Settings.{Settings}
-use Rattle.gc_session.specs.declared.session.TheConstants.{OWN}
-use Rattle.gc_session.specs.Calls.{Call, after_all, events_all}
-use Rattle.gc_session.specs.Events.{ClientEvent, Stepped, steps_among}
-use Rattle.gc_session.specs.Laws.{SessionsAreTheirClients, RequestsAreSentNearTheTable, IsNearTheTable, RequestsAreHeldBack, NothingIsSentInDoubt, OwnRequestsAreNullProcedures, AccountsForAsks, IsNullIfOwn, is_of_caller, last_ended, settled_and_outstanding}
-use Rattle.gc_session.specs.Sessions.{opening}
+use Rattle.gc_session.proofs.Common.{◌≡◌, ℕ, ◌+◌, ◌<◌, List, ◌∷◌, ◌++◌, length, map, filter, refl, sym, ap, ◌∙◌, subst, AllByRecursion, Asked, Course, Step, Send, Wanted, begun, course, of_settled, of_pending, ById, fresh, WINDOW, accounts_for_sends, Settings, OWN, Call, after_all, events_all, ClientEvent, Stepped, steps_among, SessionsAreTheirClients, RequestsAreSentNearTheTable, IsNearTheTable, RequestsAreHeldBack, NothingIsSentInDoubt, OwnRequestsAreNullProcedures, AccountsForAsks, IsNullIfOwn, is_of_caller, last_ended, settled_and_outstanding, opening}
 use Rattle.gc_session.proofs.Brings.{IsCalm, calm_at, MayCome, MaySend}
 use Rattle.gc_session.proofs.Calls.{from_the_start}
 use Rattle.gc_session.proofs.Places.{the_start, moved_all, left_moved, reached_moved, since_moved, Along, along_at, in_turn}

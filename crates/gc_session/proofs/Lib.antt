@@ -1,3 +1,4 @@
+mod Common
 pub mod Behind
 mod Brings
 mod Calls

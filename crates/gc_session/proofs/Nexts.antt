@@ -1,18 +1,9 @@
 -- What holds of a session wherever something is next in it.
-use Rattle.std.proofs.Common.{◌≡◌, ◌+◌, ◌<◌, true, false, arith}
-use Rattle.std.proofs.lemmas.Bool.{cond_both}
-use Rattle.std.proofs.lemmas.Bool.Decides.{nat_tests}
-use Rattle.gc_client.specs.declared.window.TheConstants.{WINDOW}
-use Rattle.gc_session.specs.declared.next.Next.{Next}
-use Rattle.gc_session.specs.declared.next.Next.TheVariants as next
-use Rattle.gc_session.specs.declared.settings.Want.{Want}
-use Rattle.gc_session.specs.declared.settings.Want.TheVariants.{Nothing, Answers, Send}
-use Rattle.gc_session.specs.declared.standing.Phase.{Phase}
-use Rattle.gc_session.specs.declared.standing.Phase.TheVariants as phase
-use Rattle.gc_session.specs.Choices.{next_synchronizing}
-use Rattle.gc_session.specs.Exchange.{has_begun, has_room}
-use Rattle.gc_session.specs.Sessions.{Session, all_of, current_of, load_of, the_choices, next_ready, next_in, next_of, wanted_of}
+use Rattle.gc_session.proofs.Common.{◌≡◌, ◌+◌, ◌<◌, true, false, arith, cond_both, nat_tests, WINDOW, Next, Want, Nothing, Answers, Phase, next_synchronizing, has_begun, has_room, Session, all_of, current_of, load_of, the_choices, next_ready, next_in, next_of, wanted_of}
+use Rattle.gc_session.specs.declared.settings.Want.TheVariants.{Send}
 use Rattle.gc_session.proofs.Choosing.{room_of, flush_chosen, to_send_chosen, synchronizing_chosen}
+use Rattle.gc_session.specs.declared.next.Next.TheVariants as next
+use Rattle.gc_session.specs.declared.standing.Phase.TheVariants as phase
 
 -- the outstanding requests, and those that the last line ended that ended any, are together fewer than the window has places, and nothing
 -- called for a synchronization

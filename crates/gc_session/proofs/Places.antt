@@ -1,11 +1,5 @@
 -- Where events bring a client, one after the other. A course is what a client has sent and settled so far, and the client after that.
-use Rattle.std.proofs.Common.{◌≡◌, ℕ, List, [], ◌∷◌, ◌++◌, refl}
-use Rattle.gc_catalogue.specs.declared.asked.Asked.{Asked}
-use Rattle.gc_client.specs.Beginning.{the_word, left_by}
-use Rattle.gc_client.specs.OneForOne.{Course, Step, Send, Hear, Expire, Restart, begun, course_after, course}
-use Rattle.gc_client.specs.Rule.{heard}
-use Rattle.gc_client.specs.declared.window.TheConstants.{WINDOW}
-use Rattle.gc_session.specs.Events.{ClientEvent, Null, Came, Stepped, AreInTurn, left_by_step, left_among, steps_among, steps_since}
+use Rattle.gc_session.proofs.Common.{◌≡◌, ℕ, List, [], ◌∷◌, ◌++◌, refl, Asked, the_word, left_by, Course, Step, Send, Hear, Expire, Restart, begun, course_after, course, heard, WINDOW, ClientEvent, Null, Came, Stepped, AreInTurn, left_by_step, left_among, steps_among, steps_since}
 
 -- where a client is: the ids of its synchronization's null procedures that aren't answered, its course, and its steps since its last restart
 pub record Place : Type 0 where

@@ -1,13 +1,5 @@
 -- Bytes that came once more by the same moment make nothing more of a session.
-use Rattle.std.proofs.Common.{◌≡◌, ℕ, ◌||◌, Bool, true, false, if◌then◌else◌, nat_lt, nat_le, min, List, [], ◌∷◌, map, refl, ap, ◌∙◌, arith}
-use Rattle.gc_catalogue.specs.declared.asked.Asked.{Asked}
-use Rattle.gc_client.specs.Rule.{expired, expires}
-use Rattle.gc_client.specs.declared.pending.Pending.{Pending}
-use Rattle.gc_session.specs.declared.exchange.Exchange.{Exchange}
-use Rattle.gc_session.specs.declared.standing.Standing.{Standing}
-use Rattle.gc_session.specs.Exchange.{hold_left, moment_passed, moment_read}
-use Rattle.gc_session.specs.Laws.{ComingTwiceIsComingOnce}
-use Rattle.gc_session.specs.Sessions.{Session, is_up, met_in}
+use Rattle.gc_session.proofs.Common.{◌≡◌, ℕ, ◌||◌, Bool, true, false, if◌then◌else◌, nat_lt, nat_le, min, List, [], ◌∷◌, map, refl, ap, ◌∙◌, arith, Asked, expired, expires, Pending, Exchange, Standing, hold_left, moment_passed, moment_read, ComingTwiceIsComingOnce, Session, is_up, met_in}
 
 or_twice : (a b : Bool) → (a || b || b) ≡ (a || b)
 or_twice true b = refl

@@ -1,23 +1,9 @@
 -- A session's stretch: it never falls, and grows wherever a connection ends or the client restarts.
-use Rattle.std.proofs.Common.{◌≡◌, ℕ, ◌<◌, ◌≤◌, Bool, true, false, if◌then◌else◌, List, [], ◌∷◌, ◌++◌, refl, sym, ap, ◌∙◌, subst, arith}
-use Rattle.std.specs.List.{AllByRecursion}
-use Rattle.gc_lines.proofs.Lists.{all_append}
-use Rattle.gc_catalogue.specs.Moments.{later}
-use Rattle.gc_client.specs.OneForOne.{Restart, Hear}
-use Rattle.gc_catalogue.specs.declared.asked.Asked.{Asked}
-use Rattle.gc_texts.specs.SignOns.{is_sign_on}
-use Rattle.gc_session.specs.declared.next.Next.{Next}
-use Rattle.gc_session.specs.declared.next.Next.TheVariants as next
-use Rattle.gc_session.specs.declared.settings.Want.{Want}
-use Rattle.gc_session.specs.declared.standing.Phase.{Phase}
-use Rattle.gc_session.specs.declared.standing.Phase.TheVariants as phase
-use Rattle.gc_session.specs.declared.standing.Standing.{Standing}
-use Rattle.gc_session.specs.Calls.{Call, Steps, Asks, Comes, Hears, Opens, Closes, Restarts, after, after_all, moment_events, next_events, ask_events, line_events, events_of, events_all}
-use Rattle.gc_session.specs.Events.{ClientEvent, Stepped}
-use Rattle.gc_session.specs.Exchange.{has_begun}
-use Rattle.gc_session.specs.Laws.{StretchesAreUnbroken}
-use Rattle.gc_session.specs.Sessions.{Session, attended, timed, at_step, next_of, done, takes, with_standing, sign_on_noted, asked_if, met_in, is_up, begun_anew}
+use Rattle.gc_session.proofs.Common.{◌≡◌, ℕ, ◌<◌, ◌≤◌, Bool, true, false, if◌then◌else◌, List, [], ◌∷◌, ◌++◌, refl, sym, ap, ◌∙◌, subst, arith, AllByRecursion, all_append, Restart, Hear, Asked, is_sign_on, Next, Want, Phase, Standing, Call, Steps, Asks, Comes, Hears, Opens, Closes, Restarts, after, after_all, moment_events, next_events, ask_events, line_events, events_of, events_all, ClientEvent, Stepped, has_begun, StretchesAreUnbroken, Session, attended, timed, at_step, next_of, done, takes, with_standing, sign_on_noted, asked_if, met_in, is_up, begun_anew}
+use Rattle.gc_catalogue.specs.Prelude.{later}
 use Rattle.gc_session.proofs.Walk.{attended_along, line_along, quieted_along}
+use Rattle.gc_session.specs.declared.next.Next.TheVariants as next
+use Rattle.gc_session.specs.declared.standing.Phase.TheVariants as phase
 
 -- the greatest `u64`
 abbrev greatest : ℕ

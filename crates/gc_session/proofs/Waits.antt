@@ -1,8 +1,5 @@
 -- At which moments waits end.
-use Rattle.std.proofs.Common.{◌≡◌, ◌↔◌, ℕ, ◌+◌, ◌-◌, ◌<◌, ◌≤◌, ◌&&◌, true, max, min, nat_eq, nat_le, arith}
-use Rattle.std.proofs.lemmas.Bool.Decides.{nat_tests}
-use Rattle.gc_session.specs.Exchange.{hold_left}
-use Rattle.gc_session.specs.Laws.{WaitsEndAtTheirMoments}
+use Rattle.gc_session.proofs.Common.{◌≡◌, ◌↔◌, ℕ, ◌+◌, ◌-◌, ◌<◌, ◌≤◌, ◌&&◌, true, max, min, nat_eq, nat_le, arith, nat_tests, hold_left, WaitsEndAtTheirMoments}
 
 -- a wait is over from its moment on
 past_from : (wait now since : ℕ) → 0 < wait → since + wait ≤ 18446744073709551615 → (nat_le wait (now - since) ≡ true) ↔ (min (since + wait) 18446744073709551615 ≤ now)

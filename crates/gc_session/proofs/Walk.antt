@@ -1,15 +1,7 @@
 -- Where the parts of a call lead: a claim holds there that holds wherever they may lead.
-use Rattle.std.proofs.Common.{ℕ, ◌&&◌, Bool, true, false, List}
-use Rattle.std.proofs.lemmas.Bool.{cond_both}
-use Rattle.gc_texts.specs.SignOns.{is_sign_on}
-use Rattle.gc_session.specs.declared.settings.Settings.{Settings}
-use Rattle.gc_session.specs.declared.settings.Want.{Want}
-use Rattle.gc_session.specs.declared.settings.Want.TheVariants.{Nothing, Send}
-use Rattle.gc_session.specs.declared.standing.Phase.{Phase}
+use Rattle.gc_session.proofs.Common.{ℕ, ◌&&◌, Bool, true, false, List, cond_both, is_sign_on, Settings, Want, Nothing, Phase, Standing, drained, is_past, Session, attended, line_came_in, line_heard, line_heard_if, line_synchronized, quieted_in}
+use Rattle.gc_session.specs.declared.settings.Want.TheVariants.{Send}
 use Rattle.gc_session.specs.declared.standing.Phase.TheVariants as phase
-use Rattle.gc_session.specs.declared.standing.Standing.{Standing}
-use Rattle.gc_session.specs.Exchange.{drained, is_past}
-use Rattle.gc_session.specs.Sessions.{Session, attended, line_came_in, line_heard, line_heard_if, line_synchronized, quieted_in}
 
 -- what is wanted: nothing, or something
 pub attended_along : (P : Standing → Type 0) (want : Want) (now : ℕ) (t : Standing) → P (attended Nothing now t) → P (attended Send now t) → P (attended want now t)

@@ -1,21 +1,16 @@
 -- What a session's caller does, call by call, and what each call is to the session's client, this project's own.
+use Rattle.gc_session.specs.Common.{is_of_table, Asked, Table, NullProc, Settlement, is_sign_on}
 use Rattle.std.specs.Prelude.{◌≡◌, ℕ, Bool, true, false, if◌then◌else◌, List, [], ◌∷◌, ◌++◌}
-use Rattle.gc_catalogue.specs.Asked.{is_of_table}
-use Rattle.gc_catalogue.specs.declared.asked.Asked.{Asked}
-use Rattle.gc_catalogue.specs.declared.asked.Asked.TheVariants.{Table}
-use Rattle.gc_catalogue.specs.declared.call.Call.TheVariants.{NullProc}
-use Rattle.gc_client.specs.OneForOne as one
-use Rattle.gc_client.specs.Rule.{Settlement}
-use Rattle.gc_texts.specs.SignOns.{is_sign_on}
 use Rattle.gc_session.specs.declared.next.Next.{Next}
-use Rattle.gc_session.specs.declared.next.Next.TheVariants as next
 use Rattle.gc_session.specs.declared.settings.Want.{Want}
 use Rattle.gc_session.specs.declared.session.TheConstants.{OWN}
 use Rattle.gc_session.specs.declared.standing.Phase.{Phase}
-use Rattle.gc_session.specs.declared.standing.Phase.TheVariants as phase
 use Rattle.gc_session.specs.Events.{ClientEvent, Null, Came, Stepped}
 use Rattle.gc_session.specs.Exchange.{has_begun, later}
 use Rattle.gc_session.specs.Sessions.{Session, at_step, next_of, stepped, settled_by, takes, asked, came, line_came, line_settles, opened, closed, anew, anew_settles}
+use Rattle.gc_client.specs.OneForOne as one
+use Rattle.gc_session.specs.declared.next.Next.TheVariants as next
+use Rattle.gc_session.specs.declared.standing.Phase.TheVariants as phase
 
 -- a call of a session's caller: what it does at a moment if this is wanted; a request; bytes came by a moment, a line of them is heard; a
 -- connection was made, or ended; and the caller has it begin anew

@@ -1,9 +1,6 @@
 -- Where steps bring a client whose requests are commands, by its rule with the window of seven.
+use Rattle.gc_session.specs.Common.{Asked, Step, course_at, course_after, ById, WINDOW}
 use Rattle.std.specs.Prelude.{List, [], ◌∷◌}
-use Rattle.gc_catalogue.specs.declared.asked.Asked.{Asked}
-use Rattle.gc_client.specs.OneForOne.{Step, course_at, course_after}
-use Rattle.gc_client.specs.Rule.{ById}
-use Rattle.gc_client.specs.declared.window.TheConstants.{WINDOW}
 
 -- this client after one step
 abbrev pub client_stepped : ById Asked → Step Asked → ById Asked

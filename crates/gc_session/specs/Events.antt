@@ -1,10 +1,8 @@
 -- What happens to a client over any number of synchronizations, this project's own: a list of events, of which those of a synchronization
 -- are told apart from the client's steps.
+use Rattle.gc_session.specs.Common.{Asked, the_word, left_by, heard}
 use Rattle.std.specs.Prelude.{◌≡◌, ℕ, List, [], ◌∷◌, ◌++◌}
-use Rattle.gc_catalogue.specs.declared.asked.Asked.{Asked}
-use Rattle.gc_client.specs.Beginning.{the_word, left_by}
 use Rattle.gc_client.specs.OneForOne as one
-use Rattle.gc_client.specs.Rule.{heard}
 
 -- what happens to a client: while it synchronizes, a null procedure is sent, or a line comes; once it has synchronized, it
 -- makes a step

@@ -1,13 +1,10 @@
 -- An exchange with an instrument over its connections, this project's own: when a request may be sent, when the line is dead, and what a
 -- request, a line that comes and a moment change of that. Times are in milliseconds of one clock.
+use Rattle.gc_session.specs.Common.{Asked, the_word, is_answered, left_by, Settlement, heard, WINDOW}
 use Rattle.std.specs.Prelude.{ℕ, ◌+◌, ◌-◌, ◌&&◌, ◌||◌, Bool, true, false, not, if◌then◌else◌, nat_lt, nat_le, nat_eq, min, max, List, [], ◌∷◌, length}
-pub use Rattle.gc_catalogue.specs.Moments.{later}
-use Rattle.gc_catalogue.specs.declared.asked.Asked.{Asked}
-use Rattle.gc_client.specs.Beginning.{the_word, is_answered, left_by}
-use Rattle.gc_client.specs.Rule.{Settlement, heard}
-use Rattle.gc_client.specs.declared.window.TheConstants.{WINDOW}
 use Rattle.gc_session.specs.declared.exchange.Exchange.{Exchange}
 use Rattle.gc_session.specs.Lines.{ends_with_table, is_reply}
+pub use Rattle.gc_catalogue.specs.Moments.{later}
 
 -- an exchange in which nothing has happened
 abbrev pub new_exchange : Exchange

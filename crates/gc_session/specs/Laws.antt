@@ -1,19 +1,10 @@
 -- What holds of any calls on a session, this project's own: they are one list of events of its client, each in its turn; it sends by the
 -- rules that the theorems on an instrument and a line ask for; and its settlements are those of its client.
+use Rattle.gc_session.specs.Common.{is_of_table, Asked, Table, NullProc, the_word, Course, Step, Send, Hear, Restart, Wanted, of_settled, of_pending, begun, course, ById, Settlement, Lost, fresh, hears_line, WINDOW}
 use Rattle.std.specs.Prelude.{◌≡◌, ◌≢◌, ◌↔◌, ℕ, ◌+◌, ◌<◌, ◌≤◌, Bool, true, false, not, nat_eq, List, [], ◌∷◌, ◌++◌, length, map, filter, Some, slice_get, if◌then◌else◌}
 use Rattle.std.specs.List.{AllByRecursion}
-use Rattle.gc_catalogue.specs.Asked.{is_of_table}
-use Rattle.gc_catalogue.specs.declared.asked.Asked.{Asked}
-use Rattle.gc_catalogue.specs.declared.asked.Asked.TheVariants.{Table}
-use Rattle.gc_catalogue.specs.declared.call.Call.TheVariants.{NullProc}
-use Rattle.gc_client.specs.Beginning.{the_word}
-use Rattle.gc_client.specs.OneForOne.{Course, Step, Send, Hear, Restart, Wanted, of_settled, of_pending, begun, course}
-use Rattle.gc_client.specs.Rule.{ById, Settlement, Lost, fresh, hears_line}
-use Rattle.gc_client.specs.declared.window.TheConstants.{WINDOW}
-use Rattle.gc_session.specs.declared.next.Next.TheVariants as next
 use Rattle.gc_session.specs.declared.settings.Settings.{Settings}
 use Rattle.gc_session.specs.declared.settings.Want.{Want}
-use Rattle.gc_session.specs.declared.standing.Phase.TheVariants as phase
 use Rattle.gc_session.specs.declared.session.TheConstants.{OWN}
 use Rattle.gc_session.specs.Calls.{Call, Asks, Closes, after, after_all, events_all, settled_all, Steps, Comes, Opens}
 use Rattle.gc_session.specs.Courses.{client_stepped}
@@ -22,6 +13,8 @@ use Rattle.gc_session.specs.declared.exchange.Exchange.{Exchange}
 use Rattle.gc_session.specs.Exchange.{asks_at, ended_last, is_past, may_ask, moment_passed, past_at}
 use Rattle.gc_session.specs.Lines.{calls_for_renewal}
 use Rattle.gc_session.specs.Sessions.{Session, came, opening, takes, stepped, next_of, at_step, is_up}
+use Rattle.gc_session.specs.declared.next.Next.TheVariants as next
+use Rattle.gc_session.specs.declared.standing.Phase.TheVariants as phase
 
 -- these calls on a new session are events of its client, each in its turn, and bring it to where its rule brings it over these events
 pub record CallsAreEvents (settings : Settings) (calls : List Call) : Type 0 where

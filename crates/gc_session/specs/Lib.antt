@@ -1,3 +1,5 @@
+mod Common
+pub mod Prelude
 pub mod Lines
 pub mod Exchange
 pub mod Choices

@@ -1,11 +1,7 @@
 -- Which lines are replies, and which lines call for a synchronization before anything more is sent, this project's own.
+use Rattle.gc_session.specs.Common.{is_of_table, Asked, ById, Settlement, heard, is_sign_on, is_impossible}
 use Rattle.std.specs.Prelude.{ℕ, Bool, false, ◌||◌, List, length, is_ok, Option, Some, None, slice_get, ◌-◌}
-use Rattle.gc_lines.specs.Readers.{reply_at}
-use Rattle.gc_catalogue.specs.Asked.{is_of_table}
-use Rattle.gc_catalogue.specs.declared.asked.Asked.{Asked}
-use Rattle.gc_client.specs.Rule.{ById, Settlement, heard}
-use Rattle.gc_texts.specs.SignOns.{is_sign_on}
-use Rattle.gc_texts.specs.Strays.{is_impossible}
+use Rattle.gc_lines.specs.Prelude.{reply_at}
 
 -- whether `line` reads as a reply
 abbrev pub is_reply : List ℕ → Bool

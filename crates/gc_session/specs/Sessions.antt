@@ -1,33 +1,25 @@
 -- A session with an instrument over any number of connections, this project's own: what is next, and what each call of its caller makes
 -- of it. A session has neither a port nor a clock: its caller makes connections, writes and reads, and says when.
+use Rattle.gc_session.specs.Common.{Asked, Table, NullProc, asked_line, request_line, the_word, ById, Settlement, Settled, Sending, fresh, sends, hears_line, expires, restarts, deadlines, IsEarliest, WINDOW, is_sign_on}
 use Rattle.std.specs.Prelude.{◌≡◌, ℕ, ◌-◌, ◌&&◌, Bool, true, false, not, if◌then◌else◌, nat_lt, nat_eq, max, is_some, List, [], ◌∷◌, length, Option, Some, None}
-use Rattle.gc_catalogue.specs.declared.asked.Asked.{Asked}
-use Rattle.gc_catalogue.specs.declared.asked.Asked.TheVariants.{Table}
-use Rattle.gc_catalogue.specs.declared.call.Call.TheVariants.{NullProc}
-use Rattle.gc_catalogue.specs.Asked.{asked_line}
-use Rattle.gc_catalogue.specs.Texts.{request_line}
-use Rattle.gc_client.specs.Beginning.{the_word}
-use Rattle.gc_client.specs.declared.window.TheConstants.{WINDOW}
-use Rattle.gc_client.specs.Rule.{ById, Settlement, Settled, Sending, fresh, sends, hears_line, expires, restarts, deadlines, IsEarliest}
-use Rattle.gc_texts.specs.SignOns.{is_sign_on}
 use Rattle.gc_session.specs.declared.exchange.Exchange.{Exchange}
 use Rattle.gc_session.specs.declared.settings.Act.{Act}
-use Rattle.gc_session.specs.declared.settings.Act.TheVariants as act
 use Rattle.gc_session.specs.declared.settings.Settings.{Settings}
 use Rattle.gc_session.specs.declared.settings.Want.{Want}
 use Rattle.gc_session.specs.declared.settings.Want.TheVariants.{Nothing, Answers, Send}
 use Rattle.gc_session.specs.declared.standing.Phase.{Phase}
-use Rattle.gc_session.specs.declared.standing.Phase.TheVariants as phase
 use Rattle.gc_session.specs.declared.standing.Standing.{Standing}
 use Rattle.gc_session.specs.declared.session.TheConstants.{OWN}
 use Rattle.gc_session.specs.declared.next.Next.{Next}
-use Rattle.gc_session.specs.declared.next.Next.TheVariants as next
 use Rattle.gc_session.specs.declared.choices.Choices.{Choices}
 use Rattle.gc_session.specs.declared.load.Load.{Load}
 use Rattle.gc_session.specs.Choices.{width_within, next_flush, next_to_send, next_synchronizing}
-use Rattle.gc_session.specs.Exchange as exchange
 use Rattle.gc_session.specs.Exchange.{later}
 use Rattle.gc_session.specs.Lines.{is_reply, calls_for_renewal}
+use Rattle.gc_session.specs.declared.settings.Act.TheVariants as act
+use Rattle.gc_session.specs.declared.standing.Phase.TheVariants as phase
+use Rattle.gc_session.specs.declared.next.Next.TheVariants as next
+use Rattle.gc_session.specs.Exchange as exchange
 
 -- a session as its caller sees it: what was chosen, how far it is, and its client, by the client's rule
 pub record Session : Type 0 where

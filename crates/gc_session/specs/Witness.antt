@@ -1,9 +1,7 @@
 -- A run of a session, from its start to the answer to a request of its caller's, this project's own: what is said of any calls isn't said of
 -- a session that does nothing.
+use Rattle.gc_session.specs.Common.{Table, NullProc, Answered}
 use Rattle.std.specs.Prelude.{◌≡◌, ℕ, List, [], ◌∷◌, ◌++◌}
-use Rattle.gc_catalogue.specs.declared.asked.Asked.TheVariants.{Table}
-use Rattle.gc_catalogue.specs.declared.call.Call.TheVariants.{NullProc}
-use Rattle.gc_client.specs.Rule.{Answered}
 use Rattle.gc_session.specs.declared.session.TheConstants.{OWN}
 use Rattle.gc_session.specs.declared.settings.Settings.{Settings}
 use Rattle.gc_session.specs.declared.settings.Want.TheVariants.{Send}

@@ -2,34 +2,15 @@
 -- counts, the client, the marks and the records belong together (`Sound`), and the phase fits them (`PhaseFits`). An act is one
 -- call on the link, with its result. A mark says which command an outstanding request is of, or `None` of a null procedure; a
 -- piece is the bytes that one read gave.
-use Rattle.std.proofs.Common.{◌≡◌, ℕ, ◌<◌, inl, ◌&&◌, ◌||◌, Bool, true, false, not, List, [], if◌then◌else◌, nat_lt, Option, refl, sym, ap, subst}
-use Rattle.std.proofs.lemmas.Bool.{both_ways}
-use Rattle.gc_lines.specs.Frames.{rest_behind}
-use Rattle.gc_client.specs.declared.window.TheConstants.{IDS}
-use Rattle.gc_client.specs.Rule.{heard, hears}
-use Rattle.gc_client.proofs.OneForOne.{heard_parts}
-use Rattle.gc_texts.specs.declared.tasks.Task.{Task}
-use Rattle.gc_links.specs.declared.link.Moment.{Moment}
-use Rattle.gc_station.specs.declared.mark.Mark.{Mark}
-use Rattle.gc_station.specs.declared.plan.Plan.{Plan}
-use Rattle.gc_station.specs.declared.cause.Cause.{Cause}
-use Rattle.gc_station.specs.declared.cause.Cause.TheVariants as cause
-use Rattle.gc_station.specs.declared.progress.Phase.{Phase}
-use Rattle.gc_station.specs.declared.progress.Phase.TheVariants.{Down, Pausing, Draining, Ready, Over}
-use Rattle.gc_station.specs.declared.progress.Progress.{Progress}
-use Rattle.gc_station.specs.declared.progress.Until.{Until}
-use Rattle.gc_station.specs.declared.progress.Waiting.{Waiting}
-use Rattle.gc_links.specs.Acts.{Act, Told, Cut, Gave, Silent, Ended, Broke, Opened}
-use Rattle.gc_station.specs.Deciding.{is_up, is_past, is_quiet}
-use Rattle.gc_station.specs.Marks.{commands_in}
-use Rattle.gc_station.specs.Progressing.{moment_noted, failing, after_failure, is_finished, is_spared, lines_synchronizing, quieted, drained, time_passed, silent, is_idle, closed}
-use Rattle.gc_station.specs.Model.{Model, with_progress, with_moment, with_rest, waiting_of, line_came, lines_completed, after_piece, is_heard, piece_noted, piece_at, after_clock, after_put, after_open, after_read, after_close}
+use Rattle.gc_station.proofs.Common.{◌≡◌, ℕ, ◌<◌, inl, ◌&&◌, ◌||◌, Bool, true, false, not, List, [], if◌then◌else◌, nat_lt, Option, refl, sym, ap, subst, both_ways, rest_behind, IDS, heard, hears, heard_parts, Task, Moment, Mark, Plan, Cause, Phase, Down, Pausing, Draining, Ready, Over, Progress, Until, Waiting, Act, Told, Cut, Gave, Silent, Ended, Broke, Opened, is_up, is_past, is_quiet, commands_in, moment_noted, failing, after_failure, is_spared, lines_synchronizing, quieted, drained, time_passed, silent, is_idle, closed, Model, with_progress, with_moment, with_rest, waiting_of, line_came, lines_completed, after_piece, is_heard, piece_noted, piece_at, after_clock, after_put, after_open, after_read, after_close}
+use Rattle.gc_station.specs.Progressing.{is_finished}
 use Rattle.gc_station.proofs.Invariant.{is_before_requests, is_done, says_done}
 use Rattle.gc_station.proofs.Meets.{hears_settles_oldest}
 use Rattle.gc_station.proofs.Midway.{Sound, ledger_at, NothingIsLeft, PhaseFits, PhaseFitsAt, HoldsMidAct, sound_moment, sound_settles, HoldsMidActAt}
 use Rattle.gc_station.proofs.Turns.{phase_failed, phase_by}
 use Rattle.gc_station.proofs.Walk.{asked_along, came_along, closed_along}
 use Rattle.gc_station.proofs.InCycle.{finished_by_test}
+use Rattle.gc_station.specs.declared.cause.Cause.TheVariants as cause
 
 -- the phase after a failure for `why` (`phase_failed`) is `PhaseFits`, if `why` isn't `Done`
 fail_fits : (p : Progress) (rest : List ℕ) (marks : List (Option Mark)) (why : Cause) (up : Bool) → is_done why ≡ false → PhaseFits (phase_failed up why) p.left p.unsent rest marks

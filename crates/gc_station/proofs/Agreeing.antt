@@ -1,24 +1,9 @@
 -- Each answer of a first sending that is kept is that of a record, and so is the one with which a mark has that of a second sending
 -- compared. `fs` are the kept answers; a fact of a record and of those before it goes from record to record (`AllAfter`).
-use Rattle.std.proofs.Common.{◌≡◌, ◌==◌, ◌&&◌, ◌-◌, ℕ, ◌+◌, Bool, true, false, nat_lt, if◌then◌else◌, List, [], ◌∷◌, ◌++◌, take, Option, Some, None, refl, sym, ap, ◌∙◌, subst, append_assoc, append-nil, arith, inl, inr}
-use Rattle.std.specs.Prelude.{slice_get, unwrap_or}
-use Rattle.std.specs.List.{AllByRecursion}
-use Rattle.std.proofs.lemmas.Bool.{and_parts}
-use Rattle.std.proofs.lemmas.Bool.Decides.{eqb_tells}
-use Rattle.gc_values.proofs.Every.{every_take}
-use Rattle.gc_catalogue.specs.declared.answer.Answer.{Answer}
-use Rattle.gc_texts.specs.Endings.{End, Answered}
-use Rattle.gc_texts.specs.declared.agree.Twice.{Twice}
-use Rattle.gc_texts.specs.declared.agree.Twice.TheVariants as twice
-use Rattle.gc_texts.specs.declared.quality.Quality.TheVariants.{Unconfirmed}
-use Rattle.gc_texts.specs.declared.turn.Turn.{Turn}
-use Rattle.gc_station.specs.Agreeing.{HasFirst, IsConfirmed}
-use Rattle.gc_station.specs.Firsts.{answer_found, answer_first, put, first_noted, firsts_after}
-use Rattle.gc_station.specs.Records.{Record}
-use Rattle.gc_station.specs.declared.firsts.FirstAnswer.{FirstAnswer}
+use Rattle.gc_station.proofs.Common.{◌≡◌, ◌==◌, ◌&&◌, ◌-◌, ℕ, ◌+◌, Bool, true, false, nat_lt, if◌then◌else◌, List, [], ◌∷◌, ◌++◌, take, Option, Some, None, refl, sym, ap, ◌∙◌, subst, append_assoc, append-nil, arith, inl, inr, slice_get, unwrap_or, AllByRecursion, and_parts, eqb_tells, every_take, Answer, End, Answered, Twice, Unconfirmed, Turn, HasFirst, IsConfirmed, answer_found, answer_first, put, first_noted, firsts_after, Record, FirstAnswer, Task}
 use Rattle.gc_station.specs.declared.firsts.TheConstants.{FIRSTS}
-use Rattle.gc_texts.specs.declared.tasks.Task.{Task}
 use Rattle.gc_station.proofs.Lists.{all_append, all_at, all_on, cons_head, cons_tail}
+use Rattle.gc_texts.specs.declared.agree.Twice.TheVariants as twice
 
 -- Records, and those before them.
 

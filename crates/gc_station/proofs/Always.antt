@@ -1,14 +1,6 @@
 -- Facts of every run: what holds at the start, and is kept by each act of a run, holds after a whole run. An act is one call on
 -- the link, with its result.
-use Rattle.std.proofs.Common.{◌≡◌, List, [], ◌∷◌, ◌++◌, sym, ap, ◌∙◌, subst}
-use Rattle.gc_texts.specs.declared.tasks.Task.{Task}
-use Rattle.gc_station.specs.declared.plan.Plan.{Plan}
-use Rattle.gc_station.specs.declared.progress.Progress.{Progress}
-use Rattle.gc_links.specs.Acts.{Act}
-use Rattle.gc_station.specs.Progressing.{turned}
-use Rattle.gc_station.specs.Runs.{state_after}
-use Rattle.gc_station.specs.Scopes.{Scope}
-use Rattle.gc_station.specs.Model.{Model, opening, action_at, with_progress, Performs, moved, after, after_all, Runs}
+use Rattle.gc_station.proofs.Common.{◌≡◌, List, [], ◌∷◌, ◌++◌, sym, ap, ◌∙◌, subst, Task, Plan, Progress, Act, turned, state_after, Scope, Model, opening, action_at, with_progress, Performs, moved, after, after_all, Runs}
 use Rattle.gc_station.proofs.Counts.{with_losses_progress}
 use Rattle.gc_station.proofs.Going.{after_all-append}
 

@@ -1,43 +1,8 @@
 -- Each record is of its very request: an answer came after it, with its id, and in time; a late reply came too late; and a lost
 -- one is lost for a cause. Each act preserves `IsHonest` (of `Waiting`): the outstanding requests were put among the acts, and
 -- the records are true. An act is one call on the link, with its result.
-use Rattle.std.proofs.Common.{◌≡◌, inl, inr, ℕ, ◌+◌, ◌%◌, ◌<◌, ◌≤◌, false, List, [], ◌∷◌, ◌++◌, length, drop, Option, Some, None, refl, sym, ap, ◌∙◌, subst, arith, append_assoc, append-nil, length-append}
-use Rattle.std.specs.List.{AllByRecursion}
-use Rattle.std.specs.Prelude.{slice_get}
-use Rattle.gc_catalogue.specs.declared.asked.Asked.{Asked}
-use Rattle.gc_catalogue.specs.declared.asked.Asked.TheVariants.{Table}
-use Rattle.gc_catalogue.specs.declared.call.Call.TheVariants.{NullProc}
-use Rattle.gc_client.specs.declared.window.TheConstants.{WINDOW, IDS}
-use Rattle.gc_client.specs.Rule.{ById, pending_of, sends}
-use Rattle.gc_client.proofs.Digits.{send_keeps_ids}
-use Rattle.gc_client.proofs.Lists.{head_of_drop}
-use Rattle.gc_texts.specs.Endings.{End}
-use Rattle.gc_texts.specs.Tasks.{call_at}
-use Rattle.gc_texts.specs.ValueItems.{no_needs}
-use Rattle.gc_texts.specs.declared.tasks.Task.{Task}
-use Rattle.gc_session.specs.Sessions.{client_sent}
-use Rattle.gc_station.specs.declared.mark.Mark.{Mark}
-use Rattle.gc_station.specs.declared.plan.Plan.{Plan}
-use Rattle.gc_links.specs.declared.link.Moment.{Moment}
-use Rattle.gc_station.specs.declared.progress.Action.{Action}
-use Rattle.gc_station.specs.declared.progress.Action.TheVariants as actions
-use Rattle.gc_station.specs.declared.progress.Progress.{Progress}
-use Rattle.gc_station.specs.declared.progress.Until.{Until}
-use Rattle.gc_station.specs.declared.progress.Upcoming.{Upcoming}
-use Rattle.gc_links.specs.Acts.{Act, Told, Untold, Put, Cut, Gave, Silent, Ended, Broke, Opened, Unopened}
-use Rattle.gc_station.specs.Answers.{first_deadline, deadline_after, AnswerIsJustified}
-use Rattle.gc_station.specs.Ends.{LateIsJustified, LostIsJustified}
-use Rattle.gc_station.specs.Expecting.{IsByExpectation, AnswersAreAsExpected}
-use Rattle.gc_station.specs.Deciding.{later}
-use Rattle.gc_station.specs.Quiet.{IsAsking}
-use Rattle.gc_station.specs.Progressing.{turned, moment_noted, early_noted, cycle_begun, skipped, attempts_left_out, unsent_at, cleared, null_sent, resynchronized, sent, request_noted, loses_all, setup_sent}
-use Rattle.gc_station.specs.Marks.{commands_in, occasion_of, record_with}
-use Rattle.gc_station.specs.Reasons.{HoldsBefore}
-use Rattle.gc_station.specs.Records.{Record}
-use Rattle.gc_station.specs.Runs.{state_after, OfEachRecord}
-use Rattle.gc_station.specs.ActKinds.{moment_in, Puts, ReadsClock, IsOpening, ReadsLink}
-use Rattle.gc_station.specs.Model.{Model, opening, action_at, waiting_of, next_request_text, null_text, first_text, with_progress, is_heard, asks_first, asks_next, after_pass, with_more_passes, next_left_out, with_listed, listed_after_skip, with_more_records, unsent_record, first_unsent_record, after_clock, after_put, after_open, after_read, Performs, moved, Runs, cycle_length, place_to_send, text_or_null, asks_setup, null_request, request_or_null, asks_for, mark_sent, mark_setup_sent, occasion_at}
-use Rattle.gc_station.specs.NextCommand.{mark_next, place_next, upcoming_after, first_upcoming}
+use Rattle.gc_station.proofs.Common.{◌≡◌, inl, inr, ℕ, ◌+◌, ◌%◌, ◌<◌, ◌≤◌, false, List, [], ◌∷◌, ◌++◌, length, drop, Option, Some, None, refl, sym, ap, ◌∙◌, subst, arith, append_assoc, append-nil, AllByRecursion, slice_get, Asked, Table, NullProc, WINDOW, IDS, ById, pending_of, sends, send_keeps_ids, head_of_drop, End, call_at, no_needs, Task, client_sent, Mark, Plan, Moment, Action, Progress, Until, Upcoming, Act, Told, Untold, Put, Cut, Gave, Silent, Ended, Broke, Opened, Unopened, first_deadline, deadline_after, AnswerIsJustified, LateIsJustified, LostIsJustified, IsByExpectation, AnswersAreAsExpected, later, IsAsking, turned, moment_noted, early_noted, cycle_begun, skipped, attempts_left_out, unsent_at, cleared, null_sent, resynchronized, sent, request_noted, loses_all, setup_sent, commands_in, occasion_of, record_with, HoldsBefore, Record, state_after, OfEachRecord, moment_in, Puts, ReadsClock, IsOpening, ReadsLink, Model, opening, action_at, waiting_of, next_request_text, null_text, first_text, with_progress, is_heard, asks_first, asks_next, after_pass, with_more_passes, next_left_out, with_listed, listed_after_skip, with_more_records, unsent_record, first_unsent_record, after_clock, after_put, after_open, after_read, Performs, moved, Runs, cycle_length, place_to_send, text_or_null, asks_setup, null_request, request_or_null, asks_for, mark_sent, mark_setup_sent, occasion_at, mark_next, place_next, upcoming_after, first_upcoming, Scope}
+use Rattle.std.proofs.Common.{length-append}
 use Rattle.gc_station.proofs.InCycle.{within_window}
 use Rattle.gc_station.proofs.EachRun.{invariant_holds}
 use Rattle.gc_station.proofs.Outs.{prepare_cycle, prepare_place, send_cycle, send_place, sending_asks}
@@ -49,9 +14,9 @@ use Rattle.gc_station.proofs.Lists.{all_append, all_on, AllRisingAt, rising_more
 use Rattle.gc_station.proofs.Losing.{losing_honest}
 use Rattle.gc_station.proofs.Waiting.{TimedOutAsRead, StillWaits, IsJustified, Honest, IsHonest, Marked, AsksThen, WasMade, asked_more, asked_with_equal_id, asked_number_below, as_read_without_moment, all_true_more, honest_without_moment, honest_after_moment}
 use Rattle.gc_station.proofs.Pieces.{piece_honest}
-use Rattle.gc_station.specs.Scopes.{Scope}
 use Rattle.gc_station.proofs.Midway.{with_sent, sent_with_room}
 use Rattle.gc_station.proofs.Walk.{unsent_along}
+use Rattle.gc_station.specs.declared.progress.Action.TheVariants as actions
 
 -- A request is sent.
 

@@ -3,42 +3,8 @@
 -- wasn't; and its quality is as listed. Besides, `listed` of a model is what its records say. `KeepsToText` says all of this of a
 -- model. An act is one call on the link, with its result. A mark says which command an outstanding request is of, and what is
 -- expected of its answer.
-use Rattle.std.proofs.Common.{◌≡◌, ℕ, zero, suc, Bool, List, [], ◌∷◌, ◌++◌, drop, Option, Some, None, refl, sym, ap, ◌∙◌, subst, ◌<◌, ◌||◌, true, false, length, if◌then◌else◌, nat_eq, arith, append-nil}
-use Rattle.std.specs.Prelude.{slice_get}
-use Rattle.std.specs.List.{AllByRecursion}
-use Rattle.gc_values.proofs.Every.{every_drop}
-use Rattle.gc_catalogue.specs.declared.answer.Answer.{Answer}
-use Rattle.gc_catalogue.specs.declared.asked.Asked.{Asked}
-use Rattle.gc_client.specs.Rule
-use Rattle.gc_client.specs.Rule.{heard, hears, restarts}
-use Rattle.gc_values.specs.declared.decimal.Decimal.{Decimal}
-use Rattle.gc_texts.specs.Endings.{End, Answered, Judged, Unreadable}
-use Rattle.gc_texts.specs.declared.judgement.Judgement.TheVariants.{OffTarget, Disagree}
-use Rattle.gc_texts.specs.Nears.{is_off_target}
-use Rattle.gc_texts.specs.declared.agree.Twice.TheVariants as twice
-use Rattle.gc_texts.specs.declared.near.Expected.{Expected}
-use Rattle.gc_texts.specs.declared.tasks.Task.{Task}
+use Rattle.gc_station.proofs.Common.{◌≡◌, ℕ, zero, suc, Bool, List, [], ◌∷◌, ◌++◌, drop, Option, Some, None, refl, sym, ap, ◌∙◌, subst, ◌<◌, ◌||◌, true, false, length, if◌then◌else◌, nat_eq, arith, append-nil, slice_get, AllByRecursion, every_drop, Answer, Asked, heard, hears, restarts, Decimal, End, Answered, Judged, Unreadable, is_off_target, repeats_after, OffTarget, Disagree, Expected, Task, Act, Told, Gave, Cut, Moment, HasFirst, AgreesWithFirst, IsComparedInFull, IsConfirmed, IsUnconfirmed, DisagreesInSecond, answer_first, compares, firsts_after, agrees_in, quality_in, record_of, records_of, end_of, Model, opening, action_at, asks_for, asks_next, with_progress, with_moment, line_came, is_heard, after_piece, end_unsent, first_unsent_record, losing, moved, after, asks_setup, waiting_of, listed_unsent, request_for, null_request, mark_sent, mark_setup_sent, expected_first, mark_next, place_next, commands_left, cycles_begun, IsAtItsTarget, HasAnswer, OffTargetIsJustified, IsAsRead, IsUnreadableIfSo, IsOfQuality, IsAsListed, accepted_at, form_at, quality_as, twice_at, turned, moment_noted, loses_all, Record, state_after, Scope, Reads, Mark, Plan, Action, Progress, Outgoing, length-drop, Again, code_of, listed_after_settlements, HoldsBefore, expected_of, code_of_end, HasItsTurn}
 use Rattle.gc_texts.proofs.Placing.{there_unless_off_target, off_target_has_place}
-use Rattle.gc_links.specs.Acts.{Act, Told, Gave, Cut}
-use Rattle.gc_links.specs.declared.link.Moment.{Moment}
-use Rattle.gc_station.specs.Agreeing.{HasFirst, AgreesWithFirst, IsComparedInFull, IsConfirmed, IsUnconfirmed, DisagreesInSecond}
-use Rattle.gc_station.specs.Firsts.{answer_first, compares, firsts_after}
-use Rattle.gc_station.specs.Marks.{agrees_in, quality_in, record_of, records_of, end_of}
-use Rattle.gc_station.specs.Model.{Model, opening, action_at, asks_for, asks_next, with_progress, with_moment, line_came, is_heard, after_piece, end_unsent, first_unsent_record, losing, moved, after, asks_setup, waiting_of, listed_unsent, request_for, null_request, mark_sent, mark_setup_sent}
-use Rattle.gc_station.specs.NextCommand.{expected_first, mark_next, place_next, commands_left, cycles_begun}
-use Rattle.gc_station.specs.Nearness.{IsAtItsTarget, HasAnswer, OffTargetIsJustified}
-use Rattle.gc_station.specs.Moments.{IsAsRead, IsUnreadableIfSo}
-use Rattle.gc_station.specs.Qualities.{IsOfQuality, IsAsListed, accepted_at, form_at, quality_as, twice_at}
-use Rattle.gc_station.specs.Progressing.{turned, moment_noted, loses_all}
-use Rattle.gc_station.specs.Records.{Record}
-use Rattle.gc_station.specs.Runs.{state_after}
-use Rattle.gc_station.specs.Scopes.{Scope, Reads}
-use Rattle.gc_station.specs.declared.mark.Mark.{Mark}
-use Rattle.gc_station.specs.declared.plan.Plan.{Plan}
-use Rattle.gc_station.specs.declared.progress.Action.{Action}
-use Rattle.gc_station.specs.declared.progress.Action.TheVariants as actions
-use Rattle.gc_station.specs.declared.progress.Progress.{Progress}
-use Rattle.gc_station.specs.declared.station.sending.Outgoing.{Outgoing}
 use Rattle.gc_station.proofs.Agreeing.{AllAfter, after_append, after_all, all_both, has_first_more, confirmed_more, first_is_recorded}
 use Rattle.gc_station.proofs.Booking.{all_settled}
 use Rattle.gc_station.proofs.Lists.{all_append, all_on}
@@ -46,17 +12,14 @@ use Rattle.gc_station.proofs.Qualified.{ended_near, ended_away, ended_quality, e
 use Rattle.gc_station.proofs.Tasked.{no_end_of_sent}
 use Rattle.gc_station.proofs.Unread.{no_line_unsent, says_unreadable, unreadable_says}
 use Rattle.gc_station.proofs.Walk.{came_along, first_along, setup_along, losing_along, acts_along, moved_changed, unsent_along}
-use Rattle.std.proofs.lemmas.List.{length-drop}
-use Rattle.gc_texts.specs.Again.{repeats_after}
-use Rattle.gc_texts.specs.declared.again.Again.{Again}
-use Rattle.gc_station.specs.Attempts.{code_of, listed_after_settlements}
-use Rattle.gc_station.specs.Reasons.{HoldsBefore}
-use Rattle.gc_station.specs.Retries.{expected_of, code_of_end, HasItsTurn}
 use Rattle.gc_station.proofs.EachRun.{invariant_after, invariant_opening}
 use Rattle.gc_station.proofs.Facts.{action_for}
 use Rattle.gc_station.proofs.InCycle.{not_zero}
 use Rattle.gc_station.proofs.Invariant.{Invariant}
 use Rattle.gc_station.proofs.Listed.{code_is_in_line, named_by, any_listed, any_append, expected_as, near_expected, accepted_expected, form_expected, twice_expected}
+use Rattle.gc_client.specs.Rule
+use Rattle.gc_texts.specs.declared.agree.Twice.TheVariants as twice
+use Rattle.gc_station.specs.declared.progress.Action.TheVariants as actions
 
 -- what is expected of the answer of the command at a place is what its task says
 pub expected_there : (commands : List Task) (k : ℕ) (task : Task) → slice_get commands k ≡ Some task → expected_first (drop k commands) ≡ expected_first (task ∷ [])

@@ -3,29 +3,14 @@
 -- `the_word` is all eight. `AreBegun word parts`: the lines of each part but the last answered all ids of its synchronization,
 -- `word` for the first part and all eight for each later one; and the last part did so, too, or has no step of the client. An
 -- act is one call on the link, with its result.
-use Rattle.std.proofs.Common.{◌≡◌, inl, inr, ℕ, ◌||◌, ◌&&◌, Bool, true, false, not, List, [], ◌∷◌, ◌++◌, drop, map, if◌then◌else◌, refl, sym, ◌∙◌, ap, subst}
-use Rattle.gc_client.specs.Beginning.{the_word, left_by}
-use Rattle.gc_client.specs.Rule.{heard}
-use Rattle.gc_session.specs.Exchange.{is_none_left}
-use Rattle.gc_links.specs.declared.link.Moment.{Moment}
-use Rattle.gc_links.specs.Acts.{Act, Told, Put, Cut, Gave}
-use Rattle.gc_texts.specs.declared.tasks.Task.{Task}
-use Rattle.gc_station.specs.declared.mark.Mark.{Mark}
-use Rattle.gc_station.specs.declared.plan.Plan.{Plan}
-use Rattle.gc_station.specs.declared.progress.Action.{Action}
-use Rattle.gc_station.specs.declared.progress.Action.TheVariants as action
-use Rattle.gc_station.specs.Beginnings.{lines_heard_at, unanswered_after}
+use Rattle.gc_station.proofs.Common.{◌≡◌, inl, inr, ℕ, ◌||◌, ◌&&◌, Bool, true, false, not, List, [], ◌∷◌, ◌++◌, drop, map, if◌then◌else◌, refl, sym, ◌∙◌, ap, subst, the_word, left_by, heard, is_none_left, Moment, Act, Told, Put, Cut, Gave, Task, Mark, Plan, Action, lines_heard_at, unanswered_after, has_begun, Part, only_sync_steps, sync_part, client_part, in_front, parts_of, is_over, loses_all, Performs, Runs, Model, after, is_heard, lines_completed, action_at, mark_sent, place_next}
 use Rattle.gc_station.specs.Begun.{AreBegun, heard_in}
-use Rattle.gc_station.specs.Deciding.{has_begun}
-use Rattle.gc_station.specs.Parts as part
-use Rattle.gc_station.specs.Parts.{Part, only_sync_steps, sync_part, client_part, in_front, parts_of}
-use Rattle.gc_station.specs.Progressing.{is_over, loses_all}
-use Rattle.gc_station.specs.Model.{Performs, Runs, Model, after, is_heard, lines_completed, action_at, mark_sent}
-use Rattle.gc_station.specs.NextCommand.{place_next}
 use Rattle.gc_station.proofs.Beginnings.{word_after, word_if_resynchronizing}
 use Rattle.gc_station.proofs.Midway.{none_lost_parts}
 use Rattle.gc_station.proofs.Turns.{no_act_once_over}
 use Rattle.gc_station.proofs.Words.{left_none}
+use Rattle.gc_station.specs.declared.progress.Action.TheVariants as action
+use Rattle.gc_station.specs.Parts as part
 
 -- What is heard among steps of a synchronization.
 

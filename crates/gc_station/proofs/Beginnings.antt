@@ -1,29 +1,7 @@
 -- A synchronization goes on by its answers, and no command is sent before the last of them. The word is the ids of a
 -- synchronization that aren't answered yet; a line answers the first of them if it has that id. An act is one call on the link,
 -- with its result.
-use Rattle.std.proofs.Common.{◌≡◌, inl, inr, ℕ, Bool, true, false, List, [], ◌∷◌, ◌++◌, length, Option, Some, None, nat_eq, refl, sym, ap, ◌∙◌, subst}
-use Rattle.std.specs.List.{filter_map}
-use Rattle.std.proofs.lemmas.Bool.{eqb-true, both_ways}
-use Rattle.std.proofs.lemmas.List.{nil_from_length}
-use Rattle.std.proofs.lemmas.List.Elements.{filter_map-append}
-use Rattle.gc_catalogue.specs.declared.asked.Asked.{Asked}
-use Rattle.gc_client.specs.Beginning.{IsSubsequence, the_word, left_by, left_when}
-use Rattle.gc_client.specs.Rule.{ById, heard}
-use Rattle.gc_texts.specs.declared.tasks.Task.{Task}
-use Rattle.gc_session.specs.Exchange.{is_none_left}
-use Rattle.gc_station.specs.declared.plan.Plan.{Plan}
-use Rattle.gc_station.specs.declared.progress.Action.{Action}
-use Rattle.gc_station.specs.declared.progress.Action.TheVariants as actions
-use Rattle.gc_station.specs.declared.progress.Progress.{Progress}
-use Rattle.gc_links.specs.Acts.{Act}
-use Rattle.gc_station.specs.Beginnings.{lines_heard_at, lines_heard, unanswered_after, NoneBeforeTheLastAnswer, IsSynchronizing, SynchronizesAnew, SynchronizesInOrder}
-use Rattle.gc_station.specs.Deciding.{has_begun}
-use Rattle.gc_station.specs.Progressing.{turned}
-use Rattle.gc_station.specs.Quiet.{IsAsking}
-use Rattle.gc_station.specs.Reasons.{HoldsBefore}
-use Rattle.gc_station.specs.Runs.{state_after}
-use Rattle.gc_station.specs.Scopes.{Scope}
-use Rattle.gc_station.specs.Model.{Model, opening, action_at, waiting_of, with_progress, Performs, moved, after, after_all, Runs}
+use Rattle.gc_station.proofs.Common.{◌≡◌, inl, inr, ℕ, Bool, true, false, List, [], ◌∷◌, ◌++◌, length, Option, Some, None, nat_eq, refl, sym, ap, ◌∙◌, subst, filter_map, eqb-true, both_ways, nil_from_length, filter_map-append, Asked, IsSubsequence, the_word, left_by, left_when, ById, heard, Task, is_none_left, Plan, Action, Progress, Act, lines_heard_at, lines_heard, unanswered_after, NoneBeforeTheLastAnswer, IsSynchronizing, SynchronizesAnew, SynchronizesInOrder, has_begun, turned, IsAsking, HoldsBefore, state_after, Scope, Model, opening, action_at, waiting_of, with_progress, Performs, moved, after, after_all, Runs}
 use Rattle.gc_station.proofs.Always.{progress_after_act}
 use Rattle.gc_station.proofs.Closings.{runs_split}
 use Rattle.gc_station.proofs.Counts.{with_losses_progress}
@@ -32,6 +10,7 @@ use Rattle.gc_station.proofs.Facts.{action_for}
 use Rattle.gc_station.proofs.Going.{after_all-append, runs_behind}
 use Rattle.gc_station.proofs.Quiets.{only_ask_sends}
 use Rattle.gc_station.proofs.Words.{word_moved, renews_only, renews_needs}
+use Rattle.gc_station.specs.declared.progress.Action.TheVariants as actions
 
 -- Lines answer the ids of a word in their order: the word is a subsequence of the lines' ids.
 

@@ -1,14 +1,6 @@
 -- Where commands are sent after calls of the table: `behind_by` counts, over steps, the requests after the last call of the table that a
 -- reply ended, and `CountsBehind` says that a count is right for a course.
-use Rattle.std.proofs.Common.{◌≡◌, ℕ, List, [], ◌∷◌, ◌++◌, sym, ap, ◌∙◌, subst, append_assoc, append-nil}
-use Rattle.gc_catalogue.specs.declared.asked.Asked.{Asked}
-use Rattle.gc_client.specs.OneForOne.{Course, Step, begun, course_after, AccountsForSends}
-use Rattle.gc_client.specs.Rule.{ById}
-use Rattle.gc_client.specs.declared.window.TheConstants.{WINDOW}
-use Rattle.gc_client.proofs.OneForOne.{accounts_for_sends}
-use Rattle.gc_session.specs.Courses.{client_stepped}
-use Rattle.gc_session.proofs.Behind.{behind_step, CountsBehind, counts_step}
-use Rattle.gc_session.proofs.Courses.{course_of, course_append, client_of}
+use Rattle.gc_station.proofs.Common.{◌≡◌, ℕ, List, [], ◌∷◌, ◌++◌, sym, ap, ◌∙◌, subst, append_assoc, append-nil, Asked, Course, Step, begun, course_after, AccountsForSends, ById, WINDOW, accounts_for_sends, client_stepped, behind_step, CountsBehind, counts_step, course_of, course_append, client_of}
 
 -- the count after these steps of this client, in order, if it was `b` before
 abbrev pub behind_by : ById Asked → (b : ℕ) → List (Step Asked) → ℕ

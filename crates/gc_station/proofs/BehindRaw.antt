@@ -1,26 +1,6 @@
 -- Null procedures behind a raw command of a setup: each that is lost leaves one fewer that may yet be sent, until one is answered or seven
 -- are outstanding. An act is one call on the link, with its result.
-use Rattle.std.proofs.Common.{◌≡◌, inl, inr, ℕ, zero, suc, ◌+◌, ◌-◌, ◌*◌, ◌<◌, ◌≤◌, Bool, true, false, if◌then◌else◌, List, [], ◌∷◌, length, take, drop, refl, sym, ap, ◌∙◌, subst, arith}
-use Rattle.std.specs.List.{AllByRecursion}
-use Rattle.std.proofs.lemmas.Bool.{both_ways}
-use Rattle.std.proofs.lemmas.List.{length-append}
-use native.Mathlib.Nat.{suc-mul}
-use Rattle.gc_values.proofs.Every.{every_weaker}
-use Rattle.gc_catalogue.specs.Asked.{is_of_table}
-use Rattle.gc_catalogue.specs.declared.asked.Asked.{Asked}
-use Rattle.gc_catalogue.specs.declared.asked.Asked.TheVariants.{Table}
-use Rattle.gc_catalogue.specs.declared.call.Call.TheVariants.{NullProc}
-use Rattle.gc_client.specs.Rule.{pending_of}
-use Rattle.gc_client.specs.declared.pending.Pending.{Pending}
-use Rattle.gc_client.specs.declared.window.TheConstants.{WINDOW}
-use Rattle.gc_texts.specs.declared.occasion.Occasion.{Occasion}
-use Rattle.gc_texts.specs.declared.tasks.Task.{Task}
-use Rattle.gc_session.specs.Exchange.{one_more_in_window}
-use Rattle.gc_station.specs.Deciding.{later}
-use Rattle.gc_station.specs.Model.{Model, asks_for, null_request}
-use Rattle.gc_station.specs.RecordedInTime.{raw_count}
-use Rattle.gc_station.specs.Requests.{command_at}
-use Rattle.gc_station.specs.declared.plan.Plan.{Plan}
+use Rattle.gc_station.proofs.Common.{◌≡◌, inl, inr, ℕ, zero, suc, ◌+◌, ◌-◌, ◌*◌, ◌<◌, ◌≤◌, Bool, true, false, if◌then◌else◌, List, [], ◌∷◌, length, take, drop, refl, sym, ap, ◌∙◌, subst, arith, AllByRecursion, both_ways, length-append, suc-mul, every_weaker, is_of_table, Asked, Table, NullProc, pending_of, Pending, WINDOW, Occasion, Task, one_more_in_window, later, Model, asks_for, null_request, raw_count, command_at, Plan}
 use Rattle.gc_station.proofs.HeldUp.{IsTableCall, of_table_at_any_moment}
 use Rattle.gc_station.proofs.InFlight.{EndsEarly}
 use Rattle.gc_station.proofs.Lists.{all_append}

@@ -2,36 +2,11 @@
 -- far, and the client after that. A step is a send, a line heard, a moment read or a restart. `Books` says that a part's steps
 -- take a client, its marks and its records to those after them; `Wrote` says the same of the marks and the records alone, by
 -- what was settled and sent.
-use Rattle.std.proofs.Common.{◌≡◌, ℕ, zero, suc, ◌+◌, ◌<◌, ◌≤◌, Bool, true, false, List, [], ◌∷◌, ◌++◌, length, map, drop, Option, Some, None, refl, sym, ◌∙◌, ap, subst, arith, append_assoc, append-nil, if◌then◌else◌}
-use Rattle.std.specs.Prelude.{slice_get}
-use Rattle.std.specs.List.{AllByRecursion}
-use Rattle.std.proofs.lemmas.List.{length-map, length-append, length-drop, map-append, drop-append-le, drop-drop}
-use Rattle.std.proofs.lemmas.Bool.{ne_eqb}
-use Rattle.std.proofs.lemmas.Option.{same_Some}
-use Rattle.gc_catalogue.specs.declared.asked.Asked.{Asked}
-use Rattle.gc_client.specs.declared.window.TheConstants.{WINDOW}
-use Rattle.gc_client.specs.OneForOne.{Wanted, Course, Step, Send, Hear, Expire, Restart, sent_on, course_after, course, of_settled, of_pending, course_at}
-use Rattle.gc_client.specs.Rule.{ById, Outcome, Answered, Late, Lost, Sending, Settlement, fresh, heard, hears, expires, lost, send_unless_full, sends}
-use Rattle.gc_client.proofs.OneForOne.{heard_parts, lost_parts}
-use Rattle.gc_texts.specs.Zeroed.{as_zero}
-use Rattle.gc_texts.specs.Endings.{End}
-use Rattle.gc_texts.specs.declared.near.Expected.{Expected}
-use Rattle.gc_texts.specs.declared.tasks.Task.{Task}
-use Rattle.gc_session.specs.Sessions.{client_sent}
-use Rattle.gc_session.specs.Courses.{client_stepped, client_after}
-use Rattle.gc_station.specs.declared.mark.Mark.{Mark}
-use Rattle.gc_station.specs.declared.station.sending.Outgoing.{Outgoing}
-use Rattle.gc_station.specs.Marks.{end_of, record_of, records_of}
-use Rattle.gc_station.specs.Records.{Record}
-use Rattle.gc_station.specs.Requests.{of_command}
-use Rattle.gc_station.specs.Deciding.{later}
-use Rattle.gc_station.specs.Model.{sent_to}
-use Rattle.gc_station.specs.Parts.{SyncStep, Part, only_sync_steps, only_steps, idle_part, parts_joined, request_part, MarkAsks, MarksAsk, went_out, sent_of, timeless}
-use Rattle.gc_session.proofs.Courses.{client_of}
-use Rattle.gc_station.specs.Scopes.{Reads}
+use Rattle.gc_station.proofs.Common.{◌≡◌, ℕ, zero, suc, ◌+◌, ◌<◌, ◌≤◌, Bool, true, false, List, [], ◌∷◌, ◌++◌, length, map, drop, Option, Some, None, refl, sym, ◌∙◌, ap, subst, arith, append_assoc, append-nil, if◌then◌else◌, slice_get, AllByRecursion, length-map, length-append, length-drop, map-append, drop-append-le, ne_eqb, same_Some, Asked, WINDOW, Wanted, Course, Step, Hear, Expire, Restart, sent_on, course_after, course, of_settled, of_pending, course_at, ById, Late, Lost, Sending, Settlement, fresh, heard, hears, expires, lost, send_unless_full, sends, heard_parts, lost_parts, as_zero, End, Expected, Task, client_sent, client_stepped, client_after, Mark, Outgoing, end_of, record_of, records_of, Record, of_command, later, sent_to, SyncStep, Part, only_sync_steps, only_steps, idle_part, parts_joined, request_part, MarkAsks, MarksAsk, went_out, sent_of, timeless, client_of, Reads, filter-append}
+use Rattle.std.proofs.lemmas.List.{drop-drop}
+use Rattle.gc_client.specs.Prelude.{Send, Outcome, Answered}
 use Rattle.gc_station.proofs.Lists.{all_append, all_at}
 use Rattle.gc_station.proofs.Records.{answer_along, records-none, records-append}
-use Rattle.std.proofs.lemmas.List.Elements.{filter-append}
 
 -- Steps.
 

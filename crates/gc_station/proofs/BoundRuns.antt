@@ -1,12 +1,6 @@
 -- The runs of `specs/BoundRuns.antt`, computed.
-use Rattle.std.proofs.Common.{List, [], ◌∷◌, ◌++◌, inl, inr, None, refl, lit<, lit≤}
-use Rattle.std.specs.Prelude.{codes}
+use Rattle.gc_station.proofs.Common.{List, [], ◌∷◌, ◌++◌, inl, inr, None, refl, lit<, lit≤, codes, header_at, reply_at, with_end, is_off_target, Act, Told, Put, Gave, Silent, Opened, Unopened, at, at_asking, exchanged, null_lines, null_replies, OutageIsRecorded, CallsAreNeeded, ReadingsAreNeeded, DeadlinesAreNeeded, UnaskedIsNeeded, scope, outage_plan, outage_commands, outage, stalled_read, stalled_reading, quick_plan, slow_commands, long_deadline, chain_commands, asked_in_chain}
 use Rattle.std.specs.Fmt.{digits}
-use Rattle.gc_lines.specs.Readers.{header_at, reply_at}
-use Rattle.gc_texts.specs.Nears.{is_off_target}
-use Rattle.gc_lines.specs.Lines.{with_end}
-use Rattle.gc_links.specs.Acts.{Act, Told, Put, Gave, Silent, Opened, Unopened}
-use Rattle.gc_station.specs.BoundRuns.{at, at_asking, exchanged, null_lines, null_replies, OutageIsRecorded, CallsAreNeeded, ReadingsAreNeeded, DeadlinesAreNeeded, UnaskedIsNeeded, scope, outage_plan, outage_commands, outage, stalled_read, stalled_reading, quick_plan, slow_commands, long_deadline, chain_commands, asked_in_chain}
 use Rattle.gc_station.proofs.Returning.{calls_soon, calls_each, readings_at_once, not_in_time}
 
 -- the acts of a synchronization, up to the beginning of the first cycle

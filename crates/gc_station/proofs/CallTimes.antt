@@ -1,39 +1,12 @@
 -- How long calls are asked to wait, and when the first moment behind them is read. An act is one call on the link, with its result.
-use Rattle.std.proofs.Common.{◌≡◌, ℕ, ◌+◌, ◌-◌, ◌<◌, ◌≤◌, ◌||◌, Bool, true, false, not, if◌then◌else◌, List, [], ◌∷◌, ◌++◌, length, map, filter, min, max, nat_eq, nat_lt, Option, Some, None, refl, sym, ap, ◌∙◌, subst, arith, append_assoc}
-use Rattle.std.specs.Prelude.{MatchOption}
-use Rattle.std.specs.Option.{option_map_or}
-use Rattle.std.proofs.lemmas.Bool.{cond_both, both_ways}
-use Rattle.std.proofs.lemmas.List.Elements.{All-from_recursion, All-contains}
-use Rattle.std.specs.List.{AllByRecursion}
-use Rattle.gc_catalogue.specs.declared.asked.Asked.{Asked}
-use Rattle.gc_client.specs.declared.pending.Pending.{Pending}
-use Rattle.gc_client.specs.Rule.{IsEarliest, deadlines}
-use Rattle.gc_texts.specs.declared.tasks.Task.{Task}
-use Rattle.gc_links.specs.Acts.{Act, Told, Gave, Silent, Closed}
-use Rattle.gc_links.specs.declared.link.Moment.{Moment}
-use Rattle.gc_station.specs.ActKinds.{moment_in}
-use Rattle.gc_station.specs.CallTimes.{MayTakeTime, IsAskedToWait, IsReadBy, CallsReturn}
-use Rattle.gc_station.specs.Deciding.{has_begun, is_stale, is_stopping, is_up, action_in, action_without_turns}
-use Rattle.gc_station.specs.Model.{Model, action_at, waiting_of, with_progress, with_moment, with_rest, lines_completed, is_heard, piece_at, moved, Performs}
-use Rattle.gc_station.specs.Pace.{out_of_time_at, stale_at, longest_timeout, read_end_without_deadline, read_timeout}
-use Rattle.gc_station.specs.Progressing.{turned, moment_noted, time_passed, phase_again, is_spared, is_finished}
-use Rattle.gc_station.specs.Quiet.{HasLast}
-use Rattle.gc_station.specs.Runs.{state_after}
-use Rattle.gc_station.specs.Scopes.{Scope}
-use Rattle.gc_station.specs.Silences.{latest}
-use Rattle.gc_station.specs.declared.cause.Cause.{Cause}
-use Rattle.gc_station.specs.declared.cause.Cause.TheVariants as cause
-use Rattle.gc_station.specs.declared.plan.Plan.{Plan}
-use Rattle.gc_station.specs.declared.progress.Action.{Action}
-use Rattle.gc_station.specs.declared.progress.Action.TheVariants as actions
-use Rattle.gc_station.specs.declared.progress.Phase.{Phase}
-use Rattle.gc_station.specs.declared.progress.Phase.TheVariants as phase
-use Rattle.gc_station.specs.declared.progress.Progress.{Progress}
-use Rattle.gc_station.specs.declared.progress.Until.{Until}
-use Rattle.gc_station.specs.declared.progress.Waiting.{Waiting}
+use Rattle.gc_station.proofs.Common.{◌≡◌, ℕ, ◌+◌, ◌-◌, ◌<◌, ◌≤◌, ◌||◌, Bool, true, false, not, if◌then◌else◌, List, [], ◌∷◌, ◌++◌, length, map, filter, min, max, nat_eq, nat_lt, Option, Some, None, refl, sym, ap, ◌∙◌, subst, arith, append_assoc, MatchOption, option_map_or, cond_both, both_ways, All-from_recursion, All-contains, AllByRecursion, Asked, Pending, IsEarliest, deadlines, Task, Act, Told, Gave, Silent, Closed, Moment, moment_in, MayTakeTime, IsAskedToWait, IsReadBy, CallsReturn, has_begun, is_stale, is_stopping, is_up, action_in, action_without_turns, Model, action_at, waiting_of, with_progress, with_moment, with_rest, lines_completed, is_heard, piece_at, moved, Performs, out_of_time_at, stale_at, longest_timeout, read_end_without_deadline, read_timeout, turned, moment_noted, time_passed, phase_again, is_spared, HasLast, state_after, Scope, latest, Cause, Plan, Action, Phase, Progress, Until, Waiting}
+use Rattle.gc_station.specs.Progressing.{is_finished}
 use Rattle.gc_station.proofs.Closings.{needs_of}
 use Rattle.gc_station.proofs.InFlight.{EndsAfter, EndsEarly}
 use Rattle.gc_station.proofs.Walk.{asked_along, came_along, quieted_along, closed_along, walk}
+use Rattle.gc_station.specs.declared.cause.Cause.TheVariants as cause
+use Rattle.gc_station.specs.declared.progress.Action.TheVariants as actions
+use Rattle.gc_station.specs.declared.progress.Phase.TheVariants as phase
 
 -- the moment read last of two rows of acts is that of the second, counted from that of the first
 pub latest_append : (now : ℕ) (xs ys : List Act) → latest now (xs ++ ys) ≡ latest (latest now xs) ys

@@ -1,21 +1,9 @@
 -- What each action's act does to the place in a cycle and to the fields on chains: it leaves them, breaks the chain, goes on to
 -- the next command, leaves out attempts, or begins a cycle. And which actions leave the connection open. An act is one call on
 -- the link, with its result.
-use Rattle.std.proofs.Common.{◌≡◌, ◌⊎◌, inl, inr, ℕ, ◌-◌, true, false, List, [], refl, sym, ap, ◌∙◌, subst}
-use Rattle.std.proofs.lemmas.Bool.{both_ways, false_from_ne_true}
-use Rattle.gc_texts.specs.declared.tasks.Task.{Task}
-use Rattle.gc_station.specs.declared.cause.Cause.{Cause}
-use Rattle.gc_station.specs.declared.cause.Cause.TheVariants as cause
-use Rattle.gc_station.specs.declared.plan.Plan.{Plan}
-use Rattle.gc_station.specs.declared.progress.Action.{Action}
-use Rattle.gc_station.specs.declared.progress.Action.TheVariants.{Begin, Renew, Open, Send, Skip, Pass, Read, Close, Stop, Prepare}
-use Rattle.gc_station.specs.declared.progress.Progress.{Progress}
-use Rattle.gc_links.specs.Acts.{Act, Told, Cut, Opened}
-use Rattle.gc_station.specs.Quiet.{KeepsOpen}
-use Rattle.gc_station.specs.Progressing.{failing}
-use Rattle.gc_station.specs.Model.{Model, Performs, waiting_of, with_rest, moved, cycle_length}
-use Rattle.gc_station.specs.NextCommand.{commands_before, is_chained_after}
+use Rattle.gc_station.proofs.Common.{◌≡◌, ◌⊎◌, inl, inr, ℕ, ◌-◌, true, false, List, [], refl, sym, ap, ◌∙◌, subst, both_ways, false_from_ne_true, Task, Cause, Plan, Action, Begin, Renew, Open, Send, Skip, Pass, Read, Close, Stop, Prepare, Progress, Act, Told, Cut, Opened, KeepsOpen, failing, Model, Performs, waiting_of, with_rest, moved, cycle_length, commands_before, is_chained_after}
 use Rattle.gc_station.proofs.Walk.{closed_along, sent_same, moved_changed, walk}
+use Rattle.gc_station.specs.declared.cause.Cause.TheVariants as cause
 
 -- What an act does to the place in a cycle, and to the chain that is there.
 

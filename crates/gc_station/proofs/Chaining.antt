@@ -2,36 +2,7 @@
 -- `next_is_chained`, whether the next command waits for that answer, and `chain_unbroken`. An act is one call on the link, with
 -- its result. `ChainIsRight` says that both fields are right after the acts so far, and `IsUnbroken` that the command before
 -- the next one was sent, with no connection closed and no new synchronization since.
-use Rattle.std.proofs.Common.{◌≡◌, ◌⊎◌, inl, inr, ℕ, ◌+◌, ◌-◌, ◌<◌, ◌≤◌, ◌||◌, Bool, true, false, List, [], ◌∷◌, ◌++◌, length, drop, map, Option, refl, sym, ap, ◌∙◌, subst, arith, append_assoc, append-nil}
-use Rattle.std.specs.List.{AllByRecursion}
-use Rattle.std.proofs.lemmas.List.{drop_all, length-drop, map-append, same_from_push}
-use Rattle.std.proofs.lemmas.Bool.{both_ways, or_right}
-use Rattle.gc_values.proofs.Every.{every_behind as all_behind}
-use Rattle.gc_catalogue.specs.declared.answer.Answer.{Answer}
-use Rattle.gc_texts.specs.declared.tasks.Task.{Task}
-use Rattle.gc_texts.specs.Endings.{End, Answered, line_of}
-use Rattle.gc_texts.specs.Qualities.{is_good}
-use Rattle.gc_texts.specs.declared.quality.Quality.{Quality}
-use Rattle.gc_station.specs.declared.plan.Plan.{Plan}
-use Rattle.gc_station.specs.declared.progress.Action.{Action}
-use Rattle.gc_station.specs.declared.progress.Action.TheVariants.{Begin, Renew, Send, Skip, Pass, Close, Stop, Prepare}
-use Rattle.gc_station.specs.declared.progress.Progress.{Progress}
-use Rattle.gc_station.specs.declared.progress.Waiting.{Waiting}
-use Rattle.gc_links.specs.Acts.{Act, Told}
-use Rattle.gc_station.specs.Answers.{AnswerIsJustified}
-use Rattle.gc_station.specs.Chains.{IsChained, IsLinked}
-use Rattle.gc_station.specs.Deciding.{has_begun}
-use Rattle.gc_station.specs.EachOnce.{Interleave, RunRequest, of_record, of_task, requests, commands_reached, of_text, in_text}
-use Rattle.gc_station.specs.Marks.{commands_in, is_well, last_well}
-use Rattle.gc_station.specs.Qualities.{IsAsListed}
-use Rattle.gc_station.specs.Quiet.{KeepsOpen}
-use Rattle.gc_station.specs.Progressing.{turned}
-use Rattle.gc_station.specs.Reasons.{HoldsBefore, MayGo}
-use Rattle.gc_station.specs.Records.{Record}
-use Rattle.gc_station.specs.Runs.{state_after}
-use Rattle.gc_station.specs.Scopes.{Scope}
-use Rattle.gc_station.specs.Model.{Model, Performs, Runs, opening, action_at, waiting_of, with_losses, with_progress, moved, after, after_all, cycle_length}
-use Rattle.gc_station.specs.NextCommand.{place_next, commands_left, cycles_begun, rests, is_chained_in}
+use Rattle.gc_station.proofs.Common.{◌≡◌, ◌⊎◌, inl, inr, ℕ, ◌+◌, ◌-◌, ◌<◌, ◌≤◌, ◌||◌, Bool, true, false, List, [], ◌∷◌, ◌++◌, length, drop, map, Option, refl, sym, ap, ◌∙◌, subst, arith, append_assoc, append-nil, AllByRecursion, drop_all, length-drop, map-append, same_from_push, both_ways, or_right, every_behind as all_behind, Answer, Task, End, Answered, line_of, is_good, Quality, Plan, Action, Begin, Renew, Send, Skip, Pass, Close, Stop, Prepare, Progress, Waiting, Act, Told, AnswerIsJustified, IsChained, IsLinked, has_begun, Interleave, RunRequest, of_record, of_task, requests, commands_reached, of_text, in_text, commands_in, is_well, last_well, IsAsListed, KeepsOpen, turned, HoldsBefore, MayGo, Record, state_after, Scope, Model, Performs, Runs, opening, action_at, waiting_of, with_losses, with_progress, moved, after, after_all, cycle_length, place_next, commands_left, cycles_begun, rests, is_chained_in}
 use Rattle.gc_station.proofs.Answers.{answers_true}
 use Rattle.gc_station.proofs.Counts.{with_losses_progress, with_losses_passes}
 use Rattle.gc_station.proofs.Each.{row_settled, reached_next, row}

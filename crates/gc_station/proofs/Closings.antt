@@ -2,34 +2,8 @@
 -- connection, or couldn't make one. The end is decided once the phase is `Closing` or `Over`, which name the cause. An act is one
 -- call on the link, with its result. `Decides` says why an act decided the end, or that it left the phase as it was; `Decided`
 -- says why it did.
-use Rattle.std.proofs.Common.{◌≡◌, ℕ, ◌⊎◌, inl, inr, ◌&&◌, ◌||◌, Bool, true, false, not, List, [], ◌∷◌, ◌++◌, length, drop, Option, Some, None, if◌then◌else◌, nat_lt, refl, sym, ap, ◌∙◌, subst, arith}
-use Rattle.std.proofs.lemmas.Bool.Decides.{nat_tests}
-use Rattle.std.proofs.lemmas.List.{nil_from_length}
-use Rattle.std.proofs.lemmas.Bool.{both_ways}
-use Rattle.gc_catalogue.specs.declared.asked.Asked.TheVariants.{Table}
-use Rattle.gc_catalogue.specs.declared.call.Call.TheVariants.{NullProc}
-use Rattle.gc_catalogue.specs.declared.asked.Asked.{Asked}
-use Rattle.gc_client.specs.Rule.{ById}
-use Rattle.gc_texts.specs.declared.tasks.Task.{Task}
-use Rattle.gc_station.specs.declared.plan.Plan.{Plan}
-use Rattle.gc_station.specs.declared.cause.Cause.{Cause}
-use Rattle.gc_station.specs.declared.cause.Cause.TheVariants as cause
-use Rattle.gc_station.specs.declared.progress.Phase.{Phase}
-use Rattle.gc_station.specs.declared.progress.Phase.TheVariants.{Draining, Ready, Closing, Over, Down}
-use Rattle.gc_station.specs.declared.progress.Action.{Action}
-use Rattle.gc_station.specs.declared.progress.Action.TheVariants as action
-use Rattle.gc_station.specs.declared.progress.Progress.{Progress}
-use Rattle.gc_station.specs.declared.progress.Waiting.{Waiting}
-use Rattle.gc_links.specs.Acts.{Act, Untold, Cut, Ended, Broke, Closed}
-use Rattle.gc_station.specs.Deciding.{has_begun, is_up, is_past, action_in}
-use Rattle.gc_station.specs.Marks.{commands_in}
-use Rattle.gc_station.specs.Progressing.{turned, moment_noted, failing, quieted, time_passed, is_finished, is_idle, cleared, request_noted, null_sent, closed, is_spared, setup_sent}
-use Rattle.gc_station.specs.Closing.{HasFreshClient, IsReasoned, Shows, ClosesForACause, EndsAfter, EndsDisconnected, EndsRun, StopsForACause, EndsAtFailure}
-use Rattle.gc_station.specs.Quiet.{HasLast}
-use Rattle.gc_station.specs.Reasons.{HoldsBefore, IsAtItsEnd, IsFinished}
-use Rattle.gc_station.specs.Runs.{state_after}
-use Rattle.gc_station.specs.Model.{Model, next_request_text, null_text, first_text, occasion_at, waiting_of, opening, action_at, with_progress, with_moment, is_heard, lines_completed, after_piece, Performs, moved, after, after_all, Runs, text_or_null, null_request, asks_for, asks_setup}
-use Rattle.gc_station.specs.NextCommand.{commands_before, place_next}
+use Rattle.gc_station.proofs.Common.{◌≡◌, ℕ, ◌⊎◌, inl, inr, ◌&&◌, ◌||◌, Bool, true, false, not, List, [], ◌∷◌, ◌++◌, length, drop, Option, Some, None, if◌then◌else◌, nat_lt, refl, sym, ap, ◌∙◌, subst, arith, nat_tests, nil_from_length, both_ways, Table, NullProc, Asked, ById, Task, Plan, Cause, Phase, Draining, Ready, Closing, Over, Down, Action, Progress, Waiting, Act, Untold, Cut, Ended, Broke, Closed, has_begun, is_up, is_past, action_in, commands_in, turned, moment_noted, failing, quieted, time_passed, is_idle, cleared, request_noted, null_sent, closed, is_spared, setup_sent, HasFreshClient, IsReasoned, Shows, ClosesForACause, EndsAfter, EndsDisconnected, EndsRun, StopsForACause, EndsAtFailure, HasLast, HoldsBefore, IsAtItsEnd, IsFinished, state_after, Model, next_request_text, null_text, first_text, occasion_at, waiting_of, opening, action_at, with_progress, with_moment, is_heard, lines_completed, after_piece, Performs, moved, after, after_all, Runs, text_or_null, null_request, asks_for, asks_setup, commands_before, place_next, Scope}
+use Rattle.gc_station.specs.Progressing.{is_finished}
 use Rattle.gc_station.proofs.Counts.{with_losses_progress}
 use Rattle.gc_station.proofs.EachRun.{invariant_holds}
 use Rattle.gc_station.proofs.Facts.{action_for}
@@ -38,7 +12,8 @@ use Rattle.gc_station.proofs.Invariant.{Invariant, says_done}
 use Rattle.gc_station.proofs.Going.{after_all-append, runs_front, runs_behind}
 use Rattle.gc_station.proofs.Walk.{asked_along, came_along, quieted_along, model_sent, HoldsAfterPut, walk}
 use Rattle.gc_station.proofs.Turns.{phase_failed, phase_by, after_failure_down, closed_down}
-use Rattle.gc_station.specs.Scopes.{Scope}
+use Rattle.gc_station.specs.declared.cause.Cause.TheVariants as cause
+use Rattle.gc_station.specs.declared.progress.Action.TheVariants as action
 
 -- the cause for which a phase closes the connection or ends the run, if it does
 abbrev pub cause_in : Phase → Option Cause

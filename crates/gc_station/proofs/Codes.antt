@@ -2,38 +2,16 @@
 -- unless it was measured elsewhere than where its target is. `line` is the reply line of a command with this call, and `r` its
 -- fields; `reads` gives what each line says for a call (`AreReadings`), and `expected` what the command expects: the return
 -- codes that it accepts, and the place of its target.
-use Rattle.std.proofs.Common.{◌≡◌, ◌==◌, ◌&&◌, ◌||◌, ◌⊎◌, inl, inr, ℕ, zero, suc, replicate, Bool, true, false, not, List, Option, Some, None, refl, sym, ap, ◌∙◌}
-use Rattle.std.specs.List.{list_any}
-use Rattle.std.proofs.lemmas.Bool.Decides.{eqb_tells}
-use Rattle.std.proofs.lemmas.Bool.{both_ways}
-use Rattle.gc_lines.specs.Replies.{ReplyFields, IsReply}
-use Rattle.gc_catalogue.specs.declared.answer.Answer.{Answer}
-use Rattle.gc_catalogue.specs.declared.answer.Reading.{Reading}
-use Rattle.gc_catalogue.specs.declared.answer.Reading.TheVariants as reading
-use Rattle.gc_catalogue.specs.declared.asked.Asked.{Asked}
-use Rattle.gc_catalogue.specs.declared.asked.Asked.TheVariants.{Table, Raw}
-use Rattle.gc_client.specs.Rule.{Answered}
-use Rattle.std.specs.Option.{is_none}
-use Rattle.gc_texts.specs.Codes.{lists_code, no_codes}
-use Rattle.gc_texts.specs.Endings as ends
-use Rattle.gc_texts.specs.Nears.{is_off_target}
-use Rattle.gc_texts.specs.Qualities.{is_good}
-use Rattle.gc_texts.specs.Zeroed.{as_zero}
+use Rattle.gc_station.proofs.Common.{◌≡◌, ◌==◌, ◌&&◌, ◌||◌, ◌⊎◌, inl, inr, ℕ, zero, suc, replicate, Bool, true, false, not, List, Option, Some, None, refl, sym, ap, ◌∙◌, list_any, eqb_tells, both_ways, ReplyFields, IsReply, Answer, Reading, Asked, Table, Raw, is_none, lists_code, no_codes, is_off_target, is_good, as_zero, Twice, Form, Judgement, Expected, Quality, GoodIsAnAnswer, quality_in, judged_by, unless_judged, passes_rules, answered_as, warned_as, refused_as, answer_as, end_of, is_well, IsSaid, AreReadings, Reads}
+use Rattle.gc_client.specs.Prelude.{Answered}
 use Rattle.gc_texts.specs.declared.codes.Codes.{Codes}
-use Rattle.gc_texts.specs.declared.agree.Twice.{Twice}
-use Rattle.gc_texts.specs.declared.agree.Twice.TheVariants as twice
-use Rattle.gc_texts.specs.declared.form.Form.{Form}
-use Rattle.gc_texts.specs.declared.judgement.Judgement.{Judgement}
-use Rattle.gc_texts.specs.declared.near.Expected.{Expected}
-use Rattle.gc_texts.specs.declared.quality.Quality.{Quality}
-use Rattle.gc_texts.specs.declared.quality.Quality.TheVariants as quality
 use Rattle.gc_station.specs.Codes.{WellIsAnAcceptedCode}
-use Rattle.gc_station.specs.Qualities.{GoodIsAnAnswer}
-use Rattle.gc_station.specs.Marks.{quality_in, judged_by, unless_judged, passes_rules, answered_as, warned_as, refused_as, answer_as, end_of, is_well}
-use Rattle.gc_station.specs.Saying.{IsSaid}
-use Rattle.gc_station.specs.Scopes.{AreReadings, Reads}
 use Rattle.gc_station.proofs.Judging.{unjudged_passes}
 use Rattle.gc_station.proofs.Saying.{zero_said}
+use Rattle.gc_catalogue.specs.declared.answer.Reading.TheVariants as reading
+use Rattle.gc_texts.specs.Endings as ends
+use Rattle.gc_texts.specs.declared.agree.Twice.TheVariants as twice
+use Rattle.gc_texts.specs.declared.quality.Quality.TheVariants as quality
 
 -- a reply with a communication code other than 0 says that fault, whatever was asked, by a form or without one
 pub com_fault_is : (form : Option Form) (asked : Asked) (r : ReplyFields) → (r.rc_com ≡ 0 → ⊥) → IsSaid form asked r (reading.ComFault r.rc_com)

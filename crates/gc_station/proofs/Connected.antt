@@ -1,31 +1,13 @@
 -- Facts F of a progress and the acts so far that concern a connection in use alone: they hold trivially if there is no
 -- connection, and if it is to be closed. So a call that fails keeps them, and so does a close. What each other act has to keep
 -- is `HoldsInUse`. An act is one call on the link, with its result.
-use Rattle.std.proofs.Common.{◌≡◌, ℕ, ◌&&◌, Bool, true, false, not, List, [], ◌∷◌, ◌++◌, drop, if◌then◌else◌, refl, ap}
-use Rattle.gc_catalogue.specs.declared.asked.Asked.TheVariants.{Table}
-use Rattle.gc_catalogue.specs.declared.call.Call.TheVariants.{NullProc}
-use Rattle.gc_texts.specs.declared.tasks.Task.{Task}
-use Rattle.gc_links.specs.declared.link.Moment.{Moment}
-use Rattle.gc_station.specs.declared.plan.Plan.{Plan}
-use Rattle.gc_station.specs.declared.cause.Cause.{Cause}
-use Rattle.gc_station.specs.declared.cause.Cause.TheVariants as cause
-use Rattle.gc_station.specs.declared.progress.Phase.{Phase}
-use Rattle.gc_station.specs.declared.progress.Phase.TheVariants as phase
-use Rattle.gc_station.specs.declared.progress.Action.{Action}
-use Rattle.gc_station.specs.declared.progress.Action.TheVariants as actions
-use Rattle.gc_station.specs.declared.progress.Progress.{Progress}
-use Rattle.gc_station.specs.declared.progress.Until.{Until}
-use Rattle.gc_links.specs.Acts.{Act, Told, Put, Gave, Silent, Opened}
-use Rattle.gc_station.specs.Deciding.{is_up, is_past, is_quiet}
-use Rattle.gc_station.specs.Marks.{commands_in}
-use Rattle.gc_station.specs.Progressing.{turned, moment_noted, cycle_begun, skipped, attempts_left_out, opened, cleared, request_noted, null_sent, resynchronized, sent, early_noted, time_passed, quieted, is_idle, drained, setup_sent}
-use Rattle.gc_station.specs.Model.{Model, next_request_text, null_text, first_text, occasion_at, waiting_of, piece_at, with_progress, Performs, moved, cycle_length, text_or_null, opening, action_at, Runs}
-use Rattle.gc_station.specs.NextCommand.{commands_before, commands_left, upcoming_after, first_upcoming}
-use Rattle.gc_station.specs.Runs.{state_after}
-use Rattle.gc_station.specs.Scopes.{Scope}
+use Rattle.gc_station.proofs.Common.{◌≡◌, ℕ, ◌&&◌, Bool, true, false, not, List, [], ◌∷◌, ◌++◌, drop, if◌then◌else◌, refl, ap, Table, NullProc, Task, Moment, Plan, Cause, Phase, Action, Progress, Until, Act, Told, Put, Gave, Silent, Opened, is_up, is_past, is_quiet, commands_in, turned, moment_noted, cycle_begun, skipped, attempts_left_out, opened, cleared, request_noted, null_sent, resynchronized, sent, early_noted, time_passed, quieted, is_idle, drained, setup_sent, Model, next_request_text, null_text, first_text, occasion_at, waiting_of, piece_at, with_progress, Performs, moved, cycle_length, text_or_null, opening, action_at, Runs, commands_before, commands_left, upcoming_after, first_upcoming, state_after, Scope}
 use Rattle.gc_station.proofs.Always.{always_of_progress}
 use Rattle.gc_station.proofs.Turns.{phase_failed, after_failure_down, closed_down}
 use Rattle.gc_station.proofs.Walk.{walk}
+use Rattle.gc_station.specs.declared.cause.Cause.TheVariants as cause
+use Rattle.gc_station.specs.declared.progress.Phase.TheVariants as phase
+use Rattle.gc_station.specs.declared.progress.Action.TheVariants as actions
 
 -- whether a phase has a connection that isn't to be closed
 abbrev pub is_in_use : Phase → Bool

@@ -1,27 +1,6 @@
 -- The ids of a run's requests: in each part, which reaches from one synchronization to the next, they count up from 0, going round at 8. An
 -- act is one call on the link, with its result.
-use Rattle.std.proofs.Common.{◌≡◌, inl, inr, ℕ, zero, suc, ◌+◌, ◌<◌, ◌%◌, ◌&&◌, Bool, true, false, if◌then◌else◌, List, [], ◌∷◌, ◌++◌, map, drop, Option, Some, None, refl, sym, ◌∙◌, ap, subst, arith}
-use Rattle.std.specs.Prelude.{slice_get}
-use Rattle.std.specs.List.{AllByRecursion}
-use Rattle.std.proofs.lemmas.Option.{same_Some}
-use Rattle.gc_catalogue.specs.declared.asked.Asked.{Asked}
-use Rattle.gc_client.specs.OneForOne.{Hear, Expire, sent_on, course_at}
-use Rattle.gc_client.specs.Rule.{ById, Sending, fresh, fits, heard, hears, place_in, settles_at}
-use Rattle.gc_client.specs.declared.window.TheConstants.{IDS}
-use Rattle.gc_links.specs.Acts.{Act, Told, Put, Cut, Gave, Silent}
-use Rattle.gc_texts.specs.declared.tasks.Task.{Task}
-use Rattle.gc_session.specs.Courses.{client_after, client_stepped}
-use Rattle.gc_station.specs.declared.mark.Mark.{Mark}
-use Rattle.gc_station.specs.declared.plan.Plan.{Plan}
-use Rattle.gc_station.specs.declared.progress.Action.{Action}
-use Rattle.gc_station.specs.declared.progress.Action.TheVariants as action
-use Rattle.gc_station.specs.Deciding.{has_begun}
-use Rattle.gc_station.specs.Links.{parts}
-use Rattle.gc_station.specs.Model.{Model, action_at, after, is_heard, lines_completed, losing, mark_sent, mark_setup_sent, moved, opening, request_or_null, Runs, waiting_of, with_losses, with_progress, Performs}
-use Rattle.gc_station.specs.NextCommand.{commands_left}
-use Rattle.gc_station.specs.Parts.{Part, client_part, first_request_part, heard_steps, in_front, parts_of, put_part, sync_part}
-use Rattle.gc_station.specs.Progressing.{loses_all, turned}
-use Rattle.gc_station.specs.Scopes.{Scope}
+use Rattle.gc_station.proofs.Common.{◌≡◌, inl, inr, ℕ, zero, suc, ◌+◌, ◌<◌, ◌%◌, ◌&&◌, Bool, true, false, if◌then◌else◌, List, [], ◌∷◌, ◌++◌, map, drop, Option, Some, None, refl, sym, ◌∙◌, ap, subst, arith, slice_get, AllByRecursion, same_Some, Asked, Hear, Expire, sent_on, course_at, ById, Sending, fresh, fits, heard, hears, place_in, settles_at, IDS, Act, Told, Put, Cut, Gave, Silent, Task, client_after, client_stepped, Mark, Plan, Action, has_begun, parts, Model, action_at, after, is_heard, lines_completed, losing, mark_sent, mark_setup_sent, moved, opening, request_or_null, Runs, waiting_of, with_losses, with_progress, Performs, commands_left, Part, client_part, first_request_part, heard_steps, in_front, parts_of, put_part, sync_part, loses_all, turned, Scope}
 use Rattle.gc_station.proofs.Asked.{marks_none}
 use Rattle.gc_station.proofs.Booking.{sends_with_room}
 use Rattle.gc_station.proofs.Counts.{losing_progress}
@@ -31,6 +10,7 @@ use Rattle.gc_station.proofs.Following.{losing_none, lost_fresh}
 use Rattle.gc_station.proofs.Invariant.{Invariant}
 use Rattle.gc_station.proofs.Meant.{IsPutByClient, put_by_client}
 use Rattle.gc_station.proofs.Parting.{keeps_new_client, leads}
+use Rattle.gc_station.specs.declared.progress.Action.TheVariants as action
 
 -- Marks.
 

@@ -1,17 +1,10 @@
 -- A tally counts the records of the last attempts. `count` is one of its counts, and `so` says which endings it counts; no count
 -- exceeds 2^64 - 1 (`capped`).
-use Rattle.std.proofs.Common.{◌||◌, ◌&&◌, not, nat_eq, nat_lt, ◌≡◌, ℕ, suc, ◌+◌, Bool, true, false, List, [], ◌∷◌, if◌then◌else◌, refl, sym, ap, ◌∙◌, arith}
-use Rattle.gc_texts.specs.Endings.{End, Answered, Unreadable, Judged, Late, Lost, Skipped, NoValue, Missed}
-use Rattle.gc_texts.specs.declared.quality.Quality.TheVariants.{Fine, Warning, Unconfirmed, Refused}
+use Rattle.gc_station.proofs.Common.{◌||◌, ◌&&◌, not, nat_eq, nat_lt, ◌≡◌, ℕ, suc, ◌+◌, Bool, true, false, List, [], ◌∷◌, if◌then◌else◌, refl, sym, ap, ◌∙◌, arith, End, Answered, Unreadable, Judged, Skipped, NoValue, Missed, capped, one_more, judged_count, judged_one_more, Fine, Warning, Unconfirmed, Refused, Record, empty_tally, counted, sum, empty_counts, tallied, total, tally_of, Judgement, Counts, Tally}
+use Rattle.gc_texts.specs.Prelude.{Late, Lost}
 use Rattle.gc_station.specs.Counting.{is_followed, last_attempts, further_attempts, how_many, ended_answered, ended_refused, ended_unreadable, ended_judged, ended_late, ended_lost, ended_skipped, ended_missed, TalliesCountRecords}
-use Rattle.gc_station.specs.Records.{Record}
-use Rattle.gc_station.specs.Tallies.{empty_tally, counted, sum, empty_counts, tallied, total, tally_of}
-use Rattle.gc_texts.specs.Judgements.{capped, one_more, judged_count, judged_one_more}
 use Rattle.gc_texts.proofs.Judgements.{counted_by_judgement, count_of_none, count_of_sum}
-use Rattle.gc_texts.specs.declared.judgement.Judgement.{Judgement}
 use Rattle.gc_texts.specs.declared.judgement.JudgementCounts.{JudgementCounts}
-use Rattle.gc_station.specs.declared.tally.Counts.{Counts}
-use Rattle.gc_station.specs.declared.tally.Tally.{Tally}
 
 -- a count comes to the same whether a command is counted with its attempt (`attempt`) or with the commands after it (`rest`).
 -- `before` is the count of the chains before, and `counts` says whether the command has the ending that is counted. If another

@@ -1,17 +1,8 @@
 -- What each act leaves of the counts: the turns, the cycles that haven't begun, and the commands of the cycle that are left
 -- (`unsent`): neither sent, nor recorded without being sent, nor left out. An act is one call on the link, with its result.
-use Rattle.std.proofs.Common.{◌≡◌, ℕ, ◌-◌, ◌≤◌, ◌⊎◌, inl, inr, Bool, List, refl, ap, subst, arith}
-use Rattle.gc_texts.specs.declared.tasks.Task.{Task}
-use Rattle.gc_station.specs.declared.plan.Plan.{Plan}
-use Rattle.gc_station.specs.declared.cause.Cause.TheVariants as cause
-use Rattle.gc_station.specs.declared.progress.Action.{Action}
-use Rattle.gc_station.specs.declared.progress.Action.TheVariants.{Begin, Send, Skip, Pass}
-use Rattle.gc_station.specs.declared.progress.Progress.{Progress}
-use Rattle.gc_links.specs.Acts.{Act, Told, Cut}
+use Rattle.gc_station.proofs.Common.{◌≡◌, ℕ, ◌-◌, ◌≤◌, ◌⊎◌, inl, inr, Bool, List, refl, ap, subst, arith, Task, Plan, Action, Begin, Send, Skip, Pass, Progress, Act, Told, Cut, Model, cycle_length, moved, losing, with_losses, commands_before, failing, skipped, loses_all}
 use Rattle.gc_station.proofs.Walk.{losing_along, moved_changed, sent_same}
-use Rattle.gc_station.specs.Model.{Model, cycle_length, moved, losing, with_losses}
-use Rattle.gc_station.specs.NextCommand.{commands_before}
-use Rattle.gc_station.specs.Progressing.{failing, skipped, loses_all}
+use Rattle.gc_station.specs.declared.cause.Cause.TheVariants as cause
 
 -- from p to q the turns, the cycles that are left and the commands that are unsent stay the same
 pub record KeepsCounts (p q : Progress) : Type 0 where

@@ -3,27 +3,7 @@
 -- fields of a progress are `next_is_chained`, whether the next command waits for the answer of the one before it, and
 -- `chain_unbroken`. `Cycling` says which cycle the station is in, and when it began; `Begun` says that it is in one, or that none
 -- has begun yet.
-use Rattle.std.proofs.Common.{◌≡◌, ◌⊎◌, inl, inr, ℕ, suc, ◌+◌, ◌-◌, ◌<◌, ◌≤◌, ◌||◌, Bool, true, false, List, [], ◌∷◌, ◌++◌, length, drop, min, nat_lt, nat_le, nat_eq, refl, sym, ap, ◌∙◌, subst, arith, append_assoc}
-use Rattle.std.proofs.lemmas.Bool.{lt-ltb, ne_eqb, leb-false, or_left, cond-false, both_ways, false_from_ne_true}
-use Rattle.gc_texts.specs.declared.tasks.Task.{Task}
-use Rattle.gc_links.specs.Acts.{Act, Told, Untold, Gave, Silent, Ended, Broke, Closed, Opened, Unopened}
-use Rattle.gc_links.specs.declared.link.Moment.{Moment}
-use Rattle.gc_station.specs.Chains.{IsChained}
-use Rattle.gc_station.specs.Cycles.{ClockRises, BeginsAt, BeginsLate, LastBegan, SentOnlyInTime}
-use Rattle.gc_station.specs.Progressing.{turned, due_at, cycle_begun, cycle_start, is_missed_at, lateness, failing}
-use Rattle.gc_station.specs.Reasons.{HoldsBefore, MayGo}
-use Rattle.gc_station.specs.Runs.{state_after}
-use Rattle.gc_station.specs.Scopes.{Scope}
-use Rattle.gc_station.specs.Model.{Model, opening, action_at, waiting_of, with_progress, piece_at, moved, Performs, Runs, cycle_length}
-use Rattle.gc_station.specs.NextCommand.{cycles_begun, cycle_next, place_next, commands_left, first_is_chained, rests, is_chained_in, is_chained_after, first_upcoming}
-use Rattle.gc_station.specs.declared.cause.Cause.{Cause}
-use Rattle.gc_station.specs.declared.cause.Cause.TheVariants as cause
-use Rattle.gc_station.specs.declared.plan.Plan.{Plan}
-use Rattle.gc_station.specs.declared.progress.Action.{Action}
-use Rattle.gc_station.specs.declared.progress.Action.TheVariants as actions
-use Rattle.gc_station.specs.declared.progress.Progress.{Progress}
-use Rattle.gc_station.specs.declared.progress.Waiting.{Waiting}
-use Rattle.gc_station.specs.Silences.{latest}
+use Rattle.gc_station.proofs.Common.{◌≡◌, ◌⊎◌, inl, inr, ℕ, suc, ◌+◌, ◌-◌, ◌<◌, ◌≤◌, ◌||◌, Bool, true, false, List, [], ◌∷◌, ◌++◌, length, drop, min, nat_lt, nat_le, nat_eq, refl, sym, ap, ◌∙◌, subst, arith, append_assoc, lt-ltb, ne_eqb, leb-false, or_left, cond-false, both_ways, false_from_ne_true, Task, Act, Told, Untold, Gave, Silent, Ended, Broke, Closed, Opened, Unopened, Moment, IsChained, ClockRises, BeginsAt, BeginsLate, LastBegan, SentOnlyInTime, turned, due_at, cycle_begun, cycle_start, is_missed_at, lateness, failing, HoldsBefore, MayGo, state_after, Scope, Model, opening, action_at, waiting_of, with_progress, piece_at, moved, Performs, Runs, cycle_length, cycles_begun, cycle_next, place_next, commands_left, first_is_chained, rests, is_chained_in, is_chained_after, first_upcoming, Cause, Plan, Action, Progress, Waiting, latest}
 use Rattle.gc_station.proofs.Interleaving.{drop_past}
 use Rattle.gc_station.proofs.Closings.{needs_of}
 use Rattle.gc_station.proofs.Always.{always, progress_after_act}
@@ -36,6 +16,8 @@ use Rattle.gc_station.proofs.Needed.{cycle_is_last}
 use Rattle.gc_station.proofs.Walk.{walk}
 use Rattle.gc_station.proofs.Ticking.{Ticks, began_kept, began_at_start, rises_front, rises_last, latest_more, last_ticks}
 use Rattle.gc_station.proofs.Staying.{Stays, stays, StaysAndTicks, gave_stays, silent_stays, closed_stays}
+use Rattle.gc_station.specs.declared.cause.Cause.TheVariants as cause
+use Rattle.gc_station.specs.declared.progress.Action.TheVariants as actions
 
 -- What every run keeps of its cycles.
 

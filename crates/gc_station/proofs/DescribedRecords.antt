@@ -1,28 +1,12 @@
 -- Each record of a reply to a described procedure is as its form reads the reply: what `reads` says of the reply's line, by which the record
 -- ended (`AsText`), is the form's reading.
-use Rattle.std.proofs.Common.{◌≡◌, ℕ, List, Some, sym, ap, ◌∙◌, subst}
-use Rattle.std.proofs.lemmas.Option.{same_Some}
-use Rattle.gc_lines.specs.Replies.{ReplyFields, IsReply}
-use Rattle.gc_catalogue.specs.declared.answer.Answer.{Answer}
-use Rattle.gc_catalogue.specs.declared.answer.Reading.{Reading}
-use Rattle.gc_catalogue.specs.declared.answer.Reading.TheVariants as reading
-use Rattle.gc_texts.specs.Forms.{IsFormAnswer}
-use Rattle.gc_texts.specs.Endings.{line_of}
-use Rattle.gc_texts.specs.Zeroed.{as_zero}
-use Rattle.gc_texts.specs.declared.form.Form.{Form}
-use Rattle.gc_texts.specs.declared.quality.Quality.{Quality}
-use Rattle.gc_texts.specs.declared.quality.Quality.TheVariants as quality
-use Rattle.gc_texts.specs.declared.tasks.Task.{Task}
+use Rattle.gc_station.proofs.Common.{◌≡◌, ℕ, List, Some, sym, ap, ◌∙◌, subst, same_Some, ReplyFields, IsReply, Answer, Reading, IsFormAnswer, line_of, as_zero, Form, Quality, Task, IsOfQuality, accepted_at, answer_in, form_at, Record, state_after, IsSaidInForm, AreReadings, Scope, Plan}
 use Rattle.gc_station.specs.Described.{IsReadBy, IsReadByItsForm, DescribedAnswersAreReadByTheirKinds}
-use Rattle.gc_station.specs.Qualities.{IsOfQuality, accepted_at, answer_in, form_at}
-use Rattle.gc_station.specs.Records.{Record}
-use Rattle.gc_station.specs.Runs.{state_after}
-use Rattle.gc_station.specs.Saying.{IsSaidInForm}
-use Rattle.gc_station.specs.Scopes.{AreReadings, Scope}
-use Rattle.gc_station.specs.declared.plan.Plan.{Plan}
 use Rattle.gc_station.proofs.AsText.{IsAsItsText, kept_all}
 use Rattle.gc_station.proofs.Lists.{all_on}
 use Rattle.gc_station.proofs.Saying.{each_said, zero_said}
+use Rattle.gc_catalogue.specs.declared.answer.Reading.TheVariants as reading
+use Rattle.gc_texts.specs.declared.quality.Quality.TheVariants as quality
 
 -- a reading that has an answer is that answer
 its_answer : (x : Reading) (answer : Answer) → answer_in x ≡ Some answer → x ≡ reading.Value answer

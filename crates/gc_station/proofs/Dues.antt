@@ -1,24 +1,6 @@
 -- When cycles are due: no act but the beginning of a cycle changes when the next one is due, and a cycle counts as begun no earlier than the
 -- one before it, if the clock doesn't go back. An act is one call on the link, with its result.
-use Rattle.std.proofs.Common.{◌≡◌, ◌⊎◌, inl, inr, ℕ, ◌+◌, ◌-◌, ◌<◌, ◌≤◌, ◌&&◌, ◌||◌, Bool, true, false, List, [], ◌∷◌, ◌++◌, length, min, nat_lt, nat_le, refl, sym, ap, ◌∙◌, subst, arith, append-nil, append_assoc, suc, not, if◌then◌else◌, is_some, Option, Some, None, nat_eq}
-use Rattle.std.proofs.lemmas.Bool.{ltb-true, ltb-false, leb-true, eqb-true, eq-eqb, not-true, and_parts, both_ways}
-use Rattle.gc_texts.specs.declared.tasks.Task.{Task}
-use Rattle.gc_links.specs.Acts.{Act, Told, Untold}
-use Rattle.gc_links.specs.declared.link.Moment.{Moment}
-use Rattle.gc_station.specs.Cycles.{ClockRises, BeginsAt, CyclesBeginWhenDue, IsDueNext, IsWantedBy, counts_from}
-use Rattle.gc_station.specs.Deciding.{later, is_due, is_asked_for, is_wanted}
-use Rattle.gc_station.specs.Model.{Model, opening, action_at, waiting_of, with_progress, moved, after, after_all, Performs, Runs}
-use Rattle.gc_station.specs.NextCommand.{cycles_begun}
-use Rattle.gc_station.specs.Progressing.{turned, due_at, next_period}
-use Rattle.gc_station.specs.Reasons.{IsOutOfTime}
-use Rattle.gc_station.specs.RecordedInTime.{IsDueAt}
-use Rattle.gc_station.specs.Runs.{state_after}
-use Rattle.gc_station.specs.Scopes.{Scope}
-use Rattle.gc_station.specs.Silences.{latest}
-use Rattle.gc_station.specs.declared.plan.Plan.{Plan}
-use Rattle.gc_station.specs.declared.progress.Action.{Action}
-use Rattle.gc_station.specs.declared.progress.Action.TheVariants as actions
-use Rattle.gc_station.specs.declared.progress.Progress.{Progress}
+use Rattle.gc_station.proofs.Common.{◌≡◌, ◌⊎◌, inl, inr, ℕ, ◌+◌, ◌-◌, ◌<◌, ◌≤◌, ◌&&◌, ◌||◌, Bool, true, false, List, [], ◌∷◌, ◌++◌, length, min, nat_lt, nat_le, refl, sym, ap, ◌∙◌, subst, arith, append-nil, append_assoc, suc, not, if◌then◌else◌, is_some, Option, Some, None, nat_eq, ltb-true, ltb-false, leb-true, eqb-true, eq-eqb, not-true, and_parts, both_ways, Task, Act, Told, Untold, Moment, ClockRises, BeginsAt, CyclesBeginWhenDue, IsDueNext, IsWantedBy, counts_from, later, is_due, is_asked_for, is_wanted, Model, opening, action_at, waiting_of, with_progress, moved, after, after_all, Performs, Runs, cycles_begun, turned, due_at, next_period, IsOutOfTime, IsDueAt, state_after, Scope, latest, Plan, Action, Progress}
 use Rattle.gc_station.proofs.Always.{always_of_progress, progress_after_act}
 use Rattle.gc_station.proofs.Closings.{needs_of, runs_split}
 use Rattle.gc_station.proofs.Counts.{with_losses_progress}
@@ -32,6 +14,7 @@ use Rattle.gc_station.proofs.Periods.{due_next, soon_due}
 use Rattle.gc_station.proofs.Staying.{gave_stays, silent_stays, closed_stays}
 use Rattle.gc_station.proofs.Ticking.{Ticks, began_kept, rises_before, rises_front, latest_most}
 use Rattle.gc_station.proofs.Walk.{moved_changed, walk}
+use Rattle.gc_station.specs.declared.progress.Action.TheVariants as actions
 
 -- if two cuts of a list have fronts of one length, they are the same
 same_cut : {A : Type 0} (xs ys cs bs : List A) (x y : A) → xs ++ x ∷ cs ≡ ys ++ y ∷ bs → length xs ≡ length ys → (xs ≡ ys) × (x ≡ y)

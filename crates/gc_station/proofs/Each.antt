@@ -1,22 +1,8 @@
 -- The records and the outstanding commands are, in order, the commands that had their turn, but for those of attempts that were
 -- left out, whatever the link does. A mark says which command an outstanding request is of, or `None` of a null procedure.
-use Rattle.std.proofs.Common.{◌≡◌, ℕ, zero, suc, ◌+◌, ◌-◌, ◌<◌, ◌≤◌, nat_eq, List, [], ◌∷◌, ◌++◌, length, take, drop, map, Option, Some, None, ◌⊎◌, inl, inr, refl, sym, ap, ◌∙◌, arith, append_assoc, append-nil, take-add, not, if◌then◌else◌}
-use Rattle.std.proofs.lemmas.List.{length-map, length-drop, length-take, map-append, take_all, drop_all, drop-append-le}
-use Rattle.gc_catalogue.specs.declared.asked.Asked.{Asked}
-use Rattle.gc_client.specs.declared.pending.Pending.{Pending}
-use Rattle.gc_client.specs.Rule.{Settlement, expired}
-use Rattle.gc_client.specs.OneForOne.{Wanted, of_settled, of_pending}
-use Rattle.gc_client.proofs.OneForOne.{expired_parts}
-use Rattle.gc_texts.specs.declared.tasks.Task.{Task}
-use Rattle.gc_station.specs.declared.mark.Mark.{Mark}
-use Rattle.gc_station.specs.EachOnce.{RunRequest, requests, of_task, all_cycles, commands_reached, of_record, of_waiting, still_waiting, of_cycles, of_text, in_text}
-use Rattle.gc_station.specs.Requests.{asked_at, of_command}
+use Rattle.gc_station.proofs.Common.{◌≡◌, ℕ, zero, suc, ◌+◌, ◌-◌, ◌<◌, ◌≤◌, nat_eq, List, [], ◌∷◌, ◌++◌, length, take, drop, map, Option, Some, None, ◌⊎◌, inl, inr, refl, sym, ap, ◌∙◌, arith, append_assoc, append-nil, take-add, not, if◌then◌else◌, length-map, length-drop, length-take, map-append, take_all, drop_all, drop-append-le, Asked, Pending, Settlement, expired, Wanted, of_settled, of_pending, expired_parts, Task, Mark, RunRequest, requests, of_task, all_cycles, commands_reached, of_record, of_waiting, still_waiting, of_cycles, of_text, in_text, asked_at, of_command, commands_in, occasion_of, record_of, records_of, with_marks, Record, Reads, filter-append}
 use Rattle.gc_station.proofs.Timing.{asked_text, unsent_text}
 use Rattle.gc_station.proofs.InCycle.{not_zero}
-use Rattle.gc_station.specs.Marks.{commands_in, occasion_of, record_of, records_of, with_marks}
-use Rattle.gc_station.specs.Records.{Record}
-use Rattle.gc_station.specs.Scopes.{Reads}
-use Rattle.std.proofs.lemmas.List.Elements.{filter-append}
 
 -- the requests of one cycle for two lists of commands are those of the first list, and after them those of the second, from the
 -- next place on

@@ -2,37 +2,7 @@
 -- `HoldsMidAct` of `Midway`: the counts, the client, the marks and the records belong together, and the phase fits them, before
 -- what is outstanding is lost. An act is one call on the link, with its result. A mark says which command an outstanding request
 -- is of, or `None` of a null procedure.
-use Rattle.std.proofs.Common.{◌≡◌, ℕ, ◌-◌, ◌<◌, ◌⊎◌, inl, inr, ◌||◌, ◌&&◌, Bool, true, false, not, List, [], ◌∷◌, length, drop, map, nat_eq, Option, refl, sym, ap, ◌∙◌, subst, arith, append-nil, if◌then◌else◌}
-use Rattle.std.proofs.lemmas.List.{length-drop}
-use Rattle.std.proofs.lemmas.Bool.{both_ways}
-use Rattle.gc_client.specs.declared.window.TheConstants.{WINDOW}
-use Rattle.gc_client.proofs.Lists.{head_of_drop}
-use Rattle.gc_catalogue.specs.declared.asked.Asked.TheVariants.{Table}
-use Rattle.gc_catalogue.specs.declared.call.Call.TheVariants.{NullProc}
-use Rattle.gc_texts.specs.declared.tasks.Task.{Task}
-use Rattle.gc_links.specs.declared.link.Moment.{Moment}
-use Rattle.gc_station.specs.declared.mark.Mark.{Mark}
-use Rattle.gc_station.specs.declared.plan.Plan.{Plan}
-use Rattle.gc_station.specs.declared.cause.Cause.{Cause}
-use Rattle.gc_station.specs.declared.cause.Cause.TheVariants as cause
-use Rattle.gc_station.specs.declared.progress.Phase.{Phase}
-use Rattle.gc_station.specs.declared.progress.Phase.TheVariants.{Clearing, Draining, Ready, Closing, Over}
-use Rattle.gc_station.specs.declared.progress.Action.{Action}
-use Rattle.gc_station.specs.declared.progress.Action.TheVariants as action
-use Rattle.gc_station.specs.declared.progress.Progress.{Progress}
-use Rattle.gc_station.specs.declared.progress.Upcoming.{Upcoming}
-use Rattle.gc_station.specs.declared.progress.Waiting.{Waiting}
-use Rattle.gc_links.specs.Acts.{Act, Told}
-use Rattle.gc_station.specs.Deciding.{later, has_begun, is_up}
-use Rattle.gc_station.specs.EachOnce.{EachOnce, Interleave, RunRequest, commands_reached, of_record, all_cycles, of_text, AreRecordedOnce, reached}
-use Rattle.gc_station.specs.Marks.{commands_in}
-use Rattle.gc_station.specs.Progressing.{turned, moment_noted, unsent_at, early_noted, cycle_begun, skipped, attempts_left_out, cleared, request_noted, null_sent, resynchronized, sent, is_over, is_over_in, setup_sent}
-use Rattle.gc_station.specs.Reasons.{HoldsBefore, IsGoingOn, IsReadyOrOverdue}
-use Rattle.gc_station.specs.Records.{Record}
-use Rattle.gc_station.specs.Runs.{state_after}
-use Rattle.gc_station.specs.Tasked.{EachRecordIsOfItsTask}
-use Rattle.gc_station.specs.Model.{Model, opening, action_at, waiting_of, with_progress, asks_first, asks_next, next_left_out, with_more_passes, with_listed, listed_after_skip, after_pass, with_more_records, end_unsent, unsent_record, first_unsent_record, after_clock, moved, after, after_all, cycle_length, asks_setup, request_for, null_request, request_or_null, asks_for, mark_sent, mark_setup_sent}
-use Rattle.gc_station.specs.NextCommand.{place_next, commands_left, mark_next, upcoming_after, first_upcoming, cycles_begun}
+use Rattle.gc_station.proofs.Common.{◌≡◌, ℕ, ◌-◌, ◌<◌, ◌⊎◌, inl, inr, ◌||◌, ◌&&◌, Bool, true, false, not, List, [], ◌∷◌, length, drop, map, nat_eq, Option, refl, sym, ap, ◌∙◌, subst, arith, append-nil, if◌then◌else◌, length-drop, both_ways, WINDOW, head_of_drop, Table, NullProc, Task, Moment, Mark, Plan, Cause, Phase, Clearing, Draining, Ready, Closing, Over, Action, Progress, Upcoming, Waiting, Act, Told, later, has_begun, is_up, EachOnce, Interleave, RunRequest, commands_reached, of_record, all_cycles, of_text, AreRecordedOnce, reached, commands_in, turned, moment_noted, unsent_at, early_noted, cycle_begun, skipped, attempts_left_out, cleared, request_noted, null_sent, resynchronized, sent, is_over, is_over_in, setup_sent, HoldsBefore, IsGoingOn, IsReadyOrOverdue, Record, state_after, EachRecordIsOfItsTask, Model, opening, action_at, waiting_of, with_progress, asks_first, asks_next, next_left_out, with_more_passes, with_listed, listed_after_skip, after_pass, with_more_records, end_unsent, unsent_record, first_unsent_record, after_clock, moved, after, after_all, cycle_length, asks_setup, request_for, null_request, request_or_null, asks_for, mark_sent, mark_setup_sent, place_next, commands_left, mark_next, upcoming_after, first_upcoming, cycles_begun, Scope}
 use Rattle.gc_station.proofs.InCycle.{within_window}
 use Rattle.gc_station.proofs.Acting.{mid_fail, mid_moment, mid_clock, mid_put, mid_open, mid_close, mid_read}
 use Rattle.gc_station.proofs.Each.{row_empty, reached_whole}
@@ -41,7 +11,8 @@ use Rattle.gc_station.proofs.Invariant.{Invariant, is_before_requests, says_done
 use Rattle.gc_station.proofs.Midway.{ledger_at, NothingIsLeft, PhaseFits, HoldsMidAct, mid_act_of, sound_null, sound_sent, sound_skipped, sound_passed, sound_begun, invariant_with_losses, sound_prepared}
 use Rattle.gc_station.proofs.Tasked.{unsent_end}
 use Rattle.gc_station.proofs.Walk.{acts_along}
-use Rattle.gc_station.specs.Scopes.{Scope}
+use Rattle.gc_station.specs.declared.cause.Cause.TheVariants as cause
+use Rattle.gc_station.specs.declared.progress.Action.TheVariants as action
 
 -- `HoldsMidAct` is preserved if no record is added
 mid_nothing : (plan : Plan) (commands : List Task) (s : Model) → HoldsMidAct plan commands s → HoldsMidAct plan commands (with_more_records [] s)

@@ -1,33 +1,6 @@
 -- An answer that isn't as expected ends its command as unexpected, and leaves the station in doubt: the act that adds such a record notes
 -- that a synchronization is called for. So the setup is sent anew. An act is one call on the link, with its result.
-use Rattle.std.proofs.Common.{◌≡◌, ℕ, ◌||◌, Bool, true, false, List, [], ◌∷◌, ◌++◌, map, nat_lt, Option, Some, None, refl, sym, ap, ◌∙◌, append_assoc, append-nil}
-use Rattle.std.proofs.lemmas.Bool.{both_ways}
-use Rattle.std.proofs.lemmas.List.{append_cancel_left}
-use Rattle.gc_catalogue.specs.declared.asked.Asked.{Asked}
-use Rattle.gc_client.specs.declared.pending.Pending.{Pending}
-use Rattle.gc_client.specs.Rule.{lost}
-use Rattle.gc_texts.specs.Endings.{End, Judged}
-use Rattle.gc_texts.specs.declared.judgement.Judgement.TheVariants.{Unexpected}
-use Rattle.gc_texts.specs.declared.tasks.Task.{Task}
-use Rattle.gc_session.specs.Lines.{calls_for_renewal}
-use Rattle.gc_links.specs.Acts.{Act, Told, Gave}
-use Rattle.gc_links.specs.declared.link.Moment.{Moment}
-use Rattle.gc_station.specs.declared.mark.Mark.{Mark}
-use Rattle.gc_station.specs.declared.plan.Plan.{Plan}
-use Rattle.gc_station.specs.declared.progress.Action.{Action}
-use Rattle.gc_station.specs.declared.progress.Action.TheVariants as action
-use Rattle.gc_station.specs.declared.progress.Progress.{Progress}
-use Rattle.gc_station.specs.Expecting.{IsByExpectation, TheSetUpIsAsExpected, ChainsAreAsExpected, BringsUnexpected, RenewsAfterAnUnexpectedAnswer}
-use Rattle.gc_station.specs.Marks.{any_unexpected, is_well, records_of, unexpected_noted}
-use Rattle.gc_station.specs.Model.{Model, opening, action_at, waiting_of, is_heard, after_piece, first_unsent_record, line_busy, line_came, line_news, losing, moved, after, with_moment, with_progress}
-use Rattle.gc_station.specs.NextCommand.{commands_left, mark_next}
-use Rattle.gc_station.specs.Progressing.{turned, moment_noted, loses_all}
-use Rattle.gc_station.specs.Quiet.{IsAsking}
-use Rattle.gc_station.specs.Reasons.{HoldsBefore}
-use Rattle.gc_station.specs.Records.{Record}
-use Rattle.gc_station.specs.Runs.{state_after}
-use Rattle.gc_station.specs.Scopes.{Scope, Reads}
-use Rattle.gc_station.specs.Setups.{Dispatch}
+use Rattle.gc_station.proofs.Common.{◌≡◌, ℕ, ◌||◌, Bool, true, false, List, [], ◌∷◌, ◌++◌, map, nat_lt, Option, Some, None, refl, sym, ap, ◌∙◌, append_assoc, append-nil, both_ways, append_cancel_left, Asked, Pending, lost, End, Judged, Unexpected, Task, calls_for_renewal, Act, Told, Gave, Moment, Mark, Plan, Action, Progress, IsByExpectation, TheSetUpIsAsExpected, ChainsAreAsExpected, BringsUnexpected, RenewsAfterAnUnexpectedAnswer, any_unexpected, is_well, records_of, unexpected_noted, Model, opening, action_at, waiting_of, is_heard, after_piece, first_unsent_record, line_busy, line_came, line_news, losing, moved, after, with_moment, with_progress, commands_left, mark_next, turned, moment_noted, loses_all, IsAsking, HoldsBefore, Record, state_after, Scope, Reads, Dispatch}
 use Rattle.gc_station.proofs.Answers.{as_expected}
 use Rattle.gc_station.proofs.Chaining.{chain_kept}
 use Rattle.gc_station.proofs.Facts.{action_for}
@@ -37,6 +10,7 @@ use Rattle.gc_station.proofs.Prepared.{none_before_the_set_up}
 use Rattle.gc_station.proofs.Records.{unexpected-append}
 use Rattle.gc_station.proofs.Starts.{in_doubt_at_end, set_up_anew_after_a_doubt}
 use Rattle.gc_station.proofs.Walk.{came_along, moved_changed, unsent_along}
+use Rattle.gc_station.specs.declared.progress.Action.TheVariants as action
 
 -- Records.
 

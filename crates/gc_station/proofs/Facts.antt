@@ -1,22 +1,9 @@
 -- What holds if an action is next (`Holds`): of the setup, of a synchronization, of a cycle that is overdue, and so of each action.
-use Rattle.std.proofs.Common.{◌≡◌, ℕ, ◌-◌, ◌<◌, ◌⊎◌, ◌&&◌, ◌||◌, Bool, true, false, not, if◌then◌else◌, nat_lt, nat_le, nat_eq, refl, sym, ap, ◌∙◌, subst, inl, inr, arith}
-use Rattle.std.proofs.lemmas.Bool.{ltb-true, ltb-false, leb-true, leb-false, le-leb, eqb-true, eq-eqb, not-true, and_parts, false_from_ne_true, cond_both, and_cases}
-use Rattle.std.proofs.lemmas.Bool.Decides.{nat_tests}
-use Rattle.gc_station.specs.declared.plan.Plan.{Plan}
-use Rattle.gc_station.specs.declared.cause.Cause.{Cause}
-use Rattle.gc_station.specs.declared.cause.Cause.TheVariants as cause
-use Rattle.gc_station.specs.declared.progress.Phase.{Phase}
-use Rattle.gc_station.specs.declared.progress.Phase.TheVariants.{Down, Pausing, Clearing, Draining, Ready, Closing, Over}
-use Rattle.gc_station.specs.declared.progress.Action.{Action}
-use Rattle.gc_station.specs.declared.progress.Action.TheVariants as action
-use Rattle.gc_station.specs.declared.progress.Progress.{Progress}
-use Rattle.gc_station.specs.declared.progress.Until.TheVariants.{Limit, Due}
-use Rattle.gc_station.specs.declared.progress.Waiting.{Waiting}
-use Rattle.gc_station.specs.Reasons.{HoldsBefore, MayPrepare, IsOutOfTime, IsGoingOn, IsOverdue, IsPreparedOrOverdue}
-use Rattle.gc_session.specs.Exchange.{may_ask}
-use Rattle.gc_station.specs.Deciding.{has_begun, is_up, is_dead, is_wanted, is_idle, is_finished, action_of, action_in, action_on, action_of_phase, action_ready, action_begun, action_beginning, action_to_send, action_waiting, action_without_turns, is_stale, is_resting, is_stopping, is_held_back, action_cycle, action_to_prepare, action_preparing, action_in_setup, is_preparing, is_out_of_time, waits_out, has_no_time_left, is_overdue, action_overdue, may_abandon, setup_permits}
-use Rattle.gc_station.specs.Stations.{SuitsAction}
+use Rattle.gc_station.proofs.Common.{◌≡◌, ℕ, ◌-◌, ◌<◌, ◌⊎◌, ◌&&◌, ◌||◌, Bool, true, false, not, if◌then◌else◌, nat_lt, nat_le, nat_eq, refl, sym, ap, ◌∙◌, subst, inl, inr, arith, ltb-true, ltb-false, leb-true, leb-false, le-leb, eqb-true, eq-eqb, not-true, and_parts, false_from_ne_true, cond_both, and_cases, nat_tests, Plan, Cause, Phase, Down, Pausing, Clearing, Draining, Ready, Closing, Over, Action, Progress, Limit, Due, Waiting, HoldsBefore, MayPrepare, IsOutOfTime, IsGoingOn, IsOverdue, IsPreparedOrOverdue, may_ask, has_begun, is_up, is_dead, is_wanted, is_finished, action_of, action_in, action_on, action_of_phase, action_ready, action_begun, action_beginning, action_to_send, action_waiting, action_without_turns, is_stale, is_resting, is_stopping, is_held_back, action_cycle, action_to_prepare, action_preparing, action_in_setup, is_preparing, is_out_of_time, waits_out, has_no_time_left, is_overdue, action_overdue, may_abandon, setup_permits, SuitsAction}
+use Rattle.gc_station.specs.Deciding.{is_idle}
 use Rattle.gc_station.proofs.InCycle.{within_window, Awake, Holds, IsAtWork, IsInChainIfStopping, Timely, Wakes, above_zero, awake_reads, awake_up, cycle_for, dead_parts, finished_by_test, has_connection_for, held_back_for, in_chain_if_stopping, not_zero, or_first, resting_by_test, room_for, to_send_for, waiting_for_reply, zero_if_not_above}
+use Rattle.gc_station.specs.declared.cause.Cause.TheVariants as cause
+use Rattle.gc_station.specs.declared.progress.Action.TheVariants as action
 
 -- for a station at work, `Holds` is true of `action_to_send` with `Prepare`, if the next command of the
 -- setup may be sent (`MayPrepare`), and the end of the run wasn't asked for

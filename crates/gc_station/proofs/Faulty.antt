@@ -1,18 +1,8 @@
 -- A run that stopped for a cause fails with the fault of that cause. An act is one call on the link, with its result. `told`
 -- and `told'` are what the link had recorded before the run and after it, `taken` and `taken'` what the book had taken.
-use Rattle.std.proofs.Common.{◌≡◌, ℕ, List, Option, Some, Err, refl, subst}
-use Rattle.gc_links.specs.Acts.{Act}
-use Rattle.gc_texts.specs.declared.fault.RunFault.{RunFault}
+use Rattle.gc_station.proofs.Common.{◌≡◌, ℕ, List, Option, Some, Err, refl, subst, Act, RunFault, Task, fault_of_cause, Record, Ran, RanTo, Scope, Cause, Done, Dead, Write, Clock, Turns, Stale, Stopped, SetUp, Plan, Tally}
+use Rattle.gc_station.specs.declared.cause.Cause.TheVariants.{Read, End, Open}
 use Rattle.gc_texts.specs.declared.fault.RunFault.TheVariants as fault
-use Rattle.gc_texts.specs.declared.tasks.Task.{Task}
-use Rattle.gc_station.specs.Causes.{fault_of_cause}
-use Rattle.gc_station.specs.Records.{Record}
-use Rattle.gc_station.specs.Runs.{Ran, RanTo}
-use Rattle.gc_station.specs.Scopes.{Scope}
-use Rattle.gc_station.specs.declared.cause.Cause.{Cause}
-use Rattle.gc_station.specs.declared.cause.Cause.TheVariants.{Done, Dead, Read, End, Write, Clock, Open, Turns, Stale, Stopped, SetUp}
-use Rattle.gc_station.specs.declared.plan.Plan.{Plan}
-use Rattle.gc_station.specs.declared.tally.Tally.{Tally}
 
 module _ (plan : Plan) (commands : List Task) (scope : Scope) (text : Record → List ℕ) (told told' : Option (List Act)) (taken taken' : Option (List ℕ)) (tally : Tally) where
   -- the run stopped for this cause

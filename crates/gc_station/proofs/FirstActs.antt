@@ -1,37 +1,16 @@
 -- What a station does doesn't depend on how many turns it is given, as long as turns are left. An act is one call on the link, with its
 -- result.
-use Rattle.std.proofs.Common.{◌≡◌, ◌⊎◌, inl, inr, ℕ, ◌+◌, ◌-◌, ◌<◌, ◌≤◌, ◌&&◌, ◌||◌, Bool, true, false, not, nat_eq, List, [], ◌∷◌, ◌++◌, length, if◌then◌else◌, refl, sym, ap, ◌∙◌, subst, arith}
-use Rattle.std.proofs.lemmas.Bool.{ne_eqb}
-use Rattle.std.proofs.lemmas.List.{length-append}
-use Rattle.gc_lines.specs.Frames.{rest_behind}
-use Rattle.gc_texts.specs.declared.tasks.Task.{Task}
-use Rattle.gc_links.specs.Acts.{Act, Told, Cut, Gave, Silent, Closed, Opened}
-use Rattle.gc_links.specs.declared.link.Moment.{Moment}
-use Rattle.gc_station.specs.Deciding.{action_in, action_overdue, has_begun, is_overdue, is_stale, is_stopping, action_of_phase, action_on, action_without_turns, is_quiet, is_up}
+use Rattle.gc_station.proofs.Common.{◌≡◌, ◌⊎◌, inl, inr, ℕ, ◌+◌, ◌-◌, ◌<◌, ◌≤◌, ◌&&◌, ◌||◌, Bool, true, false, not, nat_eq, List, [], ◌∷◌, ◌++◌, length, if◌then◌else◌, refl, sym, ap, ◌∙◌, subst, arith, ne_eqb, length-append, rest_behind, Task, Act, Told, Cut, Gave, Silent, Closed, Opened, Moment, action_in, action_overdue, has_begun, is_overdue, is_stale, is_stopping, action_of_phase, action_on, action_without_turns, is_quiet, is_up, Model, Performs, Runs, action_at, after, after_all, after_piece, asks_first, first_unsent_record, is_heard, line_came, lines_came, lines_completed, losing, mark_sent, moved, opening, piece_noted, waiting_of, with_losses, with_moment, with_progress, with_rest, commands_in, commands_before, commands_left, mark_next, upcoming_after, closed, failing, line_synchronizing, sent, drained, is_over_in, lines_synchronizing, loses_all, moment_noted, quieted, time_passed, turned, Grew, Record, state_after, Scope, Cause, Mark, Plan, Action, Phase, Progress, Waiting}
 use Rattle.gc_station.specs.FirstActs.{EndsThere, FirstActsAreARun, with_turns}
-use Rattle.gc_station.specs.Model.{Model, Performs, Runs, action_at, after, after_all, after_piece, asks_first, first_unsent_record, is_heard, line_came, lines_came, lines_completed, losing, mark_sent, moved, opening, piece_noted, waiting_of, with_losses, with_moment, with_progress, with_rest}
-use Rattle.gc_station.specs.Marks.{commands_in}
-use Rattle.gc_station.specs.NextCommand.{commands_before, commands_left, mark_next, upcoming_after}
-use Rattle.gc_station.specs.Progressing.{closed, failing, line_synchronizing, sent, drained, is_over_in, lines_synchronizing, loses_all, moment_noted, quieted, time_passed, turned}
-use Rattle.gc_station.specs.Records.{Grew, Record}
-use Rattle.gc_station.specs.Runs.{state_after}
-use Rattle.gc_station.specs.Scopes.{Scope}
-use Rattle.gc_station.specs.declared.cause.Cause.{Cause}
-use Rattle.gc_station.specs.declared.cause.Cause.TheVariants as cause
-use Rattle.gc_station.specs.declared.mark.Mark.{Mark}
-use Rattle.gc_station.specs.declared.plan.Plan.{Plan}
-use Rattle.gc_station.specs.declared.progress.Action.{Action}
-use Rattle.gc_station.specs.declared.progress.Action.TheVariants as actions
-use Rattle.gc_station.specs.declared.progress.Phase.{Phase}
-use Rattle.gc_station.specs.declared.progress.Phase.TheVariants as phase
-use Rattle.gc_station.specs.declared.progress.Progress.{Progress}
-use Rattle.gc_station.specs.declared.progress.Waiting.{Waiting}
 use Rattle.gc_station.proofs.Closings.{none_or_last, runs_split}
 use Rattle.gc_station.proofs.Counts.{with_losses_progress, turns_kept}
 use Rattle.gc_station.proofs.Going.{after_all-append, runs-append, runs_front}
 use Rattle.gc_station.proofs.Growing.{losing_records}
 use Rattle.gc_station.proofs.Records.{grew_none}
 use Rattle.gc_station.proofs.Turns.{closed_down}
+use Rattle.gc_station.specs.declared.cause.Cause.TheVariants as cause
+use Rattle.gc_station.specs.declared.progress.Action.TheVariants as actions
+use Rattle.gc_station.specs.declared.progress.Phase.TheVariants as phase
 
 -- the progress `p` with this many turns left
 abbrev turns_of : ℕ → Progress → Progress

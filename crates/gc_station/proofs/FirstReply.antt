@@ -1,24 +1,8 @@
 -- Until a reply has ended a null procedure of a client, that client has sent nothing but null procedures. A course is what a client
 -- has sent and settled so far, and the client after that; its steps are to send, to hear a line, to read the clock and to restart.
 -- `b` counts the requests after the last call of the table that a reply ended, by `behind_by` of `Behind`.
-use Rattle.std.proofs.Common.{◌≡◌, ◌⊎◌, inl, inr, ℕ, zero, suc, ◌<◌, Bool, true, false, List, [], ◌∷◌, ◌++◌, length, map, Option, Some, None, refl, sym, ap, ◌∙◌, subst, arith, append_assoc, append-nil, if◌then◌else◌, nat_lt, nat_eq}
-use Rattle.std.specs.Prelude.{slice_get}
-use Rattle.std.specs.List.{AllByRecursion}
-use Rattle.std.proofs.lemmas.Bool.{ltb-true}
-use Rattle.gc_catalogue.specs.declared.asked.Asked.{Asked}
-use Rattle.gc_catalogue.specs.declared.asked.Asked.TheVariants.{Table}
-use Rattle.gc_catalogue.specs.declared.call.Call.TheVariants.{NullProc}
-use Rattle.gc_client.specs.OneForOne.{Wanted, Course, Step, Send, Hear, Expire, Restart, begun, sent_on, course_after, course}
-use Rattle.gc_client.specs.Rule.{ById, Settlement, Lost, heard, hears, settles_at, settle, settled_by_line, send_unless_full, pending_of, expired, fits, place_in}
-use Rattle.gc_client.specs.declared.pending.Pending.{Pending}
-use Rattle.gc_client.specs.declared.window.TheConstants.{WINDOW}
-use Rattle.gc_client.proofs.OneForOne.{accounts_for_sends}
-use Rattle.gc_session.specs.Exchange.{one_more_in_window}
-use Rattle.gc_session.specs.Lines.{ends_with_table}
-use Rattle.gc_session.specs.Courses.{client_stepped}
-use Rattle.gc_session.proofs.Behind.{behind_step, settled_and_waiting, met_lost}
-use Rattle.gc_session.proofs.Courses.{course_of, course_append, course_client}
-use Rattle.gc_station.specs.NullFirst.{HasEndedANull}
+use Rattle.gc_station.proofs.Common.{◌≡◌, ◌⊎◌, inl, inr, ℕ, zero, suc, ◌<◌, Bool, true, false, List, [], ◌∷◌, ◌++◌, length, map, Option, Some, None, refl, sym, ap, ◌∙◌, subst, arith, append_assoc, append-nil, if◌then◌else◌, nat_lt, nat_eq, slice_get, AllByRecursion, ltb-true, Asked, Table, NullProc, Wanted, Course, Step, Hear, Expire, Restart, begun, sent_on, course_after, course, ById, Settlement, Lost, heard, hears, settles_at, settle, settled_by_line, send_unless_full, pending_of, expired, fits, place_in, Pending, WINDOW, accounts_for_sends, one_more_in_window, ends_with_table, client_stepped, behind_step, settled_and_waiting, met_lost, course_of, course_append, course_client, HasEndedANull}
+use Rattle.gc_client.specs.Prelude.{Send}
 use Rattle.gc_station.proofs.Behind.{behind_by}
 use Rattle.gc_station.proofs.Booking.{course_settled, course_sent, settled_by, sent_by}
 use Rattle.gc_station.proofs.Lists.{get_more, all_append}

@@ -1,22 +1,7 @@
 -- A run, part by part (a part reaches from one synchronization to the next): the records that the client's steps of each part
 -- record are those of the run. An act is one call on the link, with its result. Steps of the client are to send, to hear a
 -- line, to read the clock and to restart. `BooksInParts` says that these steps, part by part, write the records of a model.
-use Rattle.std.proofs.Common.{◌≡◌, ℕ, ◌&&◌, Bool, true, false, List, [], ◌∷◌, ◌++◌, length, map, drop, Option, refl, sym, ◌∙◌, ap, subst, append_assoc, append-nil}
-use Rattle.std.proofs.lemmas.List.{nil_from_length}
-use Rattle.gc_catalogue.specs.declared.asked.Asked.{Asked}
-use Rattle.gc_client.specs.OneForOne.{Step}
-use Rattle.gc_client.specs.Rule.{ById, fresh, lost}
-use Rattle.gc_texts.specs.declared.tasks.Task.{Task}
-use Rattle.gc_station.specs.declared.mark.Mark.{Mark}
-use Rattle.gc_station.specs.declared.plan.Plan.{Plan}
-use Rattle.gc_links.specs.Acts.{Act}
-use Rattle.gc_station.specs.Deciding.{has_begun}
-use Rattle.gc_station.specs.Marks.{records_of}
-use Rattle.gc_station.specs.Parts.{SyncStep, Part, idle_part, parts_joined, part_of_act, in_front, parts_of, sent_of}
-use Rattle.gc_station.specs.Progressing.{turned, loses_all}
-use Rattle.gc_station.specs.Records.{Record}
-use Rattle.gc_station.specs.Model.{Model, action_at, waiting_of, with_progress, moved, losing, after, after_all, Runs, with_losses}
-use Rattle.gc_station.specs.Scopes.{Reads}
+use Rattle.gc_station.proofs.Common.{◌≡◌, ℕ, ◌&&◌, Bool, true, false, List, [], ◌∷◌, ◌++◌, length, map, drop, Option, refl, sym, ◌∙◌, ap, subst, append_assoc, append-nil, nil_from_length, Asked, Step, ById, fresh, lost, Task, Mark, Plan, Act, has_begun, records_of, SyncStep, Part, idle_part, parts_joined, part_of_act, in_front, parts_of, sent_of, turned, loses_all, Record, Model, action_at, waiting_of, with_progress, moved, losing, after, after_all, Runs, with_losses, Reads}
 use Rattle.gc_station.proofs.Booking.{Books, books_both, books_nothing, books_restart, sent_of-append_records, restarting}
 use Rattle.gc_station.proofs.Counts.{losing_progress}
 use Rattle.gc_station.proofs.EachRun.{invariant_after, mid_moved}

@@ -1,17 +1,5 @@
 -- The watched commands of a run: how they change in place, which was answered well the longest ago, and what becomes of each.
-use Rattle.std.proofs.Common.{◌≡◌, ◌≤◌, ◌<◌, ◌+◌, ◌==◌, ◌&&◌, ◌⊎◌, inl, inr, ℕ, zero, suc, nat_lt, if◌then◌else◌, Bool, true, false, List, [], ◌∷◌, ◌++◌, take, drop, length, map, get_or, slice_set, Option, Some, None, refl, sym, ap, ◌∙◌, subst, append-nil, arith}
-use Rattle.std.specs.List.{AllByRecursion}
-use Rattle.std.proofs.lemmas.List.{map-id, map-append, take_more}
-use Rattle.std.proofs.lemmas.List.Concat.{flat_map-append}
-use Rattle.std.proofs.lemmas.Bool.{ltb-true}
-use Rattle.std.proofs.lemmas.Bool.Decides.{nat_tests}
-use Rattle.std.proofs.Math.Nat.{min-eq_left, min-le_right}
-use Rattle.gc_texts.specs.Endings.{End}
-use Rattle.gc_texts.specs.declared.tasks.Task.{Task}
-use Rattle.gc_session.proofs.Stretches.{all_among}
-use Rattle.gc_station.specs.declared.watching.Watch.{Watch}
-use Rattle.gc_station.specs.Marks.{ended_confirmed}
-use Rattle.gc_station.specs.Watching.{watched_at, watched_in, unanswered, renews, renewed_if, renewed, cut_to, older, oldest_from, oldest, fresh_in, fresh_of}
+use Rattle.gc_station.proofs.Common.{◌≡◌, ◌≤◌, ◌<◌, ◌+◌, ◌==◌, ◌&&◌, ◌⊎◌, inl, inr, ℕ, zero, suc, nat_lt, if◌then◌else◌, Bool, true, false, List, [], ◌∷◌, ◌++◌, take, drop, length, map, get_or, slice_set, Option, Some, None, refl, sym, ap, ◌∙◌, subst, append-nil, arith, AllByRecursion, map-id, map-append, take_more, flat_map-append, ltb-true, nat_tests, min-eq_left, min-le_right, End, Task, all_among, Watch, ended_confirmed, watched_at, watched_in, unanswered, renews, renewed_if, renewed, cut_to, older, oldest_from, oldest, fresh_in, fresh_of}
 
 -- Lists whose items are changed in place.
 

@@ -1,25 +1,13 @@
 -- A run never goes back: after a send the station is at a later place of the cycle, or in a later cycle. An act is one call on
 -- the link, with its result. `NotBack p q`: the progress q isn't at an earlier cycle or place than p.
-use Rattle.std.proofs.Common.{◌≡◌, ◌⊎◌, inl, inr, ℕ, ◌-◌, ◌<◌, ◌≤◌, List, ◌∷◌, ◌++◌, refl, sym, ap, ◌∙◌, subst, arith}
-use Rattle.gc_texts.specs.declared.tasks.Task.{Task}
-use Rattle.gc_station.specs.declared.plan.Plan.{Plan}
-use Rattle.gc_station.specs.declared.progress.Action.{Action}
-use Rattle.gc_station.specs.declared.progress.Action.TheVariants as action
-use Rattle.gc_station.specs.declared.progress.Progress.{Progress}
-use Rattle.gc_station.specs.declared.progress.Waiting.{Waiting}
-use Rattle.gc_links.specs.Acts.{Act}
-use Rattle.gc_station.specs.EachOnce.{IsFurther}
-use Rattle.gc_station.specs.Progressing.{turned}
-use Rattle.gc_station.specs.Reasons.{HoldsBefore}
-use Rattle.gc_station.specs.Runs.{state_after}
-use Rattle.gc_station.specs.Model.{Model, cycle_length, opening, action_at, waiting_of, with_progress, moved, after, after_all}
+use Rattle.gc_station.proofs.Common.{◌≡◌, ◌⊎◌, inl, inr, ℕ, ◌-◌, ◌<◌, ◌≤◌, List, ◌∷◌, ◌++◌, refl, sym, ap, ◌∙◌, subst, arith, Task, Plan, Action, Progress, Waiting, Act, IsFurther, turned, HoldsBefore, state_after, Model, cycle_length, opening, action_at, waiting_of, with_progress, moved, after, after_all, Scope}
 use Rattle.gc_station.proofs.Going.{after_all-append}
 use Rattle.gc_station.proofs.Counts.{KeepsCounts, ChangesCounts, moved_counts, with_losses_progress}
 use Rattle.gc_station.proofs.EachRun.{invariant_holds}
 use Rattle.gc_station.proofs.Facts.{action_for}
 use Rattle.gc_station.proofs.Invariant.{Invariant}
 use Rattle.gc_station.proofs.Walk.{acts_along}
-use Rattle.gc_station.specs.Scopes.{Scope}
+use Rattle.gc_station.specs.declared.progress.Action.TheVariants as action
 
 -- no fewer cycles began by q than by p, and in the same cycle no fewer commands had their turn
 abbrev pub NotBack : (p q : Progress) → Type 0

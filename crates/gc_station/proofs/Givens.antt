@@ -1,19 +1,10 @@
 -- The bytes of a line that a station keeps are those that came on this connection after the last line feed (`rest_of`). An act
 -- is one call on the link, with its result. A piece is the bytes that one read gave.
-use Rattle.std.proofs.Common.{◌≡◌, ℕ, Bool, true, false, List, [], ◌∷◌, if◌then◌else◌, refl, sym, ap, ◌∙◌}
-use Rattle.gc_lines.specs.Frames.{rest_behind, rest_of}
+use Rattle.gc_station.proofs.Common.{◌≡◌, ℕ, Bool, true, false, List, [], ◌∷◌, if◌then◌else◌, refl, sym, ap, ◌∙◌, rest_behind, rest_of, Task, Plan, Action, Act, Gave, turned, loses_all, state_after, Model, opening, action_at, with_progress, with_rest, lines_completed, after_piece, is_heard, Performs, moved, losing, after, after_all, Runs, Scope}
 use Rattle.gc_lines.proofs.Cutting.{rest-append}
-use Rattle.gc_texts.specs.declared.tasks.Task.{Task}
-use Rattle.gc_station.specs.declared.plan.Plan.{Plan}
-use Rattle.gc_station.specs.declared.progress.Action.{Action}
-use Rattle.gc_station.specs.declared.progress.Action.TheVariants as actions
-use Rattle.gc_links.specs.Acts.{Act, Gave}
 use Rattle.gc_station.specs.Given.{bytes_by, bytes_heard_with, bytes_heard_from, bytes_heard}
-use Rattle.gc_station.specs.Progressing.{turned, loses_all}
-use Rattle.gc_station.specs.Runs.{state_after}
-use Rattle.gc_station.specs.Model.{Model, opening, action_at, with_progress, with_rest, lines_completed, after_piece, is_heard, Performs, moved, losing, after, after_all, Runs}
 use Rattle.gc_station.proofs.Walk.{lines_along, losing_along, walk, piece_before}
-use Rattle.gc_station.specs.Scopes.{Scope}
+use Rattle.gc_station.specs.declared.progress.Action.TheVariants as actions
 
 -- the bytes of an unfinished line that are kept after an act, if `rest` were kept before it
 abbrev pub rest_with : (heard : Bool) → Act → (rest : List ℕ) → List ℕ

@@ -2,37 +2,16 @@
 -- last such call that a reply ended. An act changes this count as the client's steps of its part do (`behind_counted`); so the count is
 -- that of the course since the synchronization, and a command is sent only if it is below seven. A course is what a client has sent and settled so far, and
 -- the client after that; a part reaches from one synchronization to the next. An act is one call on the link, with its result.
-use Rattle.std.proofs.Common.{◌≡◌, ℕ, ◌-◌, ◌<◌, Bool, true, false, List, [], ◌∷◌, ◌++◌, length, map, drop, Option, Some, None, refl, sym, ap, ◌∙◌, subst, arith, if◌then◌else◌, length-drop}
-use Rattle.std.specs.Prelude.{slice_get}
-use Rattle.std.specs.List.{AllByRecursion}
-use Rattle.std.proofs.lemmas.Bool.{both_ways}
-use Rattle.gc_lines.specs.Frames.{rest_behind}
-use Rattle.gc_catalogue.specs.declared.asked.Asked.{Asked}
-use Rattle.gc_catalogue.specs.declared.asked.Asked.TheVariants.{Table}
-use Rattle.gc_catalogue.specs.declared.call.Call.TheVariants.{NullProc}
-use Rattle.gc_client.specs.OneForOne.{Step, Send, Hear, Expire, begun}
-use Rattle.gc_client.specs.declared.window.TheConstants.{WINDOW}
-use Rattle.gc_client.specs.Rule.{ById}
-use Rattle.gc_texts.specs.declared.tasks.Task.{Task}
-use Rattle.gc_session.specs.Exchange.{is_none_left, one_more_in_window}
-use Rattle.gc_links.specs.Acts.{Act, Told, Untold, Put, Cut, Gave, Silent}
-use Rattle.gc_station.specs.declared.mark.Mark.{Mark}
-use Rattle.gc_station.specs.declared.plan.Plan.{Plan}
-use Rattle.gc_station.specs.declared.progress.Action.{Action}
-use Rattle.gc_station.specs.declared.progress.Action.TheVariants as action
-use Rattle.gc_station.specs.declared.progress.Progress.{Progress}
-use Rattle.gc_station.specs.Deciding.{has_begun}
-use Rattle.gc_station.specs.Parts.{Part, put_part, first_request_part, heard_steps, client_part, sync_part}
-use Rattle.gc_station.specs.Progressing.{turned, time_passed}
-use Rattle.gc_station.specs.Reasons.{HoldsBefore}
-use Rattle.gc_station.specs.Model.{Model, waiting_of, is_heard, with_progress, with_rest, line_came, lines_came, lines_completed, after_piece, moved, Performs, mark_sent}
-use Rattle.gc_station.specs.NextCommand.{place_next}
+use Rattle.gc_station.proofs.Common.{◌≡◌, ℕ, ◌-◌, ◌<◌, Bool, true, false, List, [], ◌∷◌, ◌++◌, length, map, drop, Option, Some, None, refl, sym, ap, ◌∙◌, subst, arith, if◌then◌else◌, slice_get, AllByRecursion, both_ways, rest_behind, Asked, Table, NullProc, Step, Hear, Expire, begun, ById, WINDOW, Task, is_none_left, one_more_in_window, Act, Told, Untold, Put, Cut, Gave, Silent, Mark, Plan, Action, Progress, has_begun, Part, put_part, first_request_part, heard_steps, client_part, sync_part, turned, time_passed, HoldsBefore, Model, waiting_of, is_heard, with_progress, with_rest, line_came, lines_came, lines_completed, after_piece, moved, Performs, mark_sent, place_next}
+use Rattle.std.proofs.Common.{length-drop}
+use Rattle.gc_client.specs.Prelude.{Send}
 use Rattle.gc_station.proofs.Behind.{behind_by}
 use Rattle.gc_station.proofs.Booking.{sent_by}
 use Rattle.gc_station.proofs.FirstReply.{SendsNulls}
 use Rattle.gc_station.proofs.Invariant.{Invariant}
 use Rattle.gc_station.proofs.Walk.{quieted_along, closed_along, walk, piece_before}
 use Rattle.gc_station.proofs.Asked.{steps_none}
+use Rattle.gc_station.specs.declared.progress.Action.TheVariants as action
 
 -- What an act does.
 

@@ -1,23 +1,7 @@
 -- A run on the way: what was done so far (`Went`), and one act more. An act is one call on the link, with its result. At the
 -- start the link had recorded `told` and the book had taken `taken`, by now `told'` and `taken'`, and later those with more
 -- primes; each is `None` if it isn't known. `text` is how a record is written.
-use Rattle.std.proofs.Common.{◌≡◌, ℕ, ◌<◌, ◌≤◌, List, [], ◌∷◌, ◌++◌, Option, Some, None, Result, Ok, Err, refl, sym, ap, ◌∙◌, subst, append-nil}
-use Rattle.std.specs.Io.KnownBytes.{Appends, Keeps}
-use Rattle.std.proofs.KnownBytes.{Appends-kept, Appends-nil, Keeps-refl}
-use Rattle.gc_texts.specs.declared.tasks.Task.{Task}
-use Rattle.gc_station.specs.declared.plan.Plan.{Plan}
-use Rattle.gc_station.specs.declared.cause.Cause.{Cause}
-use Rattle.gc_station.specs.declared.progress.Action.{Action}
-use Rattle.gc_station.specs.declared.progress.Action.TheVariants.{Stop}
-use Rattle.gc_station.specs.declared.progress.Progress.{Progress}
-use Rattle.gc_station.specs.declared.station.Station.{Station}
-use Rattle.gc_links.specs.Acts.{Act, Closed, AddsActs}
-use Rattle.gc_station.specs.Progressing.{turned, loses_all}
-use Rattle.gc_station.specs.Records.{Record, texts_of}
-use Rattle.gc_station.specs.Runs.{state_after, FailedAtRecord, FailedAtSync}
-use Rattle.gc_station.specs.Model.{Model, opening, action_at, Performs, after, after_all, moved, with_losses, stepped, Runs, with_progress, cycle_length}
-use Rattle.gc_station.specs.Stations.{waiting_of_station, Refines, Makes, Breaks, OnCall, as_seen, MakesMove, KeepsToModel, Steps}
-use Rattle.gc_station.specs.Deciding.{action_of}
+use Rattle.gc_station.proofs.Common.{◌≡◌, ℕ, ◌<◌, ◌≤◌, List, [], ◌∷◌, ◌++◌, Option, Some, None, Result, Ok, Err, refl, sym, ap, ◌∙◌, subst, append-nil, Appends, Keeps, Appends-kept, Appends-nil, Keeps-refl, Task, Plan, Cause, Action, Stop, Progress, Station, Act, Closed, AddsActs, turned, loses_all, Record, texts_of, state_after, FailedAtRecord, FailedAtSync, Model, opening, action_at, Performs, after, after_all, moved, with_losses, stepped, Runs, with_progress, cycle_length, waiting_of_station, Refines, Makes, Breaks, OnCall, as_seen, MakesMove, KeepsToModel, Steps, action_of, Scope, AreReadings}
 use Rattle.gc_station.proofs.Counts.{unsent_within, with_losses_progress}
 use Rattle.gc_station.proofs.Growing.{losing_records, moved_grew}
 use Rattle.gc_station.proofs.Hearing.{adds_acts_append}
@@ -25,7 +9,6 @@ use Rattle.gc_station.proofs.Making.{refines_with}
 use Rattle.gc_station.proofs.Readings.{losing_reads, stepped_reads, reads_as_in_scope, same_readings}
 use Rattle.gc_station.proofs.Records.{part_since_grew, part_more_grew}
 use Rattle.gc_station.proofs.Turns.{left_to_do, less_stepped}
-use Rattle.gc_station.specs.Scopes.{Scope, AreReadings}
 
 -- One turn.
 

@@ -1,31 +1,8 @@
 -- A command has its turn only in the cycles of its group: so each mark and each record is of one that doesn't rest in its cycle. An act is
 -- one call on the link, with its result. A mark says which command an outstanding request is of.
-use Rattle.std.proofs.Common.{◌≡◌, ℕ, ◌<◌, Bool, false, List, [], ◌∷◌, ◌++◌, drop, Option, Some, None, refl, sym, ap, subst, arith, suc, ◌*◌, ◌-◌, ◌/◌, ◌%◌, ◌+◌, ◌||◌, true, nat_le, nat_eq, ◌∙◌}
-use Rattle.std.proofs.lemmas.Bool.{leb-true, leb-false, eqb-true, eq-eqb, not-true, not-false, both_ways}
+use Rattle.gc_station.proofs.Common.{◌≡◌, ℕ, ◌<◌, Bool, false, List, [], ◌∷◌, ◌++◌, drop, Option, Some, None, refl, sym, ap, subst, arith, suc, ◌*◌, ◌-◌, ◌/◌, ◌%◌, ◌+◌, ◌||◌, true, nat_le, nat_eq, ◌∙◌, leb-true, leb-false, eqb-true, eq-eqb, not-true, not-false, both_ways, div-add-mod', AllByRecursion, every_drop, Asked, heard, hears, restarts, Task, Act, Told, Gave, Cut, Moment, records_of, Model, opening, action_at, asks_for, asks_next, asks_setup, with_progress, with_moment, line_came, is_heard, after_piece, first_unsent_record, losing, moved, Runs, request_for, null_request, mark_sent, mark_setup_sent, commands_left, cycles_begun, mark_next, place_next, rests, turned, moment_noted, loses_all, Record, state_after, Scope, Mark, Plan, Action, Progress, Outgoing}
 use Rattle.std.proofs.lemmas.Nat.{mod-mul-add}
-use native.Mathlib.Nat.{div-add-mod'}
-use Rattle.std.specs.List.{AllByRecursion}
-use Rattle.gc_values.proofs.Every.{every_drop}
-use Rattle.gc_catalogue.specs.declared.asked.Asked.{Asked}
-use Rattle.gc_client.specs.Rule
-use Rattle.gc_client.specs.Rule.{heard, hears, restarts}
-use Rattle.gc_texts.specs.declared.tasks.Task.{Task}
-use Rattle.gc_links.specs.Acts.{Act, Told, Gave, Cut}
-use Rattle.gc_links.specs.declared.link.Moment.{Moment}
 use Rattle.gc_station.specs.Groups.{HasItsTurnIn, IsOfItsCycle, GroupsHaveTheirTurn}
-use Rattle.gc_station.specs.Marks.{records_of}
-use Rattle.gc_station.specs.Model.{Model, opening, action_at, asks_for, asks_next, asks_setup, with_progress, with_moment, line_came, is_heard, after_piece, first_unsent_record, losing, moved, Runs, request_for, null_request, mark_sent, mark_setup_sent}
-use Rattle.gc_station.specs.NextCommand.{commands_left, cycles_begun, mark_next, place_next, rests}
-use Rattle.gc_station.specs.Progressing.{turned, moment_noted, loses_all}
-use Rattle.gc_station.specs.Records.{Record}
-use Rattle.gc_station.specs.Runs.{state_after}
-use Rattle.gc_station.specs.Scopes.{Scope}
-use Rattle.gc_station.specs.declared.mark.Mark.{Mark}
-use Rattle.gc_station.specs.declared.plan.Plan.{Plan}
-use Rattle.gc_station.specs.declared.progress.Action.{Action}
-use Rattle.gc_station.specs.declared.progress.Action.TheVariants as actions
-use Rattle.gc_station.specs.declared.progress.Progress.{Progress}
-use Rattle.gc_station.specs.declared.station.sending.Outgoing.{Outgoing}
 use Rattle.gc_station.proofs.Always.{always}
 use Rattle.gc_station.proofs.Booking.{all_settled}
 use Rattle.gc_station.proofs.Closings.{needs_of}
@@ -33,6 +10,8 @@ use Rattle.gc_station.proofs.EachRun.{invariant_holds}
 use Rattle.gc_station.proofs.Lists.{all_append, all_on}
 use Rattle.gc_station.proofs.Resting.{is_resting_next, sent_in_turn, skipped_in_turn}
 use Rattle.gc_station.proofs.Walk.{came_along, first_along, setup_along, losing_along, moved_changed}
+use Rattle.gc_client.specs.Rule
+use Rattle.gc_station.specs.declared.progress.Action.TheVariants as actions
 
 -- a command that doesn't rest has its turn
 turn_if_awake : (cycle : ℕ) (tasks : List Task) → 0 < cycle → rests cycle tasks ≡ false → HasItsTurnIn cycle tasks

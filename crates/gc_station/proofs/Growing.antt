@@ -1,18 +1,9 @@
 -- The records of a model only grow: what comes is recorded after them (`Grew`), and none goes. An act is one call on the link,
 -- with its result. A piece is the bytes that one read gave.
-use Rattle.std.proofs.Common.{ℕ, Bool, List, [], map, refl, sym, subst}
-use Rattle.gc_client.specs.Rule.{heard, hears, lost}
-use Rattle.gc_texts.specs.declared.tasks.Task.{Task}
-use Rattle.gc_station.specs.declared.plan.Plan.{Plan}
-use Rattle.gc_station.specs.declared.progress.Action.{Action}
-use Rattle.gc_station.specs.declared.progress.Action.TheVariants as actions
-use Rattle.gc_links.specs.Acts.{Act, Told, Gave}
-use Rattle.gc_station.specs.Marks.{records_of}
-use Rattle.gc_station.specs.Progressing.{moment_noted}
-use Rattle.gc_station.specs.Model.{Model, is_heard, with_progress, with_moment, line_came, lines_came, after_piece, unsent_record, moved, losing}
-use Rattle.gc_station.specs.Records.{Record, Grew}
+use Rattle.gc_station.proofs.Common.{ℕ, Bool, List, [], map, refl, sym, subst, heard, hears, lost, Task, Plan, Action, Act, Told, Gave, records_of, moment_noted, Model, is_heard, with_progress, with_moment, line_came, lines_came, after_piece, unsent_record, moved, losing, Record, Grew}
 use Rattle.gc_station.proofs.Records.{grew_none, grew_then}
 use Rattle.gc_station.proofs.Walk.{lines_along, came_along, losing_along, moved_changed}
+use Rattle.gc_station.specs.declared.progress.Action.TheVariants as actions
 
 -- a line that is heard adds records, if any, to those of a model that only grew from `old`
 line_grew : (old : List Record) (s : Model) (line : List ℕ) → Grew old s.records → Grew old (line_came s line).records

@@ -4,54 +4,17 @@
 -- written. `left` is what is not heard yet of the piece, `rest` the bytes since the last line feed. A piece is the bytes that one
 -- read gave, and a frame what a line feed ends. `Refines station s`: the station stands for the model s. `HeardSoFar` says how far a
 -- piece was heard; `begun`: whether the station had synchronized before the piece.
-use Rattle.std.proofs.Common.{◌≡◌, ℕ, zero, suc, ◌+◌, ◌-◌, List, [], ◌∷◌, ◌++◌, Bool, true, false, length, drop, map, Option, Some, None, Result, Ok, Err, OnOk, refl, sym, ap, ◌∙◌, subst, append_assoc, length-drop, arith}
-use Rattle.std.specs.List.{filter_map}
-use Rattle.std.specs.Option.{option_to_list}
-use Rattle.std.specs.Io.KnownBytes.{Appends}
-use Rattle.std.proofs.lemmas.List.{length-map}
-use Rattle.gc_lines.specs.Assembler.{Kept, StandsFor}
-use Rattle.gc_lines.specs.Frames.{line_in, rest_behind}
-use Rattle.gc_lines.specs.Passing.{completed, frames_behind}
+use Rattle.gc_station.proofs.Common.{◌≡◌, ℕ, zero, suc, ◌+◌, ◌-◌, List, [], ◌∷◌, ◌++◌, Bool, true, false, length, drop, map, Option, Some, None, Result, Ok, Err, OnOk, refl, sym, ap, ◌∙◌, subst, append_assoc, arith, filter_map, option_to_list, Appends, length-map, Kept, StandsFor, line_in, rest_behind, completed, frames_behind, lent_seen, Takes, Asked, Pending, ById, Settled, Settlement, hears, settles_at, settle, lost, restarts, place_in, expires, expired, calls_for_renewal, Act, Untold, AddsActs, Moment, Task, Mark, Plan, Cause, Action, Progress, Until, Waiting, Recorded, Station, listed_after_settlements, counts_after_settlements, firsts_after, commands_in, records_of, last_well, any_unexpected, fresh_after, cut_to, doubt_noted, hold_noted, line_noted, bytes_noted, early_noted, after_failure, closed, failing, lines_synchronizing, line_synchronizing, Record, Grew, texts_of, WritesPart, WritesBy, Model, Performs, line_called, line_came, lines_came, lines_completed, lines_taken, with_rest, with_progress, with_moment, waiting_of, settles, piece_heard, waiting_of_station, Refines, Took, TookPart, RefinesOrTookPart, Makes, ReadsMoment, DropsMarks, as_seen, station_expiring, AreReadings, ForEachReadings, empty_counts, tallied, recorded_after, busy_after_settlements}
+use Rattle.std.proofs.Common.{length-drop}
 use Rattle.gc_lines.specs.declared.frame.Frame.{Frame}
 use Rattle.gc_lines.specs.declared.frame.Frame.TheVariants.{Line, Cleared, Overlong, More}
-use Rattle.gc_lines.specs.Lent.{lent_seen}
 use Rattle.gc_lines.specs.declared.frame.Lent.{Lent}
-use Rattle.gc_lines.specs.declared.frame.Lent.TheVariants as lent
-use Rattle.gc_lines.proofs.Passing.{Takes}
-use Rattle.gc_catalogue.specs.declared.asked.Asked.{Asked}
-use Rattle.gc_client.specs.declared.pending.Pending.{Pending}
-use Rattle.gc_client.specs.Rule.{ById, Settled, Settlement, hears, settles_at, settle, lost, restarts, place_in, expires, expired}
-use Rattle.gc_session.specs.Lines.{calls_for_renewal}
-use Rattle.gc_links.specs.Acts.{Act, Untold, AddsActs}
-use Rattle.gc_links.specs.declared.link.Moment.{Moment}
-use Rattle.gc_texts.specs.declared.tasks.Task.{Task}
-use Rattle.gc_station.specs.declared.mark.Mark.{Mark}
-use Rattle.gc_station.specs.declared.plan.Plan.{Plan}
-use Rattle.gc_station.specs.declared.cause.Cause.{Cause}
-use Rattle.gc_station.specs.declared.cause.Cause.TheVariants as cause
-use Rattle.gc_station.specs.declared.progress.Action.{Action}
-use Rattle.gc_station.specs.declared.progress.Progress.{Progress}
-use Rattle.gc_station.specs.declared.progress.Until.{Until}
-use Rattle.gc_station.specs.declared.progress.Waiting.{Waiting}
-use Rattle.gc_station.specs.declared.recorded.Recorded.{Recorded}
-use Rattle.gc_station.specs.declared.station.Station.{Station}
-use Rattle.gc_station.specs.Attempts.{listed_after_settlements}
-use Rattle.gc_station.specs.Counters.{counts_after_settlements}
-use Rattle.gc_station.specs.Firsts.{firsts_after}
-use Rattle.gc_station.specs.Marks.{commands_in, records_of, last_well, any_unexpected}
-use Rattle.gc_station.specs.Watching.{fresh_after, cut_to}
-use Rattle.gc_station.specs.Progressing.{doubt_noted, hold_noted, line_noted, bytes_noted, early_noted, after_failure, closed, failing, lines_synchronizing, line_synchronizing}
-use Rattle.gc_station.specs.Records.{Record, Grew, texts_of, WritesPart, WritesBy}
-use Rattle.gc_station.specs.Model.{Model, Performs, line_called, line_came, lines_came, lines_completed, lines_taken, with_rest, with_progress, with_moment, waiting_of, settles, piece_heard}
-use Rattle.gc_station.specs.Stations.{waiting_of_station, Refines, Took, TookPart, RefinesOrTookPart, Makes, ReadsMoment, DropsMarks, as_seen, station_expiring}
-use Rattle.gc_station.specs.Scopes.{AreReadings, ForEachReadings}
-use Rattle.gc_station.specs.Tallies.{empty_counts, tallied}
-use Rattle.gc_station.specs.Writing.{recorded_after}
 use Rattle.gc_station.proofs.Growing.{lines_records}
 use Rattle.gc_station.proofs.Making.{refines_with}
 use Rattle.gc_station.proofs.Readings.{lines_reads, same_readings}
 use Rattle.gc_station.proofs.Records.{grew_none, grew_then, part_since_grew, part_more_grew, tallied-append, last-append, firsts-append}
-use Rattle.gc_station.specs.Busy.{busy_after_settlements}
+use Rattle.gc_lines.specs.declared.frame.Lent.TheVariants as lent
+use Rattle.gc_station.specs.declared.cause.Cause.TheVariants as cause
 
 -- the lines of a frame and of the frames after it: first its line, if it has one
 pub lines_split : (frame : Frame) (later : List Frame) → filter_map line_in (completed frame ++ later) ≡ option_to_list (line_in frame) ++ filter_map line_in later

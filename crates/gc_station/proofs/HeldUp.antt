@@ -2,45 +2,10 @@
 -- the table that a reply ended are as many as the outstanding ones, once a reply has ended one. Until then only null procedures are
 -- sent. An act is one call on the link, with its result; steps of the
 -- client are to send, to hear a line, to read the clock and to restart.
-use Rattle.std.proofs.Common.{◌≡◌, ◌⊎◌, inl, inr, ℕ, zero, suc, ◌+◌, ◌-◌, ◌<◌, ◌≤◌, ◌&&◌, Bool, true, false, not, List, [], ◌∷◌, ◌++◌, length, map, drop, Option, Some, None, refl, sym, ap, ◌∙◌, subst, arith, if◌then◌else◌, nat_lt, nat_eq, length-drop}
-use Rattle.std.specs.Prelude.{slice_get}
-use Rattle.std.specs.List.{AllByRecursion}
-use Rattle.std.proofs.lemmas.Bool.{ltb-true, ltb-false, lt-ltb, eqb-true, and_right, both_ways, cond-true}
-use Rattle.std.proofs.lemmas.Bool.Decides.{nat_tests}
-use Rattle.std.proofs.lemmas.List.{length-map, length-append, nil_from_length}
-use Rattle.gc_values.proofs.Every.{every_drop}
-use Rattle.gc_catalogue.specs.Asked.{is_of_table}
-use Rattle.gc_catalogue.specs.declared.asked.Asked.{Asked}
-use Rattle.gc_client.specs.OneForOne.{Step, Send, Hear, Expire, Restart, sent_on, course_at}
-use Rattle.gc_client.specs.Rule.{ById, heard, hears, settles_at, send_unless_full, settle, expired, pending_of}
-use Rattle.gc_client.specs.declared.pending.Pending.{Pending}
-use Rattle.gc_client.specs.declared.window.TheConstants.{WINDOW}
-use Rattle.gc_client.proofs.OneForOne.{length-settle}
-use Rattle.gc_texts.specs.Tasks.{call_at}
-use Rattle.gc_texts.specs.declared.occasion.Occasion.{Occasion}
-use Rattle.gc_texts.specs.declared.tasks.Task.{Task}
+use Rattle.gc_station.proofs.Common.{◌≡◌, ◌⊎◌, inl, inr, ℕ, zero, suc, ◌+◌, ◌-◌, ◌<◌, ◌≤◌, ◌&&◌, Bool, true, false, not, List, [], ◌∷◌, ◌++◌, length, map, drop, Option, Some, None, refl, sym, ap, ◌∙◌, subst, arith, if◌then◌else◌, nat_lt, nat_eq, slice_get, AllByRecursion, ltb-true, ltb-false, lt-ltb, eqb-true, and_right, both_ways, cond-true, nat_tests, length-map, length-append, nil_from_length, every_drop, is_of_table, Asked, Step, Hear, Expire, Restart, sent_on, course_at, ById, heard, hears, settles_at, send_unless_full, settle, expired, pending_of, Pending, WINDOW, length-settle, call_at, Occasion, Task, has_room, one_more_in_window, is_some_of_table, ends_with_table, client_stepped, client_after, Moment, Act, Told, Put, Cut, Gave, Silent, behind_step, Mark, Plan, Action, Progress, Waiting, AreOfTable, AwaitsFirstReply, IsNotHeldUp, TheTableIsNeverHeldUp, has_begun, is_dead, action_to_send, action_room, action_waiting, width_of, commands_in, occasion_of, put_part, request_part, first_request_part, client_part, sync_part, part_of_act, turned, time_passed, is_over, loses_all, HoldsBefore, state_after, Model, opening, action_at, waiting_of, is_heard, with_progress, with_rest, lines_completed, moved, losing, after, Performs, with_losses, request_or_null, mark_sent, mark_setup_sent, place_next}
+use Rattle.std.proofs.Common.{length-drop}
+use Rattle.gc_client.specs.Prelude.{Send}
 use Rattle.gc_texts.proofs.TaskMoments.{at_any_moment}
-use Rattle.gc_session.specs.Exchange.{has_room, one_more_in_window}
-use Rattle.gc_session.specs.Lines.{is_some_of_table, ends_with_table}
-use Rattle.gc_links.specs.declared.link.Moment.{Moment}
-use Rattle.gc_links.specs.Acts.{Act, Told, Put, Cut, Gave, Silent}
-use Rattle.gc_session.specs.Courses.{client_stepped, client_after}
-use Rattle.gc_session.proofs.Behind.{behind_step}
-use Rattle.gc_station.specs.declared.mark.Mark.{Mark}
-use Rattle.gc_station.specs.declared.plan.Plan.{Plan}
-use Rattle.gc_station.specs.declared.progress.Action.{Action}
-use Rattle.gc_station.specs.declared.progress.Action.TheVariants as action
-use Rattle.gc_station.specs.declared.progress.Progress.{Progress}
-use Rattle.gc_station.specs.declared.progress.Waiting.{Waiting}
-use Rattle.gc_station.specs.Behind.{AreOfTable, AwaitsFirstReply, IsNotHeldUp, TheTableIsNeverHeldUp}
-use Rattle.gc_station.specs.Deciding.{has_begun, is_dead, action_to_send, action_room, action_waiting, width_of}
-use Rattle.gc_station.specs.Marks.{commands_in, occasion_of}
-use Rattle.gc_station.specs.Parts.{put_part, request_part, first_request_part, client_part, sync_part, part_of_act}
-use Rattle.gc_station.specs.Progressing.{turned, time_passed, is_over, loses_all}
-use Rattle.gc_station.specs.Reasons.{HoldsBefore}
-use Rattle.gc_station.specs.Runs.{state_after}
-use Rattle.gc_station.specs.Model.{Model, opening, action_at, waiting_of, is_heard, with_progress, with_rest, lines_completed, moved, losing, after, Performs, with_losses, request_or_null, mark_sent, mark_setup_sent}
-use Rattle.gc_station.specs.NextCommand.{place_next}
 use Rattle.gc_station.proofs.Always.{always}
 use Rattle.gc_station.proofs.Behind.{behind_by}
 use Rattle.gc_station.proofs.Counts.{losing_progress}
@@ -56,6 +21,7 @@ use Rattle.gc_station.proofs.Walk.{came_along, asked_along, quieted_along, close
 use Rattle.gc_station.proofs.Words.{renews_only}
 use Rattle.gc_station.proofs.Losing.{loses_nothing}
 use Rattle.gc_station.proofs.Lists.{all_append}
+use Rattle.gc_station.specs.declared.progress.Action.TheVariants as action
 
 -- Steps of the client.
 

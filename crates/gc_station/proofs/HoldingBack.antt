@@ -2,38 +2,10 @@
 -- outstanding ones are together fewer than seven; and it sends none once a line called for a synchronization. An act changes what the station notes of
 -- lines at least as the client's steps of its part do (`lines_noted`): an answer that isn't as expected calls for one, too. A part reaches from one synchronization to the next. An act is one call on
 -- the link, with its result.
-use Rattle.std.proofs.Common.{◌≡◌, inl, inr, ℕ, ◌+◌, ◌<◌, ◌&&◌, ◌||◌, Bool, true, false, not, List, [], ◌∷◌, ◌++◌, length, map, drop, nat_lt, Some, refl, sym, ap, ◌∙◌, subst, append_assoc, if◌then◌else◌}
-use Rattle.std.specs.Prelude.{slice_get}
-use Rattle.std.specs.List.{AllByRecursion}
-use Rattle.std.proofs.lemmas.Bool.{both_ways}
-use Rattle.gc_lines.specs.Frames.{rest_behind}
-use Rattle.gc_catalogue.specs.declared.asked.Asked.{Asked}
-use Rattle.gc_client.specs.OneForOne.{Step, Send, Hear, Expire, Restart}
-use Rattle.gc_client.specs.declared.window.TheConstants.{WINDOW}
-use Rattle.gc_client.specs.Rule.{ById, fresh, heard, hears}
-use Rattle.gc_texts.specs.declared.tasks.Task.{Task}
-use Rattle.gc_session.specs.Exchange.{is_none_left, ended_last}
-use Rattle.gc_session.specs.Lines.{calls_for_renewal}
-use Rattle.gc_links.specs.Acts.{Act, Told, Untold, Put, Cut, Gave, Silent}
-use Rattle.gc_links.specs.declared.link.Moment.{Moment}
-use Rattle.gc_session.specs.Laws.{last_ended}
-use Rattle.gc_session.specs.Courses.{client_after, client_stepped}
-use Rattle.gc_station.specs.declared.mark.Mark.{Mark}
-use Rattle.gc_station.specs.declared.plan.Plan.{Plan}
-use Rattle.gc_station.specs.declared.progress.Action.{Action}
-use Rattle.gc_station.specs.declared.progress.Action.TheVariants as action
-use Rattle.gc_station.specs.declared.progress.Progress.{Progress}
-use Rattle.gc_station.specs.Deciding.{has_begun}
+use Rattle.gc_station.proofs.Common.{◌≡◌, inl, inr, ℕ, ◌+◌, ◌<◌, ◌&&◌, ◌||◌, Bool, true, false, not, List, [], ◌∷◌, ◌++◌, length, map, drop, nat_lt, Some, refl, sym, ap, ◌∙◌, subst, append_assoc, if◌then◌else◌, slice_get, AllByRecursion, both_ways, rest_behind, Asked, Step, Hear, Expire, Restart, ById, fresh, heard, hears, WINDOW, Task, is_none_left, ended_last, calls_for_renewal, last_ended, client_after, client_stepped, Act, Told, Untold, Put, Cut, Gave, Silent, Moment, Mark, Plan, Action, Progress, has_begun, parts, any_unexpected, Part, parts_joined, put_part, first_request_part, heard_steps, client_part, sync_part, part_of_act, in_front, parts_of, turned, time_passed, is_over, loses_all, HoldsBefore, Model, opening, action_at, waiting_of, is_heard, with_progress, with_rest, line_came, lines_came, line_busy, line_news, lines_completed, after_piece, moved, losing, after, Performs, Runs, with_losses, mark_sent, place_next, Scope}
+use Rattle.gc_client.specs.Prelude.{Send}
 use Rattle.gc_station.specs.HoldingBack.{RequestsAreHeldBack}
 use Rattle.gc_station.specs.InDoubt.{NothingIsSentInDoubt}
-use Rattle.gc_station.specs.Links.{parts}
-use Rattle.gc_station.specs.Marks.{any_unexpected}
-use Rattle.gc_station.specs.Parts.{Part, parts_joined, put_part, first_request_part, heard_steps, client_part, sync_part, part_of_act, in_front, parts_of}
-use Rattle.gc_station.specs.Progressing.{turned, time_passed, is_over, loses_all}
-use Rattle.gc_station.specs.Reasons.{HoldsBefore}
-use Rattle.gc_station.specs.Model.{Model, opening, action_at, waiting_of, is_heard, with_progress, with_rest, line_came, lines_came, line_busy, line_news, lines_completed, after_piece, moved, losing, after, Performs, Runs, with_losses, mark_sent}
-use Rattle.gc_station.specs.NextCommand.{place_next}
-use Rattle.gc_station.specs.Scopes.{Scope}
 use Rattle.gc_station.proofs.Booking.{client_append}
 use Rattle.gc_station.proofs.Asked.{steps_none, begun_if_nothing_lost}
 use Rattle.gc_station.proofs.Counts.{losing_progress}
@@ -47,6 +19,7 @@ use Rattle.gc_station.proofs.SentWell.{Splits, split}
 use Rattle.gc_station.proofs.Turns.{no_act_once_over}
 use Rattle.gc_station.proofs.Walk.{asked_along, quieted_along, closed_along, walk, piece_before}
 use Rattle.gc_station.proofs.Words.{renews_only}
+use Rattle.gc_station.specs.declared.progress.Action.TheVariants as action
 
 -- What a station notes of the lines of a part.
 

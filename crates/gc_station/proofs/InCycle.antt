@@ -1,22 +1,8 @@
 -- What holds if an action of a station in its cycles is next: its conditions (`HoldsBefore`), that a cycle begins only if it is due, and
 -- whether the moment was read (`Timely`, `Wakes`). `Holds` has all of these, and is shown once for each function that decides.
-use Rattle.std.proofs.Common.{◌+◌, ◌≡◌, ℕ, ◌<◌, ◌≤◌, ◌⊎◌, ◌&&◌, ◌||◌, Bool, true, false, not, nat_lt, nat_eq, refl, sym, ap, ◌∙◌, inl, inr, arith}
-use Rattle.std.proofs.lemmas.Bool.{ltb-true, ltb-false, eqb-true, not-true, and_parts, and_cases, not-false, false_from_ne_true, cond_both}
-use Rattle.std.proofs.lemmas.Bool.Decides.{nat_tests}
-use Rattle.gc_client.specs.declared.window.TheConstants.{WINDOW}
-use Rattle.gc_station.specs.declared.plan.Plan.{Plan}
-use Rattle.gc_station.specs.declared.cause.Cause.{Cause}
+use Rattle.gc_station.proofs.Common.{◌+◌, ◌≡◌, ℕ, ◌<◌, ◌≤◌, ◌⊎◌, ◌&&◌, ◌||◌, Bool, true, false, not, nat_lt, nat_eq, refl, sym, ap, ◌∙◌, inl, inr, arith, ltb-true, ltb-false, eqb-true, not-true, and_parts, and_cases, not-false, false_from_ne_true, cond_both, nat_tests, WINDOW, Plan, Cause, Clearing, Ready, Closing, Action, Progress, Limit, Due, Waiting, HoldsBefore, IsBetweenChains, IsFinished, IsHeld, HasRoomToAsk, MayGo, MayRetry, NothingMayGo, WaitsForWhatIsInFlight, IsAtItsEnd, IsOverdue, IsResting, MayAskNoMore, StaysInItsChain, HasConnectionFor, WantsNull, IsInItsTurn, IsOutOfTime, has_room, room_of, width_of, has_begun, is_up, is_unquiet, is_silent, is_dead, is_wanted, is_finished, lacks_value, may_go, waits_for_all, action_again, action_held, action_settled, action_done, action_to_send, action_room, action_waiting, is_between_chains, is_resting, is_cut, is_stopping, is_held_back, action_cycle, is_preparing}
 use Rattle.gc_station.specs.declared.cause.Cause.TheVariants as cause
-use Rattle.gc_station.specs.declared.progress.Phase.TheVariants.{Clearing, Ready, Closing}
-use Rattle.gc_station.specs.declared.progress.Action.{Action}
 use Rattle.gc_station.specs.declared.progress.Action.TheVariants as action
-use Rattle.gc_station.specs.declared.progress.Progress.{Progress}
-use Rattle.gc_station.specs.declared.progress.Until.TheVariants.{Limit, Due}
-use Rattle.gc_station.specs.declared.progress.Waiting.{Waiting}
-use Rattle.gc_station.specs.Reasons.{HoldsBefore, IsBetweenChains, IsFinished, IsHeld, HasRoomToAsk, MayGo, MayRetry, NothingMayGo, WaitsForWhatIsInFlight, IsAtItsEnd, IsOverdue, IsResting, MayAskNoMore, StaysInItsChain, HasConnectionFor, WantsNull, IsInItsTurn, IsOutOfTime}
-use Rattle.gc_session.specs.Exchange.{has_room}
-use Rattle.gc_session.proofs.Choosing.{room_of}
-use Rattle.gc_station.specs.Deciding.{width_of, has_begun, is_up, is_unquiet, is_silent, is_dead, is_wanted, is_finished, lacks_value, may_go, waits_for_all, action_again, action_held, action_settled, action_done, action_to_send, action_room, action_waiting, is_between_chains, is_resting, is_cut, is_stopping, is_held_back, action_cycle, is_preparing}
 
 -- Tests.
 

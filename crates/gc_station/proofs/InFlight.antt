@@ -1,36 +1,9 @@
 -- What is in flight has timed out in time: a request that hasn't timed out was sent before the cycle was out of time, or soon after, by
 -- a setup that goes on, so that its deadline comes at most `span` after that. An act is one call on the link, with its result.
-use Rattle.std.proofs.Common.{◌≡◌, ℕ, ◌+◌, ◌*◌, ◌<◌, ◌≤◌, ◌||◌, Bool, true, false, not, if◌then◌else◌, List, [], ◌∷◌, length, map, filter, drop, min, Option, Some, None, nat_le, nat_eq, refl, sym, ap, ◌∙◌, subst, arith}
-use Rattle.std.proofs.lemmas.Bool.{leb-false, cond_both}
-use Rattle.std.specs.List.{AllByRecursion}
-use Rattle.gc_values.proofs.Every.{every_drop}
-use Rattle.gc_catalogue.specs.declared.asked.Asked.{Asked}
-use Rattle.gc_client.specs.declared.pending.Pending.{Pending}
-use Rattle.gc_client.specs.declared.window.TheConstants.{WINDOW}
-use Rattle.gc_client.specs.Rule.{ById, send_unless_full, hears, heard, expired, deadlines, pending_of, settles_at, fits, place_in}
-use Rattle.gc_texts.specs.declared.tasks.Task.{Task}
-use Rattle.gc_texts.specs.declared.wish.Wish.{Wish}
-use Rattle.gc_links.specs.Acts.{Act, Told}
-use Rattle.gc_links.specs.declared.link.Moment.{Moment}
-use Rattle.gc_session.specs.Sessions.{client_sent}
-use Rattle.gc_station.specs.Cycles.{ClockRises}
-use Rattle.gc_catalogue.specs.declared.asked.Asked.TheVariants.{Table}
-use Rattle.gc_catalogue.specs.declared.call.Call.TheVariants.{NullProc}
-use Rattle.gc_station.specs.Deciding.{later}
-use Rattle.gc_station.specs.Progressing.{turned, moment_noted, cycle_start, due_at, time_passed, loses_all}
-use Rattle.gc_station.specs.Marks.{occasion_of}
-use Rattle.gc_station.specs.Model.{Model, sent_to, with_progress, with_moment, with_rest, waiting_of, line_came, lines_completed, is_heard, piece_at, Performs, moved, asks_for, asks_first, asks_setup, null_request, request_or_null, with_losses, mark_sent, mark_setup_sent}
-use Rattle.gc_station.specs.NextCommand.{place_next}
-use Rattle.gc_station.specs.Requests.{command_at}
-use Rattle.gc_station.specs.Quiet.{IsAsking}
-use Rattle.gc_station.specs.declared.mark.Mark.{Mark}
-use Rattle.gc_station.specs.declared.plan.Plan.{Plan}
-use Rattle.gc_station.specs.declared.progress.Action.{Action}
-use Rattle.gc_station.specs.declared.progress.Action.TheVariants as actions
-use Rattle.gc_station.specs.declared.progress.Progress.{Progress}
-use Rattle.gc_station.specs.declared.progress.Until.{Until}
+use Rattle.gc_station.proofs.Common.{◌≡◌, ℕ, ◌+◌, ◌*◌, ◌<◌, ◌≤◌, ◌||◌, Bool, true, false, not, if◌then◌else◌, List, [], ◌∷◌, length, map, filter, drop, min, Option, Some, None, nat_le, nat_eq, refl, sym, ap, ◌∙◌, subst, arith, leb-false, cond_both, AllByRecursion, every_drop, Asked, Pending, WINDOW, ById, send_unless_full, hears, heard, expired, deadlines, pending_of, settles_at, fits, place_in, Task, Wish, Act, Told, Moment, client_sent, ClockRises, Table, NullProc, later, turned, moment_noted, cycle_start, due_at, time_passed, loses_all, occasion_of, Model, sent_to, with_progress, with_moment, with_rest, waiting_of, line_came, lines_completed, is_heard, piece_at, Performs, moved, asks_for, asks_first, asks_setup, null_request, request_or_null, with_losses, mark_sent, mark_setup_sent, place_next, command_at, IsAsking, Mark, Plan, Action, Progress, Until}
 use Rattle.gc_station.proofs.Lists.{all_append}
 use Rattle.gc_station.proofs.Walk.{asked_along, came_along, quieted_along, closed_along, losing_along, walk}
+use Rattle.gc_station.specs.declared.progress.Action.TheVariants as actions
 
 -- if the request hasn't timed out, its deadline is `limit` or earlier
 abbrev pub EndsBy : (limit : ℕ) → Pending Asked → Type 0

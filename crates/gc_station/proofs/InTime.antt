@@ -1,35 +1,7 @@
 -- Requests are sent only in time: while the cycle isn't out of time, if the end of the run wasn't asked for, or by a setup that goes on
 -- (`SettingUp`). So what is in flight has timed out in time (`TimesOut`). An act is one call on the link, with its result.
-use Rattle.std.proofs.Common.{◌≡◌, ◌⊎◌, inl, inr, ℕ, suc, ◌+◌, ◌*◌, ◌-◌, ◌<◌, ◌≤◌, ◌&&◌, ◌||◌, Bool, true, false, not, if◌then◌else◌, List, [], ◌∷◌, ◌++◌, length, take, nat_lt, nat_le, nat_eq, refl, sym, ap, ◌∙◌, subst, arith}
-use Rattle.std.proofs.lemmas.Bool.{ltb-true, leb-false, eqb-true, eq-eqb, and_parts, cond_both, both_ways, false_from_ne_true}
-use Rattle.std.proofs.lemmas.Bool.Decides.{nat_tests}
-use native.Mathlib.Nat.{suc-mul, mul-le-mul_right}
-use Rattle.std.specs.List.{AllByRecursion}
-use Rattle.gc_texts.specs.declared.tasks.Task.{Task}
-use Rattle.gc_links.specs.Acts.{Act, Told, Gave, Silent, Opened}
-use Rattle.gc_station.specs.CallTimes.{MayTakeTime, CallsReturn}
-use Rattle.gc_station.specs.Cycles.{ClockRises}
-use Rattle.gc_station.specs.Deciding.{has_begun, load_of, the_choices, is_between_chains, setup_permits, is_out_of_time, waits_out, is_overdue, is_stale, is_stopping, is_held_back, is_preparing, is_finished, is_idle, is_up, may_abandon, waits_for_all, action_in, action_on, action_overdue, action_of_phase, action_without_turns, action_begun, action_beginning, action_waiting, action_preparing, action_in_setup, action_cycle, action_held, action_settled, action_done}
-use Rattle.gc_station.specs.Model.{Model, opening, action_at, waiting_of, with_rest, with_progress, moved, after, Performs, Runs}
-use Rattle.gc_station.specs.Progressing.{turned}
-use Rattle.gc_station.specs.Quiet.{IsAsking}
-use Rattle.gc_station.specs.Reasons.{HoldsBefore}
-use Rattle.gc_station.specs.Marks.{last_well}
-use Rattle.gc_station.specs.RecordedInTime.{raw_count, raws_of_setup}
-use Rattle.gc_station.specs.Runs.{state_after}
-use Rattle.gc_station.specs.Scopes.{Scope}
-use Rattle.gc_station.specs.Silences.{latest}
-use Rattle.gc_station.specs.Stopping.{asked_after}
-use Rattle.gc_station.specs.declared.cause.Cause.TheVariants as cause
-use Rattle.gc_station.specs.declared.plan.Plan.{Plan}
-use Rattle.gc_station.specs.declared.progress.Action.{Action}
-use Rattle.gc_station.specs.declared.progress.Action.TheVariants as actions
-use Rattle.gc_station.specs.declared.progress.Phase.{Phase}
-use Rattle.gc_station.specs.declared.progress.Phase.TheVariants as phase
-use Rattle.gc_station.specs.declared.progress.Progress.{Progress}
-use Rattle.gc_station.specs.declared.progress.Until.TheVariants.{Due}
-use Rattle.gc_station.specs.declared.progress.Waiting.{Waiting}
-use Rattle.gc_session.proofs.Choosing.{synchronizing_chosen, waiting_chosen}
+use Rattle.gc_station.proofs.Common.{◌≡◌, ◌⊎◌, inl, inr, ℕ, suc, ◌+◌, ◌*◌, ◌-◌, ◌<◌, ◌≤◌, ◌&&◌, ◌||◌, Bool, true, false, not, if◌then◌else◌, List, [], ◌∷◌, ◌++◌, length, take, nat_lt, nat_le, nat_eq, refl, sym, ap, ◌∙◌, subst, arith, ltb-true, leb-false, eqb-true, eq-eqb, and_parts, cond_both, both_ways, false_from_ne_true, nat_tests, suc-mul, mul-le-mul_right, AllByRecursion, Task, Act, Told, Gave, Silent, Opened, MayTakeTime, CallsReturn, ClockRises, has_begun, load_of, the_choices, is_between_chains, setup_permits, is_out_of_time, waits_out, is_overdue, is_stale, is_stopping, is_held_back, is_preparing, is_finished, is_up, may_abandon, waits_for_all, action_in, action_on, action_overdue, action_of_phase, action_without_turns, action_begun, action_beginning, action_waiting, action_preparing, action_in_setup, action_cycle, action_held, action_settled, action_done, Model, opening, action_at, waiting_of, with_rest, with_progress, moved, after, Performs, Runs, turned, IsAsking, HoldsBefore, last_well, raw_count, raws_of_setup, state_after, Scope, latest, asked_after, Plan, Action, Phase, Progress, Due, Waiting, synchronizing_chosen, waiting_chosen}
+use Rattle.gc_station.specs.Deciding.{is_idle}
 use Rattle.gc_station.proofs.Always.{always, always_of_progress}
 use Rattle.gc_station.proofs.BehindRaw.{raws_within}
 use Rattle.gc_station.proofs.CallTimes.{IsTimely, SentBefore, sent_last, timely, calls_front}
@@ -46,6 +18,9 @@ use Rattle.gc_station.proofs.Ticking.{rises_front}
 use Rattle.gc_station.proofs.Unbroken.{not_preparing_after_send}
 use Rattle.gc_station.proofs.Walk.{closed_along, moved_changed}
 use Rattle.gc_station.proofs.Beginnings.{asking_begun}
+use Rattle.gc_station.specs.declared.cause.Cause.TheVariants as cause
+use Rattle.gc_station.specs.declared.progress.Action.TheVariants as actions
+use Rattle.gc_station.specs.declared.progress.Phase.TheVariants as phase
 
 -- Which actions send a request.
 

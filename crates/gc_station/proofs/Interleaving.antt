@@ -1,14 +1,6 @@
 -- What had its turn is what was kept and what was left out, each in order (`Interleave`): one list grows with each command that
 -- had its turn, and so does one of the other two.
-use Rattle.std.proofs.Common.{Bool, true, false, nat_lt, ◌≡◌, ◌⊎◌, inl, inr, ℕ, zero, suc, ◌+◌, ◌-◌, ◌<◌, ◌≤◌, List, [], ◌∷◌, ◌++◌, length, take, drop, map, refl, sym, ap, ◌∙◌, subst, arith}
-use Rattle.std.proofs.lemmas.List.{length-map, length-drop, length-take, nil_from_length}
-use Rattle.std.proofs.lemmas.Bool.{ltb-true, ltb-false}
-use Rattle.std.specs.List.{AllByRecursion}
-use Rattle.gc_catalogue.specs.declared.asked.Asked.{Asked}
-use Rattle.gc_client.specs.OneForOne.{Wanted}
-use Rattle.gc_texts.specs.declared.tasks.Task.{Task}
-use Rattle.gc_station.specs.EachOnce.{Interleave, RunRequest, requests, of_task, all_cycles, commands_reached}
-use Rattle.gc_station.specs.Links.{IsBefore}
+use Rattle.gc_station.proofs.Common.{Bool, true, false, nat_lt, ◌≡◌, ◌⊎◌, inl, inr, ℕ, zero, suc, ◌+◌, ◌-◌, ◌<◌, ◌≤◌, List, [], ◌∷◌, ◌++◌, length, take, drop, map, refl, sym, ap, ◌∙◌, subst, arith, length-map, length-drop, length-take, nil_from_length, ltb-true, ltb-false, AllByRecursion, Asked, Wanted, Task, Interleave, RunRequest, requests, of_task, all_cycles, commands_reached, IsBefore}
 use Rattle.gc_station.proofs.Lists.{all_append, all_on}
 
 -- a list is itself interleaved with nothing

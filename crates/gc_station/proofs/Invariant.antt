@@ -1,23 +1,6 @@
 -- What every run keeps, after each of its acts, whatever the link does.
-use Rattle.std.proofs.Common.{◌≡◌, ◌<◌, ◌≤◌, Bool, true, false, List, [], length, map}
-use Rattle.std.specs.List.{AllByRecursion}
-use Rattle.gc_client.specs.declared.window.TheConstants.{WINDOW, IDS}
-use Rattle.gc_client.specs.OneForOne.{of_pending}
-use Rattle.gc_client.specs.Rule.{fresh}
-use Rattle.gc_texts.specs.declared.tasks.Task.{Task}
-use Rattle.gc_station.specs.declared.plan.Plan.{Plan}
-use Rattle.gc_station.specs.declared.cause.Cause.{Cause}
+use Rattle.gc_station.proofs.Common.{◌≡◌, ◌<◌, ◌≤◌, Bool, true, false, List, [], length, map, AllByRecursion, WINDOW, IDS, of_pending, fresh, Task, Plan, Cause, Phase, Down, Pausing, Clearing, Draining, Ready, Closing, Over, has_begun, commands_in, is_over, IsEachOnce, Model, cycle_length, MarksAsk, IsFinished, IsOfItsTask}
 use Rattle.gc_station.specs.declared.cause.Cause.TheVariants as cause
-use Rattle.gc_station.specs.declared.progress.Phase.{Phase}
-use Rattle.gc_station.specs.declared.progress.Phase.TheVariants.{Down, Pausing, Clearing, Draining, Ready, Closing, Over}
-use Rattle.gc_station.specs.Deciding.{has_begun}
-use Rattle.gc_station.specs.Marks.{commands_in}
-use Rattle.gc_station.specs.Progressing.{is_over}
-use Rattle.gc_station.specs.EachOnce.{IsEachOnce}
-use Rattle.gc_station.specs.Model.{Model, cycle_length}
-use Rattle.gc_station.specs.Parts.{MarksAsk}
-use Rattle.gc_station.specs.Reasons.{IsFinished}
-use Rattle.gc_station.specs.Tasked.{IsOfItsTask}
 
 -- whether a phase is one of the four before requests are sent, `Down` to `Draining`; in these no byte of a line is kept
 -- (`Invariant.rest`). `Over`, which is without a connection too, isn't one of them

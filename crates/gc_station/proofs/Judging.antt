@@ -1,15 +1,5 @@
 -- The judgement on a reply by the rules of its command's text: what holds where there is one, and where there is none.
-use Rattle.std.proofs.Common.{◌≡◌, ℕ, Bool, true, false, not, ◌&&◌, List, Option, Some, None, refl, ap}
-use Rattle.std.specs.Option.{is_none}
-use Rattle.gc_catalogue.specs.declared.answer.Answer.{Answer}
-use Rattle.gc_texts.specs.Endings.{Answered, Judged, Unreadable}
-use Rattle.gc_texts.specs.declared.judgement.Judgement.{Judgement}
-use Rattle.gc_texts.specs.declared.judgement.Judgement.TheVariants.{OffTarget, Unexpected, Disagree}
-use Rattle.gc_texts.specs.Expectations.{meets}
-use Rattle.gc_texts.specs.declared.near.Expected.{Expected}
-use Rattle.gc_texts.specs.declared.quality.Quality.{Quality}
-use Rattle.gc_values.specs.declared.fault.ValueFault.{ValueFault}
-use Rattle.gc_station.specs.Marks.{agrees_in, judged_by, judgement_of, passes_rules, unless_judged}
+use Rattle.gc_station.proofs.Common.{◌≡◌, ℕ, Bool, true, false, not, ◌&&◌, List, Option, Some, None, refl, ap, is_none, Answer, Answered, Judged, Unreadable, meets, Judgement, OffTarget, Unexpected, Disagree, Expected, Quality, ValueFault, agrees_in, judged_by, judgement_of, passes_rules, unless_judged}
 
 -- The table.
 

@@ -1,18 +1,7 @@
 -- The last command among the outstanding requests: if it is alone there until it times out, a line that answers it well leaves nothing
 -- outstanding. Requests and marks are one for one; a mark says which command a request is of, or `None` of a null procedure.
-use Rattle.std.proofs.Common.{◌≡◌, ℕ, zero, suc, ◌<◌, ◌||◌, Bool, true, false, not, if◌then◌else◌, List, [], ◌∷◌, ◌++◌, length, map, filter, drop, Option, Some, None, nat_le, nat_eq, refl, sym, ap, ◌∙◌, arith}
-use Rattle.std.specs.Prelude.{slice_get}
-use Rattle.std.specs.List.{AllByRecursion}
-use Rattle.std.proofs.lemmas.Bool.{both_ways}
-use Rattle.std.proofs.lemmas.Bool.Decides.{nat_tests}
-use Rattle.gc_catalogue.specs.Asked.{is_of_table}
-use Rattle.gc_catalogue.specs.declared.asked.Asked.{Asked}
-use Rattle.gc_client.specs.declared.pending.Pending.{Pending}
-use Rattle.gc_client.specs.Rule.{deadlines, expired, settle, Settlement, Answered, Late}
-use Rattle.gc_session.specs.Lines.{is_some_of_table}
-use Rattle.gc_station.specs.declared.mark.Mark.{Mark}
-use Rattle.gc_station.specs.Marks.{commands_in, records_of, end_of, is_well, last_well}
-use Rattle.gc_station.specs.Scopes.{Reads}
+use Rattle.gc_station.proofs.Common.{◌≡◌, ℕ, zero, suc, ◌<◌, ◌||◌, Bool, true, false, not, if◌then◌else◌, List, [], ◌∷◌, ◌++◌, length, map, filter, drop, Option, Some, None, nat_le, nat_eq, refl, sym, ap, ◌∙◌, arith, slice_get, AllByRecursion, both_ways, nat_tests, is_of_table, Asked, Pending, deadlines, expired, settle, Settlement, Late, is_some_of_table, Mark, commands_in, records_of, end_of, is_well, last_well, Reads}
+use Rattle.gc_client.specs.Prelude.{Answered}
 use Rattle.gc_station.proofs.InFlight.{EndsBy, EndsAfter}
 use Rattle.gc_station.proofs.Records.{commands-append, records-none}
 

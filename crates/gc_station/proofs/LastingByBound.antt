@@ -1,20 +1,6 @@
 -- What is recorded by its bound is durable before the next act but a mere reading of the clock; and how long reads are asked to wait. An
 -- act is one call on the link, with its result.
-use Rattle.std.proofs.Common.{◌≡◌, ℕ, ◌+◌, ◌*◌, ◌-◌, ◌<◌, ◌≤◌, ◌&&◌, Bool, true, false, not, if◌then◌else◌, List, [], ◌∷◌, ◌++◌, min, max, nat_lt, Option, Some, None, refl, sym, ap, ◌∙◌, subst, arith, append-nil, append_assoc}
-use Rattle.std.proofs.lemmas.Bool.{lt-ltb}
-use Rattle.std.proofs.lemmas.List.Elements.{recursion_from_All}
-use Rattle.std.specs.List.{AllByRecursion}
-use Rattle.gc_client.specs.Rule.{IsEarliest, deadlines}
-use Rattle.gc_texts.specs.declared.tasks.Task.{Task}
-use Rattle.gc_links.specs.Acts.{Act}
-use Rattle.gc_station.specs.Deciding.{later, is_out_of_time}
-use Rattle.gc_station.specs.Keeping.{Snapshot, IsKept, AreKept}
-use Rattle.gc_station.specs.Model.{opening, waiting_of, Runs}
-use Rattle.gc_station.specs.Pace.{out_of_time_at, stale_at, longest_timeout, read_end_without_deadline, read_end, read_timeout}
-use Rattle.gc_station.specs.RealTime.{LastsByBound, ReadsEndInTime}
-use Rattle.gc_station.specs.Records.{Record}
-use Rattle.gc_station.specs.Scopes.{Scope}
-use Rattle.gc_station.specs.declared.plan.Plan.{Plan}
+use Rattle.gc_station.proofs.Common.{◌≡◌, ℕ, ◌+◌, ◌*◌, ◌-◌, ◌<◌, ◌≤◌, ◌&&◌, Bool, true, false, not, if◌then◌else◌, List, [], ◌∷◌, ◌++◌, min, max, nat_lt, Option, Some, None, refl, sym, ap, ◌∙◌, subst, arith, append-nil, append_assoc, lt-ltb, recursion_from_All, AllByRecursion, IsEarliest, deadlines, Task, Act, later, is_out_of_time, Snapshot, IsKept, AreKept, opening, waiting_of, Runs, out_of_time_at, stale_at, longest_timeout, read_end_without_deadline, read_end, read_timeout, LastsByBound, ReadsEndInTime, Record, Scope, Plan}
 use Rattle.gc_station.proofs.Going.{runs_front}
 use Rattle.gc_station.proofs.RealTime.{records_by_bound}
 

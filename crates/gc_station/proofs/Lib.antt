@@ -1,3 +1,4 @@
+mod Common
 pub mod Acting
 mod Always
 mod Agreeing

@@ -2,27 +2,8 @@
 -- one has a later place or cycle; and the commands of a chain are requests of one part. An act is one call on the link, with
 -- its result. A mark says which command a request is of, or `None` of a null procedure. Places, parts and requests count from
 -- 0. `AnsweredInPart` says of an earlier command that it was sent, was answered well, and is of the part that still goes on.
-use Rattle.std.proofs.Common.{◌≡◌, inl, inr, ℕ, zero, suc, ◌+◌, ◌-◌, ◌<◌, ◌≤◌, Bool, true, false, List, [], ◌∷◌, ◌++◌, length, drop, Some, if◌then◌else◌, refl, sym, ◌∙◌, ap, subst, arith, append_assoc, append-nil}
-use Rattle.std.specs.Prelude.{slice_get, unwrap_or}
-use Rattle.std.proofs.lemmas.List.{length-drop, append_cancel_left}
-use Rattle.std.proofs.lemmas.Option.{none-some, same_Some}
+use Rattle.gc_station.proofs.Common.{◌≡◌, inl, inr, ℕ, zero, suc, ◌+◌, ◌-◌, ◌<◌, ◌≤◌, Bool, true, false, List, [], ◌∷◌, ◌++◌, length, drop, Some, if◌then◌else◌, refl, sym, ◌∙◌, ap, subst, arith, append_assoc, append-nil, slice_get, unwrap_or, length-drop, append_cancel_left, none-some, same_Some, Task, Mark, Plan, Action, Prepare, Send, Act, Put, Cut, IsLinked, has_begun, IsFurther, AreChained, IsBefore, WasAnsweredWell, IsAnsweredEarlier, ChainsStay, MarksGoOn, parts, Part, parts_joined, first_request_part, client_part, sync_part, part_of_act, ends_part, in_front, parts_of, mark_of, state_after, Scope, Puts, Model, Runs, opening, action_at, cycle_to_send, after, after_all, mark_sent, place_next, commands_left, cycles_begun}
 use Rattle.gc_lines.proofs.Lists.{get_push}
-use Rattle.gc_texts.specs.declared.tasks.Task.{Task}
-use Rattle.gc_station.specs.declared.mark.Mark.{Mark}
-use Rattle.gc_station.specs.declared.plan.Plan.{Plan}
-use Rattle.gc_station.specs.declared.progress.Action.{Action}
-use Rattle.gc_station.specs.declared.progress.Action.TheVariants.{Prepare, Send}
-use Rattle.gc_links.specs.Acts.{Act, Put, Cut}
-use Rattle.gc_station.specs.Chains.{IsLinked}
-use Rattle.gc_station.specs.Deciding.{has_begun}
-use Rattle.gc_station.specs.EachOnce.{IsFurther}
-use Rattle.gc_station.specs.Links.{AreChained, IsBefore, WasAnsweredWell, IsAnsweredEarlier, ChainsStay, MarksGoOn, parts}
-use Rattle.gc_station.specs.Parts.{Part, parts_joined, first_request_part, client_part, sync_part, part_of_act, ends_part, in_front, parts_of, mark_of}
-use Rattle.gc_station.specs.Runs.{state_after}
-use Rattle.gc_station.specs.Scopes.{Scope}
-use Rattle.gc_station.specs.ActKinds.{Puts}
-use Rattle.gc_station.specs.Model.{Model, Runs, opening, action_at, cycle_to_send, after, after_all, mark_sent}
-use Rattle.gc_station.specs.NextCommand.{place_next, commands_left, cycles_begun}
 use Rattle.gc_station.proofs.Chaining.{StaysBegun, SendsNoSetup, PreparesNothing, each_act_append, chain_linked, IsLinkedStill}
 use Rattle.gc_station.proofs.EachRun.{invariant_holds}
 use Rattle.gc_station.proofs.Outs.{sends_next_of_cycle, send_cycle, send_place, sends_of_cycle}

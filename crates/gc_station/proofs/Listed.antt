@@ -1,30 +1,10 @@
 -- Whether a command of an attempt ended as the rule of its chain names, by the ends that records have: `listed` of a model is
 -- what its records say.
-use Rattle.std.proofs.Common.{◌≡◌, ◌⊎◌, inl, inr, ℕ, zero, suc, ◌<◌, ◌||◌, Bool, true, false, List, [], ◌∷◌, ◌++◌, Option, None, if◌then◌else◌, nat_eq, refl, sym, ap, ◌∙◌, subst, arith}
-use Rattle.std.specs.List.{AllByRecursion}
-use Rattle.std.proofs.lemmas.Bool.{or_right, eqb-true, eqb-false}
-use Rattle.std.proofs.lemmas.Option.{same_Some}
-use Rattle.gc_catalogue.specs.declared.answer.Answer.{Answer}
-use Rattle.gc_catalogue.specs.declared.answer.Reading.{Reading}
-use Rattle.gc_catalogue.specs.declared.asked.Asked.{Asked}
-use Rattle.gc_client.specs.Rule
-use Rattle.gc_texts.specs.Again.{repeats_after, has_code}
-use Rattle.gc_texts.specs.Endings.{End, Answered, Unreadable, Judged, Late, Lost, Skipped, NoValue, Missed, line_of}
-use Rattle.gc_texts.specs.Zeroed.{as_zero}
-use Rattle.gc_texts.specs.declared.again.Again.{Again}
-use Rattle.gc_texts.specs.declared.near.Expected.{Expected}
-use Rattle.gc_texts.specs.declared.quality.Quality.{Quality}
-use Rattle.gc_texts.specs.declared.tasks.Task.{Task}
-use Rattle.gc_texts.specs.declared.turn.Turn.{Turn}
-use Rattle.gc_values.proofs.Every.{every_behind}
-use Rattle.gc_station.specs.Attempts.{code_in, code_of}
-use Rattle.gc_station.specs.Marks.{end_of, answer_as}
-use Rattle.gc_station.specs.NextCommand.{expected_at, expected_of_setup}
-use Rattle.gc_station.specs.Records.{Record}
-use Rattle.gc_station.specs.Retries.{code_of_end, is_listed, HasListed, BeginNoAttempt, HasItsTurn}
-use Rattle.gc_station.specs.Scopes.{Reads}
+use Rattle.gc_station.proofs.Common.{◌≡◌, ◌⊎◌, inl, inr, ℕ, zero, suc, ◌<◌, ◌||◌, Bool, true, false, List, [], ◌∷◌, ◌++◌, Option, None, if◌then◌else◌, nat_eq, refl, sym, ap, ◌∙◌, subst, arith, AllByRecursion, or_right, eqb-true, eqb-false, same_Some, Answer, Reading, Asked, repeats_after, has_code, End, Answered, Unreadable, Judged, Skipped, NoValue, Missed, line_of, as_zero, Again, Expected, Quality, Task, Turn, every_behind, code_in, code_of, end_of, answer_as, expected_at, expected_of_setup, Record, code_of_end, is_listed, HasListed, BeginNoAttempt, HasItsTurn, Reads}
+use Rattle.gc_texts.specs.Prelude.{Late, Lost}
 use Rattle.gc_station.proofs.InCycle.{or_first}
 use Rattle.gc_station.proofs.Meets.{answer_line}
+use Rattle.gc_client.specs.Rule
 
 -- Which ends a rule names.
 

@@ -1,8 +1,6 @@
 -- Lists: facts of each element alone (`AllByRecursion`), by its place and the element beside it in another list (`AllAt`), or
 -- with a rising number besides (`AllRisingAt`); and lists cut at an element.
-use Rattle.std.proofs.Common.{◌≡◌, ℕ, zero, suc, ◌+◌, ◌<◌, ◌≤◌, List, [], ◌∷◌, ◌++◌, length, drop, map, Some, refl, sym, ap, ◌∙◌, subst, arith, append_assoc, ◌⊎◌, inl, inr}
-use Rattle.std.specs.Prelude.{slice_get}
-use Rattle.std.specs.List.{AllByRecursion}
+use Rattle.gc_station.proofs.Common.{◌≡◌, ℕ, zero, suc, ◌+◌, ◌<◌, ◌≤◌, List, [], ◌∷◌, ◌++◌, length, drop, map, Some, refl, sym, ap, ◌∙◌, subst, arith, append_assoc, ◌⊎◌, inl, inr, slice_get, AllByRecursion}
 pub use Rattle.gc_lines.proofs.Lists.{all_append, all_at, get_more, cons_head, cons_tail}
 pub use Rattle.gc_session.proofs.Behind.{get_behind}
 pub use Rattle.gc_values.proofs.Every.{every_weaker as all_on}

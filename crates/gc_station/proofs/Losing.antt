@@ -1,37 +1,7 @@
 -- All that wait are lost only for a cause: at that act the station resynchronizes, or no act follows it. An act is one call on
 -- the link, with its result.
-use Rattle.std.proofs.Common.{◌≡◌, ◌⊎◌, inl, inr, ℕ, ◌&&◌, ◌||◌, Bool, true, false, not, List, [], ◌∷◌, ◌++◌, length, map, Option, Some, if◌then◌else◌, nat_eq, refl, sym, ap, ◌∙◌, subst, append_assoc}
-use Rattle.std.specs.List.{AllByRecursion}
-use Rattle.std.proofs.lemmas.List.{nil_from_length}
-use Rattle.std.proofs.lemmas.Bool.{both_ways, not-true}
-use Rattle.gc_catalogue.specs.declared.asked.Asked.{Asked}
-use Rattle.gc_client.specs.declared.pending.Pending.{Pending}
-use Rattle.gc_client.specs.Ids.{id_of}
-use Rattle.gc_client.specs.Rule.{ById, Settlement, Answered, Late, Lost, lost}
-use Rattle.gc_texts.specs.Endings.{Judged}
-use Rattle.gc_texts.specs.declared.judgement.Judgement.TheVariants.{Unexpected}
-use Rattle.gc_texts.specs.declared.tasks.Task.{Task}
-use Rattle.gc_station.specs.declared.cause.Cause.{Cause}
-use Rattle.gc_station.specs.declared.cause.Cause.TheVariants as cause
-use Rattle.gc_station.specs.declared.mark.Mark.{Mark}
-use Rattle.gc_station.specs.declared.plan.Plan.{Plan}
-use Rattle.gc_station.specs.declared.progress.Phase.{Phase}
-use Rattle.gc_station.specs.declared.progress.Phase.TheVariants.{Down, Pausing, Ready, Closing, Over}
-use Rattle.gc_station.specs.declared.progress.Action.{Action}
-use Rattle.gc_station.specs.declared.progress.Action.TheVariants as actions
-use Rattle.gc_station.specs.declared.progress.Progress.{Progress}
-use Rattle.gc_station.specs.declared.progress.Waiting.{Waiting}
-use Rattle.gc_links.specs.Acts.{Act, Cut}
-use Rattle.gc_station.specs.Deciding.{has_begun, is_up, action_of, action_in, action_without_turns}
-use Rattle.gc_station.specs.Answers.{IsRecordedBy, IsWrittenAt}
-use Rattle.gc_station.specs.Ends.{Resynchronizes, IsLast, IsLostIn}
-use Rattle.gc_station.specs.Marks.{records_of, end_of, is_well}
-use Rattle.gc_station.specs.Progressing.{turned, sent, failing, is_over, is_over_in, loses_all, setup_sent}
-use Rattle.gc_station.specs.Reasons.{HoldsBefore}
-use Rattle.gc_station.specs.Records.{Record}
-use Rattle.gc_station.specs.Runs.{state_after}
-use Rattle.gc_station.specs.Model.{Model, opening, action_at, waiting_of, Performs, with_progress, asks_next, after_put, moved, losing, with_losses, after, SendsCommand, IsSending, asks_setup}
-use Rattle.gc_station.specs.NextCommand.{upcoming_after}
+use Rattle.gc_station.proofs.Common.{◌≡◌, ◌⊎◌, inl, inr, ℕ, ◌&&◌, ◌||◌, Bool, true, false, not, List, [], ◌∷◌, ◌++◌, length, map, Option, Some, if◌then◌else◌, nat_eq, refl, sym, ap, ◌∙◌, subst, append_assoc, AllByRecursion, nil_from_length, both_ways, not-true, Asked, Pending, id_of, ById, Settlement, Late, Lost, lost, Judged, Unexpected, Task, Cause, Mark, Plan, Phase, Down, Pausing, Ready, Closing, Over, Action, Progress, Waiting, Act, Cut, has_begun, is_up, action_of, action_in, action_without_turns, IsRecordedBy, IsWrittenAt, Resynchronizes, IsLast, IsLostIn, records_of, end_of, is_well, turned, sent, failing, is_over, is_over_in, loses_all, setup_sent, HoldsBefore, Record, state_after, Model, opening, action_at, waiting_of, Performs, with_progress, asks_next, after_put, moved, losing, with_losses, after, SendsCommand, IsSending, asks_setup, upcoming_after, Scope, Reads}
+use Rattle.gc_client.specs.Prelude.{Answered}
 use Rattle.gc_station.proofs.Counts.{with_losses_progress}
 use Rattle.gc_station.proofs.Facts.{action_for}
 use Rattle.gc_station.proofs.InCycle.{or_first}
@@ -44,7 +14,8 @@ use Rattle.gc_station.proofs.Waiting.{WasAsked, TimedOutAsRead, StillWaits, IsJu
 use Rattle.gc_station.proofs.Parting.{keeps_new_client}
 use Rattle.gc_station.proofs.Walk.{sent_same, moved_changed}
 use Rattle.gc_station.proofs.Words.{renews_only, renews_needs}
-use Rattle.gc_station.specs.Scopes.{Scope, Reads}
+use Rattle.gc_station.specs.declared.cause.Cause.TheVariants as cause
+use Rattle.gc_station.specs.declared.progress.Action.TheVariants as actions
 
 -- with these marks no record is written, whatever is settled
 abbrev Unwritten : List (Option Mark) → Type 0

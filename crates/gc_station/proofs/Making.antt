@@ -2,49 +2,11 @@
 -- on the link, with its result. `told` and `told'` are what the link had recorded before the call and has recorded after it,
 -- `start`, `taken` and `taken'` what the book had taken at first, before the call and after it; `text` is how a record is
 -- written.
-use Rattle.std.proofs.Common.{◌≡◌, ℕ, ◌+◌, ◌<◌, Bool, true, false, List, [], ◌∷◌, ◌++◌, length, nat_eq, Option, None, Result, Ok, Err, refl, sym, ap, ◌∙◌, subst, append-nil, arith, map}
-use Rattle.std.proofs.lemmas.Bool.{ne_eqb}
-use Rattle.std.proofs.lemmas.List.{length-append}
-use Rattle.gc_lines.specs.Assembler.{StandsFor}
-use Rattle.gc_catalogue.specs.declared.asked.Asked.{Asked}
-use Rattle.gc_client.specs.declared.window.TheConstants.{WINDOW}
-use Rattle.gc_client.specs.Rule.{ById, send_unless_full}
-use Rattle.gc_values.specs.declared.decimal.Decimal.{Decimal}
-use Rattle.gc_texts.specs.Endings.{End}
-use Rattle.gc_texts.specs.declared.near.Expected.{Expected}
-use Rattle.gc_texts.specs.declared.tasks.Task.{Task}
-use Rattle.gc_texts.specs.declared.turn.Turn.{Turn}
-use Rattle.gc_links.specs.declared.link.Moment.{Moment}
-use Rattle.gc_session.specs.Sessions.{client_sent}
-use Rattle.gc_station.specs.declared.firsts.FirstAnswer.{FirstAnswer}
-use Rattle.gc_station.specs.declared.mark.Mark.{Mark}
-use Rattle.gc_station.specs.declared.plan.Plan.{Plan}
-use Rattle.gc_station.specs.declared.cause.Cause.TheVariants as cause
-use Rattle.gc_station.specs.declared.progress.Action.TheVariants.{Read}
-use Rattle.gc_station.specs.declared.progress.Progress.{Progress}
-use Rattle.gc_station.specs.declared.progress.Until.{Until}
-use Rattle.gc_station.specs.declared.station.Station.{Station}
-use Rattle.gc_links.specs.Acts.{Act, AddsActs, put_act, IsPartIfErr}
-use Rattle.gc_station.specs.Deciding.{later}
-use Rattle.gc_station.specs.Counters.{count_noted}
-use Rattle.gc_station.specs.Firsts.{first_noted, firsts_after}
-use Rattle.gc_station.specs.Marks.{is_well, ended_confirmed, last_well, occasion_of, record_with, unexpected_noted}
-use Rattle.gc_station.specs.Progressing.{failing, unsent_at}
-use Rattle.gc_station.specs.Records.{Record}
-use Rattle.gc_station.specs.ActKinds.{Puts, ReadsLink}
-use Rattle.gc_station.specs.Model.{Model, sent_to, request_for, request_or_null, asks_for, asks_first, end_unsent, first_unsent_record, with_progress, with_listed, with_more_records, after_put, after_read, text_or_null, next_request_text}
-use Rattle.gc_station.specs.Stations.{Refines, Took, cut_progress, as_seen, station_asking, MakesMove, Moves, KeepsToModel}
-use Rattle.gc_station.specs.Scopes.{AreReadings}
-use Rattle.gc_station.specs.Attempts.{listed_after}
-use Rattle.gc_station.specs.Tallies.{empty_counts, counted_in, tallied}
-use Rattle.gc_station.specs.Writing.{noted, recorded_unsent}
-use Rattle.gc_station.specs.declared.recorded.Recorded.{Recorded}
-use Rattle.gc_station.specs.declared.station.sending.Outgoing.{Outgoing}
+use Rattle.gc_station.proofs.Common.{◌≡◌, ℕ, ◌+◌, ◌<◌, Bool, true, false, List, [], ◌∷◌, ◌++◌, length, nat_eq, Option, None, Result, Ok, Err, refl, sym, ap, ◌∙◌, subst, append-nil, arith, map, ne_eqb, length-append, StandsFor, Asked, WINDOW, ById, send_unless_full, Decimal, End, Expected, Task, Turn, Moment, client_sent, FirstAnswer, Mark, Plan, Read, Progress, Until, Station, Act, AddsActs, put_act, IsPartIfErr, later, count_noted, first_noted, firsts_after, is_well, ended_confirmed, last_well, occasion_of, record_with, unexpected_noted, failing, unsent_at, Record, Puts, ReadsLink, Model, sent_to, request_for, request_or_null, asks_for, asks_first, end_unsent, first_unsent_record, with_progress, with_listed, with_more_records, after_put, after_read, text_or_null, next_request_text, Refines, Took, cut_progress, as_seen, station_asking, MakesMove, Moves, KeepsToModel, AreReadings, listed_after, empty_counts, counted_in, tallied, noted, recorded_unsent, Recorded, Outgoing, renewed, Watch}
 use Rattle.gc_station.proofs.Records.{tallied-append, last-append, firsts-append}
-use Rattle.gc_station.specs.Watching.{renewed}
-use Rattle.gc_station.specs.declared.watching.Watch.{Watch}
 use Rattle.gc_station.proofs.Walk.{first_along, unsent_along}
 use Rattle.gc_station.proofs.Freshness.{unwell_changes_none}
+use Rattle.gc_station.specs.declared.cause.Cause.TheVariants as cause
 
 -- if a station is as the model `s`, then with the progress `p`, which is `f` of its own, it is as `s` with its progress changed
 -- by `f`

@@ -1,29 +1,12 @@
 -- What each act of a run puts: a line feed, or a request's line, by the part (`Parts`) that the act has. An act is one call on
 -- the link, with its result.
-use Rattle.std.proofs.Common.{◌≡◌, ◌⊎◌, inl, inr, ℕ, ◌-◌, ◌<◌, true, false, List, [], ◌∷◌, length, drop, Option, Some, None, refl, arith, length-drop}
-use Rattle.std.proofs.lemmas.Bool.{both_ways}
-use Rattle.gc_catalogue.specs.declared.asked.Asked.{Asked}
-use Rattle.gc_catalogue.specs.declared.asked.Asked.TheVariants.{Table}
-use Rattle.gc_catalogue.specs.declared.call.Call.TheVariants.{NullProc}
-use Rattle.gc_client.specs.declared.window.TheConstants.{WINDOW}
-use Rattle.gc_client.specs.OneForOne.{Send}
-use Rattle.gc_texts.specs.declared.tasks.Task.{Task}
-use Rattle.gc_station.specs.declared.mark.Mark.{Mark}
-use Rattle.gc_station.specs.declared.plan.Plan.{Plan}
-use Rattle.gc_station.specs.declared.progress.Action.{Action}
-use Rattle.gc_station.specs.declared.progress.Action.TheVariants as action
-use Rattle.gc_station.specs.declared.station.sending.Outgoing.{Outgoing}
-use Rattle.gc_links.specs.Acts.{Act, Put, Cut, Closed}
-use Rattle.gc_station.specs.Deciding.{later, has_begun}
-use Rattle.gc_station.specs.Marks.{occasion_of}
-use Rattle.gc_station.specs.Parts.{Asks, Part, only_sync_steps, idle_part, request_part, first_request_part, put_part, sync_part}
-use Rattle.gc_station.specs.Reasons.{HoldsBefore}
-use Rattle.gc_station.specs.ActKinds.{Puts, ReadsClock, IsOpening, ReadsLink}
-use Rattle.gc_station.specs.Model.{Model, action_at, waiting_of, next_request_text, null_text, first_text, Performs, text_or_null, request_for, null_request, request_or_null, mark_sent, mark_setup_sent, occasion_at}
-use Rattle.gc_station.specs.NextCommand.{place_next}
+use Rattle.gc_station.proofs.Common.{◌≡◌, ◌⊎◌, inl, inr, ℕ, ◌-◌, ◌<◌, true, false, List, [], ◌∷◌, length, drop, Option, Some, None, refl, arith, both_ways, Asked, Table, NullProc, WINDOW, Task, Mark, Plan, Action, Outgoing, Act, Put, Cut, Closed, later, has_begun, occasion_of, Asks, Part, only_sync_steps, idle_part, request_part, first_request_part, put_part, sync_part, HoldsBefore, Puts, ReadsClock, IsOpening, ReadsLink, Model, action_at, waiting_of, next_request_text, null_text, first_text, Performs, text_or_null, request_for, null_request, request_or_null, mark_sent, mark_setup_sent, occasion_at, place_next}
+use Rattle.std.proofs.Common.{length-drop}
+use Rattle.gc_client.specs.Prelude.{Send}
 use Rattle.gc_station.proofs.InCycle.{within_window}
 use Rattle.gc_station.proofs.Facts.{action_for}
 use Rattle.gc_station.proofs.Invariant.{Invariant}
+use Rattle.gc_station.specs.declared.progress.Action.TheVariants as action
 
 -- the part p is that of a request that is sent, these bytes are its line, and fewer than seven requests wait before it
 pub record IsSent (s : Model) (bytes : List ℕ) (p : Part) : Type 0 where

@@ -1,40 +1,13 @@
 -- What a line settles, and which requests it leaves waiting. P is what is known of an outstanding request, by its number (how
 -- many acts came before the one that put it), its place among those that are outstanding, the request itself and its mark. An
 -- act is one call on the link, with its result. `EndedBy` says how a request that a line settles has ended, and by which id.
-use Rattle.std.proofs.Common.{◌≡◌, ℕ, zero, suc, ◌+◌, ◌-◌, ◌<◌, ◌≤◌, Bool, true, false, List, [], ◌∷◌, length, drop, Option, Some, None, if◌then◌else◌, nat_lt, refl, sym, ap, ◌∙◌, subst, arith}
-use Rattle.std.specs.List.{AllByRecursion}
-use Rattle.std.specs.Prelude.{slice_get}
-use Rattle.std.proofs.lemmas.Bool.{ltb-true}
-use Rattle.std.proofs.lemmas.List.{length-drop}
-use Rattle.gc_catalogue.specs.declared.answer.Reading.{Reading}
-use Rattle.gc_catalogue.specs.declared.asked.Asked.{Asked}
-use Rattle.gc_client.specs.declared.window.TheConstants.{IDS}
-use Rattle.gc_client.specs.declared.pending.Pending.{Pending}
-use Rattle.gc_client.specs.Ids
-use Rattle.gc_client.specs.Ids.{id_at_place, IsWithinLimits, id_of}
-use Rattle.gc_client.specs.Rule.{ById, Outcome, Settlement, Settled, Answered, Late, Lost, place_in, settled_by_line, settle, hears, settles_at}
-use Rattle.gc_client.proofs.Digits.{settling_keeps_ids}
-use Rattle.gc_client.proofs.OneForOne.{length-settle}
-use Rattle.gc_texts.specs.declared.wish.Wish.{Wish}
-use Rattle.gc_texts.specs.declared.tasks.Task.{Task}
-use Rattle.gc_texts.specs.Endings.{End, line_of}
-use Rattle.gc_texts.specs.Endings as ends
-use Rattle.gc_texts.specs.Zeroed.{as_zero}
-use Rattle.gc_texts.specs.declared.near.Expected.{Expected}
-use Rattle.gc_session.proofs.Behind.{met_lost}
-use Rattle.gc_station.specs.declared.mark.Mark.{Mark}
-use Rattle.gc_station.specs.declared.plan.Plan.{Plan}
-use Rattle.gc_links.specs.Acts.{Act}
-use Rattle.gc_station.specs.Marks.{answer_as, end_of, command_of, record_of, records_of}
-use Rattle.gc_station.specs.Records.{Record}
-use Rattle.gc_station.specs.Runs.{state_after}
-use Rattle.gc_station.specs.ActKinds.{Puts}
-use Rattle.gc_station.specs.Answers.{IsOwnRequest}
-use Rattle.gc_station.specs.Model.{next_request_text}
+use Rattle.gc_station.proofs.Common.{◌≡◌, ℕ, zero, suc, ◌+◌, ◌-◌, ◌<◌, ◌≤◌, Bool, true, false, List, [], ◌∷◌, length, drop, Option, Some, None, if◌then◌else◌, nat_lt, refl, sym, ap, ◌∙◌, subst, arith, AllByRecursion, slice_get, ltb-true, length-drop, Reading, Asked, IDS, Pending, id_at_place, IsWithinLimits, id_of, ById, Settlement, Settled, Late, Lost, place_in, settled_by_line, settle, hears, settles_at, settling_keeps_ids, length-settle, Wish, Task, End, line_of, as_zero, Expected, met_lost, Mark, Plan, Act, answer_as, end_of, command_of, record_of, records_of, Record, state_after, Puts, IsOwnRequest, next_request_text, Scope, Reads}
+use Rattle.gc_client.specs.Prelude.{Outcome, Answered}
 use Rattle.gc_station.proofs.Lists.{AllAt, AllRisingAt, RisingAt, rising_shifted, rising_drop, rising_at}
 use Rattle.gc_station.proofs.Records.{answer_along}
 use Rattle.gc_station.proofs.Waiting.{AsksThen, WasAsked, TimedOutAsReadBy, StillWaitsAt, asked_with_equal_id}
-use Rattle.gc_station.specs.Scopes.{Scope, Reads}
+use Rattle.gc_client.specs.Ids
+use Rattle.gc_texts.specs.Endings as ends
 
 -- an id was heard, and this is the place (`place_in`) of the outstanding request that has it, if one has
 pub record HasPlace (c : ById Asked) (o : Option ℕ) (at : ℕ) : Type 0 where

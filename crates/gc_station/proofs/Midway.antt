@@ -1,39 +1,9 @@
 -- What holds in the midst of an act, before what is outstanding is lost: `HoldsMidAct`, which has the counts and the records, and
 -- what the phase says. At the end of an act it gives the invariant of every run (`Invariant`).
-use Rattle.std.proofs.Common.{◌≡◌, ℕ, nat_lt, ltb-true, ltb-false, take, ◌+◌, ◌-◌, ◌%◌, ◌<◌, ◌≤◌, ◌⊎◌, inl, inr, ◌&&◌, ◌||◌, Bool, true, false, not, List, [], ◌∷◌, ◌++◌, length, drop, map, nat_eq, Option, Some, None, refl, sym, ap, ◌∙◌, subst, arith, length-append, append-nil}
-use Rattle.std.specs.Prelude.{slice_get}
-use Rattle.std.specs.List.{AllByRecursion}
+use Rattle.gc_station.proofs.Common.{◌≡◌, ℕ, nat_lt, take, ◌+◌, ◌-◌, ◌%◌, ◌<◌, ◌≤◌, ◌⊎◌, inl, inr, ◌&&◌, ◌||◌, Bool, true, false, not, List, [], ◌∷◌, ◌++◌, length, drop, map, nat_eq, Option, Some, None, refl, sym, ap, ◌∙◌, subst, arith, append-nil, slice_get, AllByRecursion, nat_tests, length-map, length-drop, nil_from_length, both_ways, Asked, WINDOW, IDS, Pending, ById, Settlement, expires, expired, fresh, lost, pending_of, send_unless_full, sends, of_settled, of_pending, expired_parts, lost_parts, head_of_drop, Expected, call_at, End, Task, client_sent, Mark, Plan, Phase, Progress, has_begun, is_up, of_text, Interleave, RunRequest, requests, of_task, commands_reached, commands_in, occasion_of, records_of, record_with, is_over_in, is_over, loses_all, MarksAsk, MarkAsks, went_out, Record, IsFinished, IsOfItsTask, Model, losing, with_losses, cycle_length, Reads}
+use Rattle.std.proofs.Common.{ltb-true, ltb-false, length-append}
 use Rattle.std.proofs.Math.Nat.{mod-lt}
-use Rattle.std.proofs.lemmas.Bool.Decides.{nat_tests}
-use Rattle.std.proofs.lemmas.List.{length-map, length-drop, nil_from_length}
-use Rattle.std.proofs.lemmas.Bool.{both_ways}
-use Rattle.gc_catalogue.specs.declared.asked.Asked.{Asked}
-use Rattle.gc_client.specs.declared.window.TheConstants.{WINDOW, IDS}
-use Rattle.gc_client.specs.declared.pending.Pending.{Pending}
-use Rattle.gc_client.specs.Rule.{ById, Settlement, expires, expired, fresh, lost, pending_of, send_unless_full, sends}
-use Rattle.gc_client.specs.OneForOne.{of_settled, of_pending}
-use Rattle.gc_client.proofs.OneForOne.{expired_parts, lost_parts}
-use Rattle.gc_client.proofs.Lists.{head_of_drop}
-use Rattle.gc_texts.specs.declared.near.Expected.{Expected}
-use Rattle.gc_texts.specs.Tasks.{call_at}
-use Rattle.gc_texts.specs.declared.tasks.Task.{Task}
-use Rattle.gc_texts.specs.Endings.{End}
-use Rattle.gc_session.specs.Sessions.{client_sent}
-use Rattle.gc_station.specs.declared.mark.Mark.{Mark}
-use Rattle.gc_station.specs.declared.plan.Plan.{Plan}
-use Rattle.gc_station.specs.declared.progress.Phase.{Phase}
-use Rattle.gc_station.specs.declared.progress.Progress.{Progress}
-use Rattle.gc_station.specs.Deciding.{has_begun, is_up}
-use Rattle.gc_station.specs.EachOnce.{of_text, Interleave, RunRequest, requests, of_task, commands_reached}
 use Rattle.gc_station.proofs.Interleaving.{interleave_more, interleave_past}
-use Rattle.gc_station.specs.Marks.{commands_in, occasion_of, records_of, record_with}
-use Rattle.gc_station.specs.Progressing.{is_over_in, is_over, loses_all}
-use Rattle.gc_station.specs.Parts.{MarksAsk, MarkAsks, went_out}
-use Rattle.gc_station.specs.Records.{Record}
-use Rattle.gc_station.specs.Reasons.{IsFinished}
-use Rattle.gc_station.specs.Tasked.{IsOfItsTask}
-use Rattle.gc_station.specs.Model.{Model, losing, with_losses, cycle_length}
-use Rattle.gc_station.specs.Scopes.{Reads}
 use Rattle.gc_station.proofs.Each.{row_in_text_moment, row_in_text_settles, row_in_text_null, row_in_text_sent, row_in_text_skipped, reached_past, reached_next, reached_whole, reached_none, row_in_text_prepared, row}
 use Rattle.gc_station.proofs.Invariant.{Invariant, is_before_requests, says_done}
 use Rattle.gc_station.proofs.Lists.{all_append}

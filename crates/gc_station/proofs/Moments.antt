@@ -1,32 +1,6 @@
 -- Each record has the moment of the act by which its command ended; and the fault of an unreadable one is that of its line (`AsText`). The records
 -- that one act adds are its `news`. An act is one call on the link, with its result.
-use Rattle.std.proofs.Common.{◌≡◌, ℕ, suc, Bool, true, false, List, [], ◌∷◌, ◌++◌, Option, Some, None, if◌then◌else◌, refl, sym, ap, ◌∙◌, subst, append_assoc, append-nil}
-use Rattle.std.proofs.lemmas.List.{append_cancel_left}
-use Rattle.std.specs.List.{AllByRecursion}
-use Rattle.std.specs.Prelude.{slice_get}
-use Rattle.gc_catalogue.specs.declared.asked.Asked.{Asked}
-use Rattle.gc_client.specs.Rule.{Settlement, hears, heard, restarts}
-use Rattle.gc_links.specs.Acts.{Act, Told, Gave}
-use Rattle.gc_links.specs.declared.link.Moment.{Moment}
-use Rattle.gc_texts.specs.Endings.{End, Skipped, NoValue, Missed, line_of}
-use Rattle.gc_texts.specs.declared.tasks.Task.{Task}
-use Rattle.gc_station.specs.ActKinds.{moment_in}
-use Rattle.gc_station.specs.Answers.{AnswerIsJustified, IsAnsweredIn, IsWrittenAt}
-use Rattle.gc_station.specs.Cycles.{UnsentIsJustified}
-use Rattle.gc_station.specs.Deciding.{lacks_value}
-use Rattle.gc_station.specs.Marks.{records_of}
-use Rattle.gc_station.specs.Model.{Model, Performs, Runs, action_at, after, after_piece, first_unsent_record, is_heard, line_came, lines_completed, losing, moved, opening, with_moment, with_progress}
-use Rattle.gc_station.specs.NextCommand.{commands_left, mark_next}
-use Rattle.gc_station.specs.Progressing.{lines_synchronizing, loses_all, moment_noted, turned}
-use Rattle.gc_station.specs.Records.{Record}
-use Rattle.gc_station.specs.Runs.{state_after}
-use Rattle.gc_station.specs.Scopes.{Reads, Scope}
-use Rattle.gc_station.specs.declared.mark.Mark.{Mark}
-use Rattle.gc_station.specs.declared.plan.Plan.{Plan}
-use Rattle.gc_station.specs.declared.progress.Action.{Action}
-use Rattle.gc_station.specs.declared.progress.Action.TheVariants as actions
-use Rattle.gc_station.specs.declared.progress.Progress.{Progress}
-use Rattle.gc_station.specs.Qualities.{form_at}
+use Rattle.gc_station.proofs.Common.{◌≡◌, ℕ, suc, Bool, true, false, List, [], ◌∷◌, ◌++◌, Option, Some, None, if◌then◌else◌, refl, sym, ap, ◌∙◌, subst, append_assoc, append-nil, append_cancel_left, AllByRecursion, slice_get, Asked, Settlement, hears, heard, restarts, Act, Told, Gave, Moment, End, Skipped, NoValue, Missed, line_of, Task, moment_in, AnswerIsJustified, IsAnsweredIn, IsWrittenAt, UnsentIsJustified, lacks_value, records_of, Model, Performs, Runs, action_at, after, after_piece, first_unsent_record, is_heard, line_came, lines_completed, losing, moved, opening, with_moment, with_progress, commands_left, mark_next, lines_synchronizing, loses_all, moment_noted, turned, Record, state_after, Reads, Scope, Mark, Plan, Action, Progress, form_at, AnswersHaveTheirMoments, CameAt, EachRecordHasItsMoment, HasItsMoment, IsAsRead, UnreadableAsTheyRead, utc_or, utc_read}
 use Rattle.gc_station.proofs.Always.{always}
 use Rattle.gc_station.proofs.AsText.{IsAsItsText, kept_all}
 use Rattle.gc_station.proofs.Answers.{answers_true}
@@ -38,7 +12,7 @@ use Rattle.gc_station.proofs.Lists.{all_append, all_at, all_on}
 use Rattle.gc_station.proofs.Staying.{closed_stays, gave_stays, silent_stays}
 use Rattle.gc_station.proofs.Unsent.{unsent_for_a_cause}
 use Rattle.gc_station.proofs.Walk.{asked_along, came_along, losing_along, moved_changed, walk, HoldsInEachCase}
-use Rattle.gc_station.specs.Moments.{AnswersHaveTheirMoments, CameAt, EachRecordHasItsMoment, HasItsMoment, IsAsRead, UnreadableAsTheyRead, utc_or, utc_read}
+use Rattle.gc_station.specs.declared.progress.Action.TheVariants as actions
 
 -- the record has the moment `utc`, unless its command is missed
 abbrev pub IsOfMoment : (utc : ℕ) → Record → Type 0

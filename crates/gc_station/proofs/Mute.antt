@@ -2,36 +2,7 @@
 -- moment, after which no reply line comes. An act is one call on the link, with its result. `alive` is the moment since which
 -- no reply line came, `now` the moment read last, `asked` whether a request was sent after the last reply line; `before` and
 -- `behind` are the acts before and after the act `start`, with which a silence begins. Moments are in milliseconds.
-use Rattle.std.proofs.Common.{◌≡◌, ℕ, ◌-◌, ◌<◌, ◌≤◌, ◌⊎◌, inl, inr, ◌&&◌, ◌||◌, Bool, true, false, List, [], ◌∷◌, ◌++◌, length, drop, if◌then◌else◌, nat_lt, nat_le, min, refl, sym, ap, ◌∙◌, subst, arith, append_assoc}
-use Rattle.std.specs.List.{AllByRecursion}
-use Rattle.std.proofs.Math.Nat.{min-eq_left, min-eq_right}
-use Rattle.std.proofs.lemmas.List.{nil_from_length}
-use Rattle.std.proofs.lemmas.Bool.{leb-true, leb-false, ltb-true, and_parts, both_ways, or_right}
-use Rattle.gc_lines.specs.Frames.{rest_behind}
-use Rattle.gc_catalogue.specs.declared.asked.Asked.{Asked}
-use Rattle.gc_client.specs.Beginning.{the_word}
-use Rattle.gc_client.specs.Rule.{ById, deadlines}
-use Rattle.gc_catalogue.specs.declared.asked.Asked.TheVariants.{Table}
-use Rattle.gc_catalogue.specs.declared.call.Call.TheVariants.{NullProc}
-use Rattle.gc_texts.specs.declared.tasks.Task.{Task}
-use Rattle.gc_session.specs.Exchange.{is_none_left}
-use Rattle.gc_links.specs.declared.link.Moment.{Moment}
-use Rattle.gc_station.specs.declared.plan.Plan.{Plan}
-use Rattle.gc_station.specs.declared.cause.Cause.TheVariants as cause
-use Rattle.gc_station.specs.declared.progress.Phase.{Phase}
-use Rattle.gc_station.specs.declared.progress.Phase.TheVariants as phase
-use Rattle.gc_station.specs.declared.progress.Action.{Action}
-use Rattle.gc_station.specs.declared.progress.Action.TheVariants as actions
-use Rattle.gc_station.specs.declared.progress.Progress.{Progress}
-use Rattle.gc_links.specs.Acts.{Act, Told, Put, Gave, Silent}
-use Rattle.gc_station.specs.Deciding.{has_begun, goes_on, later, dead_after}
-use Rattle.gc_station.specs.Progressing.{turned, moment_noted, lines_synchronizing}
-use Rattle.gc_station.specs.Quiet.{TellsMoment, IsListening, StaysConnected}
-use Rattle.gc_station.specs.Reasons.{HoldsBefore}
-use Rattle.gc_station.specs.Runs.{state_after}
-use Rattle.gc_station.specs.Silences.{HasAllTimedOut, latest, IsNoReply, BringsNoReply, IsMute, WentBack, PutsFirst, IsMuteFor}
-use Rattle.gc_station.specs.Model.{Model, next_request_text, null_text, first_text, occasion_at, opening, action_at, waiting_of, with_progress, with_moment, with_rest, lines_came, lines_completed, after_piece, is_heard, after, after_all, Runs, text_or_null}
-use Rattle.gc_station.specs.NextCommand.{place_next}
+use Rattle.gc_station.proofs.Common.{◌≡◌, ℕ, ◌-◌, ◌<◌, ◌≤◌, ◌⊎◌, inl, inr, ◌&&◌, ◌||◌, Bool, true, false, List, [], ◌∷◌, ◌++◌, length, drop, if◌then◌else◌, nat_lt, nat_le, min, refl, sym, ap, ◌∙◌, subst, arith, append_assoc, AllByRecursion, min-eq_left, min-eq_right, nil_from_length, leb-true, leb-false, ltb-true, and_parts, both_ways, or_right, rest_behind, Asked, the_word, ById, deadlines, Table, NullProc, Task, is_none_left, Moment, Plan, Phase, Action, Progress, Act, Told, Put, Gave, Silent, has_begun, goes_on, later, dead_after, turned, moment_noted, lines_synchronizing, TellsMoment, IsListening, StaysConnected, HoldsBefore, state_after, HasAllTimedOut, latest, IsNoReply, BringsNoReply, IsMute, WentBack, PutsFirst, IsMuteFor, Model, next_request_text, null_text, first_text, occasion_at, opening, action_at, waiting_of, with_progress, with_moment, with_rest, lines_came, lines_completed, after_piece, is_heard, after, after_all, Runs, text_or_null, place_next, Scope}
 use Rattle.gc_station.proofs.Closings.{came_phase}
 use Rattle.gc_station.proofs.Connected.{is_in_use, HoldsInUse, holds_in_use_always}
 use Rattle.gc_station.proofs.Since.{Since, since_now, since_on, extend_cut}
@@ -43,9 +14,11 @@ use Rattle.gc_station.proofs.Lists.{all_append}
 use Rattle.gc_station.proofs.Silences.{LastTells, awake_last, not_closing, closes_at_its_end, second_holds}
 use Rattle.gc_station.proofs.Invariant.{Invariant}
 use Rattle.gc_station.proofs.Walk.{asked_along, came_along}
-use Rattle.gc_station.specs.Scopes.{Scope}
 use Rattle.gc_station.proofs.ReplyLines.{lines_moment, AliveWith, Alive, lines_alive, AliveAsked, asked_alive}
 use Rattle.gc_station.proofs.Ticking.{latest_more}
+use Rattle.gc_station.specs.declared.cause.Cause.TheVariants as cause
+use Rattle.gc_station.specs.declared.progress.Phase.TheVariants as phase
+use Rattle.gc_station.specs.declared.progress.Action.TheVariants as actions
 
 -- whether a reply line is waited for on the connection: the station has synchronized (no id of `word` is left), or a null
 -- procedure was sent on it (`again`), or a request after the last reply line (`asked`)

@@ -1,10 +1,6 @@
 -- Answers are near their targets' places, their qualities are as listed, and those of two sendings agree: each record is as its text says
 -- (`IsAsItsText`), and is confirmed by those before it.
-use Rattle.std.proofs.Common.{[]}
-use Rattle.gc_station.specs.Agreeing.{IsComparedInFull, IsUnconfirmed, DisagreesInSecond, AgreedRowsAgree}
-use Rattle.gc_station.specs.Nearness.{IsAtItsTarget, OffTargetIsJustified, AnswersAreAtTheirTargets}
-use Rattle.gc_station.specs.Qualities.{IsAsListed, QualitiesAreAsListed}
-use Rattle.gc_station.specs.Runs.{state_after}
+use Rattle.gc_station.proofs.Common.{[], IsComparedInFull, IsUnconfirmed, DisagreesInSecond, AgreedRowsAgree, IsAtItsTarget, OffTargetIsJustified, AnswersAreAtTheirTargets, IsAsListed, QualitiesAreAsListed, state_after}
 use Rattle.gc_station.proofs.Lists.{all_on}
 use Rattle.gc_station.proofs.Agreeing.{after_split, each_after}
 use Rattle.gc_station.proofs.AsText.{IsAsItsText, IsFullyConfirmed, kept_all}

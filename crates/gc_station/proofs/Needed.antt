@@ -1,30 +1,13 @@
 -- Which values of files the next command takes: what a progress notes of them (`next_needs`) is what the text says. An act is one call on
 -- the link, with its result.
-use Rattle.std.proofs.Common.{◌≡◌, ℕ, ◌+◌, ◌-◌, ◌≤◌, Bool, true, false, List, drop, length, nat_le, refl, sym, ap, ◌∙◌, subst, arith}
-use Rattle.std.proofs.lemmas.Bool.{leb-true, leb-false}
-use Rattle.std.proofs.lemmas.List.{drop_all}
-use Rattle.gc_texts.specs.ValueItems.{lack}
-use Rattle.gc_texts.specs.declared.tasks.Task.{Task}
-use Rattle.gc_texts.specs.declared.value_item.Needs.{Needs}
-use Rattle.gc_links.specs.Acts.{Act, Told, Cut}
-use Rattle.gc_station.specs.Cycles.{IsWithoutValue}
-use Rattle.gc_station.specs.Deciding.{lacks_value}
-use Rattle.gc_station.specs.Model.{Model, opening, action_at, with_progress, moved, Runs, waiting_of, cycle_length}
-use Rattle.gc_station.specs.NextCommand.{commands_left, commands_left_after, commands_before, needs_first}
-use Rattle.gc_station.specs.Progressing.{turned, failing}
-use Rattle.gc_station.specs.Reasons.{HoldsBefore}
-use Rattle.gc_station.specs.Runs.{state_after}
-use Rattle.gc_station.specs.Scopes.{Scope}
-use Rattle.gc_station.specs.declared.cause.Cause.TheVariants as cause
-use Rattle.gc_station.specs.declared.plan.Plan.{Plan}
-use Rattle.gc_station.specs.declared.progress.Action.{Action}
-use Rattle.gc_station.specs.declared.progress.Action.TheVariants as actions
-use Rattle.gc_station.specs.declared.progress.Progress.{Progress}
+use Rattle.gc_station.proofs.Common.{◌≡◌, ℕ, ◌+◌, ◌-◌, ◌≤◌, Bool, true, false, List, drop, length, nat_le, refl, sym, ap, ◌∙◌, subst, arith, leb-true, leb-false, drop_all, lack, Task, Needs, Act, Told, Cut, IsWithoutValue, lacks_value, Model, opening, action_at, with_progress, moved, Runs, waiting_of, cycle_length, commands_left, commands_left_after, commands_before, needs_first, turned, failing, HoldsBefore, state_after, Scope, Plan, Action, Progress}
 use Rattle.gc_station.proofs.Always.{always_of_progress}
 use Rattle.gc_station.proofs.EachRun.{invariant_holds}
 use Rattle.gc_station.proofs.Facts.{action_for}
 use Rattle.gc_station.proofs.Interleaving.{drop_past}
 use Rattle.gc_station.proofs.Walk.{moved_changed, model_sent, sent_same}
+use Rattle.gc_station.specs.declared.cause.Cause.TheVariants as cause
+use Rattle.gc_station.specs.declared.progress.Action.TheVariants as actions
 
 -- the values that a progress notes of the next command are those that the text says it takes
 abbrev pub NeedsFit : List Task → Progress → Type 0

@@ -1,6 +1,5 @@
 -- The run of `specs/NoPeriodRun.antt`, computed.
-use Rattle.std.proofs.Common.{inl, inr, None, refl, lit<, lit≤}
-use Rattle.gc_station.specs.BoundRuns.{scope, outage_commands}
+use Rattle.gc_station.proofs.Common.{inl, inr, None, refl, lit<, lit≤, scope, outage_commands}
 use Rattle.gc_station.specs.NoPeriodRun.{DueMomentsAreNeeded, gapless_plan, long_pause}
 use Rattle.gc_station.proofs.Returning.{calls_each, readings_at_once, not_in_time}
 

@@ -1,27 +1,12 @@
 -- While a station synchronizes, no request of its client is ended by a reply: the count of the requests after the last call of the
 -- table that a reply ended (`behind`) is seven. An act is one call on the link, with its result.
-use Rattle.std.proofs.Common.{◌≡◌, ℕ, Bool, true, false, List, [], ◌∷◌, refl, sym, ap, ◌∙◌}
-use Rattle.std.proofs.lemmas.Bool.{both_ways}
-use Rattle.gc_client.specs.declared.window.TheConstants.{WINDOW}
-use Rattle.gc_texts.specs.declared.tasks.Task.{Task}
-use Rattle.gc_session.specs.Exchange.{is_none_left, one_more_in_window}
-use Rattle.gc_links.specs.declared.link.Moment.{Moment}
-use Rattle.gc_links.specs.Acts.{Act, Told}
-use Rattle.gc_station.specs.declared.plan.Plan.{Plan}
-use Rattle.gc_station.specs.declared.progress.Action.{Action}
-use Rattle.gc_station.specs.declared.progress.Action.TheVariants as action
-use Rattle.gc_station.specs.declared.progress.Progress.{Progress}
-use Rattle.gc_station.specs.Deciding.{has_begun}
-use Rattle.gc_station.specs.Model.{Model, opening, action_at, waiting_of, is_heard, with_progress, with_rest, lines_completed, after_piece, moved, with_losses, after, Performs, Runs}
-use Rattle.gc_station.specs.Progressing.{turned, time_passed}
-use Rattle.gc_station.specs.Reasons.{HoldsBefore}
-use Rattle.gc_station.specs.Runs.{state_after}
-use Rattle.gc_station.specs.Scopes.{Scope}
+use Rattle.gc_station.proofs.Common.{◌≡◌, ℕ, Bool, true, false, List, [], ◌∷◌, refl, sym, ap, ◌∙◌, both_ways, WINDOW, Task, is_none_left, one_more_in_window, Moment, Act, Told, Plan, Action, Progress, has_begun, Model, opening, action_at, waiting_of, is_heard, with_progress, with_rest, lines_completed, after_piece, moved, with_losses, after, Performs, Runs, turned, time_passed, HoldsBefore, state_after, Scope}
 use Rattle.gc_station.proofs.Always.{always}
 use Rattle.gc_station.proofs.Counts.{with_losses_progress}
 use Rattle.gc_station.proofs.Facts.{action_for}
 use Rattle.gc_station.proofs.Walk.{asked_along, quieted_along, closed_along, walk, piece_before}
 use Rattle.gc_station.proofs.Words.{renews_only}
+use Rattle.gc_station.specs.declared.progress.Action.TheVariants as action
 
 -- no request of the client was ended by a reply, by the count of the progress p (`behind`)
 abbrev pub NoneEnded : Progress → Type 0

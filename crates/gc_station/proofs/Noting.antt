@@ -2,29 +2,11 @@
 -- lasts, unless the act only reads the clock. An act is one call on the link, with its result. At the start the link had recorded `told`, the book had taken `taken`,
 -- and `saw` were the turns seen; by now they are those with primes. `text` is how a record is written. `Noted` says what was done
 -- and seen so far.
-use Rattle.std.proofs.Common.{◌≡◌, ℕ, Bool, true, false, List, [], ◌∷◌, ◌++◌, Option, Some, Err, refl, sym, ap, ◌∙◌, subst, append-nil, append_assoc}
-use Rattle.std.specs.Io.KnownBytes.{Keeps}
-use Rattle.gc_texts.specs.declared.tasks.Task.{Task}
-use Rattle.gc_texts.specs.declared.fault.RunFault.{RunFault}
-use Rattle.gc_texts.specs.declared.fault.RunFault.TheVariants as fault
-use Rattle.gc_links.specs.Acts.{Act, Closed, AddsActs}
-use Rattle.gc_station.specs.declared.plan.Plan.{Plan}
-use Rattle.gc_station.specs.declared.cause.Cause.{Cause}
-use Rattle.gc_station.specs.declared.cause.Cause.TheVariants.{Done, Dead, Read, End, Write, Clock, Open, Turns, Stale, Stopped, SetUp}
-use Rattle.gc_station.specs.declared.progress.Action.{Action}
-use Rattle.gc_station.specs.declared.progress.Action.TheVariants.{ReadClock, Renew, Begin, Skip, Pass}
-use Rattle.gc_station.specs.declared.station.Station.{Station}
-use Rattle.gc_station.specs.ActKinds.{ReadsClock}
-use Rattle.gc_station.specs.Causes.{fault_of_cause}
-use Rattle.gc_station.specs.Keeping.{Snapshot, reads_clock_alone, IsKept, AreKept, KeepsUp, close_at_output}
-use Rattle.gc_station.specs.Records.{Record}
-use Rattle.gc_station.specs.Runs.{state_after}
-use Rattle.gc_station.specs.Model.{Model, opening, action_at, Performs, stepped}
-use Rattle.gc_station.specs.Scopes.{Scope, AreReadings}
-use Rattle.gc_station.specs.Stations.{Refines, Makes, Breaks, as_seen}
-use Rattle.gc_station.specs.declared.tally.Tally.{Tally}
+use Rattle.gc_station.proofs.Common.{◌≡◌, ℕ, Bool, true, false, List, [], ◌∷◌, ◌++◌, Option, Some, Err, refl, sym, ap, ◌∙◌, subst, append-nil, append_assoc, Keeps, Task, RunFault, Act, Closed, AddsActs, Plan, Cause, Done, Dead, Write, Clock, Turns, Stale, Stopped, SetUp, Action, ReadClock, Renew, Begin, Skip, Pass, Station, ReadsClock, fault_of_cause, Snapshot, reads_clock_alone, IsKept, AreKept, KeepsUp, close_at_output, Record, state_after, Model, opening, action_at, Performs, stepped, Scope, AreReadings, Refines, Makes, Breaks, as_seen, Tally}
+use Rattle.gc_station.specs.declared.cause.Cause.TheVariants.{Read, End, Open}
 use Rattle.gc_station.proofs.Going.{Went, went_nothing, went_kept, went_on, runs-append}
 use Rattle.gc_station.proofs.Hearing.{adds_acts_append}
+use Rattle.gc_texts.specs.declared.fault.RunFault.TheVariants as fault
 
 -- an act that isn't a mere reading of the clock performs an action that isn't one
 more_than_clock : (commands : List Task) (s : Model) (action : Action) (act : Act) → Performs commands s action act → (ReadsClock act → ⊥) → reads_clock_alone action ≡ false

@@ -1,24 +1,7 @@
 -- How many null procedures may still be sent before the next command has its turn: those after the last command are at most seven, and
 -- no line makes them fewer unless that command is settled (`nulls_left`).
-use Rattle.std.proofs.Common.{◌≡◌, ℕ, zero, suc, ◌+◌, ◌*◌, ◌-◌, ◌<◌, ◌≤◌, ◌||◌, Bool, true, false, if◌then◌else◌, List, [], ◌∷◌, ◌++◌, length, map, drop, Option, Some, None, nat_lt, nat_le, nat_eq, refl, sym, ap, ◌∙◌, subst, arith, length-drop}
-use Rattle.std.specs.Prelude.{slice_get}
-use Rattle.std.proofs.lemmas.Bool.{both_ways, cond_both, eqb-true}
-use Rattle.std.proofs.lemmas.Bool.Decides.{nat_tests}
-use Rattle.gc_catalogue.specs.Asked.{is_of_table}
-use Rattle.gc_catalogue.specs.declared.asked.Asked.{Asked}
-use Rattle.gc_client.specs.OneForOne.{of_pending, Wanted}
-use Rattle.gc_client.specs.Rule.{hears, heard, settles_at, fits, place_in, settle, expired}
-use Rattle.gc_client.specs.declared.pending.Pending.{Pending}
-use Rattle.gc_client.specs.declared.window.TheConstants.{WINDOW}
-use Rattle.gc_client.proofs.OneForOne.{length-settle}
-use Rattle.gc_texts.specs.declared.tasks.Task.{Task}
-use Rattle.gc_session.specs.Lines.{is_reply, ends_with_table, is_some_of_table}
-use Rattle.gc_station.specs.Deciding.{has_begun}
-use Rattle.gc_station.specs.Marks.{commands_in}
-use Rattle.gc_station.specs.Model.{Model, line_came, line_doubted, line_settles}
-use Rattle.gc_station.specs.Parts.{MarksAsk}
-use Rattle.gc_station.specs.declared.mark.Mark.{Mark}
-use Rattle.gc_station.specs.declared.progress.Progress.{Progress}
+use Rattle.gc_station.proofs.Common.{◌≡◌, ℕ, zero, suc, ◌+◌, ◌*◌, ◌-◌, ◌<◌, ◌≤◌, ◌||◌, Bool, true, false, if◌then◌else◌, List, [], ◌∷◌, ◌++◌, length, map, drop, Option, Some, None, nat_lt, nat_le, nat_eq, refl, sym, ap, ◌∙◌, subst, arith, slice_get, both_ways, cond_both, eqb-true, nat_tests, is_of_table, Asked, of_pending, Wanted, hears, heard, settles_at, fits, place_in, settle, expired, Pending, WINDOW, length-settle, Task, is_reply, ends_with_table, is_some_of_table, has_begun, commands_in, Model, line_came, line_doubted, line_settles, MarksAsk, Mark, Progress}
+use Rattle.std.proofs.Common.{length-drop}
 use Rattle.gc_station.proofs.Records.{commands-append}
 
 -- The null procedures after the last command.

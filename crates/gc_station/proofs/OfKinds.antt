@@ -1,20 +1,14 @@
 -- Values of the kinds of a description: a list of parameters has one list of them at most, or one fault, and never both; and each list has
 -- one of these.
-use Rattle.std.proofs.Common.{◌≡◌, ◌≤◌, ◌⊎◌, inl, inr, ℕ, Bool, true, false, List, [], ◌∷◌, length, arith, refl, sym, ◌∙◌, subst}
-use Rattle.std.proofs.lemmas.Bool.{cases_eq, cases_lt}
-use Rattle.gc_values.specs.Item.{IsItemFault}
-use Rattle.gc_values.specs.Lists as lists
-use Rattle.gc_values.specs.Lists.{FirstFault, IsListFault}
-use Rattle.gc_values.specs.Params.{AreTooMany, HasOpenQuote, IsParams, quotes}
-use Rattle.gc_values.specs.declared.fault.ValueFault.{ValueFault}
-use Rattle.gc_values.specs.declared.fault.ValueFault.TheVariants as fault
+use Rattle.gc_station.proofs.Common.{◌≡◌, ◌≤◌, ◌⊎◌, inl, inr, ℕ, Bool, true, false, List, [], ◌∷◌, length, arith, refl, sym, ◌∙◌, subst, cases_eq, cases_lt, IsItemFault, FirstFault, IsListFault, AreTooMany, HasOpenQuote, IsParams, quotes, ValueFault, AreOfKinds, BeginAs, HaveValues, IsItemsMisfit, IsKindsFault, KindsSeen, SuitsCount, faulty_item, faulty_items, open_quote, too_many, wrong_count}
 use Rattle.gc_values.specs.declared.value.Kind.{Kind}
 use Rattle.gc_values.specs.declared.value.Value.{Value}
 use Rattle.gc_values.proofs.EachItem.{each_item, each_list}
 use Rattle.gc_values.proofs.ItemLaws.{item_has_no_fault, one_value}
 use Rattle.gc_values.proofs.ListLaws.{one_first_fault}
 use Rattle.gc_values.proofs.ParamLists.{even_not_odd, one_list, params_even}
-use Rattle.gc_texts.specs.KindLists.{AreOfKinds, BeginAs, HaveValues, IsItemsMisfit, IsKindsFault, KindsSeen, SuitsCount, faulty_item, faulty_items, open_quote, too_many, wrong_count}
+use Rattle.gc_values.specs.Lists as lists
+use Rattle.gc_values.specs.declared.fault.ValueFault.TheVariants as fault
 
 -- One at most.
 

@@ -1,40 +1,8 @@
 -- How long a run goes on once its end was asked for: what a read waits for then, and how many requests are sent. Each request leaves less
 -- that may be sent: a command of the cycle, or one of the null procedures after the last command (`requests_left`). An act is one call on
 -- the link, with its result.
-use Rattle.std.proofs.Common.{◌≡◌, inl, inr, ℕ, suc, ◌+◌, ◌*◌, ◌-◌, ◌<◌, ◌≤◌, ◌&&◌, ◌||◌, Bool, true, false, not, if◌then◌else◌, List, [], ◌∷◌, ◌++◌, length, map, Option, None, nat_lt, nat_le, nat_eq, refl, sym, ap, ◌∙◌, subst, arith, append_assoc}
-use Rattle.std.proofs.lemmas.List.{length-map}
-use Rattle.std.proofs.lemmas.Bool.{both_ways, cond_both, and_parts, false_from_ne_true}
-use Rattle.std.proofs.lemmas.Bool.Decides.{nat_tests}
-use Rattle.gc_client.specs.Rule.{expired}
-use Rattle.gc_client.specs.declared.window.TheConstants.{WINDOW}
-use Rattle.gc_lines.specs.Frames.{rest_behind}
-use Rattle.gc_texts.specs.declared.tasks.Task.{Task}
-use Rattle.gc_session.specs.Exchange.{one_more_in_window}
-use Rattle.gc_links.specs.Acts.{Act, Gave, Silent}
-use Rattle.gc_links.specs.declared.link.Moment.{Moment}
-use Rattle.gc_station.specs.Deciding.{has_begun, is_up, is_unquiet, is_out_of_time, may_abandon, is_resting, is_stopping, is_stale, is_overdue, is_between_chains, is_cut, is_preparing, action_in, action_without_turns}
-use Rattle.gc_station.specs.Marks.{commands_in}
-use Rattle.gc_station.specs.NextCommand.{commands_before}
-use Rattle.gc_station.specs.Model.{Model, opening, action_at, waiting_of, with_progress, with_rest, lines_completed, is_heard, after_piece, moved, losing, with_losses, after, Performs, Runs}
-use Rattle.gc_station.specs.OnceAsked.{requests_by, requests_sent, EndsSoonOnceAsked}
-use Rattle.gc_station.specs.Progressing.{turned, loses_all, is_over, time_passed, quieted}
-use Rattle.gc_station.specs.Reasons.{HoldsBefore, AwaitsSomething, WantsNull}
+use Rattle.gc_station.proofs.Common.{◌≡◌, inl, inr, ℕ, suc, ◌+◌, ◌*◌, ◌-◌, ◌<◌, ◌≤◌, ◌&&◌, ◌||◌, Bool, true, false, not, if◌then◌else◌, List, [], ◌∷◌, ◌++◌, length, map, Option, None, nat_lt, nat_le, nat_eq, refl, sym, ap, ◌∙◌, subst, arith, append_assoc, length-map, both_ways, cond_both, and_parts, false_from_ne_true, nat_tests, expired, WINDOW, rest_behind, Task, one_more_in_window, Act, Gave, Silent, Moment, has_begun, is_up, is_unquiet, is_out_of_time, may_abandon, is_resting, is_stopping, is_stale, is_overdue, is_between_chains, is_cut, is_preparing, action_in, action_without_turns, commands_in, commands_before, Model, opening, action_at, waiting_of, with_progress, with_rest, lines_completed, is_heard, after_piece, moved, losing, with_losses, after, Performs, Runs, requests_by, requests_sent, EndsSoonOnceAsked, turned, loses_all, is_over, time_passed, quieted, HoldsBefore, AwaitsSomething, WantsNull, state_after, WhereNext, Scope, asked_after, Cause, Mark, Plan, Action, Phase, Progress, Until, Limit, Due, Waiting}
 use Rattle.gc_station.specs.RecordedInTime.{MayTakeTime}
-use Rattle.gc_station.specs.Runs.{state_after, WhereNext}
-use Rattle.gc_station.specs.Scopes.{Scope}
-use Rattle.gc_station.specs.Stopping.{asked_after}
-use Rattle.gc_station.specs.declared.cause.Cause.{Cause}
-use Rattle.gc_station.specs.declared.cause.Cause.TheVariants as cause
-use Rattle.gc_station.specs.declared.mark.Mark.{Mark}
-use Rattle.gc_station.specs.declared.plan.Plan.{Plan}
-use Rattle.gc_station.specs.declared.progress.Action.{Action}
-use Rattle.gc_station.specs.declared.progress.Action.TheVariants as actions
-use Rattle.gc_station.specs.declared.progress.Phase.{Phase}
-use Rattle.gc_station.specs.declared.progress.Phase.TheVariants as phase
-use Rattle.gc_station.specs.declared.progress.Progress.{Progress}
-use Rattle.gc_station.specs.declared.progress.Until.{Until}
-use Rattle.gc_station.specs.declared.progress.Until.TheVariants.{Limit, Due}
-use Rattle.gc_station.specs.declared.progress.Waiting.{Waiting}
 use Rattle.gc_station.proofs.Asked.{begun_if_nothing_lost}
 use Rattle.gc_station.proofs.Closings.{came_phase, needs_of, runs_split}
 use Rattle.gc_station.proofs.Counts.{with_losses_progress}
@@ -52,6 +20,9 @@ use Rattle.gc_station.proofs.Stopping.{asked-append, stops_as_asked}
 use Rattle.gc_station.proofs.Turns.{no_act_once_over}
 use Rattle.gc_station.proofs.Walk.{came_along, asked_along, quieted_along, closed_along, moved_changed, model_sent, walk, piece_before}
 use Rattle.gc_station.proofs.Nulls.{tail_nulls, nulls_within, nulls_more, NullsAreOfTable, nulls_of_table, nulls_expired, nulls_left, requests_left, nulls_few, nulls_if_some, nulls_if_far, nulls_after, nulls_after_most, nulls_after_begun, Listens, line_heard}
+use Rattle.gc_station.specs.declared.cause.Cause.TheVariants as cause
+use Rattle.gc_station.specs.declared.progress.Action.TheVariants as actions
+use Rattle.gc_station.specs.declared.progress.Phase.TheVariants as phase
 
 -- Acts.
 

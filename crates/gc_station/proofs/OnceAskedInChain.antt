@@ -1,23 +1,6 @@
 -- How many requests are sent once the end of a run was asked for: between two chains none; and within one no more than eight for each
 -- command that is left of it, and the null procedures after the last command. An act is one call on the link, with its result.
-use Rattle.std.proofs.Common.{◌≡◌, ◌⊎◌, inl, inr, ℕ, zero, suc, ◌+◌, ◌*◌, ◌-◌, ◌≤◌, ◌||◌, Bool, true, false, if◌then◌else◌, List, [], ◌∷◌, ◌++◌, length, drop, refl, sym, ap, ◌∙◌, subst, arith, append_assoc}
-use Rattle.std.proofs.lemmas.Bool.{both_ways, cond_both, or_left, false_from_ne_true}
-use Rattle.gc_texts.specs.declared.tasks.Task.{Task}
-use Rattle.gc_links.specs.Acts.{Act}
-use Rattle.gc_station.specs.Deciding.{is_between_chains}
-use Rattle.gc_links.specs.declared.link.Moment.{Moment}
-use Rattle.gc_station.specs.Model.{Model, cycle_length, opening, action_at, waiting_of, with_progress, moved, losing, with_losses, after, Performs, Runs}
-use Rattle.gc_station.specs.NextCommand.{place_next, commands_left, cycles_begun, cycle_next, first_is_chained, rests, is_chained_in}
-use Rattle.gc_station.specs.OnceAsked.{requests_by, requests_sent, chained_first, chain_left, FinishesItsChainOnceAsked}
-use Rattle.gc_station.specs.Progressing.{turned, loses_all, is_missed_at}
-use Rattle.gc_station.specs.Reasons.{HoldsBefore, MayGo}
-use Rattle.gc_station.specs.Runs.{state_after}
-use Rattle.gc_station.specs.Scopes.{Scope}
-use Rattle.gc_station.specs.Stopping.{asked_after}
-use Rattle.gc_station.specs.declared.plan.Plan.{Plan}
-use Rattle.gc_station.specs.declared.progress.Action.{Action}
-use Rattle.gc_station.specs.declared.progress.Action.TheVariants as actions
-use Rattle.gc_station.specs.declared.progress.Progress.{Progress}
+use Rattle.gc_station.proofs.Common.{◌≡◌, ◌⊎◌, inl, inr, ℕ, zero, suc, ◌+◌, ◌*◌, ◌-◌, ◌≤◌, ◌||◌, Bool, true, false, if◌then◌else◌, List, [], ◌∷◌, ◌++◌, length, drop, refl, sym, ap, ◌∙◌, subst, arith, append_assoc, both_ways, cond_both, or_left, false_from_ne_true, Task, Act, is_between_chains, Moment, Model, cycle_length, opening, action_at, waiting_of, with_progress, moved, losing, with_losses, after, Performs, Runs, place_next, commands_left, cycles_begun, cycle_next, first_is_chained, rests, is_chained_in, requests_by, requests_sent, chained_first, chain_left, FinishesItsChainOnceAsked, turned, loses_all, is_missed_at, HoldsBefore, MayGo, state_after, Scope, asked_after, Plan, Action, Progress}
 use Rattle.gc_station.proofs.Always.{always_of_progress}
 use Rattle.gc_station.proofs.Chaining.{waits_for_answer, next_chained}
 use Rattle.gc_station.proofs.ChainSteps.{Still, GoesOnBy, moved_steps}
@@ -39,6 +22,7 @@ use Rattle.gc_station.proofs.OnceAsked.{acts_fewer}
 use Rattle.gc_station.proofs.SendsNoMore.{sends_no_more, losing_sends_none, none_follows}
 use Rattle.gc_station.proofs.Stopping.{asked-append, stops_as_asked}
 use Rattle.gc_station.proofs.Walk.{moved_changed, walk}
+use Rattle.gc_station.specs.declared.progress.Action.TheVariants as actions
 
 -- Chains as the text says.
 

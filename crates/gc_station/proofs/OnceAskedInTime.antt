@@ -1,31 +1,6 @@
 -- By when a run is at its end once that was asked for, where the calls on the link return in their time: each request that is in flight
 -- times out in time, so each read ends in time, and the next request is sent in time. An act is one call on the link, with its result.
-use native.Mathlib.Nat.{mul-le-mul_right}
-use Rattle.std.proofs.Common.{◌≡◌, ◌⊎◌, inl, inr, ℕ, ◌+◌, ◌*◌, ◌≤◌, Bool, true, false, List, [], ◌∷◌, ◌++◌, drop, map, refl, sym, ap, ◌∙◌, subst, arith, append-nil, append_assoc}
-use Rattle.std.specs.List.{AllByRecursion}
-use Rattle.gc_values.proofs.Every.{every_drop, every_weaker}
-use Rattle.gc_catalogue.specs.declared.asked.Asked.{Asked}
-use Rattle.gc_client.specs.declared.pending.Pending.{Pending}
-use Rattle.gc_client.specs.Rule.{heard, expired}
-use Rattle.gc_texts.specs.declared.tasks.Task.{Task}
-use Rattle.gc_links.specs.Acts.{Act, Told, Gave, Silent}
-use Rattle.gc_links.specs.declared.link.Moment.{Moment}
-use Rattle.gc_station.specs.Cycles.{ClockRises}
-use Rattle.gc_station.specs.Model.{Model, opening, action_at, waiting_of, with_progress, with_moment, with_rest, line_came, lines_completed, is_heard, piece_at, moved, with_losses, after, Performs, Runs, mark_sent}
-use Rattle.gc_station.specs.NextCommand.{place_next}
-use Rattle.gc_station.specs.OnceAsked.{requests_by, requests_sent, requests_once_asked, requests_of_table_once_asked, end_bound, EndsByBoundOnceAsked, EndsATableRunByBoundOnceAsked}
-use Rattle.gc_station.specs.Progressing.{turned, moment_noted, time_passed, loses_all}
-use Rattle.gc_station.specs.Quiet.{IsAsking}
-use Rattle.gc_station.specs.CallTimes.{MayTakeTime, IsAskedToWait, IsReadBy, AreQuick, CallsReturn, ReadingsReturn}
-use Rattle.gc_station.specs.Runs.{state_after}
-use Rattle.gc_station.specs.Scopes.{Scope}
-use Rattle.gc_station.specs.Silences.{latest}
-use Rattle.gc_station.specs.Stopping.{asked_after}
-use Rattle.gc_station.specs.declared.plan.Plan.{Plan}
-use Rattle.gc_station.specs.declared.progress.Action.{Action}
-use Rattle.gc_station.specs.declared.progress.Action.TheVariants as actions
-use Rattle.gc_station.specs.declared.progress.Progress.{Progress}
-use Rattle.gc_station.specs.declared.progress.Until.{Until}
+use Rattle.gc_station.proofs.Common.{mul-le-mul_right, ◌≡◌, ◌⊎◌, inl, inr, ℕ, ◌+◌, ◌*◌, ◌≤◌, Bool, true, false, List, [], ◌∷◌, ◌++◌, drop, map, refl, sym, ap, ◌∙◌, subst, arith, append-nil, append_assoc, AllByRecursion, every_drop, every_weaker, Asked, Pending, heard, expired, Task, Act, Told, Gave, Silent, Moment, ClockRises, Model, opening, action_at, waiting_of, with_progress, with_moment, with_rest, line_came, lines_completed, is_heard, piece_at, moved, with_losses, after, Performs, Runs, mark_sent, place_next, requests_by, requests_sent, requests_once_asked, requests_of_table_once_asked, end_bound, EndsByBoundOnceAsked, EndsATableRunByBoundOnceAsked, turned, moment_noted, time_passed, loses_all, IsAsking, MayTakeTime, IsAskedToWait, IsReadBy, AreQuick, CallsReturn, ReadingsReturn, state_after, Scope, latest, asked_after, Plan, Action, Progress, Until}
 use Rattle.gc_station.proofs.Always.{always}
 use Rattle.gc_station.proofs.Closings.{runs_split}
 use Rattle.gc_station.proofs.Counts.{with_losses_progress}
@@ -41,6 +16,7 @@ use Rattle.gc_station.proofs.Staying.{gave_stays, silent_stays}
 use Rattle.gc_station.proofs.Stopping.{asked-append}
 use Rattle.gc_station.proofs.Ticking.{rises_front, latest_more, last_ticks, rises_before}
 use Rattle.gc_station.proofs.Walk.{asked_along, came_along, quieted_along, closed_along, losing_along, walk}
+use Rattle.gc_station.specs.declared.progress.Action.TheVariants as actions
 
 -- The moment read last.
 

@@ -1,26 +1,7 @@
 -- How many requests are sent once the end of a run was asked for whose commands are all calls of the table: one for each command that is
 -- left of the chain, and the null procedures after the last one. A null procedure is sent only once that has timed out, or before the
 -- first command since a synchronization; and then the chain doesn't go on. An act is one call on the link, with its result.
-use Rattle.std.proofs.Common.{◌≡◌, ◌⊎◌, inl, inr, ℕ, ◌+◌, ◌*◌, ◌≤◌, ◌&&◌, ◌||◌, Bool, true, false, not, if◌then◌else◌, List, [], ◌∷◌, ◌++◌, nat_eq, refl, sym, ap, ◌∙◌, subst, arith, append_assoc}
-use Rattle.std.proofs.lemmas.Bool.{both_ways, cond_both, false_from_ne_true}
-use Rattle.std.proofs.lemmas.List.{nil_from_length}
-use Rattle.gc_client.specs.Rule.{deadlines}
-use Rattle.gc_texts.specs.declared.tasks.Task.{Task}
-use Rattle.gc_links.specs.Acts.{Act}
-use Rattle.gc_station.specs.Behind.{AreOfTable, AwaitsFirstReply, IsNotHeldUp}
-use Rattle.gc_station.specs.Deciding.{is_up, is_between_chains}
-use Rattle.gc_station.specs.Marks.{last_well}
-use Rattle.gc_station.specs.Model.{Model, opening, action_at, waiting_of, with_progress, moved, losing, after, Performs, Runs}
-use Rattle.gc_station.specs.OnceAsked.{requests_by, requests_sent, chain_left, FinishesATableChainOnceAsked}
-use Rattle.gc_station.specs.Progressing.{turned, loses_all, is_over, is_over_in}
-use Rattle.gc_station.specs.Reasons.{HoldsBefore, MayGo, WantsNull}
-use Rattle.gc_station.specs.Runs.{state_after}
-use Rattle.gc_station.specs.Scopes.{Scope}
-use Rattle.gc_station.specs.Stopping.{asked_after}
-use Rattle.gc_station.specs.declared.plan.Plan.{Plan}
-use Rattle.gc_station.specs.declared.progress.Action.{Action}
-use Rattle.gc_station.specs.declared.progress.Action.TheVariants as actions
-use Rattle.gc_station.specs.declared.progress.Phase.{Phase}
+use Rattle.gc_station.proofs.Common.{◌≡◌, ◌⊎◌, inl, inr, ℕ, ◌+◌, ◌*◌, ◌≤◌, ◌&&◌, ◌||◌, Bool, true, false, not, if◌then◌else◌, List, [], ◌∷◌, ◌++◌, nat_eq, refl, sym, ap, ◌∙◌, subst, arith, append_assoc, both_ways, cond_both, false_from_ne_true, nil_from_length, deadlines, Task, Act, AreOfTable, AwaitsFirstReply, IsNotHeldUp, is_up, is_between_chains, last_well, Model, opening, action_at, waiting_of, with_progress, moved, losing, after, Performs, Runs, requests_by, requests_sent, chain_left, FinishesATableChainOnceAsked, turned, loses_all, is_over, is_over_in, HoldsBefore, MayGo, WantsNull, state_after, Scope, asked_after, Plan, Action, Phase}
 use Rattle.gc_station.proofs.ChainSteps.{stays_broken}
 use Rattle.gc_station.proofs.Closings.{runs_split, needs_of}
 use Rattle.gc_station.proofs.Counts.{with_losses_progress}
@@ -37,6 +18,7 @@ use Rattle.gc_station.proofs.OnceAskedInChain.{follows_text, left_in_chain, send
 use Rattle.gc_station.proofs.SendsNoMore.{sends_no_more, losing_sends_none}
 use Rattle.gc_station.proofs.Stopping.{asked-append, stops_as_asked}
 use Rattle.gc_station.proofs.TimedOutChain.{CannotGoOn, timed_if_none, goes_not_on}
+use Rattle.gc_station.specs.declared.progress.Action.TheVariants as actions
 
 module _ (plan : Plan) (commands : List Task) (scope : Scope) where
   -- the model after these acts

@@ -1,20 +1,6 @@
 -- Acts during which a station stays synchronized are of one part of the run: they add no part to those before them. An act is
 -- one call on the link, with its result. A part reaches from one synchronization to the next.
-use Rattle.std.proofs.Common.{◌≡◌, suc, ◌&&◌, ◌||◌, Bool, true, false, not, List, [], ◌∷◌, ◌++◌, length, refl, sym, ap, subst, arith}
-use Rattle.gc_texts.specs.declared.tasks.Task.{Task}
-use Rattle.gc_station.specs.declared.plan.Plan.{Plan}
-use Rattle.gc_station.specs.declared.progress.Action.{Action}
-use Rattle.gc_station.specs.declared.progress.Action.TheVariants.{Send}
-use Rattle.gc_links.specs.Acts.{Act}
-use Rattle.gc_station.specs.Deciding.{has_begun}
-use Rattle.gc_station.specs.Links.{parts}
-use Rattle.gc_station.specs.Parts.{Part, part_of_act, ends_part, in_front, parts_of}
-use Rattle.gc_station.specs.Progressing.{is_over}
-use Rattle.gc_station.specs.Runs.{state_after}
-use Rattle.gc_station.specs.Scopes.{Scope}
-use Rattle.gc_station.specs.ActKinds.{Puts}
-use Rattle.gc_station.specs.Model.{Model, Performs, Runs, opening, action_at, first_text, occasion_at, after, after_all}
-use Rattle.gc_station.specs.NextCommand.{commands_left}
+use Rattle.gc_station.proofs.Common.{◌≡◌, suc, ◌&&◌, ◌||◌, Bool, true, false, not, List, [], ◌∷◌, ◌++◌, length, refl, sym, ap, subst, arith, Task, Plan, Action, Send, Act, has_begun, parts, Part, part_of_act, ends_part, in_front, parts_of, is_over, state_after, Scope, Puts, Model, Performs, Runs, opening, action_at, first_text, occasion_at, after, after_all, commands_left}
 use Rattle.gc_station.proofs.Chaining.{StaysBegun}
 use Rattle.gc_station.proofs.Going.{after_all-append, runs_behind}
 use Rattle.gc_station.proofs.Turns.{no_act_once_over}

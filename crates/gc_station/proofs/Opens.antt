@@ -1,27 +1,14 @@
 -- Each connection that ends was asked for, and so was each that couldn't be made. `IsBalanced` says of one act: connections
 -- before it and asked for by it are as many as those that end at it, can't be made, or are there after it. An act is one call on
 -- the link, with its result.
-use Rattle.std.proofs.Common.{◌≡◌, ◌+◌, Bool, true, false, List, [], ◌∷◌, refl, sym, ap, ◌∙◌, arith}
-use Rattle.gc_texts.specs.declared.tasks.Task.{Task}
-use Rattle.gc_station.specs.declared.plan.Plan.{Plan}
-use Rattle.gc_station.specs.declared.cause.Cause.{Cause}
-use Rattle.gc_station.specs.declared.cause.Cause.TheVariants as cause
-use Rattle.gc_station.specs.declared.progress.Progress.{Progress}
-use Rattle.gc_station.specs.declared.progress.Action.{Action}
-use Rattle.gc_station.specs.declared.progress.Action.TheVariants as actions
-use Rattle.gc_links.specs.Acts.{Act, Closed, Unopened}
-use Rattle.gc_station.specs.Deciding.{has_begun, is_up}
-use Rattle.gc_station.specs.Marks.{commands_in}
-use Rattle.gc_station.specs.Progressing.{failing, turned, cleared, time_passed, closed}
-use Rattle.gc_station.specs.Reasons.{HoldsBefore, HasConnectionFor}
-use Rattle.gc_station.specs.Model.{Model, waiting_of, with_progress, is_heard, after_open, Performs, moved}
-use Rattle.gc_station.specs.NextCommand.{commands_before}
-use Rattle.gc_station.specs.Tries.{disconnections_in, openings_in}
+use Rattle.gc_station.proofs.Common.{◌≡◌, ◌+◌, Bool, true, false, List, [], ◌∷◌, refl, sym, ap, ◌∙◌, arith, Task, Plan, Cause, Progress, Action, Act, Closed, Unopened, has_begun, is_up, commands_in, failing, turned, cleared, time_passed, closed, HoldsBefore, HasConnectionFor, Model, waiting_of, with_progress, is_heard, after_open, Performs, moved, commands_before, disconnections_in, openings_in}
 use Rattle.gc_station.proofs.Closings.{came_phase, cleared_up}
 use Rattle.gc_station.proofs.Silences.{quieted_up}
 use Rattle.gc_station.proofs.Walk.{walk, piece_before}
 use Rattle.gc_station.proofs.Turns.{up_count, after_failure_down, closed_down}
 use Rattle.gc_station.proofs.Unbroken.{failure_keeps_line}
+use Rattle.gc_station.specs.declared.cause.Cause.TheVariants as cause
+use Rattle.gc_station.specs.declared.progress.Action.TheVariants as actions
 
 -- an act balances connections: those that it asks for, and 1 if there is one before it (`before`), are as many as those that it
 -- ends or can't make, and 1 if there is one after it (`behind`)

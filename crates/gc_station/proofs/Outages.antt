@@ -1,35 +1,6 @@
 -- Each due cycle is recorded in time, whatever the line does. An act is one call on the link, with its result.
-use Rattle.std.proofs.Common.{◌≡◌, ◌⊎◌, inl, inr, ℕ, suc, ◌+◌, ◌*◌, ◌-◌, ◌<◌, ◌≤◌, ◌&&◌, ◌||◌, Bool, true, false, not, if◌then◌else◌, List, [], ◌∷◌, ◌++◌, length, map, take, nat_lt, nat_le, nat_eq, refl, sym, ap, ◌∙◌, subst, arith, append-nil}
-use Rattle.std.proofs.lemmas.Bool.{ltb-true, ltb-false, leb-true, leb-false, eq-eqb, and_parts, cond_both, both_ways}
-use native.Mathlib.Nat.{suc-mul, mul-le-mul_right}
-use Rattle.std.proofs.lemmas.List.{nil_from_length}
-use Rattle.gc_catalogue.specs.declared.asked.Asked.{Asked}
-use Rattle.gc_client.specs.Rule.{ById}
-use Rattle.gc_texts.specs.declared.tasks.Task.{Task}
-use Rattle.gc_links.specs.Acts.{Act, Told}
-use Rattle.gc_station.specs.Cycles.{ClockRises}
-use Rattle.gc_station.specs.Deciding.{has_begun, lacks_value, is_out_of_time, is_overdue, setup_permits, is_stale, is_stopping, is_preparing, is_finished, is_up, may_abandon, action_in, action_on, action_overdue, action_of_phase, action_without_turns}
-use Rattle.gc_station.specs.EachOnce.{Interleave, RunRequest, of_record, still_waiting, all_cycles, of_text}
-use Rattle.gc_station.specs.Marks.{commands_in}
-use Rattle.gc_station.specs.Model.{Model, opening, action_at, waiting_of, with_progress, with_rest, moved, Performs, Runs}
-use Rattle.gc_station.specs.Progressing.{turned}
-use Rattle.gc_station.specs.NextCommand.{cycles_begun, place_next}
-use Rattle.gc_station.specs.Reasons.{IsFinished, MayGo, MayRetry, NothingMayGo, AwaitsSettlements, AwaitsReply, AwaitsSomething, MayBeSent}
-use Rattle.gc_station.specs.Runs.{state_after}
-use Rattle.gc_station.specs.Scopes.{Scope}
-use Rattle.gc_station.specs.RecordedInTime.{MayTakeTime, AreRecorded, DueOnesAreRecorded, IsInTime, IsUnhindered, RecordsOnceTimedOut, RecordsInTime, ReadsClockBefore, ReadsAwaitSomething, raw_count, raws_of_setup, record_bound}
-use Rattle.gc_station.specs.declared.progress.Until.{Until}
-use Rattle.gc_station.specs.declared.progress.Until.TheVariants.{Limit, Due}
-use Rattle.gc_station.specs.Quiet.{IsListening}
-use Rattle.gc_station.specs.declared.cause.Cause.{Cause}
-use Rattle.gc_station.specs.declared.cause.Cause.TheVariants as cause
-use Rattle.gc_station.specs.declared.plan.Plan.{Plan}
-use Rattle.gc_station.specs.declared.progress.Action.{Action}
-use Rattle.gc_station.specs.declared.progress.Action.TheVariants as actions
-use Rattle.gc_station.specs.declared.progress.Phase.{Phase}
-use Rattle.gc_station.specs.declared.progress.Phase.TheVariants as phase
-use Rattle.gc_station.specs.declared.progress.Progress.{Progress}
-use Rattle.gc_station.specs.declared.progress.Waiting.{Waiting}
+use Rattle.gc_station.proofs.Common.{◌≡◌, ◌⊎◌, inl, inr, ℕ, suc, ◌+◌, ◌*◌, ◌-◌, ◌<◌, ◌≤◌, ◌&&◌, ◌||◌, Bool, true, false, not, if◌then◌else◌, List, [], ◌∷◌, ◌++◌, length, map, take, nat_lt, nat_le, nat_eq, refl, sym, ap, ◌∙◌, subst, arith, append-nil, ltb-true, ltb-false, leb-true, leb-false, eq-eqb, and_parts, cond_both, both_ways, suc-mul, mul-le-mul_right, nil_from_length, Asked, ById, Task, Act, Told, ClockRises, has_begun, lacks_value, is_out_of_time, is_overdue, setup_permits, is_stale, is_stopping, is_preparing, is_finished, is_up, may_abandon, action_in, action_on, action_overdue, action_of_phase, action_without_turns, Interleave, RunRequest, of_record, still_waiting, all_cycles, of_text, commands_in, Model, opening, action_at, waiting_of, with_progress, with_rest, moved, Performs, Runs, turned, cycles_begun, place_next, IsFinished, MayGo, MayRetry, NothingMayGo, AwaitsSettlements, AwaitsReply, AwaitsSomething, MayBeSent, state_after, Scope, AreRecorded, DueOnesAreRecorded, IsInTime, IsUnhindered, RecordsOnceTimedOut, RecordsInTime, ReadsClockBefore, ReadsAwaitSomething, raw_count, raws_of_setup, record_bound, Until, Limit, Due, IsListening, Cause, Plan, Action, Phase, Progress, Waiting}
+use Rattle.gc_station.specs.RecordedInTime.{MayTakeTime}
 use Rattle.gc_station.proofs.Always.{progress_after_act}
 use Rattle.gc_station.proofs.BehindRaw.{raws_within}
 use Rattle.gc_station.proofs.CallTimes.{read_if_slow}
@@ -45,6 +16,9 @@ use Rattle.gc_station.proofs.Stopping.{stops_as_asked}
 use Rattle.gc_station.proofs.UnderWay.{SettingUp, not_permitted, some_unsent, soon_if_well}
 use Rattle.gc_station.proofs.Walk.{closed_along, walk}
 use Rattle.gc_station.proofs.InFlight.{none_in_flight, TimesOut}
+use Rattle.gc_station.specs.declared.cause.Cause.TheVariants as cause
+use Rattle.gc_station.specs.declared.progress.Action.TheVariants as actions
+use Rattle.gc_station.specs.declared.progress.Phase.TheVariants as phase
 
 -- Which actions are next once the cycle is overdue.
 

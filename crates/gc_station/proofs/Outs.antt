@@ -1,15 +1,6 @@
 -- Which command is sent, of a cycle or of the setup: a command of a cycle is sent only once the setup is done, and one of the
 -- setup only while it isn't.
-use Rattle.std.proofs.Common.{◌≡◌, ◌⊎◌, inl, inr, ◌<◌, Bool, true, false, List, if◌then◌else◌, sym, ap, subst, arith}
-use Rattle.gc_texts.specs.declared.tasks.Task.{Task}
-use Rattle.gc_station.specs.declared.mark.Mark.{Mark}
-use Rattle.gc_station.specs.declared.plan.Plan.{Plan}
-use Rattle.gc_station.specs.declared.progress.Action.{Action}
-use Rattle.gc_station.specs.declared.progress.Action.TheVariants.{Prepare, Send}
-use Rattle.gc_station.specs.Deciding.{is_preparing}
-use Rattle.gc_station.specs.Quiet.{IsAsking}
-use Rattle.gc_station.specs.Model.{Model, IsSending, action_at, waiting_of, cycle_to_send, place_to_send, mark_sent, mark_setup_sent}
-use Rattle.gc_station.specs.NextCommand.{cycles_begun, place_next}
+use Rattle.gc_station.proofs.Common.{◌≡◌, ◌⊎◌, inl, inr, ◌<◌, Bool, true, false, List, if◌then◌else◌, sym, ap, subst, arith, Task, Mark, Plan, Action, Prepare, Send, is_preparing, IsAsking, Model, IsSending, action_at, waiting_of, cycle_to_send, place_to_send, mark_sent, mark_setup_sent, cycles_begun, place_next}
 use Rattle.gc_station.proofs.Closings.{needs_of}
 
 -- if a command of a cycle is next, the setup is done

@@ -1,14 +1,6 @@
 -- The parts of the first acts of a run are a front of the parts of all its acts: as many or fewer, and the last of them may go on
 -- in its counterpart. An act is one call on the link, with its result. A part reaches from one synchronization to the next.
-use Rattle.std.proofs.Common.{◌≡◌, ◌⊎◌, inl, inr, ℕ, zero, suc, ◌+◌, ◌<◌, ◌≤◌, Bool, true, false, List, [], ◌∷◌, ◌++◌, length, Some, refl, sym, ◌∙◌, ap, subst, arith}
-use Rattle.std.specs.Prelude.{slice_get}
-use Rattle.std.proofs.lemmas.List.{length-append}
-use Rattle.std.proofs.lemmas.Option.{same_Some}
-use Rattle.gc_texts.specs.declared.tasks.Task.{Task}
-use Rattle.gc_station.specs.declared.plan.Plan.{Plan}
-use Rattle.gc_links.specs.Acts.{Act}
-use Rattle.gc_station.specs.Parts.{Part, parts_joined, idle_part, part_of_act, ends_part, in_front, parts_of}
-use Rattle.gc_station.specs.Model.{Model, action_at, after}
+use Rattle.gc_station.proofs.Common.{◌≡◌, ◌⊎◌, inl, inr, ℕ, zero, suc, ◌+◌, ◌<◌, ◌≤◌, Bool, true, false, List, [], ◌∷◌, ◌++◌, length, Some, refl, sym, ◌∙◌, ap, subst, arith, slice_get, length-append, same_Some, Task, Plan, Act, Part, parts_joined, idle_part, part_of_act, ends_part, in_front, parts_of, Model, action_at, after}
 use Rattle.gc_station.proofs.Following.{joined_assoc}
 
 -- there is at least one part

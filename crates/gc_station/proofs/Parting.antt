@@ -2,33 +2,8 @@
 -- result. Steps of the client are to send, to hear a line, to read the clock and to restart; one of a synchronization is a null
 -- procedure that is put, or a line heard, while the station synchronizes. `Leads` says that the steps of a part take the client, the marks and
 -- the records of one model to those of another.
-use Rattle.std.proofs.Common.{◌≡◌, ℕ, ◌-◌, ◌<◌, Bool, true, false, List, [], ◌∷◌, length, map, drop, Option, if◌then◌else◌, refl, sym, ap, ◌∙◌, ◌++◌, subst, arith, append-nil, if◌then◌else◌, length-drop}
-use Rattle.std.proofs.lemmas.List.{length-map}
-use Rattle.std.proofs.lemmas.Bool.{both_ways, cond_both}
-use Rattle.gc_lines.specs.Frames.{rest_behind}
-use Rattle.gc_catalogue.specs.declared.asked.Asked.{Asked}
-use Rattle.gc_client.specs.declared.window.TheConstants.{WINDOW}
-use Rattle.gc_client.specs.OneForOne.{Hear, Expire}
-use Rattle.gc_client.specs.Rule.{ById, fresh, heard, hears, expired, expires}
-use Rattle.gc_client.proofs.Lists.{head_of_drop}
-use Rattle.gc_texts.specs.declared.tasks.Task.{Task}
-use Rattle.gc_session.specs.Exchange.{is_none_left}
-use Rattle.gc_links.specs.declared.link.Moment.{Moment}
-use Rattle.gc_station.specs.declared.plan.Plan.{Plan}
-use Rattle.gc_station.specs.declared.progress.Action.{Action}
-use Rattle.gc_station.specs.declared.progress.Action.TheVariants as action
-use Rattle.gc_station.specs.declared.progress.Progress.{Progress}
-use Rattle.gc_station.specs.declared.progress.Until.{Until}
-use Rattle.gc_links.specs.Acts.{Act, Told, Gave}
-use Rattle.gc_station.specs.Deciding.{has_begun}
-use Rattle.gc_station.specs.Parts.{SyncStep, Part, only_sync_steps, only_steps, idle_part, put_part, first_request_part, heard_steps, client_part, sync_part, part_of_act, sent_of, request_part}
-use Rattle.gc_station.specs.Progressing.{turned}
-use Rattle.gc_station.specs.Reasons.{HoldsBefore}
-use Rattle.gc_station.specs.Records.{Record}
-use Rattle.gc_station.specs.declared.mark.Mark.{Mark}
-use Rattle.gc_station.specs.Model.{Model, waiting_of, Performs, with_progress, with_moment, with_rest, asks_first, unsent_record, first_unsent_record, line_came, lines_came, lines_completed, is_heard, after_piece, after_read, moved, request_for, null_request, request_or_null, asks_for, mark_sent, mark_setup_sent}
-use Rattle.gc_station.specs.NextCommand.{place_next, mark_next}
-use Rattle.gc_station.specs.Scopes.{Reads}
+use Rattle.gc_station.proofs.Common.{◌≡◌, ℕ, ◌-◌, ◌<◌, Bool, true, false, List, [], ◌∷◌, length, map, drop, Option, if◌then◌else◌, refl, sym, ap, ◌∙◌, ◌++◌, subst, arith, append-nil, if◌then◌else◌, length-map, both_ways, cond_both, rest_behind, Asked, WINDOW, Hear, Expire, ById, fresh, heard, hears, expired, expires, head_of_drop, Task, is_none_left, Moment, Plan, Action, Progress, Until, Act, Told, Gave, has_begun, SyncStep, Part, only_sync_steps, only_steps, idle_part, put_part, first_request_part, heard_steps, client_part, sync_part, part_of_act, sent_of, request_part, turned, HoldsBefore, Record, Mark, Model, waiting_of, Performs, with_progress, with_moment, with_rest, asks_first, unsent_record, first_unsent_record, line_came, lines_came, lines_completed, is_heard, after_piece, after_read, moved, request_for, null_request, request_or_null, asks_for, mark_sent, mark_setup_sent, place_next, mark_next, Reads, filter-append}
+use Rattle.std.proofs.Common.{length-drop}
 use Rattle.gc_station.proofs.InCycle.{within_window}
 use Rattle.gc_station.proofs.Asked.{sync_part_only_sync_steps}
 use Rattle.gc_station.proofs.Booking.{Books, books_sync_steps, sent_of-append_records, books_both, books_nothing, books_moment, books_line, books_send}
@@ -36,7 +11,7 @@ use Rattle.gc_station.proofs.Invariant.{Paired, Invariant}
 use Rattle.gc_station.proofs.Hearing.{hears_paired}
 use Rattle.gc_station.proofs.Tasked.{unsent_end}
 use Rattle.gc_station.proofs.Walk.{sent_same, walk, piece_before}
-use Rattle.std.proofs.lemmas.List.Elements.{filter-append}
+use Rattle.gc_station.specs.declared.progress.Action.TheVariants as action
 
 -- the part p takes the client of one model, with its marks and records, to those of another, with these readings of replies
 abbrev pub LeadsBy : Reads → List Task → Model → (p : Part) → Model → Type 0

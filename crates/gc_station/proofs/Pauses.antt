@@ -2,26 +2,14 @@
 -- failed. A close is spared if no connection is wanted then: it takes no try. `after_failure` is the progress after a failure,
 -- and `pause_after plan n` the pause after n failures in a row. An act is one call on the link, with its result. Times are in
 -- milliseconds.
-use Rattle.std.proofs.Common.{◌≡◌, ◌⊎◌, inl, inr, ℕ, zero, suc, ◌+◌, ◌-◌, ◌*◌, ◌<◌, ◌≤◌, ◌||◌, Bool, true, false, List, nat_lt, max, refl, ap, ◌∙◌, arith, ◌&&◌, not}
-use Rattle.std.proofs.lemmas.Bool.{lt-ltb, le-ltb, cond-true, cond-false, and_from, not_from_false}
-use Rattle.gc_texts.specs.declared.tasks.Task.{Task}
-use Rattle.gc_session.specs.Exchange.{pause_within}
-use Rattle.gc_links.specs.Acts.{Act}
-use Rattle.gc_station.specs.Deciding.{later}
+use Rattle.gc_station.proofs.Common.{◌≡◌, ◌⊎◌, inl, inr, ℕ, zero, suc, ◌+◌, ◌-◌, ◌*◌, ◌<◌, ◌≤◌, ◌||◌, Bool, true, false, List, nat_lt, max, refl, ap, ◌∙◌, arith, ◌&&◌, not, lt-ltb, le-ltb, cond-true, cond-false, and_from, not_from_false, Task, pause_within, Act, later, is_spared, after_failure, bytes_noted, gives_back, Model, moved, Cause, Plan, Action, Progress, Until, Waiting}
 use Rattle.gc_station.specs.Pauses.{doubled, pause_after, LeavesTries, HasTriesAndPause, TriesAndPausesAreCounted}
-use Rattle.gc_station.specs.Progressing.{is_finished, is_spared, after_failure, bytes_noted, gives_back}
-use Rattle.gc_station.specs.Model.{Model, moved}
-use Rattle.gc_station.specs.declared.cause.Cause.{Cause}
-use Rattle.gc_station.specs.declared.cause.Cause.TheVariants as cause
-use Rattle.gc_station.specs.declared.plan.Plan.{Plan}
-use Rattle.gc_station.specs.declared.progress.Action.{Action}
-use Rattle.gc_station.specs.declared.progress.Action.TheVariants as actions
-use Rattle.gc_station.specs.declared.progress.Phase.TheVariants as phase
-use Rattle.gc_station.specs.declared.progress.Progress.{Progress}
-use Rattle.gc_station.specs.declared.progress.Until.{Until}
-use Rattle.gc_station.specs.declared.progress.Waiting.{Waiting}
+use Rattle.gc_station.specs.Progressing.{is_finished}
 use Rattle.gc_station.proofs.Turns.{phase_by}
 use Rattle.gc_station.proofs.Walk.{moved_changed}
+use Rattle.gc_station.specs.declared.cause.Cause.TheVariants as cause
+use Rattle.gc_station.specs.declared.progress.Action.TheVariants as actions
+use Rattle.gc_station.specs.declared.progress.Phase.TheVariants as phase
 
 -- twice a pause of 0, bounded (`pause_within`), is the pause after a first failure
 twice_no_pause : (quiet : ℕ) → pause_within quiet (later 0 0) ≡ pause_within quiet quiet

@@ -1,26 +1,11 @@
 -- How long it is from the beginning of a cycle until the next one is due. By the clock it is a time to a moment that is `at` after a whole
 -- multiple of `every`; and it is never more than two periods, so that a cycle that is out of time is followed by one that is due. An act
 -- is one call on the link, with its result.
-use Rattle.std.proofs.Common.{◌≡◌, ◌⊎◌, inl, inr, ℕ, suc, ◌+◌, ◌*◌, ◌-◌, ◌/◌, ◌%◌, ◌<◌, ◌≤◌, ◌&&◌, Bool, true, false, not, if◌then◌else◌, is_some, List, min, nat_lt, nat_le, nat_eq, Option, Some, None, refl, sym, ap, ◌∙◌, subst, arith, mod-eq_of_lt, mod-lt}
-use Rattle.std.proofs.lemmas.Bool.{and_parts, cases_lt, cond-false, cond-true, cond_both, eq-eqb, le-leb, leb-false, leb-true, lt-ltb, ne_eqb, or_left}
-use Rattle.std.proofs.lemmas.Bool.Decides.{nat_tests}
-use native.Mathlib.Nat.{suc-mul, div-add-mod', mod-eq-sub-mod}
-use Rattle.gc_texts.specs.declared.tasks.Task.{Task}
-use Rattle.gc_links.specs.Acts.{Act, Told}
-use Rattle.gc_links.specs.declared.link.Moment.{Moment}
-use Rattle.gc_station.specs.Cycles.{IsDueNext}
-use Rattle.gc_station.specs.Deciding.{later, is_due, is_asked_for, is_wanted, is_out_of_time}
-use Rattle.gc_station.specs.Model.{Model, opening, action_at, with_progress, moved, Runs}
+use Rattle.gc_station.proofs.Common.{◌≡◌, ◌⊎◌, inl, inr, ℕ, suc, ◌+◌, ◌*◌, ◌-◌, ◌/◌, ◌%◌, ◌<◌, ◌≤◌, ◌&&◌, Bool, true, false, not, if◌then◌else◌, is_some, List, min, nat_lt, nat_le, nat_eq, Option, Some, None, refl, sym, ap, ◌∙◌, subst, arith, mod-eq_of_lt, mod-lt, and_parts, cases_lt, cond-false, cond-true, cond_both, eq-eqb, le-leb, leb-false, leb-true, lt-ltb, ne_eqb, or_left, nat_tests, suc-mul, div-add-mod', mod-eq-sub-mod, Task, Act, Told, Moment, IsDueNext, later, is_due, is_asked_for, is_wanted, is_out_of_time, Model, opening, action_at, with_progress, moved, Runs, turned, due_at, due_of, cycle_start, next_period, regular_period, state_after, Scope, Plan, Action, Progress}
 use Rattle.gc_station.specs.Periods.{past_multiple, period_by_clock, period_from}
-use Rattle.gc_station.specs.Progressing.{turned, due_at, due_of, cycle_start, next_period, regular_period}
-use Rattle.gc_station.specs.Runs.{state_after}
-use Rattle.gc_station.specs.Scopes.{Scope}
-use Rattle.gc_station.specs.declared.plan.Plan.{Plan}
-use Rattle.gc_station.specs.declared.progress.Action.{Action}
-use Rattle.gc_station.specs.declared.progress.Action.TheVariants as actions
-use Rattle.gc_station.specs.declared.progress.Progress.{Progress}
 use Rattle.gc_station.proofs.Always.{always_of_progress}
 use Rattle.gc_station.proofs.Walk.{moved_changed}
+use Rattle.gc_station.specs.declared.progress.Action.TheVariants as actions
 
 -- The clock.
 

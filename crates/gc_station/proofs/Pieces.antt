@@ -1,40 +1,13 @@
 -- The lines of the piece that an act brings, heard one by one: the outstanding requests were put among the acts before
 -- (`StillWaitsAt` of `Waiting`), and each record that is written is true (`IsJustified`). An act is one call on the link, with its
 -- result. `HonestSoFar` says both of the model after some of the lines.
-use Rattle.std.proofs.Common.{◌≡◌, inl, ℕ, ◌<◌, Bool, true, false, List, [], ◌∷◌, ◌++◌, length, Option, Some, refl, sym, ap, ◌∙◌, subst, arith, append_assoc, append-nil}
-use Rattle.std.specs.List.{AllByRecursion}
-use Rattle.gc_lines.specs.Frames.{rest_behind}
-use Rattle.gc_catalogue.specs.declared.asked.Asked.{Asked}
-use Rattle.gc_client.specs.declared.pending.Pending.{Pending}
-use Rattle.gc_client.specs.Ids.{Waits, IsWithinLimits, id_of}
-use Rattle.gc_client.specs.Rule.{ById, Settlement, heard, hears}
-use Rattle.gc_client.proofs.Digits.{id_back, heard_digit}
-use Rattle.gc_values.specs.declared.decimal.Decimal.{Decimal}
-use Rattle.gc_texts.specs.Endings.{End, Answered, line_of}
-use Rattle.gc_texts.specs.Expectations.{meets}
+use Rattle.gc_station.proofs.Common.{◌≡◌, inl, ℕ, ◌<◌, Bool, true, false, List, [], ◌∷◌, ◌++◌, length, Option, Some, refl, sym, ap, ◌∙◌, subst, arith, append_assoc, append-nil, AllByRecursion, rest_behind, Asked, Pending, Waits, IsWithinLimits, id_of, ById, Settlement, heard, hears, id_back, heard_digit, Decimal, End, Answered, line_of, meets, Task, Mark, Plan, Moment, Act, Gave, ReadsBefore, Completes, IsRepliedIn, IsAnsweredIn, IsOwnRequest, IsRecordedBy, IsWrittenAt, OneReadsPast, IsLateIn, IsOvertaken, count_at, IsCompared, IsByExpectation, records_of, is_well, expected_at, IsAsking, Record, state_after, Puts, Model, action_at, next_request_text, with_rest, line_came, lines_came, lines_completed, after_piece, Scope, Reads}
 use Rattle.gc_texts.specs.declared.expectation.Expectation.{Expectation}
-use Rattle.gc_texts.specs.declared.tasks.Task.{Task}
-use Rattle.gc_station.specs.declared.mark.Mark.{Mark}
-use Rattle.gc_station.specs.declared.plan.Plan.{Plan}
-use Rattle.gc_links.specs.declared.link.Moment.{Moment}
-use Rattle.gc_links.specs.Acts.{Act, Gave}
-use Rattle.gc_station.specs.Answers.{ReadsBefore, Completes, IsRepliedIn, IsAnsweredIn, IsOwnRequest, IsRecordedBy, IsWrittenAt}
-use Rattle.gc_station.specs.Ends.{OneReadsPast, IsLateIn, IsOvertaken}
-use Rattle.gc_station.specs.Counters.{count_at}
-use Rattle.gc_station.specs.Expecting.{IsCompared, IsByExpectation}
-use Rattle.gc_station.specs.Marks.{records_of, is_well}
-use Rattle.gc_station.specs.NextCommand.{expected_at}
-use Rattle.gc_station.specs.Quiet.{IsAsking}
-use Rattle.gc_station.specs.Records.{Record}
-use Rattle.gc_station.specs.Runs.{state_after}
-use Rattle.gc_station.specs.ActKinds.{Puts}
-use Rattle.gc_station.specs.Model.{Model, action_at, next_request_text, with_rest, line_came, lines_came, lines_completed, after_piece}
 use Rattle.gc_station.proofs.Growing.{lines_records}
 use Rattle.gc_station.proofs.Lists.{all_append, all_split, cuts_on, AllRisingAt}
 use Rattle.gc_station.proofs.Meets.{HasPlace, EndedBy, heard_ended, hears_settles_oldest, left_within_limits, left_still_wait, all_records_at, IsRecordOf, is_record_of, some_sent, own_request, made_then, was_answered, was_late, was_lost}
 use Rattle.gc_station.proofs.Qualified.{ended_met, ended_unmet}
 use Rattle.gc_station.proofs.Waiting.{WasAsked, TimedOutAsRead, TimedOutAsReadBy, StillWaitsAt, IsJustified, IsHonest, as_read_after_moment, still_wait_at_moment, expired_within_limits, still_wait_after_moment, honest_after_moment}
-use Rattle.gc_station.specs.Scopes.{Scope, Reads}
 use Rattle.gc_station.proofs.Walk.{piece_before}
 
 -- five lists of records and the record r, joined in two ways, give the same list

@@ -1,26 +1,7 @@
 -- No command of a cycle is sent before each command of the setup was answered well, in order, since the connection was made and
 -- the station synchronized. No command of the setup is sent before each one before it was answered well, since then, too.
-use Rattle.std.proofs.Common.{◌≡◌, ◌⊎◌, inl, inr, ℕ, zero, suc, ◌+◌, ◌<◌, ◌≤◌, ◌&&◌, ◌||◌, Bool, true, false, not, nat_eq, nat_le, nat_lt, min, List, [], ◌∷◌, ◌++◌, length, drop, map, refl, sym, ap, ◌∙◌, subst, arith, append_assoc, append-nil, leb-true, eqb-true, lt-ltb}
-use Rattle.std.proofs.lemmas.List.{map-append, append_cancel_left}
-use Rattle.std.proofs.lemmas.Bool.{and_parts, both_ways, eq-eqb, ne_eqb}
-use Rattle.std.proofs.lemmas.Bool.Decides.{leb_tells}
-use Rattle.gc_texts.specs.declared.tasks.Task.{Task}
-use Rattle.gc_links.specs.Acts.{Act, Told, Opened}
-use Rattle.gc_station.specs.declared.plan.Plan.{Plan}
-use Rattle.gc_station.specs.declared.progress.Action.{Action}
-use Rattle.gc_station.specs.declared.progress.Action.TheVariants as action
-use Rattle.gc_station.specs.declared.progress.Progress.{Progress}
-use Rattle.gc_station.specs.Deciding.{is_preparing, is_up, has_begun}
-use Rattle.gc_station.specs.Marks.{last_well, commands_in}
-use Rattle.gc_station.specs.Progressing.{turned, is_over_in, loses_all}
-use Rattle.gc_station.specs.Quiet.{KeepsOpen}
-use Rattle.gc_station.specs.Reasons.{HoldsBefore, IsPreparedOrOverdue}
-use Rattle.gc_station.specs.Records.{Record}
-use Rattle.gc_station.specs.Runs.{state_after}
-use Rattle.gc_station.specs.Scopes.{Scope}
-use Rattle.gc_station.specs.Model.{Model, opening, action_at, waiting_of, with_progress, Performs, moved, after, after_all, Runs}
-use Rattle.gc_station.specs.NextCommand.{mark_setup}
-use Rattle.gc_station.specs.Setups.{Dispatch, dispatch_row, dispatch_of_record, dispatch_of_mark, dispatches_of, setup_sent_at, StaysUp, ArePrepared, NoneBeforeTheSetUp, SetUpInOrder}
+use Rattle.gc_station.proofs.Common.{◌≡◌, ◌⊎◌, inl, inr, ℕ, zero, suc, ◌+◌, ◌<◌, ◌≤◌, ◌&&◌, ◌||◌, Bool, true, false, not, nat_eq, nat_le, nat_lt, min, List, [], ◌∷◌, ◌++◌, length, drop, map, refl, sym, ap, ◌∙◌, subst, arith, append_assoc, append-nil, map-append, append_cancel_left, and_parts, both_ways, eq-eqb, ne_eqb, leb_tells, Task, Act, Told, Opened, Plan, Action, Progress, is_preparing, is_up, has_begun, last_well, commands_in, turned, is_over_in, loses_all, KeepsOpen, HoldsBefore, IsPreparedOrOverdue, Record, state_after, Scope, Model, opening, action_at, waiting_of, with_progress, Performs, moved, after, after_all, Runs, mark_setup, Dispatch, dispatch_row, dispatch_of_record, dispatch_of_mark, dispatches_of, setup_sent_at, StaysUp, ArePrepared, NoneBeforeTheSetUp, SetUpInOrder}
+use Rattle.std.proofs.Common.{leb-true, eqb-true, lt-ltb}
 use Rattle.gc_station.proofs.Always.{always, progress_after_act}
 use Rattle.gc_station.proofs.ChainSteps.{stays_open}
 use Rattle.gc_station.proofs.EachRun.{invariant_holds}
@@ -33,6 +14,7 @@ use Rattle.gc_station.proofs.Turns.{no_act_once_over}
 use Rattle.gc_station.proofs.Walk.{closed_along, moved_changed}
 use Rattle.gc_station.proofs.Words.{begun_unless_renewed}
 use Rattle.gc_station.proofs.Unbroken.{not_preparing_after_send}
+use Rattle.gc_station.specs.declared.progress.Action.TheVariants as action
 
 -- Records.
 

@@ -2,33 +2,14 @@
 -- the answer itself. `answer_as`, `answered_as`, `warned_as` and `refused_as` are the endings of a command by a reply in time, an
 -- answer, a reply with an accepted code, and a refusal. A reading `z` is what the line says with return code 0. An answer is
 -- off target (`away`) where its direction isn't near the target's place, or its distance isn't the target's.
-use Rattle.std.proofs.Common.{◌≡◌, inl, inr, ℕ, Bool, true, false, List, Option, Some, None, refl, sym, ap, ◌∙◌, subst}
-use Rattle.std.proofs.lemmas.Option.{same_Some}
-use Rattle.gc_catalogue.specs.declared.answer.Answer.{Answer}
-use Rattle.gc_catalogue.specs.declared.answer.Reading.{Reading}
-use Rattle.gc_catalogue.specs.declared.answer.Reading.TheVariants as reading
-use Rattle.gc_catalogue.specs.declared.asked.Asked.{Asked}
-use Rattle.gc_client.specs.Rule
-use Rattle.gc_texts.specs.Codes.{lists_code}
-use Rattle.gc_texts.specs.Endings.{End, Answered, Judged, line_of}
-use Rattle.gc_texts.specs.Expectations.{meets}
-use Rattle.gc_texts.specs.Nears.{is_off_target}
-use Rattle.gc_texts.specs.Zeroed.{as_zero}
-use Rattle.gc_texts.specs.Qualities.{is_good}
+use Rattle.gc_station.proofs.Common.{◌≡◌, inl, inr, ℕ, Bool, true, false, List, Option, Some, None, refl, sym, ap, ◌∙◌, subst, same_Some, Answer, Reading, Asked, lists_code, End, Answered, Judged, line_of, meets, is_off_target, as_zero, is_good, Twice, Judgement, OffTarget, Unexpected, Disagree, Expected, Quality, agrees_in, quality_in, judged_by, answered_as, warned_as, refused_as, answer_as, end_of, is_well, HasAnswer, answer_in, IsRefusedReading, IsOfQuality, quality_as, Reads}
 use Rattle.gc_texts.specs.declared.agree.Agree.{Agree}
-use Rattle.gc_texts.specs.declared.agree.Twice.{Twice}
-use Rattle.gc_texts.specs.declared.agree.Twice.TheVariants as twice
-use Rattle.gc_texts.specs.declared.judgement.Judgement.{Judgement}
-use Rattle.gc_texts.specs.declared.judgement.Judgement.TheVariants.{OffTarget, Unexpected, Disagree}
-use Rattle.gc_texts.specs.declared.near.Expected.{Expected}
-use Rattle.gc_texts.specs.declared.quality.Quality.{Quality}
-use Rattle.gc_texts.specs.declared.quality.Quality.TheVariants as quality
-use Rattle.gc_station.specs.Marks.{agrees_in, quality_in, judged_by, answered_as, warned_as, refused_as, answer_as, end_of, is_well}
-use Rattle.gc_station.specs.Nearness.{HasAnswer}
-use Rattle.gc_station.specs.Qualities.{answer_in, IsRefusedReading, IsOfQuality, quality_as}
-use Rattle.gc_station.specs.Scopes.{Reads}
 use Rattle.gc_station.proofs.Judging.{Passes, passes, answered_unjudged, judged_so, judged_away, judged_unmet, judged_apart}
 use Rattle.gc_station.proofs.Meets.{settled_answered}
+use Rattle.gc_catalogue.specs.declared.answer.Reading.TheVariants as reading
+use Rattle.gc_client.specs.Rule
+use Rattle.gc_texts.specs.declared.agree.Twice.TheVariants as twice
+use Rattle.gc_texts.specs.declared.quality.Quality.TheVariants as quality
 
 -- Where an answer was measured.
 

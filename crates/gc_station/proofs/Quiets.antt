@@ -2,31 +2,7 @@
 -- `Stage` says what was done on a connection, by the phase. A connection is drained while what comes on it is discarded until it
 -- is quiet. An act is one call on the link, with its result. In facts of the form P before start behind, `start` is one of the
 -- acts, `before` the acts before it, and `behind` those after it.
-use Rattle.std.proofs.Common.{◌≡◌, ℕ, ◌-◌, ◌≤◌, ◌⊎◌, inl, inr, Bool, true, false, List, [], ◌∷◌, ◌++◌, drop, if◌then◌else◌, nat_le, min, refl, sym, ap, ◌∙◌, subst, arith}
-use Rattle.std.specs.List.{AllByRecursion}
-use Rattle.std.proofs.Math.Nat.{min-eq_left, min-eq_right}
-use Rattle.std.proofs.lemmas.Bool.{leb-true, leb-false, both_ways, false≢true}
-use Rattle.gc_catalogue.specs.declared.asked.Asked.TheVariants.{Table}
-use Rattle.gc_catalogue.specs.declared.call.Call.TheVariants.{NullProc}
-use Rattle.gc_texts.specs.declared.tasks.Task.{Task}
-use Rattle.gc_links.specs.declared.link.Moment.{Moment}
-use Rattle.gc_station.specs.declared.plan.Plan.{Plan}
-use Rattle.gc_station.specs.declared.progress.Phase.{Phase}
-use Rattle.gc_station.specs.declared.progress.Phase.TheVariants as phase
-use Rattle.gc_station.specs.declared.progress.Action.{Action}
-use Rattle.gc_station.specs.declared.progress.Action.TheVariants as actions
-use Rattle.gc_station.specs.declared.progress.Progress.{Progress}
-use Rattle.gc_station.specs.declared.progress.Until.{Until}
-use Rattle.gc_links.specs.Acts.{Act, Told, Put, Gave, Silent, Closed, Opened}
-use Rattle.gc_station.specs.Beginnings.{IsClearedAndQuiet}
-use Rattle.gc_station.specs.Deciding.{has_begun, is_quiet}
-use Rattle.gc_station.specs.Progressing.{turned, time_passed, drained}
-use Rattle.gc_station.specs.Quiet.{SendsRequest, TellsMoment, IsListening, IsSilent, StaysConnected}
-use Rattle.gc_station.specs.Reasons.{HoldsBefore, IsGoingOn, IsReadyOrOverdue}
-use Rattle.gc_station.specs.declared.progress.Waiting.{Waiting}
-use Rattle.gc_station.specs.Runs.{state_after}
-use Rattle.gc_station.specs.Model.{Model, null_text, next_request_text, first_text, occasion_at, opening, action_at, waiting_of, with_progress, lines_completed, is_heard, Performs, Runs, text_or_null}
-use Rattle.gc_station.specs.NextCommand.{place_next}
+use Rattle.gc_station.proofs.Common.{◌≡◌, ℕ, ◌-◌, ◌≤◌, ◌⊎◌, inl, inr, Bool, true, false, List, [], ◌∷◌, ◌++◌, drop, if◌then◌else◌, nat_le, min, refl, sym, ap, ◌∙◌, subst, arith, AllByRecursion, min-eq_left, min-eq_right, leb-true, leb-false, both_ways, false≢true, Table, NullProc, Task, Moment, Plan, Phase, Action, Progress, Until, Act, Told, Put, Gave, Silent, Closed, Opened, IsClearedAndQuiet, has_begun, is_quiet, turned, time_passed, drained, SendsRequest, TellsMoment, IsListening, IsSilent, StaysConnected, HoldsBefore, IsGoingOn, IsReadyOrOverdue, Waiting, state_after, Model, null_text, next_request_text, first_text, occasion_at, opening, action_at, waiting_of, with_progress, lines_completed, is_heard, Performs, Runs, text_or_null, place_next, Scope}
 use Rattle.gc_station.proofs.Closings.{runs_split}
 use Rattle.gc_station.proofs.Connected.{is_in_use, HoldsInUse, holds_in_use_always}
 use Rattle.gc_station.proofs.Facts.{action_for, action_timely}
@@ -34,7 +10,8 @@ use Rattle.gc_station.proofs.InCycle.{Timely}
 use Rattle.gc_station.proofs.Lists.{all_append, all_on}
 use Rattle.gc_station.proofs.Since.{Since, since_now, since_on, extend_cut}
 use Rattle.gc_station.proofs.Walk.{asked_along, came_along, walk, piece_before}
-use Rattle.gc_station.specs.Scopes.{Scope}
+use Rattle.gc_station.specs.declared.progress.Phase.TheVariants as phase
+use Rattle.gc_station.specs.declared.progress.Action.TheVariants as actions
 
 -- What was done on a connection.
 

@@ -1,25 +1,9 @@
 -- What replies say: no act changes it, and some function gives the reading of each line for each call. An act is one call on the
 -- link, with its result.
-use Rattle.std.proofs.Common.{◌≡◌, Bool, ℕ, List, Option, Result, Ok, Err, refl, sym, ap, ◌∙◌, subst}
-use Rattle.gc_lines.specs.Replies.{ReplyFields}
-use Rattle.gc_lines.specs.Readers.{reply_at}
-use Rattle.gc_lines.specs.declared.fault.LineFault.{LineFault}
-use Rattle.gc_lines.proofs.Replies.{reply_again, one_reply}
-use Rattle.gc_catalogue.specs.declared.answer.Reading.{Reading}
-use Rattle.gc_catalogue.specs.declared.asked.Asked.{Asked}
+use Rattle.gc_station.proofs.Common.{◌≡◌, Bool, ℕ, List, Option, Result, Ok, Err, refl, sym, ap, ◌∙◌, subst, ReplyFields, reply_at, LineFault, reply_again, one_reply, Reading, Asked, Form, Task, Plan, Action, Act, turned, loses_all, state_after, Scope, AreReadings, OneReadingForALine, SomeReadings, ForEachReadings, ForEachAndSomeReadings, Reads, IsSaid, Model, opening, action_at, with_progress, lines_came, moved, losing, stepped, after_all}
 use Rattle.gc_catalogue.specs.declared.answer.Reading.TheVariants.{Refused}
-use Rattle.gc_texts.specs.declared.form.Form.{Form}
-use Rattle.gc_texts.specs.declared.tasks.Task.{Task}
-use Rattle.gc_station.specs.declared.plan.Plan.{Plan}
-use Rattle.gc_station.specs.declared.progress.Action.{Action}
-use Rattle.gc_links.specs.Acts.{Act}
-use Rattle.gc_station.specs.Progressing.{turned, loses_all}
-use Rattle.gc_station.specs.Runs.{state_after}
-use Rattle.gc_station.specs.Scopes.{Scope, AreReadings, OneReadingForALine, SomeReadings, ForEachReadings, ForEachAndSomeReadings, Reads}
-use Rattle.gc_station.specs.Saying.{IsSaid}
 use Rattle.gc_station.proofs.Saying.{each_said, one_said}
 use Rattle.gc_station.proofs.Walk.{lines_along, losing_along, acts_along, moved_changed}
-use Rattle.gc_station.specs.Model.{Model, opening, action_at, with_progress, lines_came, moved, losing, stepped, after_all}
 
 -- lines don't change what replies say
 pub lines_reads : (s : Model) (lines : List (List ℕ)) → (lines_came s lines).reads ≡ s.reads

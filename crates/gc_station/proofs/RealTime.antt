@@ -1,31 +1,6 @@
 -- Each due cycle is recorded by its bound, at each moment that is read, where the calls on the link return in their time. An act is
 -- one call on the link, with its result.
-use Rattle.std.proofs.Common.{◌≡◌, ◌⊎◌, inl, inr, ℕ, suc, ◌+◌, ◌*◌, ◌-◌, ◌<◌, ◌≤◌, ◌&&◌, Bool, true, false, not, if◌then◌else◌, List, [], ◌∷◌, ◌++◌, length, min, nat_lt, nat_eq, refl, sym, ap, ◌∙◌, subst, arith, append-nil, append_assoc}
-use Rattle.std.proofs.lemmas.Bool.{lt-ltb, eqb-true, eqb-false, false_from_ne_true, both_ways}
-use Rattle.std.specs.List.{AllByRecursion}
-use Rattle.gc_values.proofs.Every.{every_weaker}
-use native.Mathlib.Nat.{suc-mul}
-use Rattle.gc_texts.specs.declared.tasks.Task.{Task}
-use Rattle.gc_links.specs.Acts.{Act, Told, Gave, Silent}
-use Rattle.gc_station.specs.CallTimes.{MayTakeTime, IsAskedToWait, IsReadBy, AreQuick, CallsReturn, ReadingsReturn}
-use Rattle.gc_station.specs.Cycles.{ClockRises}
-use Rattle.gc_station.specs.Deciding.{later, has_begun, is_out_of_time, is_wanted, setup_permits}
-use Rattle.gc_station.specs.Marks.{commands_in}
-use Rattle.gc_station.specs.Model.{Model, opening, action_at, waiting_of, Runs}
-use Rattle.gc_station.specs.Pace.{out_of_time_at, stale_at, longest_timeout, read_end}
-use Rattle.gc_station.specs.Reasons.{IsFinished, AwaitsSomething}
-use Rattle.gc_station.specs.RealTime.{bound, RecordsByBound}
-use Rattle.gc_station.specs.RecordedInTime.{AreRecorded, IsInTime, raws_of_setup}
-use Rattle.gc_station.specs.Runs.{state_after}
-use Rattle.gc_station.specs.Scopes.{Scope}
-use Rattle.gc_station.specs.Silences.{latest}
-use Rattle.gc_station.specs.Stopping.{asked_after}
-use Rattle.gc_station.specs.declared.plan.Plan.{Plan}
-use Rattle.gc_station.specs.declared.progress.Action.{Action}
-use Rattle.gc_station.specs.declared.progress.Action.TheVariants as actions
-use Rattle.gc_station.specs.declared.progress.Phase.TheVariants as phase
-use Rattle.gc_station.specs.declared.progress.Until.{Until}
-use Rattle.gc_station.specs.declared.progress.Until.TheVariants.{Limit, Due}
+use Rattle.gc_station.proofs.Common.{◌≡◌, ◌⊎◌, inl, inr, ℕ, suc, ◌+◌, ◌*◌, ◌-◌, ◌<◌, ◌≤◌, ◌&&◌, Bool, true, false, not, if◌then◌else◌, List, [], ◌∷◌, ◌++◌, length, min, nat_lt, nat_eq, refl, sym, ap, ◌∙◌, subst, arith, append-nil, append_assoc, lt-ltb, eqb-true, eqb-false, false_from_ne_true, both_ways, AllByRecursion, every_weaker, suc-mul, Task, Act, Told, Gave, Silent, MayTakeTime, IsAskedToWait, IsReadBy, AreQuick, CallsReturn, ReadingsReturn, ClockRises, later, has_begun, is_out_of_time, is_wanted, setup_permits, commands_in, Model, opening, action_at, waiting_of, Runs, out_of_time_at, stale_at, longest_timeout, read_end, IsFinished, AwaitsSomething, bound, RecordsByBound, AreRecorded, IsInTime, raws_of_setup, state_after, Scope, latest, asked_after, Plan, Action, Until, Limit, Due}
 use Rattle.gc_station.proofs.CallTimes.{latest_append, calls_front, deadlines_within, waits_until, waits_not, waits_in_flight, read_if_slow}
 use Rattle.gc_station.proofs.Cycles.{Begun, begun_if_clock_rises}
 use Rattle.gc_station.proofs.Dues.{began_rises}
@@ -38,6 +13,8 @@ use Rattle.gc_station.proofs.Periods.{soon_due, wanted_if_out}
 use Rattle.gc_station.proofs.Ticking.{rises_before}
 use Rattle.gc_station.proofs.UnderWay.{SettingUp, not_permitted}
 use Rattle.gc_station.proofs.Stopping.{asked-append, stops_as_asked}
+use Rattle.gc_station.specs.declared.progress.Action.TheVariants as actions
+use Rattle.gc_station.specs.declared.progress.Phase.TheVariants as phase
 
 -- an action may take its time, or it may not
 pub slow_or_quick : (o : Action) → MayTakeTime o ⊎ (MayTakeTime o → ⊥)

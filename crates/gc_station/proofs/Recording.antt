@@ -1,21 +1,10 @@
 -- Each act that records commands without sending them leaves less to be recorded. An act is one call on the link, with its result.
-use Rattle.std.proofs.Common.{◌≡◌, inl, inr, ℕ, zero, suc, ◌+◌, ◌-◌, ◌<◌, ◌≤◌, List, refl, sym, ap, subst, arith}
-use Rattle.gc_texts.specs.declared.tasks.Task.{Task}
-use Rattle.gc_links.specs.Acts.{Act, Told, Untold}
-use Rattle.gc_station.specs.Model.{Model, opening, action_at, waiting_of, with_progress, cycle_length, moved, Performs}
-use Rattle.gc_station.specs.Progressing.{turned}
-use Rattle.gc_station.specs.Reasons.{HoldsBefore}
-use Rattle.gc_station.specs.Runs.{state_after}
-use Rattle.gc_station.specs.RecordedInTime.{acts_to_record, left_to_record, RecordsUnsent, RecordingEnds}
-use Rattle.gc_station.specs.Quiet.{IsListening}
-use Rattle.gc_station.specs.declared.plan.Plan.{Plan}
-use Rattle.gc_station.specs.declared.progress.Action.{Action}
-use Rattle.gc_station.specs.declared.progress.Action.TheVariants as actions
-use Rattle.gc_station.specs.declared.progress.Progress.{Progress}
+use Rattle.gc_station.proofs.Common.{◌≡◌, inl, inr, ℕ, zero, suc, ◌+◌, ◌-◌, ◌<◌, ◌≤◌, List, refl, sym, ap, subst, arith, Task, Act, Told, Untold, Model, opening, action_at, waiting_of, with_progress, cycle_length, moved, Performs, turned, HoldsBefore, state_after, acts_to_record, left_to_record, RecordsUnsent, RecordingEnds, IsListening, Plan, Action, Progress}
 use Rattle.gc_station.proofs.Always.{progress_after_act}
 use Rattle.gc_station.proofs.Closings.{runs_split}
 use Rattle.gc_station.proofs.Counts.{KeepsCounts, ChangesCounts, moved_counts}
 use Rattle.gc_station.proofs.Facts.{action_for}
+use Rattle.gc_station.specs.declared.progress.Action.TheVariants as actions
 
 -- with a cycle begun less is left to be recorded, also if all its commands are
 less_begun : (count left left' : ℕ) → left' ≡ left - 1 → 0 < left → acts_to_record count left' + count < acts_to_record count left

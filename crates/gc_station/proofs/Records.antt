@@ -2,44 +2,10 @@
 -- `None` of a null procedure; settlements are of the oldest outstanding requests, and have their marks, one for one.
 -- `WritesPart text before all old new`: a book that had taken `old` has taken the records `before` whole and broken off within
 -- the others of `all`; `new` is what it has taken then.
-use Rattle.std.proofs.Common.{◌≡◌, ℕ, ◌+◌, ◌<◌, Bool, true, false, List, [], ◌∷◌, ◌++◌, length, take, drop, map, get_or, Option, Some, None, is_some, if◌then◌else◌, refl, sym, ap, ◌∙◌, subst, arith, append_assoc, append-nil}
-use Rattle.std.proofs.lemmas.List.{get_or_default, length-map, length-take, map-append, map_more, take_more, take-append-drop}
-use Rattle.std.specs.Io.KnownBytes.{Appends}
-use Rattle.std.proofs.KnownBytes.{Appends-trans}
-use Rattle.std.proofs.lemmas.List.Concat.{flat_map-append}
-use Rattle.gc_lines.specs.Ports.{TakesFront}
-use Rattle.gc_catalogue.specs.declared.answer.Answer.{Answer}
-use Rattle.gc_catalogue.specs.declared.answer.Reading.{Reading}
-use Rattle.gc_catalogue.specs.declared.answer.Reading.TheVariants as reading
-use Rattle.gc_values.specs.declared.decimal.Decimal.{Decimal}
-use Rattle.gc_values.specs.declared.fault.ValueFault.{ValueFault}
-use Rattle.gc_catalogue.specs.declared.asked.Asked.{Asked}
+use Rattle.gc_station.proofs.Common.{◌≡◌, ℕ, ◌+◌, ◌<◌, Bool, true, false, List, [], ◌∷◌, ◌++◌, length, take, drop, map, get_or, Option, Some, None, is_some, if◌then◌else◌, refl, sym, ap, ◌∙◌, subst, arith, append_assoc, append-nil, get_or_default, length-map, length-take, map-append, map_more, take_more, take-append-drop, Appends, Appends-trans, flat_map-append, TakesFront, Answer, Reading, Decimal, ValueFault, Asked, settlement_seen, Mark, lists_code, End, Answered, Unreadable, Judged, is_off_target, Judgement, Expected, Quality, Fine, Warning, Refused, first_noted, firsts_after, FirstAnswer, code_of, listed_after, listed_after_settlements, counts_after_settlement, counts_after_settlements, commands_in, first_mark, quality_in, judged_by, unless_judged, answered_as, warned_as, refused_as, answer_as, end_of, command_of, record_with, record_of, records_of, is_well, last_well, unexpected_noted, any_unexpected, renewed_by, fresh_after, Watch, Record, Grew, texts_of, WritesPart, Reads, counted_in, tallied, recorded_after, Moment, Recorded, Counts, busy_after, busy_after_settlements}
 use Rattle.gc_client.specs.declared.settlement.Settlement.{Settlement}
+use Rattle.gc_catalogue.specs.declared.answer.Reading.TheVariants as reading
 use Rattle.gc_client.specs.Rule
-use Rattle.gc_client.specs.Settlements.{settlement_seen}
-use Rattle.gc_station.specs.declared.mark.Mark.{Mark}
-use Rattle.gc_texts.specs.Codes.{lists_code}
-use Rattle.gc_texts.specs.Endings.{End, Answered, Unreadable, Judged}
-use Rattle.gc_texts.specs.declared.judgement.Judgement.{Judgement}
-use Rattle.gc_texts.specs.Nears.{is_off_target}
-use Rattle.gc_texts.specs.declared.near.Expected.{Expected}
-use Rattle.gc_texts.specs.declared.quality.Quality.{Quality}
-use Rattle.gc_texts.specs.declared.quality.Quality.TheVariants.{Fine, Warning, Refused}
-use Rattle.gc_station.specs.Firsts.{first_noted, firsts_after}
-use Rattle.gc_station.specs.declared.firsts.FirstAnswer.{FirstAnswer}
-use Rattle.gc_station.specs.Attempts.{code_of, listed_after, listed_after_settlements}
-use Rattle.gc_station.specs.Counters.{counts_after_settlement, counts_after_settlements}
-use Rattle.gc_station.specs.Marks.{commands_in, first_mark, quality_in, judged_by, unless_judged, answered_as, warned_as, refused_as, answer_as, end_of, command_of, record_with, record_of, records_of, is_well, last_well, unexpected_noted, any_unexpected}
-use Rattle.gc_station.specs.Watching.{renewed_by, fresh_after}
-use Rattle.gc_station.specs.declared.watching.Watch.{Watch}
-use Rattle.gc_station.specs.Records.{Record, Grew, texts_of, WritesPart}
-use Rattle.gc_station.specs.Scopes.{Reads}
-use Rattle.gc_station.specs.Tallies.{counted_in, tallied}
-use Rattle.gc_station.specs.Writing.{recorded_after}
-use Rattle.gc_links.specs.declared.link.Moment.{Moment}
-use Rattle.gc_station.specs.declared.recorded.Recorded.{Recorded}
-use Rattle.gc_station.specs.declared.tally.Counts.{Counts}
-use Rattle.gc_station.specs.Busy.{busy_after, busy_after_settlements}
 
 -- Marks.
 

@@ -1,18 +1,6 @@
 -- The lines of a piece: none of them reads as a reply, or the other end was alive at the moment of the piece. `alive` is the
 -- moment since which no reply line came, and `asked` whether a request was sent after the last reply line.
-use Rattle.std.proofs.Common.{◌≡◌, ℕ, ◌⊎◌, inl, inr, Bool, true, false, List, [], ◌∷◌, Option, None, Result, Ok, Err, if◌then◌else◌, refl, ap, ◌∙◌}
-use Rattle.std.specs.Prelude.{is_ok}
-use Rattle.std.specs.List.{AllByRecursion}
-use Rattle.gc_lines.specs.declared.fault.LineFault.{LineFault}
-use Rattle.gc_lines.specs.Replies.{ReplyFields}
-use Rattle.gc_lines.specs.Readers.{reply_at}
-use Rattle.gc_client.specs.Beginning.{is_answered, left_by}
-use Rattle.gc_client.specs.Rule.{heard, id_in}
-use Rattle.gc_session.specs.Lines.{is_reply}
-use Rattle.gc_station.specs.declared.progress.Progress.{Progress}
-use Rattle.gc_station.specs.Progressing.{line_synchronizing, lines_synchronizing}
-use Rattle.gc_station.specs.Silences.{IsNoReply}
-use Rattle.gc_station.specs.Model.{Model, line_came, lines_came}
+use Rattle.gc_station.proofs.Common.{◌≡◌, ℕ, ◌⊎◌, inl, inr, Bool, true, false, List, [], ◌∷◌, Option, None, Result, Ok, Err, if◌then◌else◌, refl, ap, ◌∙◌, is_ok, AllByRecursion, LineFault, ReplyFields, reply_at, is_answered, left_by, heard, id_in, is_reply, Progress, line_synchronizing, lines_synchronizing, IsNoReply, Model, line_came, lines_came}
 use Rattle.gc_station.proofs.Walk.{lines_along}
 
 -- the moment read last is the same after lines that are heard as before them

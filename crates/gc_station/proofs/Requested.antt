@@ -1,25 +1,8 @@
 -- Each record has its request: an act of the run writes it, with the record's id. A record of a command that was sent is of a reply in
 -- time, late or lost, and each of these is recorded by an act after the one that writes its request. An act is one call on the link,
 -- with its result.
-use Rattle.std.proofs.Common.{◌≡◌, ℕ, ◌<◌, true, List, ◌∷◌, ◌++◌, Option, Some, None, is_some, refl, sym, ap, ◌∙◌, subst, arith}
-use Rattle.std.specs.Prelude.{slice_get}
-use Rattle.gc_lines.specs.Lines.{with_end}
-use Rattle.gc_catalogue.specs.Asked.{asked_line}
-use Rattle.gc_client.specs.declared.window.TheConstants.{IDS}
-use Rattle.gc_links.specs.Acts.{Act, Gave}
-use Rattle.gc_texts.specs.Endings.{End, Answered, Unreadable, Judged, Late, Lost, Skipped, NoValue, Missed, line_of}
-use Rattle.gc_texts.specs.declared.tasks.Task.{Task}
-use Rattle.gc_station.specs.ActKinds.{Puts}
-use Rattle.gc_station.specs.Answers.{AnswerIsJustified, IsRecordedBy}
-use Rattle.gc_station.specs.Ends.{LateIsJustified, LostIsJustified}
-use Rattle.gc_station.specs.Model.{Runs, opening}
-use Rattle.gc_station.specs.Parts.{went_out}
-use Rattle.gc_station.specs.Records.{Record}
-use Rattle.gc_station.specs.Requested.{EachRecordIsOfItsRequest, HasItsRequest, IsOfItsRequest}
-use Rattle.gc_station.specs.Runs.{state_after}
-use Rattle.gc_station.specs.Scopes.{Scope}
-use Rattle.gc_station.specs.Tasked.{IsOfItsTask}
-use Rattle.gc_station.specs.declared.plan.Plan.{Plan}
+use Rattle.gc_station.proofs.Common.{◌≡◌, ℕ, ◌<◌, true, List, ◌∷◌, ◌++◌, Option, Some, None, is_some, refl, sym, ap, ◌∙◌, subst, arith, slice_get, with_end, asked_line, IDS, Act, Gave, End, Answered, Unreadable, Judged, Skipped, NoValue, Missed, line_of, Task, Puts, AnswerIsJustified, IsRecordedBy, LateIsJustified, LostIsJustified, Runs, opening, went_out, Record, EachRecordIsOfItsRequest, HasItsRequest, IsOfItsRequest, state_after, Scope, IsOfItsTask, Plan}
+use Rattle.gc_texts.specs.Prelude.{Late, Lost}
 use Rattle.gc_station.proofs.Answers.{answers_true, late_true, lost_true, unsent_has_none}
 use Rattle.gc_station.proofs.Closings.{runs_split}
 use Rattle.gc_station.proofs.Lists.{all_at}

@@ -1,20 +1,6 @@
 -- A command that rests in its cycle counts as chained, and as an attempt of its own (`RestFits`): so it is neither sent nor recorded. An
 -- act is one call on the link, with its result.
-use Rattle.std.proofs.Common.{◌≡◌, inl, inr, ℕ, ◌+◌, ◌-◌, ◌≤◌, ◌||◌, Bool, true, false, if◌then◌else◌, List, drop, length, refl, sym, ap, ◌∙◌, subst, arith}
-use Rattle.std.proofs.lemmas.Bool.{both_ways, or_right, false_from_ne_true}
-use Rattle.gc_texts.specs.declared.tasks.Task.{Task}
-use Rattle.gc_links.specs.Acts.{Act, Told, Cut}
-use Rattle.gc_station.specs.Model.{Model, opening, action_at, with_progress, moved, Runs, cycle_length}
-use Rattle.gc_station.specs.NextCommand.{place_next, commands_left, cycles_begun, cycle_next, commands_before, first_is_chained, others_in, rests, is_chained_after, others_after}
-use Rattle.gc_station.specs.Progressing.{turned, failing, is_missed_at}
-use Rattle.gc_station.specs.Reasons.{IsInItsTurn}
-use Rattle.gc_station.specs.Runs.{state_after}
-use Rattle.gc_station.specs.Scopes.{Scope}
-use Rattle.gc_station.specs.declared.cause.Cause.TheVariants as cause
-use Rattle.gc_station.specs.declared.plan.Plan.{Plan}
-use Rattle.gc_station.specs.declared.progress.Action.{Action}
-use Rattle.gc_station.specs.declared.progress.Action.TheVariants as actions
-use Rattle.gc_station.specs.declared.progress.Progress.{Progress}
+use Rattle.gc_station.proofs.Common.{◌≡◌, inl, inr, ℕ, ◌+◌, ◌-◌, ◌≤◌, ◌||◌, Bool, true, false, if◌then◌else◌, List, drop, length, refl, sym, ap, ◌∙◌, subst, arith, both_ways, or_right, false_from_ne_true, Task, Act, Told, Cut, Model, opening, action_at, with_progress, moved, Runs, cycle_length, place_next, commands_left, cycles_begun, cycle_next, commands_before, first_is_chained, others_in, rests, is_chained_after, others_after, turned, failing, is_missed_at, IsInItsTurn, state_after, Scope, Plan, Action, Progress}
 use Rattle.gc_station.proofs.Always.{always_of_progress}
 use Rattle.gc_station.proofs.Chaining.{no_next_command}
 use Rattle.gc_station.proofs.Closings.{needs_of}
@@ -22,6 +8,8 @@ use Rattle.gc_station.proofs.EachRun.{invariant_holds}
 use Rattle.gc_station.proofs.Interleaving.{drop_past}
 use Rattle.gc_station.proofs.Needed.{cycle_is_last}
 use Rattle.gc_station.proofs.Walk.{moved_changed, model_sent, sent_same}
+use Rattle.gc_station.specs.declared.cause.Cause.TheVariants as cause
+use Rattle.gc_station.specs.declared.progress.Action.TheVariants as actions
 
 module _ (plan : Plan) (commands : List Task) where
   -- whether the next command rests in its cycle

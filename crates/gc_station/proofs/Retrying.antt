@@ -1,25 +1,8 @@
 -- Further attempts of a chain are sent, and left out, only for a cause: `listed` of a model is what its records say. An act is
 -- one call on the link, with its result.
-use Rattle.std.proofs.Common.{◌≡◌, ℕ, Bool, if◌then◌else◌, List, drop, refl, sym, ap, ◌∙◌, subst, ◌⊎◌, inl, inr, ◌+◌, ◌-◌, ◌<◌, ◌≤◌, ◌||◌, true, false, length, nat_lt, arith}
-use Rattle.gc_texts.specs.declared.tasks.Task.{Task}
-use Rattle.gc_links.specs.Acts.{Act, Told, Cut}
-use Rattle.gc_station.specs.Marks.{commands_in}
-use Rattle.gc_station.specs.Model.{Model, opening, action_at, with_progress, moved, Runs, waiting_of, cycle_length}
-use Rattle.gc_station.specs.NextCommand.{place_next, commands_left, cycles_begun, cycle_next, first_is_chained, others_in, rests, left_out_in, others_after, commands_before}
-use Rattle.gc_station.specs.Progressing.{turned, failing}
-use Rattle.gc_station.specs.Runs.{state_after}
-use Rattle.gc_station.specs.Scopes.{Scope}
-use Rattle.gc_station.specs.declared.plan.Plan.{Plan}
-use Rattle.gc_station.specs.declared.progress.Action.{Action}
-use Rattle.gc_station.specs.declared.progress.Action.TheVariants as actions
-use Rattle.gc_station.specs.declared.progress.Progress.{Progress}
+use Rattle.gc_station.proofs.Common.{◌≡◌, ℕ, Bool, if◌then◌else◌, List, drop, refl, sym, ap, ◌∙◌, subst, ◌⊎◌, inl, inr, ◌+◌, ◌-◌, ◌<◌, ◌≤◌, ◌||◌, true, false, length, nat_lt, arith, Task, Act, Told, Cut, commands_in, Model, opening, action_at, with_progress, moved, Runs, waiting_of, cycle_length, place_next, commands_left, cycles_begun, cycle_next, first_is_chained, others_in, rests, left_out_in, others_after, commands_before, turned, failing, state_after, Scope, Plan, Action, Progress, ltb-true, ltb-false, both_ways, Waiting, HoldsBefore, IsOverdue, HasListed, IsFurtherAttempt, MayLeaveOut, Rests, FurtherAttemptsHaveACause, EachRecordHasItsTurn, HasItsTurn}
 use Rattle.gc_station.proofs.Lists.{all_on}
 use Rattle.gc_station.proofs.Walk.{moved_changed, model_sent, sent_same}
-use Rattle.std.proofs.lemmas.Bool.{ltb-true, ltb-false, both_ways}
-use Rattle.gc_station.specs.declared.cause.Cause.TheVariants as cause
-use Rattle.gc_station.specs.declared.progress.Waiting.{Waiting}
-use Rattle.gc_station.specs.Reasons.{HoldsBefore, IsOverdue}
-use Rattle.gc_station.specs.Retries.{HasListed, IsFurtherAttempt, MayLeaveOut, Rests, FurtherAttemptsHaveACause, EachRecordHasItsTurn, HasItsTurn}
 use Rattle.gc_station.proofs.Always.{always_of_progress}
 use Rattle.gc_station.proofs.Chaining.{chained_as_text_says, no_next_command}
 use Rattle.gc_station.proofs.Interleaving.{drop_past}
@@ -30,6 +13,8 @@ use Rattle.gc_station.proofs.Closings.{needs_of}
 use Rattle.gc_station.proofs.Needed.{cycle_is_last}
 use Rattle.gc_station.proofs.Resting.{is_resting_next, rests_still, sent_in_turn}
 use Rattle.gc_station.proofs.AsText.{IsAsItsText, kept_all}
+use Rattle.gc_station.specs.declared.progress.Action.TheVariants as actions
+use Rattle.gc_station.specs.declared.cause.Cause.TheVariants as cause
 
 -- the law: each record has its command's turn
 pub each_has_its_turn : EachRecordHasItsTurn

@@ -1,32 +1,14 @@
 -- How the premises of the bound are computed of acts, and that it doesn't hold after acts that recorded too few commands. An act is one
 -- call on the link, with its result.
-use Rattle.std.proofs.Common.{◌≡◌, ◌⊎◌, inl, inr, ℕ, zero, suc, ◌+◌, ◌<◌, ◌≤◌, Bool, true, false, List, [], ◌∷◌, ◌++◌, length, map, nat_le, Option, Some, None, refl, sym, ap, subst, arith, append_assoc, append-nil, length-append}
-use Rattle.std.proofs.lemmas.Bool.{leb-true, leb-false}
-use Rattle.std.proofs.lemmas.List.{length-map}
-use Rattle.std.proofs.lemmas.List.Elements.{All-cons, All-nil}
-use Rattle.std.specs.Prelude.{All, if◌then◌else◌, not, nat_eq}
-use Rattle.std.specs.List.{Contains}
-use Rattle.gc_client.specs.Rule.{IsEarliest, deadlines}
-use Rattle.gc_texts.specs.declared.tasks.Task.{Task}
-use Rattle.gc_links.specs.Acts.{Act, Told, Gave, Silent}
-use Rattle.gc_station.specs.EachOnce.{Interleave, RunRequest, all_cycles, commands_of_cycle, of_record, of_text, of_cycles, in_text}
-use Rattle.gc_station.specs.Model.{Model, opening, action_at, waiting_of, moved, with_progress, next_left_out}
-use Rattle.gc_station.specs.Pace.{read_timeout}
-use Rattle.gc_station.specs.Progressing.{turned}
-use Rattle.gc_station.specs.CallTimes.{MayTakeTime, IsAskedToWait, IsReadBy, AreQuick, CallsReturn, ReadingsReturn}
-use Rattle.gc_station.specs.RecordedInTime.{AreRecorded, IsInTime, IsDueAt}
-use Rattle.gc_station.specs.Records.{Record}
-use Rattle.gc_station.specs.Runs.{state_after}
-use Rattle.gc_station.specs.Scopes.{Scope}
-use Rattle.gc_station.specs.Silences.{latest}
-use Rattle.gc_station.specs.declared.plan.Plan.{Plan}
-use Rattle.gc_station.specs.declared.progress.Action.{Action}
-use Rattle.gc_station.specs.declared.progress.Action.TheVariants as actions
+use Rattle.gc_station.proofs.Common.{◌≡◌, ◌⊎◌, inl, inr, ℕ, zero, suc, ◌+◌, ◌<◌, ◌≤◌, Bool, true, false, List, [], ◌∷◌, ◌++◌, length, map, nat_le, Option, Some, None, refl, sym, ap, subst, arith, append_assoc, append-nil, leb-true, leb-false, length-map, All-cons, All-nil, All, Contains, IsEarliest, deadlines, Task, Act, Told, Gave, Silent, Interleave, RunRequest, all_cycles, commands_of_cycle, of_record, of_text, of_cycles, in_text, Model, opening, action_at, waiting_of, moved, with_progress, next_left_out, read_timeout, turned, MayTakeTime, IsAskedToWait, IsReadBy, AreQuick, CallsReturn, ReadingsReturn, AreRecorded, IsInTime, IsDueAt, Record, state_after, Scope, latest, Plan, Action}
+use Rattle.std.proofs.Common.{length-append}
+use Rattle.std.specs.Prelude.{if◌then◌else◌, not, nat_eq}
 use Rattle.gc_station.proofs.Counts.{with_losses_passes}
 use Rattle.gc_station.proofs.Going.{after_all-append}
 use Rattle.gc_station.proofs.CallTimes.{latest_append, read_later}
 use Rattle.gc_station.proofs.SentAt.{records_stay}
 use Rattle.gc_station.proofs.Walk.{acts_along, moved_changed}
+use Rattle.gc_station.specs.declared.progress.Action.TheVariants as actions
 
 -- Splits of acts.
 

@@ -1,17 +1,8 @@
 -- If a request is sent there is room for it.
-use Rattle.std.proofs.Common.{◌≡◌, ◌⊎◌, inl, inr, ◌<◌, arith}
-use Rattle.std.proofs.lemmas.Bool.Decides.{leb_tells}
-use Rattle.gc_station.specs.declared.plan.Plan.{Plan}
-use Rattle.gc_station.specs.declared.progress.Action.{Action}
-use Rattle.gc_station.specs.declared.progress.Action.TheVariants as actions
-use Rattle.gc_station.specs.declared.progress.Progress.{Progress}
-use Rattle.gc_station.specs.declared.progress.Waiting.{Waiting}
-use Rattle.gc_station.specs.Reasons.{HoldsBefore, HasRoomToAsk}
-use Rattle.gc_station.specs.Quiet.{IsAsking}
+use Rattle.gc_station.proofs.Common.{◌≡◌, ◌⊎◌, inl, inr, ◌<◌, arith, leb_tells, Plan, Action, Progress, Waiting, HoldsBefore, HasRoomToAsk, IsAsking, state_after, action_at, waiting_of}
 use Rattle.gc_station.specs.Room.{RequestsHaveRoom}
-use Rattle.gc_station.specs.Runs.{state_after}
-use Rattle.gc_station.specs.Model.{action_at, waiting_of}
 use Rattle.gc_station.proofs.Facts.{action_for}
+use Rattle.gc_station.specs.declared.progress.Action.TheVariants as actions
 
 -- if a request of the client is next, there is room
 room_of : (plan : Plan) (p : Progress) (w : Waiting) (next : Action) → IsAsking next → HoldsBefore plan p w next → HasRoomToAsk plan p w

@@ -1,34 +1,7 @@
 -- The row of a station: the requests of its records, and after them those of the outstanding commands. An act leaves it as it is,
 -- or adds the request of the command that is sent, or recorded without being sent. If a chain is unbroken, the last request is of
 -- a cycle, not of the setup.
-use Rattle.std.proofs.Common.{◌≡◌, ℕ, ◌-◌, ◌<◌, Bool, true, false, List, [], ◌∷◌, ◌++◌, length, drop, map, Some, None, refl, sym, ap, ◌∙◌, subst, arith, append_assoc, append-nil, not, if◌then◌else◌}
-use Rattle.std.proofs.lemmas.List.{length-drop, map-append}
-use Rattle.std.proofs.lemmas.Bool.{both_ways}
-use Rattle.gc_catalogue.specs.declared.asked.Asked.TheVariants.{Table}
-use Rattle.gc_catalogue.specs.declared.call.Call.TheVariants.{NullProc}
-use Rattle.gc_client.specs.declared.window.TheConstants.{WINDOW}
-use Rattle.gc_client.specs.Rule.{heard, hears, lost, pending_of}
-use Rattle.gc_client.specs.OneForOne.{of_pending, of_settled}
-use Rattle.gc_client.proofs.OneForOne.{heard_parts, lost_parts}
-use Rattle.gc_texts.specs.Tasks.{call_at}
-use Rattle.gc_texts.specs.declared.tasks.Task.{Task}
-use Rattle.gc_links.specs.declared.link.Moment.{Moment}
-use Rattle.gc_links.specs.Acts.{Act, Gave, Silent}
-use Rattle.gc_station.specs.declared.mark.Mark.{Mark}
-use Rattle.gc_station.specs.declared.plan.Plan.{Plan}
-use Rattle.gc_station.specs.declared.progress.Action.{Action}
-use Rattle.gc_station.specs.declared.progress.Action.TheVariants as action
-use Rattle.gc_station.specs.declared.progress.Progress.{Progress}
-use Rattle.gc_station.specs.declared.progress.Until.{Until}
-use Rattle.gc_station.specs.Deciding.{later}
-use Rattle.gc_station.specs.EachOnce.{RunRequest, of_record, of_cycles, of_text, in_text, of_waiting}
-use Rattle.gc_station.specs.Marks.{commands_in, occasion_of}
-use Rattle.gc_station.specs.Progressing.{moment_noted, turned, loses_all}
-use Rattle.gc_station.specs.Reasons.{HoldsBefore}
-use Rattle.gc_station.specs.Runs.{state_after}
-use Rattle.gc_station.specs.Scopes.{Scope}
-use Rattle.gc_station.specs.Model.{Model, opening, action_at, waiting_of, Performs, Runs, is_heard, asks_first, after_piece, line_came, losing, moved, piece_at, with_progress, with_moment, null_request, asks_for, mark_sent}
-use Rattle.gc_station.specs.NextCommand.{cycles_begun, place_next}
+use Rattle.gc_station.proofs.Common.{◌≡◌, ℕ, ◌-◌, ◌<◌, Bool, true, false, List, [], ◌∷◌, ◌++◌, length, drop, map, Some, None, refl, sym, ap, ◌∙◌, subst, arith, append_assoc, append-nil, not, if◌then◌else◌, length-drop, map-append, both_ways, Table, NullProc, WINDOW, heard, hears, lost, pending_of, of_pending, of_settled, heard_parts, lost_parts, call_at, Task, Moment, Act, Gave, Silent, Mark, Plan, Action, Progress, Until, later, RunRequest, of_record, of_cycles, of_text, in_text, of_waiting, commands_in, occasion_of, moment_noted, turned, loses_all, HoldsBefore, state_after, Scope, Model, opening, action_at, waiting_of, Performs, Runs, is_heard, asks_first, after_piece, line_came, losing, moved, piece_at, with_progress, with_moment, null_request, asks_for, mark_sent, cycles_begun, place_next, filter-append}
 use Rattle.gc_station.proofs.Always.{always}
 use Rattle.gc_station.proofs.Each.{row, row_moment, row_settles, more_waiting, marked_none, waiting_marked}
 use Rattle.gc_station.proofs.EachRun.{invariant_holds}
@@ -37,7 +10,7 @@ use Rattle.gc_station.proofs.InCycle.{within_window, not_zero}
 use Rattle.gc_station.proofs.Invariant.{Paired, Invariant}
 use Rattle.gc_station.proofs.Midway.{sent_with_room}
 use Rattle.gc_station.proofs.Walk.{came_along, losing_along, closed_along, moved_changed, walk}
-use Rattle.std.proofs.lemmas.List.Elements.{filter-append}
+use Rattle.gc_station.specs.declared.progress.Action.TheVariants as action
 
 -- the row of a model
 abbrev pub row_of : Model → List RunRequest

@@ -1,32 +1,15 @@
 -- What a reply says of a command, by a form or without one: one thing at most, and something in each case; and that of its line with return
 -- code 0. Besides, what the code makes of a reply in time.
-use Rattle.std.proofs.Common.{◌≡◌, ◌⊎◌, inl, inr, ℕ, List, Option, Some, None, refl, sym, ap, ◌∙◌, subst, unwrap_or}
-use Rattle.gc_lines.specs.Replies.{ReplyFields, IsReply}
+use Rattle.gc_station.proofs.Common.{◌≡◌, ◌⊎◌, inl, inr, ℕ, List, Option, Some, None, refl, sym, ap, ◌∙◌, subst, ReplyFields, IsReply, ValueFault, IsAskedReading, Answer, Reading, Asked, Table, Raw, ReadsBy, lists_code, IsFormAnswer, IsFormFault, IsFormReading, measured_part, kinds_seen, as_zero, Form, Expected, answer_as, end_of, refused_as, IsSaid, IsSaidInForm, AreReadings, Reads, IsByForm, IsZeroOf}
+use Rattle.std.proofs.Common.{unwrap_or}
 use Rattle.arrayvec.specs.ArrayVec.{ArrayVec}
-use Rattle.gc_values.specs.declared.fault.ValueFault.{ValueFault}
-use Rattle.gc_catalogue.specs.Asked.{IsAskedReading}
-use Rattle.gc_catalogue.specs.declared.answer.Answer.{Answer}
-use Rattle.gc_catalogue.specs.declared.answer.Reading.{Reading}
-use Rattle.gc_catalogue.specs.declared.answer.Reading.TheVariants as reading
-use Rattle.gc_catalogue.specs.declared.asked.Asked.{Asked}
-use Rattle.gc_catalogue.specs.declared.asked.Asked.TheVariants.{Table, Raw}
 use Rattle.gc_catalogue.proofs.AskedRules.{each_asked_reply, one_asked_reading}
 use Rattle.gc_catalogue.proofs.ReadingLaws.{IsDecisive, each_reading_by, one_reading_by}
-use Rattle.gc_client.specs.Rule.{Answered}
-use Rattle.gc_client.specs.Settlements.{ReadsBy}
-use Rattle.gc_client.specs.declared.settlement.Outcome.TheVariants as outcomes
-use Rattle.gc_texts.specs.Codes.{lists_code}
-use Rattle.gc_texts.specs.Forms.{IsFormAnswer, IsFormFault, IsFormReading, measured_part}
-use Rattle.gc_texts.specs.KindLists.{kinds_seen}
-use Rattle.gc_texts.specs.Zeroed.{as_zero}
-use Rattle.gc_texts.specs.declared.form.Form.{Form}
-use Rattle.gc_texts.specs.declared.near.Expected.{Expected}
+use Rattle.gc_client.specs.Prelude.{Answered}
 use Rattle.gc_texts.proofs.ZeroReplies.{zero_is_reply}
-use Rattle.gc_station.specs.Marks.{answer_as, end_of, refused_as}
-use Rattle.gc_station.specs.Saying.{IsSaid, IsSaidInForm}
-use Rattle.gc_station.specs.Scopes.{AreReadings, Reads}
-use Rattle.gc_station.specs.Zeros.{IsByForm, IsZeroOf}
 use Rattle.gc_station.proofs.OfKinds.{never_both, one_fault, one_values, read_or_faulty}
+use Rattle.gc_catalogue.specs.declared.answer.Reading.TheVariants as reading
+use Rattle.gc_client.specs.declared.settlement.Outcome.TheVariants as outcomes
 
 -- What a reply says.
 

@@ -1,26 +1,13 @@
 -- Where no request follows once the end of a run was asked for: between two chains, without a connection, and while the station
 -- synchronizes. An act is one call on the link, with its result.
-use Rattle.std.proofs.Common.{◌≡◌, ◌&&◌, ◌||◌, Bool, true, false, not, List, nat_lt, nat_eq, refl, sym, ap, ◌∙◌}
-use Rattle.std.proofs.lemmas.Bool.{both_ways, cond_both, and_parts, or_left, or_right, lt-ltb}
-use Rattle.gc_texts.specs.declared.tasks.Task.{Task}
-use Rattle.gc_links.specs.Acts.{Act}
-use Rattle.gc_station.specs.Deciding.{has_begun, is_up, is_resting, is_stopping, is_stale, is_overdue, is_held_back, is_dead, is_finished, is_between_chains, has_no_time_left, may_abandon, action_in, action_of_phase, action_without_turns, action_overdue, action_waiting, action_begun, action_beginning}
-use Rattle.gc_station.specs.Model.{Model, action_at, waiting_of, with_progress, moved, Performs}
-use Rattle.gc_station.specs.OnceAsked.{requests_by}
-use Rattle.gc_station.specs.Progressing.{turned, loses_all, is_over, is_over_in}
-use Rattle.gc_station.specs.declared.cause.Cause.TheVariants as cause
-use Rattle.gc_station.specs.declared.plan.Plan.{Plan}
-use Rattle.gc_station.specs.declared.progress.Action.{Action}
-use Rattle.gc_station.specs.declared.progress.Action.TheVariants as actions
-use Rattle.gc_station.specs.declared.progress.Phase.{Phase}
-use Rattle.gc_station.specs.declared.progress.Phase.TheVariants as phase
-use Rattle.gc_station.specs.declared.progress.Progress.{Progress}
-use Rattle.gc_station.specs.declared.progress.Until.TheVariants.{Limit}
-use Rattle.gc_station.specs.declared.progress.Waiting.{Waiting}
+use Rattle.gc_station.proofs.Common.{◌≡◌, ◌&&◌, ◌||◌, Bool, true, false, not, List, nat_lt, nat_eq, refl, sym, ap, ◌∙◌, both_ways, cond_both, and_parts, or_left, or_right, lt-ltb, Task, Act, has_begun, is_up, is_resting, is_stopping, is_stale, is_overdue, is_held_back, is_dead, is_finished, is_between_chains, has_no_time_left, may_abandon, action_in, action_of_phase, action_without_turns, action_overdue, action_waiting, action_begun, action_beginning, Model, action_at, waiting_of, with_progress, moved, Performs, requests_by, turned, loses_all, is_over, is_over_in, Plan, Action, Phase, Progress, Limit, Waiting}
 use Rattle.gc_station.proofs.InCycle.{above_zero}
 use Rattle.gc_station.proofs.OnceAsked.{IsEnd, ends_there, resting_parts}
 use Rattle.gc_station.proofs.Turns.{closed_down}
 use Rattle.gc_station.proofs.Walk.{moved_changed}
+use Rattle.gc_station.specs.declared.cause.Cause.TheVariants as cause
+use Rattle.gc_station.specs.declared.progress.Action.TheVariants as actions
+use Rattle.gc_station.specs.declared.progress.Phase.TheVariants as phase
 
 -- whether no request follows once the end of the run was asked for: the station is between two chains, or there is no connection, or the
 -- station synchronizes

@@ -1,29 +1,11 @@
 -- Which act sends the request of a command; and that records stay. An act is one call on the link, with its result. A part
 -- reaches from one synchronization of the station to the next. A mark says which command a request is of, or `None` of a null
 -- procedure.
-use Rattle.std.proofs.Common.{◌≡◌, ◌⊎◌, inl, inr, ℕ, zero, suc, ◌+◌, Bool, true, false, List, [], ◌∷◌, ◌++◌, length, drop, Some, None, refl, sym, ◌∙◌, ap, subst, arith}
-use Rattle.std.specs.Prelude.{slice_get}
-use Rattle.std.proofs.lemmas.List.{length-append}
-use Rattle.std.proofs.lemmas.Option.{none-some, same_Some}
-use Rattle.std.proofs.lemmas.Bool.{cond_both}
-use Rattle.gc_texts.specs.declared.tasks.Task.{Task}
-use Rattle.gc_station.specs.declared.mark.Mark.{Mark}
-use Rattle.gc_station.specs.declared.plan.Plan.{Plan}
-use Rattle.gc_station.specs.declared.progress.Action.{Action}
-use Rattle.gc_station.specs.declared.progress.Action.TheVariants.{Send, Flush, Prepare}
-use Rattle.gc_links.specs.Acts.{Act, Put, Cut}
-use Rattle.gc_station.specs.Deciding.{has_begun}
-use Rattle.gc_station.specs.Links.{RecordsStay}
-use Rattle.gc_station.specs.Parts.{Part, idle_part, parts_joined, request_part, first_request_part, put_part, client_part, sync_part, part_of_act, ends_part, in_front, parts_of}
-use Rattle.gc_station.specs.Progressing.{turned, loses_all}
-use Rattle.gc_station.specs.Runs.{state_after}
+use Rattle.gc_station.proofs.Common.{◌≡◌, ◌⊎◌, inl, inr, ℕ, zero, suc, ◌+◌, Bool, true, false, List, [], ◌∷◌, ◌++◌, length, drop, Some, None, refl, sym, ◌∙◌, ap, subst, arith, slice_get, length-append, none-some, same_Some, cond_both, Task, Mark, Plan, Action, Send, Flush, Prepare, Act, Put, Cut, has_begun, RecordsStay, Part, idle_part, parts_joined, request_part, first_request_part, put_part, client_part, sync_part, part_of_act, ends_part, in_front, parts_of, turned, loses_all, state_after, Model, opening, action_at, with_progress, moved, after, after_all, request_or_null, mark_sent, mark_setup_sent, place_next, Grew}
 use Rattle.gc_station.proofs.Outs.{SendsMarked}
-use Rattle.gc_station.specs.Model.{Model, opening, action_at, with_progress, moved, after, after_all, request_or_null, mark_sent, mark_setup_sent}
-use Rattle.gc_station.specs.NextCommand.{place_next}
 use Rattle.gc_station.proofs.Asked.{marks_none}
 use Rattle.gc_station.proofs.Going.{after_all-append}
 use Rattle.gc_station.proofs.Growing.{losing_records, moved_grew}
-use Rattle.gc_station.specs.Records.{Grew}
 use Rattle.gc_station.proofs.Records.{grew_none, grew_then}
 use Rattle.gc_station.proofs.Walk.{acts_along}
 

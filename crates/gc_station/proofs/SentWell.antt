@@ -2,35 +2,8 @@
 -- client is a null procedure. The count of the requests after the last call of the table that a reply ended is that of the course since
 -- the synchronization, and a command is sent only if it is below seven. A course is what a client has sent and settled so far, and
 -- the client after that; a part reaches from one synchronization to the next. An act is one call on the link, with its result.
-use Rattle.std.proofs.Common.{◌≡◌, ◌⊎◌, inl, inr, ℕ, ◌+◌, ◌<◌, ◌&&◌, ◌||◌, Bool, not, true, false, List, [], ◌∷◌, ◌++◌, length, Option, Some, None, refl, sym, ap, ◌∙◌, subst, arith, append_assoc, append-nil, if◌then◌else◌}
-use Rattle.std.specs.Prelude.{slice_get}
-use Rattle.std.specs.List.{AllByRecursion}
-use Rattle.std.proofs.lemmas.List.{length-append, nil_from_length}
-use Rattle.std.proofs.lemmas.Bool.{both_ways}
-use Rattle.gc_catalogue.specs.declared.asked.Asked.{Asked}
-use Rattle.gc_catalogue.specs.declared.asked.Asked.TheVariants.{Table}
-use Rattle.gc_catalogue.specs.declared.call.Call.TheVariants.{NullProc}
-use Rattle.gc_client.specs.OneForOne.{Wanted, Course, Step, Send, begun}
-use Rattle.gc_client.specs.declared.window.TheConstants.{WINDOW}
-use Rattle.gc_client.specs.Rule.{ById, fresh, deadlines}
-use Rattle.gc_texts.specs.declared.tasks.Task.{Task}
-use Rattle.gc_links.specs.Acts.{Act}
-use Rattle.gc_session.specs.Laws.{IsNearTheTable}
-use Rattle.gc_session.specs.Courses.{client_after}
-use Rattle.gc_session.proofs.Behind.{CountsBehind, near_by_count}
-use Rattle.gc_session.proofs.Courses.{course_of, course_append, course_client}
-use Rattle.gc_station.specs.declared.mark.Mark.{Mark}
-use Rattle.gc_station.specs.declared.plan.Plan.{Plan}
-use Rattle.gc_station.specs.declared.progress.Action.{Action}
-use Rattle.gc_station.specs.declared.progress.Action.TheVariants as action
-use Rattle.gc_station.specs.declared.progress.Progress.{Progress}
-use Rattle.gc_station.specs.Behind.{CommandsAreSentNearTheTable}
-use Rattle.gc_station.specs.Deciding.{has_begun}
-use Rattle.gc_station.specs.NullFirst.{HasEndedANull, HasAllUnanswered, SynchronizationsEndWithANull, null_asked}
-use Rattle.gc_station.specs.Parts.{Part, parts_joined, client_part, sync_part, part_of_act, in_front, parts_of}
-use Rattle.gc_station.specs.Progressing.{turned, loses_all, is_over}
-use Rattle.gc_station.specs.Reasons.{HoldsBefore}
-use Rattle.gc_station.specs.Model.{Model, opening, action_at, waiting_of, with_progress, moved, losing, after, Performs, Runs, with_losses}
+use Rattle.gc_station.proofs.Common.{◌≡◌, ◌⊎◌, inl, inr, ℕ, ◌+◌, ◌<◌, ◌&&◌, ◌||◌, Bool, not, true, false, List, [], ◌∷◌, ◌++◌, length, Option, Some, None, refl, sym, ap, ◌∙◌, subst, arith, append_assoc, append-nil, if◌then◌else◌, slice_get, AllByRecursion, length-append, nil_from_length, both_ways, Asked, Table, NullProc, Wanted, Course, Step, begun, ById, fresh, deadlines, WINDOW, Task, Act, IsNearTheTable, client_after, CountsBehind, near_by_count, course_of, course_append, course_client, Mark, Plan, Action, Progress, CommandsAreSentNearTheTable, has_begun, HasEndedANull, HasAllUnanswered, SynchronizationsEndWithANull, null_asked, Part, parts_joined, client_part, sync_part, part_of_act, in_front, parts_of, turned, loses_all, is_over, HoldsBefore, Model, opening, action_at, waiting_of, with_progress, moved, losing, after, Performs, Runs, with_losses, parts, Scope}
+use Rattle.gc_client.specs.Prelude.{Send}
 use Rattle.gc_station.proofs.Behind.{behind_by, counts_steps}
 use Rattle.gc_station.proofs.Booking.{sent_by, course_sent, sent_append, marks_ask_length}
 use Rattle.gc_station.proofs.Counts.{losing_progress}
@@ -44,9 +17,8 @@ use Rattle.gc_station.proofs.Walk.{losing_along}
 use Rattle.gc_station.proofs.Lists.{all_at, get_behind}
 use Rattle.gc_station.proofs.Asked.{steps_none, begun_if_nothing_lost}
 use Rattle.gc_station.proofs.Turns.{no_act_once_over}
-use Rattle.gc_station.specs.Links.{parts}
-use Rattle.gc_station.specs.Scopes.{Scope}
 use Rattle.gc_station.proofs.GoesBehind.{behind_counted, no_send, act_goes_out, SendsAs, client_nulls}
+use Rattle.gc_station.specs.declared.progress.Action.TheVariants as action
 
 -- Lists.
 

@@ -1,46 +1,7 @@
 -- A setup of which something was sent goes on at once or is begun again, whatever act follows (`SettingUp`). An act is one call on the
 -- link, with its result.
-use Rattle.std.proofs.Common.{◌≡◌, ◌⊎◌, inl, inr, ℕ, suc, ◌+◌, ◌*◌, ◌-◌, ◌<◌, ◌≤◌, ◌||◌, Bool, true, false, not, List, [], ◌∷◌, ◌++◌, length, drop, min, Some, None, if◌then◌else◌, take, nat_lt, nat_eq, refl, sym, ap, ◌∙◌, subst, arith, length-drop}
-use native.Mathlib.Nat.{suc-mul, mul-le-mul_right}
-use Rattle.std.specs.List.{AllByRecursion}
-use Rattle.std.proofs.lemmas.Bool.{both_ways}
-use Rattle.std.proofs.lemmas.Bool.Decides.{nat_tests}
-use Rattle.std.proofs.lemmas.List.{nil_from_length, length-map}
-use Rattle.gc_values.proofs.Every.{every_weaker, every_drop}
-use Rattle.gc_catalogue.specs.Asked.{is_of_table}
-use Rattle.gc_catalogue.specs.declared.asked.Asked.{Asked}
-use Rattle.gc_client.specs.Rule.{deadlines, expired, pending_of}
-use Rattle.gc_client.specs.declared.pending.Pending.{Pending}
-use Rattle.gc_client.specs.declared.window.TheConstants.{WINDOW}
-use Rattle.gc_texts.specs.declared.occasion.Occasion.{Occasion}
-use Rattle.gc_texts.specs.declared.tasks.Task.{Task}
-use Rattle.gc_lines.specs.Frames.{rest_behind}
-use Rattle.gc_catalogue.specs.declared.asked.Asked.TheVariants.{Table}
-use Rattle.gc_catalogue.specs.declared.call.Call.TheVariants.{NullProc}
-use Rattle.gc_session.specs.Exchange.{is_none_left}
-use Rattle.gc_links.specs.Acts.{Act, Told, Untold, Gave, Silent, Ended, Broke}
-use Rattle.gc_links.specs.declared.link.Moment.{Moment}
-use Rattle.gc_station.specs.CallTimes.{IsAskedToWait}
-use Rattle.gc_station.specs.Cycles.{ClockRises}
-use Rattle.gc_station.specs.Deciding.{later, has_begun, is_preparing, setup_permits}
-use Rattle.gc_station.specs.Marks.{commands_in, last_well, occasion_of}
-use Rattle.gc_station.specs.Model.{Model, waiting_of, with_progress, with_moment, with_rest, with_more_records, after_piece, asks_for, asks_setup, request_or_null, null_request, lines_completed, is_heard, moved, Performs, mark_setup_sent}
-use Rattle.gc_station.specs.NextCommand.{commands_before}
-use Rattle.gc_station.specs.Progressing.{turned, failing, moment_noted, time_passed, quieted, setup_sent, request_noted, null_sent, cleared, early_noted}
-use Rattle.gc_station.specs.Quiet.{IsAsking}
-use Rattle.gc_station.specs.Reasons.{HoldsBefore, AwaitsReply, AwaitsSomething, WantsNull}
-use Rattle.gc_station.specs.RecordedInTime.{raw_count}
-use Rattle.gc_station.specs.Requests.{command_at}
-use Rattle.gc_station.specs.declared.cause.Cause.{Cause}
-use Rattle.gc_station.specs.declared.cause.Cause.TheVariants as cause
-use Rattle.gc_station.specs.declared.plan.Plan.{Plan}
-use Rattle.gc_station.specs.declared.progress.Action.{Action}
-use Rattle.gc_station.specs.declared.progress.Action.TheVariants as actions
-use Rattle.gc_station.specs.declared.progress.Phase.{Phase}
-use Rattle.gc_station.specs.declared.progress.Phase.TheVariants as phase
-use Rattle.gc_station.specs.declared.progress.Progress.{Progress}
-use Rattle.gc_station.specs.declared.progress.Until.{Until}
-use Rattle.gc_station.specs.declared.progress.Until.TheVariants.{Limit, Due}
+use Rattle.gc_station.proofs.Common.{◌≡◌, ◌⊎◌, inl, inr, ℕ, suc, ◌+◌, ◌*◌, ◌-◌, ◌<◌, ◌≤◌, ◌||◌, Bool, true, false, not, List, [], ◌∷◌, ◌++◌, length, drop, min, Some, None, if◌then◌else◌, take, nat_lt, nat_eq, refl, sym, ap, ◌∙◌, subst, arith, suc-mul, mul-le-mul_right, AllByRecursion, both_ways, nat_tests, nil_from_length, length-map, every_weaker, every_drop, is_of_table, Asked, deadlines, expired, pending_of, Pending, WINDOW, Occasion, Task, rest_behind, Table, NullProc, is_none_left, Act, Told, Untold, Gave, Silent, Ended, Broke, Moment, IsAskedToWait, ClockRises, later, has_begun, is_preparing, setup_permits, commands_in, last_well, occasion_of, Model, waiting_of, with_progress, with_moment, with_rest, with_more_records, after_piece, asks_for, asks_setup, request_or_null, null_request, lines_completed, is_heard, moved, Performs, mark_setup_sent, commands_before, turned, failing, moment_noted, time_passed, quieted, setup_sent, request_noted, null_sent, cleared, early_noted, IsAsking, HoldsBefore, AwaitsReply, AwaitsSomething, WantsNull, raw_count, command_at, Cause, Plan, Action, Phase, Progress, Until, Limit, Due}
+use Rattle.std.proofs.Common.{length-drop}
 use Rattle.gc_station.proofs.InCycle.{within_window}
 use Rattle.gc_station.proofs.BehindRaw.{raws_rise, raws_within, raws_next, raw_text, may_flush, flushed_again}
 use Rattle.gc_station.proofs.CallTimes.{IsTimely, deadlines_within, waits_in_flight}
@@ -53,6 +14,9 @@ use Rattle.gc_station.proofs.Records.{commands-append}
 use Rattle.gc_station.proofs.Walk.{lines_along, closed_along, moved_changed, piece_before, model_sent, walk}
 use Rattle.gc_station.proofs.Words.{begun_unless_renewed}
 use Rattle.gc_station.proofs.UnderWay.{not_permitted, preparing_then, some_unsent, still_preparing, none_prepared, sent_with_room, IsEarly, IsFlushing, setup_limit, IsSettled, GoesNext, IsUnderWay, IsWithin, SettingUp, Listens, line_heard, failed_sets, soon_if_well}
+use Rattle.gc_station.specs.declared.cause.Cause.TheVariants as cause
+use Rattle.gc_station.specs.declared.progress.Action.TheVariants as actions
+use Rattle.gc_station.specs.declared.progress.Phase.TheVariants as phase
 
 module _ (plan : Plan) (longest call turn loss : ℕ) (commands : List Task) (span : ℕ) (few : plan.deadline ≤ longest) (all_few : AllByRecursion (λ (task : Task). task.deadline ≤ longest) commands)
     (listed : plan.setup ≤ length commands) (turns : longest + call ≤ turn) (losses : 7 * turn ≤ loss) where

@@ -1,28 +1,13 @@
 -- Which act read the last moment; and that a close is decided only when it is made, unless an act shows its cause. An act is
 -- one call on the link, with its result. `ReadLast` says that the last act read the moment, unless the moment is out of date.
-use Rattle.std.proofs.Common.{◌≡◌, ℕ, ◌⊎◌, inl, inr, ◌&&◌, Bool, true, false, not, List, [], ◌∷◌, ◌++◌, if◌then◌else◌, refl, sym, ap, ◌∙◌, subst}
-use Rattle.gc_texts.specs.declared.tasks.Task.{Task}
-use Rattle.gc_station.specs.declared.plan.Plan.{Plan}
-use Rattle.gc_station.specs.declared.cause.Cause.{Cause}
-use Rattle.gc_station.specs.declared.cause.Cause.TheVariants as cause
-use Rattle.gc_station.specs.declared.progress.Phase.{Phase}
-use Rattle.gc_station.specs.declared.progress.Phase.TheVariants as phase
-use Rattle.gc_station.specs.declared.progress.Action.{Action}
-use Rattle.gc_station.specs.declared.progress.Action.TheVariants as actions
-use Rattle.gc_station.specs.declared.progress.Progress.{Progress}
-use Rattle.gc_links.specs.Acts.{Act, Told, Gave, Silent, Closed}
-use Rattle.gc_station.specs.Closing.{Shows, EndsRun, EndsAfter}
-use Rattle.gc_station.specs.Deciding.{is_up, is_past, is_quiet}
-use Rattle.gc_station.specs.Progressing.{turned, cleared, quieted, is_idle, drained}
-use Rattle.gc_station.specs.Quiet.{TellsMoment, HasLast}
-use Rattle.gc_station.specs.Reasons.{IsAtItsEnd}
-use Rattle.gc_station.specs.Runs.{state_after}
-use Rattle.gc_station.specs.Scopes.{Scope}
-use Rattle.gc_station.specs.Model.{Model, opening, action_at, waiting_of, with_progress, lines_completed, is_heard, Runs}
+use Rattle.gc_station.proofs.Common.{◌≡◌, ℕ, ◌⊎◌, inl, inr, ◌&&◌, Bool, true, false, not, List, [], ◌∷◌, ◌++◌, if◌then◌else◌, refl, sym, ap, ◌∙◌, subst, Task, Plan, Cause, Phase, Action, Progress, Act, Told, Gave, Silent, Closed, Shows, EndsRun, EndsAfter, is_up, is_past, is_quiet, turned, cleared, quieted, is_idle, drained, TellsMoment, HasLast, IsAtItsEnd, state_after, Scope, Model, opening, action_at, waiting_of, with_progress, lines_completed, is_heard, Runs}
 use Rattle.gc_station.proofs.Closings.{closing_shown, needs_of}
 use Rattle.gc_station.proofs.Connected.{is_in_use, paused_alike, HoldsInUse, holds_in_use_always}
 use Rattle.gc_station.proofs.InCycle.{Awake}
 use Rattle.gc_station.proofs.Walk.{asked_along, came_along, piece_before}
+use Rattle.gc_station.specs.declared.cause.Cause.TheVariants as cause
+use Rattle.gc_station.specs.declared.progress.Phase.TheVariants as phase
+use Rattle.gc_station.specs.declared.progress.Action.TheVariants as actions
 
 -- whether a drain ends (`ends`) or goes on, there is a connection
 drained_up : (ends : Bool) (p : Progress) → p.phase ≡ phase.Draining → is_up (if ends then drained p else p).phase ≡ true

@@ -1,5 +1,5 @@
 -- Facts of the past: what has held since an element of a growing list, as since an act of a run.
-use Rattle.std.proofs.Common.{◌≡◌, List, [], ◌∷◌, ◌++◌, refl, ap, ◌∙◌, append_assoc}
+use Rattle.gc_station.proofs.Common.{◌≡◌, List, [], ◌∷◌, ◌++◌, refl, ap, ◌∙◌, append_assoc}
 
 -- among all these elements there is one, `start`, with P of the elements before it, of `start`, and of those after it
 pub record Since {A : Type 0} (P : List A → A → List A → Type 0) (all : List A) : Type 0 where

@@ -1,27 +1,6 @@
 -- Once the station heard a sign-on, or anything else left it in doubt, no command of a cycle is sent before the setup was sent anew, and
 -- answered well. The doubt is noted until the station resynchronizes, and while it is nothing is sent. An act is one call on the link, with its result.
-use Rattle.std.proofs.Common.{◌≡◌, inl, inr, ℕ, ◌||◌, ◌<◌, Bool, true, false, List, [], ◌∷◌, ◌++◌, map, refl, sym, ap, ◌∙◌, subst, append_assoc, if◌then◌else◌}
-use Rattle.std.specs.List.{list_any}
-use Rattle.std.proofs.lemmas.Bool.{both_ways}
-use Rattle.gc_catalogue.specs.declared.asked.Asked.{Asked}
-use Rattle.gc_client.specs.OneForOne.{Hear, Expire}
-use Rattle.gc_client.specs.Rule.{ById}
-use Rattle.gc_texts.specs.SignOns.{is_sign_on}
-use Rattle.gc_texts.specs.declared.tasks.Task.{Task}
-use Rattle.gc_session.specs.Lines.{raises_doubt}
-use Rattle.gc_links.specs.Acts.{Act, Gave}
-use Rattle.gc_session.specs.Courses.{client_stepped}
-use Rattle.gc_station.specs.declared.plan.Plan.{Plan}
-use Rattle.gc_station.specs.declared.progress.Action.TheVariants.{Send}
-use Rattle.gc_station.specs.declared.progress.Action.{Action}
-use Rattle.gc_station.specs.Deciding.{has_begun}
-use Rattle.gc_station.specs.Model.{Model, opening, action_at, waiting_of, is_heard, lines_completed, with_progress, Performs, moved, after, after_all, Runs}
-use Rattle.gc_station.specs.Parts.{client_part}
-use Rattle.gc_station.specs.Progressing.{turned}
-use Rattle.gc_station.specs.Reasons.{HoldsBefore}
-use Rattle.gc_station.specs.Runs.{state_after}
-use Rattle.gc_station.specs.Scopes.{Scope}
-use Rattle.gc_station.specs.Setups.{StaysUp, IsPrepared}
+use Rattle.gc_station.proofs.Common.{◌≡◌, inl, inr, ℕ, ◌||◌, ◌<◌, Bool, true, false, List, [], ◌∷◌, ◌++◌, map, refl, sym, ap, ◌∙◌, subst, append_assoc, if◌then◌else◌, list_any, both_ways, Asked, Hear, Expire, ById, is_sign_on, Task, raises_doubt, client_stepped, Act, Gave, Plan, Send, Action, has_begun, Model, opening, action_at, waiting_of, is_heard, lines_completed, with_progress, Performs, moved, after, after_all, Runs, client_part, turned, HoldsBefore, state_after, Scope, StaysUp, IsPrepared}
 use Rattle.gc_station.specs.Starts.{BringsSignOn, IsPreparedBehind, SetsUpAnewAfterASignOn}
 use Rattle.gc_station.proofs.Counts.{with_losses_progress}
 use Rattle.gc_station.proofs.Facts.{action_for}

@@ -1,21 +1,10 @@
 -- A progress that stays in its cycle, at the same command, and acts that stay in their cycle and read moments as `Ticks` says. An act is
 -- one call on the link, with its result.
-use Rattle.std.proofs.Common.{◌≡◌, ◌⊎◌, inl, inr, false, ℕ, List, min, refl, ap}
-use Rattle.gc_station.specs.declared.progress.Progress.{Progress}
+use Rattle.gc_station.proofs.Common.{◌≡◌, ◌⊎◌, inl, inr, false, ℕ, List, min, refl, ap, Progress, Task, Act, Gave, Silent, Closed, Moment, moment_noted, time_passed, quieted, closed, Model, waiting_of, is_heard, with_progress, with_moment, lines_completed, piece_at, Cause, Exchange, Plan, Phase, Until}
 use Rattle.gc_station.proofs.ChainSteps.{Still, still, still_but_broken}
-use Rattle.gc_texts.specs.declared.tasks.Task.{Task}
-use Rattle.gc_links.specs.Acts.{Act, Gave, Silent, Closed}
-use Rattle.gc_links.specs.declared.link.Moment.{Moment}
-use Rattle.gc_station.specs.Progressing.{moment_noted, time_passed, quieted, closed}
-use Rattle.gc_station.specs.Model.{Model, waiting_of, is_heard, with_progress, with_moment, lines_completed, piece_at}
-use Rattle.gc_station.specs.declared.cause.Cause.{Cause}
-use Rattle.gc_session.specs.declared.exchange.Exchange.{Exchange}
-use Rattle.gc_station.specs.declared.plan.Plan.{Plan}
-use Rattle.gc_station.specs.declared.progress.Action.TheVariants as actions
-use Rattle.gc_station.specs.declared.progress.Phase.{Phase}
-use Rattle.gc_station.specs.declared.progress.Until.{Until}
 use Rattle.gc_station.proofs.Walk.{asked_along, came_along, quieted_along, closed_along, moved_changed}
 use Rattle.gc_station.proofs.Ticking.{Ticks}
+use Rattle.gc_station.specs.declared.progress.Action.TheVariants as actions
 
 -- q is in the same cycle as p, at the same command, with its chain as it was or broken (`Still`), and the moment at which that
 -- cycle was due is the same

@@ -1,43 +1,7 @@
 -- How a run ends that is stale, and one whose end was asked for. `TracksFresh` says of an act which records it recorded, and what
 -- became of the moment from which on the run may become stale. An act is one call on the link, with its result.
-use Rattle.std.proofs.Common.{◌≡◌, inl, inr, ◌⊎◌, ℕ, ◌-◌, ◌<◌, ◌≤◌, ◌||◌, Bool, true, false, List, [], ◌∷◌, ◌++◌, drop, map, Option, Some, None, nat_lt, nat_le, nat_eq, refl, sym, ap, ◌∙◌, subst, append-nil, append_assoc, arith}
-use Rattle.std.proofs.lemmas.Bool.{ltb-true, lt-ltb, leb-true, le-leb, and_parts, cond-true, cond-false, false≢true}
-use Rattle.std.proofs.lemmas.Bool.Decides.{nat_tests}
-use Rattle.std.specs.List.{AllByRecursion}
+use Rattle.gc_station.proofs.Common.{◌≡◌, inl, inr, ◌⊎◌, ℕ, ◌-◌, ◌<◌, ◌≤◌, ◌||◌, Bool, true, false, List, [], ◌∷◌, ◌++◌, drop, map, Option, Some, None, nat_lt, nat_le, nat_eq, refl, sym, ap, ◌∙◌, subst, append-nil, append_assoc, arith, ltb-true, lt-ltb, leb-true, le-leb, and_parts, cond-true, cond-false, false≢true, nat_tests, AllByRecursion, map-id, map-append, map-map, Asked, Pending, heard, hears, lost, Task, Act, Told, Gave, Closed, Moment, all_among, Cause, Mark, Plan, Action, Phase, Progress, Until, Waiting, Shows, EndsRun, is_stale, action_of, action_in, action_on, records_of, ended_confirmed, Model, opening, action_at, waiting_of, unsent_record, first_unsent_record, with_progress, with_moment, with_rest, is_heard, line_came, lines_completed, after_piece, piece_at, Performs, moved, losing, after, Runs, place_next, mark_next, turned, moment_noted, quieted, time_passed, loses_all, Record, state_after, Scope, Reads, places_of, unanswered, renews, renewed_if, renewed_by, fresh_after, cut_to, oldest, fresh_in, fresh_of, Watch, least_moment, asked_after, RenewsNot, NoneWellSince, HasStale, ClosesStale, StopsAtItsClose, EndsOnceStale, GoesOnInItsChain, ClosesBetweenChains, IsListening, HasLast}
 use Rattle.std.specs.Cmp.Derive.{both_true}
-use Rattle.std.proofs.lemmas.List.{map-id, map-append}
-use Rattle.std.proofs.lemmas.Simd.{map-map}
-use Rattle.gc_catalogue.specs.declared.asked.Asked.{Asked}
-use Rattle.gc_client.specs.declared.pending.Pending.{Pending}
-use Rattle.gc_client.specs.Rule.{heard, hears, lost}
-use Rattle.gc_texts.specs.declared.tasks.Task.{Task}
-use Rattle.gc_links.specs.Acts.{Act, Told, Gave, Closed}
-use Rattle.gc_links.specs.declared.link.Moment.{Moment}
-use Rattle.gc_session.proofs.Stretches.{all_among}
-use Rattle.gc_station.specs.declared.cause.Cause.{Cause}
-use Rattle.gc_station.specs.declared.cause.Cause.TheVariants as cause
-use Rattle.gc_station.specs.declared.mark.Mark.{Mark}
-use Rattle.gc_station.specs.declared.plan.Plan.{Plan}
-use Rattle.gc_station.specs.declared.progress.Action.{Action}
-use Rattle.gc_station.specs.declared.progress.Action.TheVariants as actions
-use Rattle.gc_station.specs.declared.progress.Phase.{Phase}
-use Rattle.gc_station.specs.declared.progress.Phase.TheVariants as phase
-use Rattle.gc_station.specs.declared.progress.Progress.{Progress}
-use Rattle.gc_station.specs.declared.progress.Until.{Until}
-use Rattle.gc_station.specs.declared.progress.Waiting.{Waiting}
-use Rattle.gc_station.specs.Closing.{Shows, EndsRun}
-use Rattle.gc_station.specs.Deciding.{is_stale, action_of, action_in, action_on}
-use Rattle.gc_station.specs.Marks.{records_of, ended_confirmed}
-use Rattle.gc_station.specs.Model.{Model, opening, action_at, waiting_of, unsent_record, first_unsent_record, with_progress, with_moment, with_rest, is_heard, line_came, lines_completed, after_piece, piece_at, Performs, moved, losing, after, Runs}
-use Rattle.gc_station.specs.NextCommand.{place_next, mark_next}
-use Rattle.gc_station.specs.Progressing.{turned, moment_noted, quieted, time_passed, loses_all}
-use Rattle.gc_station.specs.Records.{Record}
-use Rattle.gc_station.specs.Runs.{state_after}
-use Rattle.gc_station.specs.Scopes.{Scope, Reads}
-use Rattle.gc_station.specs.Watching.{places_of, unanswered, renews, renewed_if, renewed_by, fresh_after, cut_to, oldest, fresh_in, fresh_of}
-use Rattle.gc_station.specs.declared.watching.Watch.{Watch}
-use Rattle.gc_station.specs.Stopping.{least_moment, asked_after, RenewsNot, NoneWellSince, HasStale, ClosesStale, StopsAtItsClose, EndsOnceStale, GoesOnInItsChain, ClosesBetweenChains}
-use Rattle.gc_station.specs.Quiet.{IsListening, HasLast}
 use Rattle.gc_station.proofs.Always.{always, always_of_progress}
 use Rattle.gc_station.proofs.Closings.{cause_in, no_cause_shown, Decided, after_decided, runs_split, stopped_for, needs_of, done_is_finished}
 use Rattle.gc_station.proofs.Counts.{with_losses_progress}
@@ -51,6 +15,9 @@ use Rattle.gc_station.proofs.Turns.{no_act_in_over}
 use Rattle.gc_station.proofs.Unbroken.{unbroken_holds, resting_sends_no_chained}
 use Rattle.gc_station.proofs.Freshness.{all_mapped, oldest_among, fresh_below, renewed_place, unwell_renews_none, unwell_changes_none}
 use Rattle.gc_station.proofs.Walk.{asked_along, came_along, quieted_along, closed_along, walk, piece_before}
+use Rattle.gc_station.specs.declared.cause.Cause.TheVariants as cause
+use Rattle.gc_station.specs.declared.progress.Action.TheVariants as actions
+use Rattle.gc_station.specs.declared.progress.Phase.TheVariants as phase
 
 -- Records.
 

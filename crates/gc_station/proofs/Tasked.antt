@@ -1,25 +1,6 @@
 -- Each record is of the task at its place, and its command is what that task asks at the moment at which its request was sent.
 -- A mark says which command an outstanding request is of, and when that was sent.
-use Rattle.std.proofs.Common.{◌≡◌, ℕ, true, false, List, [], ◌∷◌, ◌++◌, length, drop, map, Option, Some, None, refl, sym, ap, ◌∙◌, subst}
-use Rattle.std.specs.Prelude.{slice_get}
-use Rattle.std.specs.List.{AllByRecursion}
-use Rattle.std.proofs.lemmas.Bool.{both_ways}
-use Rattle.std.proofs.lemmas.List.{length-map, map-append}
-use Rattle.gc_values.specs.FileValues.{no_values}
-use Rattle.gc_catalogue.specs.declared.asked.Asked.{Asked}
-use Rattle.gc_client.specs.OneForOne.{Wanted, of_pending, of_settled}
-use Rattle.gc_client.specs.Rule.{Settlement}
-use Rattle.gc_client.specs.declared.pending.Pending.{Pending}
-use Rattle.gc_texts.specs.Endings.{End}
-use Rattle.gc_texts.specs.declared.tasks.Task.{Task}
-use Rattle.gc_texts.specs.declared.wish.Wish.{Wish}
-use Rattle.gc_station.specs.Marks.{record_of, records_of, record_with}
-use Rattle.gc_station.specs.Model.{end_unsent}
-use Rattle.gc_station.specs.Parts.{MarksAsk, MarkAsks, went_out}
-use Rattle.gc_station.specs.Scopes.{Reads}
-use Rattle.gc_station.specs.Tasked.{IsOfItsTask}
-use Rattle.gc_station.specs.declared.mark.Mark.{Mark}
-use Rattle.gc_station.specs.declared.progress.Progress.{Progress}
+use Rattle.gc_station.proofs.Common.{◌≡◌, ℕ, true, false, List, [], ◌∷◌, ◌++◌, length, drop, map, Option, Some, None, refl, sym, ap, ◌∙◌, subst, slice_get, AllByRecursion, both_ways, length-map, map-append, no_values, Asked, Wanted, of_pending, of_settled, Settlement, Pending, End, Task, Wish, record_of, records_of, record_with, end_unsent, MarksAsk, MarkAsks, went_out, Reads, IsOfItsTask, Mark, Progress}
 use Rattle.gc_station.proofs.Booking.{ended_sent, marks_ask_append}
 use Rattle.gc_station.proofs.Walk.{unsent_along}
 

@@ -1,13 +1,6 @@
 -- A clock that goes on from act to act: the moment read last, and the beginning of the cycle. An act is one call on the link,
 -- with its result.
-use Rattle.std.proofs.Common.{◌≡◌, ℕ, ◌≤◌, List, [], ◌∷◌, ◌++◌, min, refl, ap, ◌∙◌, arith}
-use Rattle.std.specs.Prelude.{MatchOption}
-use Rattle.gc_links.specs.Acts.{Act, Told, Gave, Silent}
-use Rattle.gc_links.specs.declared.link.Moment.{Moment}
-use Rattle.gc_station.specs.ActKinds.{moment_in}
-use Rattle.gc_station.specs.Cycles.{ClockRises}
-use Rattle.gc_station.specs.Silences.{latest}
-use Rattle.gc_station.specs.declared.progress.Progress.{Progress}
+use Rattle.gc_station.proofs.Common.{◌≡◌, ℕ, ◌≤◌, List, [], ◌∷◌, ◌++◌, min, refl, ap, ◌∙◌, arith, MatchOption, Act, Told, Gave, Silent, Moment, moment_in, ClockRises, latest, Progress}
 
 -- what an act does to the moment read last, and to the one that counts as the beginning of the cycle: an act that reads a
 -- moment sets the former, and bounds the latter by it; any other leaves both

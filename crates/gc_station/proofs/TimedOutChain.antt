@@ -1,37 +1,13 @@
 -- A chain whose command has timed out doesn't go on: that command isn't answered well any more. An act is one call on the link, with its
 -- result. A mark says which command an outstanding request is of, or `None` of a null procedure.
-use Rattle.std.proofs.Common.{◌≡◌, inl, inr, ℕ, zero, suc, ◌+◌, ◌<◌, Bool, true, false, not, if◌then◌else◌, List, [], ◌∷◌, ◌++◌, length, map, filter, drop, Option, Some, None, nat_lt, nat_le, nat_eq, refl, sym, ap, ◌∙◌, subst, arith, length-append, length-drop}
-use Rattle.std.proofs.lemmas.Bool.{both_ways, eqb-true, or_left}
-use Rattle.std.proofs.lemmas.Bool.Decides.{nat_tests}
-use Rattle.std.proofs.lemmas.List.{length-map}
-use Rattle.gc_catalogue.specs.declared.asked.Asked.{Asked}
-use Rattle.gc_catalogue.specs.declared.asked.Asked.TheVariants.{Table}
-use Rattle.gc_catalogue.specs.declared.call.Call.TheVariants.{NullProc}
-use Rattle.gc_client.specs.declared.pending.Pending.{Pending}
-use Rattle.gc_client.specs.declared.window.TheConstants.{WINDOW}
-use Rattle.gc_client.specs.Rule.{hears, heard, expired, deadlines, pending_of, settles_at, settle, fits, place_in, send_unless_full, Answered, Late}
-use Rattle.gc_client.proofs.OneForOne.{length-settle}
-use Rattle.gc_texts.specs.declared.tasks.Task.{Task}
-use Rattle.gc_session.specs.Lines.{is_reply}
-use Rattle.gc_links.specs.Acts.{Act}
-use Rattle.gc_links.specs.declared.link.Moment.{Moment}
-use Rattle.gc_session.specs.Sessions.{client_sent}
-use Rattle.gc_station.specs.Deciding.{later}
-use Rattle.gc_station.specs.Marks.{commands_in, records_of, end_of, is_well, last_well}
-use Rattle.gc_station.specs.Model.{Model, waiting_of, with_progress, with_moment, line_came, line_doubted, line_settles, is_heard, sent_to, asks_for, null_request, first_unsent_record, moved, Performs}
-use Rattle.gc_station.specs.NextCommand.{mark_next, commands_left}
-use Rattle.gc_station.specs.Progressing.{turned, moment_noted}
-use Rattle.gc_station.specs.Reasons.{HoldsBefore, MayGo}
-use Rattle.gc_station.specs.Scopes.{Reads}
-use Rattle.gc_station.specs.declared.mark.Mark.{Mark}
-use Rattle.gc_station.specs.declared.plan.Plan.{Plan}
-use Rattle.gc_station.specs.declared.progress.Action.{Action}
-use Rattle.gc_station.specs.declared.progress.Action.TheVariants as actions
-use Rattle.gc_station.specs.declared.progress.Progress.{Progress}
+use Rattle.gc_station.proofs.Common.{◌≡◌, inl, inr, ℕ, zero, suc, ◌+◌, ◌<◌, Bool, true, false, not, if◌then◌else◌, List, [], ◌∷◌, ◌++◌, length, map, filter, drop, Option, Some, None, nat_lt, nat_le, nat_eq, refl, sym, ap, ◌∙◌, subst, arith, both_ways, eqb-true, or_left, nat_tests, length-map, Asked, Table, NullProc, Pending, WINDOW, hears, heard, expired, deadlines, pending_of, settles_at, settle, fits, place_in, send_unless_full, Late, length-settle, Task, is_reply, client_sent, Act, Moment, later, commands_in, records_of, end_of, is_well, last_well, Model, waiting_of, with_progress, with_moment, line_came, line_doubted, line_settles, is_heard, sent_to, asks_for, null_request, first_unsent_record, moved, Performs, mark_next, commands_left, turned, moment_noted, HoldsBefore, MayGo, Reads, Mark, Plan, Action, Progress}
+use Rattle.std.proofs.Common.{length-append, length-drop}
+use Rattle.gc_client.specs.Prelude.{Answered}
 use Rattle.gc_station.proofs.Making.{unwell_end}
 use Rattle.gc_station.proofs.InCycle.{within_window}
 use Rattle.gc_station.proofs.Records.{commands-append, records-none, last-append}
 use Rattle.gc_station.proofs.Walk.{came_along, walk}
+use Rattle.gc_station.specs.declared.progress.Action.TheVariants as actions
 
 -- Requests of commands that have timed out.
 

@@ -1,11 +1,7 @@
 -- A command that sets the clock asks for the moment at which its request is sent, and one that takes values of files for these. As the text
 -- has it, either asks for the beginning of 1970, whenever it is sent; and so the requests of a run can be compared with the text.
-use Rattle.std.proofs.Common.{◌≡◌, ℕ, Bool, true, false, List, ◌∷◌, drop, if◌then◌else◌, refl, ap, ◌∙◌}
-use Rattle.gc_catalogue.specs.declared.asked.Asked.{Asked}
-use Rattle.gc_texts.specs.Tasks.{call_at, made_at}
-use Rattle.gc_texts.specs.declared.occasion.Occasion.{Occasion}
-use Rattle.gc_texts.specs.declared.tasks.Task.{Task}
-use Rattle.gc_station.specs.Requests.{RunRequest, asked_at, in_text, of_command, of_task, sets_clock, untimed}
+use Rattle.gc_station.proofs.Common.{◌≡◌, ℕ, Bool, true, false, List, ◌∷◌, drop, if◌then◌else◌, refl, ap, ◌∙◌, Asked, call_at, made_at, Occasion, Task, asked_at, of_command, sets_clock, untimed}
+use Rattle.gc_station.specs.Requests.{RunRequest, in_text, of_task}
 
 -- what a task asks on any occasion is what the text says, if what a request takes that is made anew is left out (`untimed`)
 untimed_at : (task : Task) (occasion : Occasion) → untimed task.now (call_at task occasion) ≡ untimed task.now task.command.call

@@ -5,32 +5,7 @@
 -- the bytes that one read gave. `Trying` says how many tries are left, by the connections that ended since the last read that
 -- settled a command. `TriesAfterPiece` says what a piece does to the tries: they are all given back if it settles a command and
 -- `preparing` is false after it, and stay otherwise; `Settling` says the same of a whole read, by the records.
-use Rattle.std.proofs.Common.{◌≡◌, ◌≢◌, ◌⊎◌, inl, inr, ℕ, suc, ◌+◌, ◌<◌, ◌≤◌, Bool, true, false, not, List, [], ◌∷◌, ◌++◌, length, map, Option, Some, None, refl, sym, ap, ◌∙◌, subst, arith, append_assoc, append-nil}
-use Rattle.std.proofs.lemmas.List.{length-map, length-append, nil_from_length}
-use Rattle.std.proofs.lemmas.Bool.{not-true, false_from_ne_true, both_ways}
-use Rattle.gc_catalogue.specs.declared.asked.Asked.{Asked}
-use Rattle.gc_client.specs.declared.pending.Pending.{Pending}
-use Rattle.gc_client.specs.Rule.{ById}
-use Rattle.gc_texts.specs.declared.tasks.Task.{Task}
-use Rattle.gc_links.specs.declared.link.Moment.{Moment}
-use Rattle.gc_station.specs.declared.mark.Mark.{Mark}
-use Rattle.gc_station.specs.declared.plan.Plan.{Plan}
-use Rattle.gc_station.specs.declared.cause.Cause.{Cause}
-use Rattle.gc_station.specs.declared.cause.Cause.TheVariants as cause
-use Rattle.gc_station.specs.declared.progress.Phase.TheVariants as phase
-use Rattle.gc_station.specs.declared.progress.Action.{Action}
-use Rattle.gc_station.specs.declared.progress.Action.TheVariants as actions
-use Rattle.gc_station.specs.declared.progress.Progress.{Progress}
-use Rattle.gc_links.specs.Acts.{Act, Gave, Closed, Opened, Unopened}
-use Rattle.gc_station.specs.Closing.{Shows, EndsDone, EndsAfter}
-use Rattle.gc_station.specs.Deciding.{has_begun, is_up}
-use Rattle.gc_station.specs.EachOnce.{still_waiting, of_record}
-use Rattle.gc_station.specs.Marks.{commands_in}
-use Rattle.gc_station.specs.Progressing.{turned, is_over, loses_all}
-use Rattle.gc_station.specs.Records.{Record, Grew}
-use Rattle.gc_station.specs.Runs.{state_after}
-use Rattle.gc_station.specs.Model.{Model, opening, action_at, waiting_of, with_progress, Performs, moved, losing, after, after_all, Runs}
-use Rattle.gc_station.specs.Tries.{IsTried, IsDisconnecting, disconnections_in, openings_in, SettlesNone, NoneSettled, EndsSettled, AllTried}
+use Rattle.gc_station.proofs.Common.{◌≡◌, ◌≢◌, ◌⊎◌, inl, inr, ℕ, suc, ◌+◌, ◌<◌, ◌≤◌, Bool, true, false, not, List, [], ◌∷◌, ◌++◌, length, map, Option, Some, None, refl, sym, ap, ◌∙◌, subst, arith, append_assoc, append-nil, length-map, length-append, nil_from_length, not-true, false_from_ne_true, both_ways, Asked, Pending, ById, Task, Moment, Mark, Plan, Cause, Action, Progress, Act, Gave, Closed, Opened, Unopened, Shows, EndsDone, EndsAfter, has_begun, is_up, still_waiting, of_record, commands_in, turned, is_over, loses_all, Record, Grew, state_after, Model, opening, action_at, waiting_of, with_progress, Performs, moved, losing, after, after_all, Runs, IsTried, IsDisconnecting, disconnections_in, openings_in, SettlesNone, NoneSettled, EndsSettled, AllTried, Scope}
 use Rattle.gc_station.proofs.Closings.{no_cause_shown, runs_split, needs_of, cause_in, Decided, after_decided, done_is_finished}
 use Rattle.gc_station.proofs.Counts.{with_losses_progress}
 use Rattle.gc_station.proofs.Always.{always}
@@ -42,9 +17,11 @@ use Rattle.gc_station.proofs.Going.{after_all-append}
 use Rattle.gc_station.proofs.Opens.{IsBalanced, Quits, moved_balanced, IsBalancedAt}
 use Rattle.gc_station.proofs.Row.{row_of, row_losing, row_read}
 use Rattle.gc_station.proofs.Turns.{no_act_once_over, up_count, at_most_one_up}
-use Rattle.gc_station.specs.Scopes.{Scope}
 use Rattle.gc_station.proofs.TriesTaken.{GivesTriesBack, TriesAfterPiece, TakesTries, took_moved, took_with_turn}
 use Rattle.gc_station.proofs.SentAt.{after_grew}
+use Rattle.gc_station.specs.declared.cause.Cause.TheVariants as cause
+use Rattle.gc_station.specs.declared.progress.Phase.TheVariants as phase
+use Rattle.gc_station.specs.declared.progress.Action.TheVariants as actions
 
 -- A read gives tries back where, and only where, it settled a command.
 

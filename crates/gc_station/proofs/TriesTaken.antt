@@ -1,26 +1,10 @@
 -- Each end of a connection takes a try at most, and only a read that settles a command gives tries back. `preparing` of a
 -- progress is true if there is a setup, and since the connection was made and the station synchronized no cycle began or went
 -- on. An act is one call on the link, with its result.
-use Rattle.std.proofs.Common.{◌≡◌, ◌⊎◌, inl, inr, ℕ, ◌+◌, ◌-◌, ◌<◌, ◌≤◌, Bool, true, false, not, List, [], ◌∷◌, if◌then◌else◌, nat_lt, refl, ap, arith, ◌&&◌}
-use Rattle.std.proofs.lemmas.Bool.{ltb-true, ltb-false}
-use Rattle.gc_texts.specs.declared.tasks.Task.{Task}
-use Rattle.gc_links.specs.declared.link.Moment.{Moment}
-use Rattle.gc_station.specs.declared.plan.Plan.{Plan}
-use Rattle.gc_station.specs.declared.cause.Cause.{Cause}
-use Rattle.gc_station.specs.declared.progress.Phase.{Phase}
-use Rattle.gc_station.specs.declared.progress.Action.{Action}
-use Rattle.gc_station.specs.declared.progress.Action.TheVariants as actions
-use Rattle.gc_station.specs.declared.progress.Progress.{Progress}
-use Rattle.gc_station.specs.declared.progress.Until.{Until}
-use Rattle.gc_station.specs.declared.progress.Waiting.{Waiting}
-use Rattle.gc_links.specs.Acts.{Act, Gave}
-use Rattle.gc_station.specs.Deciding.{has_begun}
-use Rattle.gc_station.specs.Marks.{commands_in}
-use Rattle.gc_station.specs.Progressing.{is_spared, turned, moment_noted, time_passed, quieted, closed}
-use Rattle.gc_station.specs.Model.{Model, waiting_of, with_progress, with_moment, lines_completed, after_piece, is_heard, piece_at, Performs, moved, after}
-use Rattle.gc_station.specs.Tries.{disconnections_in}
+use Rattle.gc_station.proofs.Common.{◌≡◌, ◌⊎◌, inl, inr, ℕ, ◌+◌, ◌-◌, ◌<◌, ◌≤◌, Bool, true, false, not, List, [], ◌∷◌, if◌then◌else◌, nat_lt, refl, ap, arith, ◌&&◌, ltb-true, ltb-false, Task, Moment, Plan, Cause, Phase, Action, Progress, Until, Waiting, Act, Gave, has_begun, commands_in, is_spared, turned, moment_noted, time_passed, quieted, closed, Model, waiting_of, with_progress, with_moment, lines_completed, after_piece, is_heard, piece_at, Performs, moved, after, disconnections_in}
 use Rattle.gc_station.proofs.Words.{was_synchronizing}
 use Rattle.gc_station.proofs.Walk.{asked_along, came_along, closed_along, moved_changed, quieted_along, walk}
+use Rattle.gc_station.specs.declared.progress.Action.TheVariants as actions
 
 -- from the progress p to q, a read settled a command (`settled`), `preparing` is false, and all tries are left; or it settled
 -- none (`none`), or `preparing` is true, and the tries stay

@@ -1,22 +1,12 @@
 -- Each act takes a turn or, once none is left, closes the connection: so a run ends. An act is one call on the link, with its
 -- result.
-use Rattle.std.proofs.Common.{◌≡◌, ℕ, zero, suc, ◌+◌, ◌*◌, ◌-◌, ◌<◌, ◌≤◌, ◌&&◌, ◌||◌, Bool, true, false, not, List, if◌then◌else◌, nat_lt, nat_eq, refl, sym, ap, ◌∙◌, subst, arith}
-use Rattle.gc_texts.specs.declared.tasks.Task.{Task}
-use Rattle.gc_station.specs.declared.plan.Plan.{Plan}
-use Rattle.gc_station.specs.declared.cause.Cause.{Cause}
-use Rattle.gc_station.specs.declared.cause.Cause.TheVariants as cause
-use Rattle.gc_station.specs.declared.progress.Phase.{Phase}
-use Rattle.gc_station.specs.declared.progress.Phase.TheVariants as phase
-use Rattle.gc_station.specs.declared.progress.Action.{Action}
-use Rattle.gc_station.specs.declared.progress.Action.TheVariants as actions
-use Rattle.gc_station.specs.declared.progress.Progress.{Progress}
-use Rattle.gc_station.specs.declared.progress.Waiting.{Waiting}
-use Rattle.gc_links.specs.Acts.{Act}
-use Rattle.gc_station.specs.Deciding.{is_up, action_in, action_on, action_of, action_without_turns}
-use Rattle.gc_station.specs.Progressing.{turned, is_finished, is_spared, after_failure, closed, is_over_in, is_over}
-use Rattle.gc_station.specs.Model.{Model, waiting_of, action_at, Performs, moved, stepped, with_progress}
+use Rattle.gc_station.proofs.Common.{◌≡◌, ℕ, zero, suc, ◌+◌, ◌*◌, ◌-◌, ◌<◌, ◌≤◌, ◌&&◌, ◌||◌, Bool, true, false, not, List, if◌then◌else◌, nat_lt, nat_eq, refl, sym, ap, ◌∙◌, subst, arith, Task, Plan, Cause, Phase, Action, Progress, Waiting, Act, is_up, action_in, action_on, action_of, action_without_turns, turned, is_spared, after_failure, closed, is_over_in, is_over, Model, waiting_of, action_at, Performs, moved, stepped, with_progress}
+use Rattle.gc_station.specs.Progressing.{is_finished}
 use Rattle.gc_station.proofs.Counts.{turns_kept, with_losses_progress}
 use Rattle.gc_station.proofs.Walk.{closed_along}
+use Rattle.gc_station.specs.declared.cause.Cause.TheVariants as cause
+use Rattle.gc_station.specs.declared.progress.Phase.TheVariants as phase
+use Rattle.gc_station.specs.declared.progress.Action.TheVariants as actions
 
 -- 1 if there is a connection, and 0 if there is none
 abbrev pub up_count : Bool → ℕ

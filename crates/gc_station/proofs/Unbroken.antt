@@ -1,31 +1,16 @@
 -- A chain that isn't broken goes on over a connection, once the station has synchronized. `preparing` of a progress is true if
 -- there is a setup, and since the connection was made and the station synchronized no cycle began or went on. An act is one call
 -- on the link, with its result.
-use Rattle.std.proofs.Common.{◌≡◌, ◌&&◌, ◌<◌, Bool, true, false, not, List, [], inl, inr, ◌⊎◌, if◌then◌else◌, nat_eq, refl, sym, ap, ◌∙◌, subst, arith}
-use Rattle.std.proofs.lemmas.Bool.{and_parts, false_from_ne_true, both_ways}
-use Rattle.gc_texts.specs.declared.tasks.Task.{Task}
-use Rattle.gc_links.specs.Acts.{Act, Told, Cut, Opened}
-use Rattle.gc_station.specs.declared.cause.Cause.{Cause}
-use Rattle.gc_station.specs.declared.cause.Cause.TheVariants as cause
-use Rattle.gc_station.specs.declared.plan.Plan.{Plan}
-use Rattle.gc_station.specs.declared.progress.Action.{Action}
-use Rattle.gc_station.specs.declared.progress.Action.TheVariants as actions
-use Rattle.gc_station.specs.declared.progress.Phase.TheVariants as phase
-use Rattle.gc_station.specs.declared.progress.Progress.{Progress}
-use Rattle.gc_station.specs.declared.progress.Waiting.{Waiting}
-use Rattle.gc_station.specs.Deciding.{has_begun, is_up, lacks_value, may_go}
-use Rattle.gc_station.specs.Model.{Model, opening, action_at, waiting_of, is_heard, lines_completed, with_progress, with_rest, Performs, moved, Runs}
-use Rattle.gc_station.specs.NextCommand.{commands_before}
-use Rattle.gc_station.specs.Progressing.{turned, failing, cleared, time_passed}
-use Rattle.gc_station.specs.Reasons.{HoldsBefore, IsResting}
-use Rattle.gc_station.specs.Runs.{state_after}
-use Rattle.gc_station.specs.Scopes.{Scope}
+use Rattle.gc_station.proofs.Common.{◌≡◌, ◌&&◌, ◌<◌, Bool, true, false, not, List, [], inl, inr, ◌⊎◌, if◌then◌else◌, nat_eq, refl, sym, ap, ◌∙◌, subst, arith, and_parts, false_from_ne_true, both_ways, Task, Act, Told, Cut, Opened, Cause, Plan, Action, Progress, Waiting, has_begun, is_up, lacks_value, may_go, Model, opening, action_at, waiting_of, is_heard, lines_completed, with_progress, with_rest, Performs, moved, Runs, commands_before, turned, failing, cleared, time_passed, HoldsBefore, IsResting, state_after, Scope}
 use Rattle.gc_station.proofs.Always.{always_of_progress}
 use Rattle.gc_station.proofs.Closings.{came_phase, cleared_up}
 use Rattle.gc_station.proofs.Facts.{action_for}
 use Rattle.gc_station.proofs.Silences.{quieted_up}
 use Rattle.gc_station.proofs.Walk.{asked_along, came_along, quieted_along, closed_along, sent_same, moved_changed, walk, piece_before}
 use Rattle.gc_station.proofs.Words.{begun_kept}
+use Rattle.gc_station.specs.declared.cause.Cause.TheVariants as cause
+use Rattle.gc_station.specs.declared.progress.Action.TheVariants as actions
+use Rattle.gc_station.specs.declared.progress.Phase.TheVariants as phase
 
 -- if a chain isn't broken there is a connection, the station has synchronized, and `preparing` is false
 abbrev pub IsOnLineIfUnbroken : Progress → Type 0

@@ -2,39 +2,14 @@
 -- read, nothing is outstanding. So if the first command was sent before the cycle was out of time, each later one is sent at most a
 -- deadline later than the one before it; or, after a raw one, once up to seven null procedures were lost. An act is one call on the link,
 -- with its result.
-use Rattle.std.proofs.Common.{◌≡◌, ◌⊎◌, inl, inr, ℕ, suc, ◌+◌, ◌*◌, ◌-◌, ◌<◌, ◌≤◌, ◌&&◌, ◌||◌, Bool, true, false, not, if◌then◌else◌, List, [], ◌∷◌, ◌++◌, length, take, drop, Option, Some, None, nat_lt, nat_le, nat_eq, refl, sym, ap, ◌∙◌, subst, arith, append-nil}
-use Rattle.std.specs.Prelude.{slice_get}
-use Rattle.std.specs.List.{AllByRecursion}
-use Rattle.std.proofs.lemmas.Bool.{both_ways}
-use Rattle.std.proofs.lemmas.Bool.Decides.{nat_tests}
-use Rattle.gc_values.proofs.Every.{every_drop}
-use Rattle.gc_catalogue.specs.declared.asked.Asked.{Asked}
-use Rattle.gc_client.specs.Rule.{ById, hears, heard, settles_at, nothing_settled, fits, place_in, settle, pending_of, send_unless_full}
-use Rattle.gc_client.specs.declared.window.TheConstants.{WINDOW}
-use Rattle.gc_client.specs.declared.pending.Pending.{Pending}
-use Rattle.gc_client.proofs.OneForOne.{length-settle}
-use Rattle.gc_texts.specs.declared.tasks.Task.{Task}
-use Rattle.gc_texts.specs.declared.wish.Wish.{Wish}
-use Rattle.gc_session.specs.Lines.{is_reply, ends_with_table, is_some_of_table}
-use Rattle.gc_session.specs.Sessions.{client_sent}
-use Rattle.gc_station.specs.Deciding.{later, has_begun, is_up, is_preparing, setup_permits}
-use Rattle.gc_station.specs.Marks.{commands_in, last_well, records_of}
-use Rattle.gc_station.specs.Model.{Model, waiting_of, with_progress, sent_to, line_came, line_doubted, line_settles, losing, with_losses}
-use Rattle.gc_station.specs.Progressing.{failing, is_over, is_over_in, loses_all}
-use Rattle.gc_station.specs.RecordedInTime.{raw_count}
-use Rattle.gc_station.specs.Records.{Record}
-use Rattle.gc_station.specs.declared.cause.Cause.{Cause}
-use Rattle.gc_station.specs.declared.plan.Plan.{Plan}
-use Rattle.gc_station.specs.declared.progress.Phase.{Phase}
-use Rattle.gc_station.specs.declared.progress.Phase.TheVariants as phase
-use Rattle.gc_station.specs.declared.progress.Progress.{Progress}
-use Rattle.gc_station.specs.declared.progress.Waiting.{Waiting}
+use Rattle.gc_station.proofs.Common.{◌≡◌, ◌⊎◌, inl, inr, ℕ, suc, ◌+◌, ◌*◌, ◌-◌, ◌<◌, ◌≤◌, ◌&&◌, ◌||◌, Bool, true, false, not, if◌then◌else◌, List, [], ◌∷◌, ◌++◌, length, take, drop, Option, Some, None, nat_lt, nat_le, nat_eq, refl, sym, ap, ◌∙◌, subst, arith, append-nil, slice_get, AllByRecursion, both_ways, nat_tests, every_drop, Asked, ById, hears, heard, settles_at, nothing_settled, fits, place_in, settle, pending_of, send_unless_full, WINDOW, Pending, length-settle, Task, Wish, is_reply, ends_with_table, is_some_of_table, client_sent, later, has_begun, is_up, is_preparing, setup_permits, commands_in, last_well, records_of, Model, waiting_of, with_progress, sent_to, line_came, line_doubted, line_settles, losing, with_losses, failing, is_over, is_over_in, loses_all, raw_count, Record, Cause, Plan, Phase, Progress, Waiting}
 use Rattle.gc_station.proofs.HeldUp.{IsTableCall, settle_tables}
 use Rattle.gc_station.proofs.InFlight.{EndsBy, EndsAfter, EndsEarly, all_heard}
 use Rattle.gc_station.proofs.Invariant.{is_before_requests}
 use Rattle.gc_station.proofs.LastCommand.{LastIsAlone, alone_dropped, none_recorded, heard_well}
 use Rattle.gc_station.proofs.Losing.{loses_nothing}
 use Rattle.gc_station.proofs.Records.{last-append, records-none}
+use Rattle.gc_station.specs.declared.progress.Phase.TheVariants as phase
 
 -- Tests.
 

@@ -1,25 +1,11 @@
 -- A command that a reply ends in time ends as unreadable exactly if the values of the reply's line don't read, for the same fault.
-use Rattle.std.proofs.Common.{◌≡◌, ℕ, Bool, true, false, List, Option, Some, None, ap, ◌∙◌, subst}
-use Rattle.gc_catalogue.specs.declared.answer.Answer.{Answer}
-use Rattle.gc_catalogue.specs.declared.answer.Reading.{Reading}
-use Rattle.gc_catalogue.specs.declared.answer.Reading.TheVariants as reading
-use Rattle.gc_catalogue.specs.declared.asked.Asked.{Asked}
-use Rattle.gc_client.specs.Rule as client
-use Rattle.gc_texts.specs.Codes.{lists_code}
-use Rattle.gc_texts.specs.Endings.{End, Unreadable, line_of}
-use Rattle.gc_texts.specs.Nears.{is_off_target}
-use Rattle.gc_texts.specs.Zeroed.{as_zero}
-use Rattle.gc_texts.specs.declared.near.Expected.{Expected}
-use Rattle.gc_texts.specs.declared.quality.Quality.{Quality}
-use Rattle.gc_texts.specs.declared.quality.Quality.TheVariants as quality
-use Rattle.gc_values.specs.declared.fault.ValueFault.{ValueFault}
-use Rattle.gc_station.specs.Marks.{answer_as, answered_as, end_of, judged_by, refused_as, quality_in, warned_as}
-use Rattle.gc_station.specs.Model.{end_unsent}
-use Rattle.gc_station.specs.Scopes.{Reads}
-use Rattle.gc_station.specs.declared.progress.Progress.{Progress}
+use Rattle.gc_station.proofs.Common.{◌≡◌, ℕ, Bool, true, false, List, Option, Some, None, ap, ◌∙◌, subst, Answer, Reading, Asked, lists_code, End, Unreadable, line_of, is_off_target, as_zero, Expected, Quality, ValueFault, answer_as, answered_as, end_of, judged_by, refused_as, quality_in, warned_as, end_unsent, Reads, Progress}
 use Rattle.gc_station.proofs.Judging.{judged_reads}
 use Rattle.gc_station.proofs.Meets.{settled_answered}
 use Rattle.gc_station.proofs.Walk.{unsent_along}
+use Rattle.gc_catalogue.specs.declared.answer.Reading.TheVariants as reading
+use Rattle.gc_client.specs.Rule as client
+use Rattle.gc_texts.specs.declared.quality.Quality.TheVariants as quality
 
 module _ (expected : Expected) (l line : List ℕ) (why : ValueFault) where
   -- `answered_as` never ends a command as unreadable

@@ -1,33 +1,7 @@
 -- Each record of a command that was missed, skipped or without a value is of one that was so for its cause, where cycles have due
 -- moments and the clock doesn't go back. An act is one call on the link, with its result. A piece is the bytes that one read
 -- gave.
-use Rattle.std.proofs.Common.{◌≡◌, ◌⊎◌, inl, inr, ℕ, ◌<◌, Bool, true, false, List, [], ◌∷◌, ◌++◌, drop, Option, None, refl, sym, ap, ◌∙◌, subst, arith, append_assoc, if◌then◌else◌}
-use Rattle.std.specs.List.{AllByRecursion}
-use Rattle.std.proofs.lemmas.Bool.{leb-true, cond-true, cond-false, both_ways}
-use Rattle.gc_catalogue.specs.declared.asked.Asked.{Asked}
-use Rattle.gc_client.specs.Rule
-use Rattle.gc_client.specs.Rule.{heard, hears, restarts}
-use Rattle.gc_texts.specs.Endings.{Skipped, NoValue, Missed}
-use Rattle.gc_texts.specs.declared.tasks.Task.{Task}
-use Rattle.gc_links.specs.Acts.{Act, Told, Gave}
-use Rattle.gc_links.specs.declared.link.Moment.{Moment}
-use Rattle.gc_station.specs.Chains.{IsChained}
-use Rattle.gc_station.specs.Cycles.{ClockRises, IsMissedIn, IsUnsentIn, IsBroken, UnsentIsJustified, UnsentForACause}
-use Rattle.gc_station.specs.Marks.{record_of, records_of}
-use Rattle.gc_station.specs.Parts.{went_out}
-use Rattle.gc_station.specs.Progressing.{turned, moment_noted, cycle_begun, unsent_at, loses_all}
-use Rattle.gc_station.specs.Records.{Record}
-use Rattle.gc_station.specs.Reasons.{IsOverdue, StaysInItsChain}
-use Rattle.gc_station.specs.Runs.{state_after}
-use Rattle.gc_station.specs.Scopes.{Scope, Reads}
-use Rattle.gc_station.specs.Model.{waiting_of, Model, opening, action_at, is_heard, with_progress, with_moment, end_unsent, first_unsent_record, after_piece, moved, losing, Performs, Runs}
-use Rattle.gc_station.specs.Deciding.{lacks_value, may_go}
-use Rattle.gc_station.specs.NextCommand.{cycles_begun, place_next, mark_next}
-use Rattle.gc_station.specs.declared.mark.Mark.{Mark}
-use Rattle.gc_station.specs.declared.plan.Plan.{Plan}
-use Rattle.gc_station.specs.declared.progress.Action.{Action}
-use Rattle.gc_station.specs.declared.progress.Action.TheVariants as actions
-use Rattle.gc_station.specs.declared.progress.Progress.{Progress}
+use Rattle.gc_station.proofs.Common.{◌≡◌, ◌⊎◌, inl, inr, ℕ, ◌<◌, Bool, true, false, List, [], ◌∷◌, ◌++◌, drop, Option, None, refl, sym, ap, ◌∙◌, subst, arith, append_assoc, if◌then◌else◌, AllByRecursion, leb-true, cond-true, cond-false, both_ways, Asked, heard, hears, restarts, Skipped, NoValue, Missed, Task, Act, Told, Gave, Moment, IsChained, ClockRises, IsMissedIn, IsUnsentIn, IsBroken, UnsentIsJustified, UnsentForACause, record_of, records_of, went_out, turned, moment_noted, cycle_begun, unsent_at, loses_all, Record, IsOverdue, StaysInItsChain, state_after, Scope, Reads, waiting_of, Model, opening, action_at, is_heard, with_progress, with_moment, end_unsent, first_unsent_record, after_piece, moved, losing, Performs, Runs, lacks_value, may_go, cycles_begun, place_next, mark_next, Mark, Plan, Action, Progress}
 use Rattle.gc_station.proofs.Booking.{ended_sent, all_records}
 use Rattle.gc_station.proofs.Closings.{needs_of}
 use Rattle.gc_station.proofs.Always.{always}
@@ -38,6 +12,8 @@ use Rattle.gc_station.proofs.Resting.{is_resting_next, skipped_in_turn}
 use Rattle.gc_station.proofs.Walk.{came_along, losing_along, moved_changed}
 use Rattle.gc_station.proofs.Ticking.{rises_front}
 use Rattle.gc_station.proofs.Cycles.{Begun, Cycling, late_more, begun_if_clock_rises, last_began, WaitsForAnswer}
+use Rattle.gc_client.specs.Rule
+use Rattle.gc_station.specs.declared.progress.Action.TheVariants as actions
 
 module _ (plan : Plan) (commands : List Task) (scope : Scope) (some : 0 < plan.every) where
   -- the model after these acts

@@ -1,22 +1,11 @@
 -- A connection is closed, and a run stops, because its turns are used up only after as many acts as it had turns. An act is one
 -- call on the link, with its result.
-use Rattle.std.proofs.Common.{◌≡◌, ◌-◌, ◌≤◌, ◌⊎◌, inl, inr, List, [], ◌∷◌, ◌++◌, length, ap, ◌∙◌, subst, arith}
-use Rattle.std.proofs.lemmas.List.{length-append}
-use Rattle.gc_texts.specs.declared.tasks.Task.{Task}
-use Rattle.gc_station.specs.declared.plan.Plan.{Plan}
-use Rattle.gc_station.specs.declared.cause.Cause.TheVariants as cause
-use Rattle.gc_station.specs.declared.progress.Action.TheVariants as actions
-use Rattle.gc_station.specs.declared.progress.Progress.{Progress}
-use Rattle.gc_links.specs.Acts.{Act}
-use Rattle.gc_station.specs.Closing.{EndsRun}
-use Rattle.gc_station.specs.Progressing.{turned}
-use Rattle.gc_station.specs.Quiet.{HasLast}
-use Rattle.gc_station.specs.Runs.{state_after}
-use Rattle.gc_station.specs.Model.{Model, opening, action_at, with_progress, moved, after, after_all, Runs}
+use Rattle.gc_station.proofs.Common.{◌≡◌, ◌-◌, ◌≤◌, ◌⊎◌, inl, inr, List, [], ◌∷◌, ◌++◌, length, ap, ◌∙◌, subst, arith, length-append, Task, Plan, Progress, Act, EndsRun, turned, HasLast, state_after, Model, opening, action_at, with_progress, moved, after, after_all, Runs, Scope}
 use Rattle.gc_station.proofs.Closings.{runs_split, stopped_for}
 use Rattle.gc_station.proofs.Counts.{turns_kept, with_losses_progress}
 use Rattle.gc_station.proofs.Silences.{not_closing, closes_at_its_end, ended_by_close}
-use Rattle.gc_station.specs.Scopes.{Scope}
+use Rattle.gc_station.specs.declared.cause.Cause.TheVariants as cause
+use Rattle.gc_station.specs.declared.progress.Action.TheVariants as actions
 
 -- acts take as many turns as they are, or all that are left if these are fewer
 turns_after : (plan : Plan) (commands : List Task) (s : Model) (acts : List Act) → (after_all plan commands s acts).progress.turns ≡ s.progress.turns - length acts

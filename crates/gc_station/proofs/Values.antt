@@ -1,31 +1,7 @@
 -- Each request of a command was made with the values of files of the last moment that was read before it was sent; and of a command of a
 -- cycle each value that it takes was there then. An act is one call on the link, with its result.
-use Rattle.std.proofs.Common.{◌≡◌, ℕ, zero, suc, ◌<◌, List, [], ◌∷◌, ◌++◌, drop, Option, Some, None, refl, sym, ap, ◌∙◌, subst}
-use Rattle.std.specs.Prelude.{slice_get}
-use Rattle.std.proofs.lemmas.Option.{same_Some}
-use Rattle.gc_values.specs.FileValues.{no_values}
-use Rattle.gc_lines.specs.Lines.{with_end}
-use Rattle.gc_catalogue.specs.Asked.{asked_line}
-use Rattle.gc_catalogue.specs.declared.asked.Asked.{Asked}
-use Rattle.gc_links.specs.Acts.{Act}
-use Rattle.gc_links.specs.declared.link.Moment.{Moment}
-use Rattle.gc_texts.specs.Tasks.{call_at}
-use Rattle.gc_texts.specs.ValueItems.{lack}
-use Rattle.gc_texts.specs.declared.tasks.Task.{Task}
-use Rattle.gc_texts.specs.declared.value_item.Needs.{Needs}
-use Rattle.gc_texts.specs.declared.wish.Wish.{Wish}
-use Rattle.gc_station.specs.ActKinds.{Puts, moment_in}
-use Rattle.gc_station.specs.Model.{Model, Runs, opening}
-use Rattle.gc_station.specs.Moments.{utc_read}
-use Rattle.gc_station.specs.NextCommand.{needs_first, place_next}
-use Rattle.gc_station.specs.Records.{Record}
-use Rattle.gc_station.specs.Requested.{HasItsRequest}
-use Rattle.gc_station.specs.Requests.{command_sent}
-use Rattle.gc_station.specs.Runs.{state_after}
-use Rattle.gc_station.specs.Scopes.{Scope}
-use Rattle.gc_station.specs.Tasked.{IsOfItsTask}
+use Rattle.gc_station.proofs.Common.{◌≡◌, ℕ, zero, suc, ◌<◌, List, [], ◌∷◌, ◌++◌, drop, Option, Some, None, refl, sym, ap, ◌∙◌, subst, slice_get, same_Some, no_values, with_end, asked_line, Asked, Act, Moment, call_at, lack, Task, Needs, Wish, Puts, moment_in, Model, Runs, opening, utc_read, needs_first, place_next, Record, HasItsRequest, command_sent, state_after, Scope, IsOfItsTask, Plan}
 use Rattle.gc_station.specs.Values.{EachRequestHasItsValues, HasItsValues, IsSentWithItsValues, values_or, values_read}
-use Rattle.gc_station.specs.declared.plan.Plan.{Plan}
 use Rattle.gc_station.proofs.Always.{always}
 use Rattle.gc_station.proofs.Answers.{each_made}
 use Rattle.gc_station.proofs.Closings.{runs_split}

@@ -1,36 +1,11 @@
 -- The outstanding requests: each was put among the acts, in order; and since then no moment at or past its deadline was read,
 -- or one was and the request has timed out. What every run keeps of this, and of the truth of its records, is `Honest`. An act
 -- is one call on the link, with its result.
-use Rattle.std.proofs.Common.{◌≡◌, ◌⊎◌, inl, inr, ℕ, ◌+◌, ◌<◌, ◌≤◌, ◌||◌, Bool, true, false, List, [], ◌∷◌, ◌++◌, length, map, Option, Some, None, IfSome, nat_le, refl, sym, ap, ◌∙◌, subst, arith, append_assoc, length-append}
-use Rattle.std.specs.Prelude.{IsSomeAnd, slice_get}
-use Rattle.std.specs.List.{AllByRecursion}
-use Rattle.std.proofs.lemmas.Bool.Decides.{nat_tests}
-use Rattle.std.proofs.lemmas.List.{length-map}
-use Rattle.gc_catalogue.specs.declared.asked.Asked.{Asked}
-use Rattle.gc_client.specs.declared.pending.Pending.{Pending}
-use Rattle.gc_client.specs.Ids
-use Rattle.gc_client.specs.Ids.{id_at_place, IsWithinLimits}
-use Rattle.gc_client.specs.Rule.{ById, expired, expires}
-use Rattle.gc_texts.specs.Tasks.{call_at}
-use Rattle.gc_texts.specs.declared.tasks.Task.{Task}
-use Rattle.gc_station.specs.declared.mark.Mark.{Mark}
-use Rattle.gc_station.specs.declared.plan.Plan.{Plan}
-use Rattle.gc_station.specs.declared.progress.Action.{Action}
-use Rattle.gc_station.specs.declared.progress.Action.TheVariants as actions
-use Rattle.gc_links.specs.Acts.{Act, Gave}
-use Rattle.gc_links.specs.declared.link.Moment.{Moment}
-use Rattle.gc_station.specs.Answers.{ReadsBefore, deadline_after, IsRecordedBy, IsRepliedIn, AnswerIsJustified}
-use Rattle.gc_station.specs.Ends.{OneReadsPast, LateIsJustified, LostIsJustified, IsLast}
-use Rattle.gc_station.specs.Counters.{count_at}
-use Rattle.gc_station.specs.Expecting.{IsCompared, IsAsExpected, IsNotAsExpected, IsByExpectation}
-use Rattle.gc_station.specs.NextCommand.{expected_at}
-use Rattle.gc_station.specs.Quiet.{IsAsking}
-use Rattle.gc_station.specs.Records.{Record}
-use Rattle.gc_station.specs.Runs.{state_after}
-use Rattle.gc_station.specs.ActKinds.{Puts, moment_in}
-use Rattle.gc_station.specs.Model.{Model, IsSending, action_at, cycle_to_send, place_to_send, next_request_text, occasion_at, Performs}
+use Rattle.gc_station.proofs.Common.{◌≡◌, ◌⊎◌, inl, inr, ℕ, ◌+◌, ◌<◌, ◌≤◌, ◌||◌, Bool, true, false, List, [], ◌∷◌, ◌++◌, length, map, Option, Some, None, IfSome, nat_le, refl, sym, ap, ◌∙◌, subst, arith, append_assoc, IsSomeAnd, slice_get, AllByRecursion, nat_tests, length-map, Asked, Pending, id_at_place, IsWithinLimits, ById, expired, expires, call_at, Task, Mark, Plan, Action, Act, Gave, Moment, ReadsBefore, deadline_after, IsRecordedBy, IsRepliedIn, AnswerIsJustified, OneReadsPast, LateIsJustified, LostIsJustified, IsLast, count_at, IsCompared, IsAsExpected, IsNotAsExpected, IsByExpectation, expected_at, IsAsking, Record, state_after, Puts, moment_in, Model, IsSending, action_at, cycle_to_send, place_to_send, next_request_text, occasion_at, Performs, Scope}
+use Rattle.std.proofs.Common.{length-append}
 use Rattle.gc_station.proofs.Lists.{all_append, all_on, AllRisingAt, rising_follow, rising_map}
-use Rattle.gc_station.specs.Scopes.{Scope}
+use Rattle.gc_client.specs.Ids
+use Rattle.gc_station.specs.declared.progress.Action.TheVariants as actions
 
 -- whether a request has timed out is as these acts say: if it has (`true`), one of them reads a moment at or past its deadline;
 -- otherwise none does

@@ -1,45 +1,7 @@
 -- After a busy answer nothing is asked before its command's deadline has passed: the act that adds such a record notes a moment before
 -- which nothing is asked (`hold`), at least that deadline later, and a doubt. The moment stays noted until it is read, or a later one. An act
 -- is one call on the link, with its result.
-use Rattle.std.proofs.Common.{◌≡◌, ◌⊎◌, inl, inr, ℕ, ◌<◌, ◌≤◌, ◌||◌, Bool, true, false, List, [], ◌∷◌, ◌++◌, map, max, nat_lt, nat_eq, if◌then◌else◌, Option, Some, None, refl, sym, ap, ◌∙◌, subst, arith, append_assoc, append-nil}
-use Rattle.std.specs.Prelude.{slice_get}
-use Rattle.std.specs.List.{AllByRecursion}
-use Rattle.std.proofs.lemmas.Bool.{cond_both, ltb-false, or_right}
-use Rattle.std.proofs.lemmas.Bool.Decides.{nat_tests}
-use Rattle.std.proofs.lemmas.List.{append_cancel_left}
-use Rattle.std.proofs.lemmas.Option.{none-some, same_Some}
-use Rattle.gc_catalogue.specs.declared.asked.Asked.{Asked}
-use Rattle.gc_catalogue.specs.declared.answer.Reading.TheVariants as reading
-use Rattle.gc_client.specs.Rule
-use Rattle.gc_client.specs.declared.pending.Pending.{Pending}
-use Rattle.gc_texts.specs.Codes.{lists_code}
-use Rattle.gc_texts.specs.Endings.{line_of, Skipped, NoValue, Missed}
-use Rattle.gc_texts.specs.Zeroed.{as_zero}
-use Rattle.gc_texts.specs.declared.near.Expected.{Expected}
-use Rattle.gc_texts.specs.declared.tasks.Task.{Task}
-use Rattle.gc_session.specs.Exchange.{hold_left}
-use Rattle.gc_session.specs.Lines.{calls_for_renewal}
-use Rattle.gc_links.specs.Acts.{Act, Told, Gave, Silent, Closed}
-use Rattle.gc_links.specs.declared.link.Moment.{Moment}
-use Rattle.gc_station.specs.declared.mark.Mark.{Mark}
-use Rattle.gc_station.specs.declared.plan.Plan.{Plan}
-use Rattle.gc_station.specs.declared.progress.Action.{Action}
-use Rattle.gc_station.specs.declared.progress.Action.TheVariants as action
-use Rattle.gc_station.specs.declared.progress.Progress.{Progress}
-use Rattle.gc_station.specs.ActKinds.{moment_in}
-use Rattle.gc_station.specs.Attempts.{code_in, code_of}
-use Rattle.gc_station.specs.Busy.{says_busy, wait_for, busy_after, busy_after_settlements}
-use Rattle.gc_station.specs.Deciding.{has_begun, lacks_value, later}
-use Rattle.gc_station.specs.Marks.{end_of, record_of, records_of, any_unexpected}
-use Rattle.gc_station.specs.Model.{Model, opening, action_at, waiting_of, is_heard, after_piece, first_unsent_record, line_busy, line_came, line_news, losing, moved, after, after_all, with_moment, with_progress, with_rest, Performs, Runs, lines_completed, piece_heard}
-use Rattle.gc_station.specs.NextCommand.{commands_left, expected_at, mark_next}
-use Rattle.gc_station.specs.Progressing.{turned, moment_noted, loses_all, time_passed}
-use Rattle.gc_station.specs.Parts.{client_part}
-use Rattle.gc_station.specs.Quiet.{SendsRequest}
-use Rattle.gc_station.specs.Reasons.{HoldsBefore}
-use Rattle.gc_station.specs.Records.{Record}
-use Rattle.gc_station.specs.Runs.{state_after}
-use Rattle.gc_station.specs.Scopes.{Scope, Reads}
+use Rattle.gc_station.proofs.Common.{◌≡◌, ◌⊎◌, inl, inr, ℕ, ◌<◌, ◌≤◌, ◌||◌, Bool, true, false, List, [], ◌∷◌, ◌++◌, map, max, nat_lt, nat_eq, if◌then◌else◌, Option, Some, None, refl, sym, ap, ◌∙◌, subst, arith, append_assoc, append-nil, slice_get, AllByRecursion, cond_both, ltb-false, or_right, nat_tests, append_cancel_left, none-some, same_Some, Asked, Pending, lists_code, line_of, Skipped, NoValue, Missed, as_zero, Expected, Task, hold_left, calls_for_renewal, Act, Told, Gave, Silent, Closed, Moment, Mark, Plan, Action, Progress, moment_in, code_in, code_of, says_busy, wait_for, busy_after, busy_after_settlements, has_begun, lacks_value, later, end_of, record_of, records_of, any_unexpected, Model, opening, action_at, waiting_of, is_heard, after_piece, first_unsent_record, line_busy, line_came, line_news, losing, moved, after, after_all, with_moment, with_progress, with_rest, Performs, Runs, lines_completed, piece_heard, commands_left, expected_at, mark_next, turned, moment_noted, loses_all, time_passed, client_part, SendsRequest, HoldsBefore, Record, state_after, Scope, Reads, rest_behind}
 use Rattle.gc_station.specs.WhileBusy.{BringsBusy, Reaches, StaysSynchronized, WaitsFor, NothingIsSentWhileBusy}
 use Rattle.gc_station.proofs.AsText.{ExpectsAsText, KeepsToText, expected_there, kept_all, line_keeps}
 use Rattle.gc_station.proofs.Expecting.{none_asked}
@@ -53,9 +15,11 @@ use Rattle.gc_station.proofs.Quiets.{others_send_no_request}
 use Rattle.gc_station.proofs.HoldingBack.{doubt_stays, noted_in}
 use Rattle.gc_station.proofs.Starts.{noted_after, set_up_anew_after_a_doubt}
 use Rattle.gc_station.proofs.Walk.{came_along, asked_along, quieted_along, closed_along, moved_changed, walk}
-use Rattle.gc_lines.specs.Frames.{rest_behind}
 use Rattle.gc_station.proofs.Counts.{with_losses_progress}
 use Rattle.gc_station.proofs.Closings.{runs_split}
+use Rattle.gc_catalogue.specs.declared.answer.Reading.TheVariants as reading
+use Rattle.gc_client.specs.Rule
+use Rattle.gc_station.specs.declared.progress.Action.TheVariants as action
 
 -- The wait that records call for.
 

@@ -1,27 +1,10 @@
 -- What an act leaves of a station's word, the ids of its synchronization that aren't answered: what the lines that the act
 -- brings leave, unless the station resynchronizes. An act is one call on the link, with its result. A piece is the bytes that
 -- one read gave.
-use Rattle.std.proofs.Common.{◌≡◌, ℕ, Bool, true, false, List, [], ◌∷◌, if◌then◌else◌, refl, sym, ap, ◌∙◌, subst}
-use Rattle.std.proofs.lemmas.List.{nil_from_length}
-use Rattle.std.proofs.lemmas.Bool.{both_ways}
-use Rattle.gc_lines.specs.Frames.{rest_behind}
-use Rattle.gc_client.specs.Rule.{deadlines}
-use Rattle.gc_texts.specs.declared.tasks.Task.{Task}
-use Rattle.gc_session.specs.Exchange.{is_none_left}
-use Rattle.gc_links.specs.declared.link.Moment.{Moment}
-use Rattle.gc_links.specs.Acts.{Act, Told}
-use Rattle.gc_station.specs.declared.plan.Plan.{Plan}
-use Rattle.gc_station.specs.declared.progress.Action.{Action}
-use Rattle.gc_station.specs.declared.progress.Action.TheVariants as actions
-use Rattle.gc_station.specs.declared.progress.Progress.{Progress}
-use Rattle.gc_station.specs.Beginnings.{lines_heard_at, unanswered_after}
-use Rattle.gc_station.specs.Deciding.{has_begun}
-use Rattle.gc_station.specs.Progressing.{turned, line_synchronizing, lines_synchronizing, time_passed}
-use Rattle.gc_station.specs.Reasons.{HoldsBefore}
-use Rattle.gc_station.specs.Ends.{MayResynchronize}
-use Rattle.gc_station.specs.Model.{Model, waiting_of, with_progress, with_rest, lines_completed, is_heard, after_piece, Performs, moved}
+use Rattle.gc_station.proofs.Common.{◌≡◌, ℕ, Bool, true, false, List, [], ◌∷◌, if◌then◌else◌, refl, sym, ap, ◌∙◌, subst, nil_from_length, both_ways, rest_behind, deadlines, Task, is_none_left, Moment, Act, Told, Plan, Action, Progress, lines_heard_at, unanswered_after, has_begun, turned, line_synchronizing, lines_synchronizing, time_passed, HoldsBefore, MayResynchronize, Model, waiting_of, with_progress, with_rest, lines_completed, is_heard, after_piece, Performs, moved}
 use Rattle.gc_station.proofs.Invariant.{Invariant}
 use Rattle.gc_station.proofs.Walk.{lines_along, quieted_along, closed_along, walk, piece_before}
+use Rattle.gc_station.specs.declared.progress.Action.TheVariants as actions
 
 -- if all ids are answered, lines leave none
 pub left_none : (lines : List (List ℕ)) → unanswered_after [] lines ≡ []

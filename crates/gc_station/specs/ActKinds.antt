@@ -1,8 +1,7 @@
 -- Which kind of call on the link an act is, this project's own, in terms of the act alone. An act is one call on the link, with
 -- its result.
+use Rattle.gc_station.specs.Common.{Moment, Act, Told, Untold, Put, Cut, Gave, Silent, Ended, Broke, Opened, Unopened}
 use Rattle.std.specs.Prelude.{◌≡◌, ℕ, ◌<◌, List, length, Option, Some, None}
-use Rattle.gc_links.specs.declared.link.Moment.{Moment}
-use Rattle.gc_links.specs.Acts.{Act, Told, Untold, Put, Cut, Gave, Silent, Ended, Broke, Opened, Unopened}
 
 -- the moment that the act read, alone or together with bytes or silence; `None` if it read none
 abbrev pub moment_in : Act → Option Moment

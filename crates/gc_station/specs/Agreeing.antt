@@ -1,20 +1,12 @@
 -- Chains that are sent twice, this project's own: an answer of a second sending agrees with that of the same command in the first.
 -- An act is one call on the link, with its result.
+use Rattle.gc_station.specs.Common.{Answer, agrees, Answered, Judged, is_good, Disagree, Quality, Unconfirmed, Task, Turn}
 use Rattle.std.specs.Prelude.{◌≡◌, ℕ, ◌+◌, true, List, ◌∷◌, ◌++◌, Option, Some, slice_get}
-use Rattle.gc_catalogue.specs.declared.answer.Answer.{Answer}
-use Rattle.gc_texts.specs.Agrees.{agrees}
-use Rattle.gc_texts.specs.Endings.{Answered, Judged}
-use Rattle.gc_texts.specs.Qualities.{is_good}
 use Rattle.gc_texts.specs.declared.agree.Agree.{Agree}
-use Rattle.gc_texts.specs.declared.agree.Twice.TheVariants as twice
-use Rattle.gc_texts.specs.declared.judgement.Judgement.TheVariants.{Disagree}
-use Rattle.gc_texts.specs.declared.quality.Quality.{Quality}
-use Rattle.gc_texts.specs.declared.quality.Quality.TheVariants.{Unconfirmed}
-use Rattle.gc_texts.specs.declared.tasks.Task.{Task}
 use Rattle.gc_station.specs.Firsts.{compares}
-use Rattle.gc_texts.specs.declared.turn.Turn.{Turn}
 use Rattle.gc_station.specs.Records.{Record}
 use Rattle.gc_station.specs.Runs.{state_after, OfAnyActs, OfAnyRecord}
+use Rattle.gc_texts.specs.declared.agree.Twice.TheVariants as twice
 
 -- among these records is one of the first sending of the command of the text that has this turn, in this cycle: it is of the same place in
 -- the text, and of the attempt before. It ended as answered and unconfirmed, with this answer, or none

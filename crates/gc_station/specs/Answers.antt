@@ -1,13 +1,8 @@
 -- Where an answer comes from, in an operator's words, this project's own: its own request was sent, and the line came after it,
 -- with its id, before a moment at or past its deadline was read. An act is one call on the link, with its result.
+use Rattle.gc_station.specs.Common.{AllByRecursion, heard, line_of, Task, Moment, Act, Gave}
 use Rattle.std.specs.Prelude.{◌≡◌, ℕ, ◌<◌, List, [], ◌∷◌, ◌++◌, drop, Some, IfSome}
-use Rattle.std.specs.List.{AllByRecursion}
-use Rattle.gc_client.specs.Rule.{heard}
-use Rattle.gc_texts.specs.Endings.{line_of}
-use Rattle.gc_texts.specs.declared.tasks.Task.{Task}
-use Rattle.gc_links.specs.declared.link.Moment.{Moment}
 use Rattle.gc_station.specs.declared.plan.Plan.{Plan}
-use Rattle.gc_links.specs.Acts.{Act, Gave}
 use Rattle.gc_station.specs.Deciding.{later}
 use Rattle.gc_station.specs.Records.{Record}
 use Rattle.gc_station.specs.Runs.{state_after}

@@ -1,17 +1,13 @@
 -- Further attempts of a chain, this project's own: whether a command of an attempt ended as its rule names, so that the chain is
 -- sent again. An attempt begins with a command whose link, its place in the chain, is 0. A command of the setup has link 1, and
 -- its rule names no ending: so it begins no attempt, and changes nothing in the current one.
+use Rattle.gc_station.specs.Common.{Reading, Asked, Settlement, Outcome, Lost, repeats_after, End, Expected}
 use Rattle.std.specs.Prelude.{ℕ, ◌||◌, Bool, false, List, fold, Option, Some, None, if◌then◌else◌, nat_eq}
-use Rattle.gc_catalogue.specs.declared.answer.Reading.{Reading}
-use Rattle.gc_catalogue.specs.declared.answer.Reading.TheVariants as reading
-use Rattle.gc_catalogue.specs.declared.asked.Asked.{Asked}
-use Rattle.gc_client.specs.Rule.{Settlement, Outcome, Answered, Late, Lost}
-use Rattle.gc_texts.specs.Again.{repeats_after}
-use Rattle.gc_texts.specs.Endings.{End}
-use Rattle.gc_texts.specs.declared.near.Expected.{Expected}
+use Rattle.gc_client.specs.Prelude.{Answered, Late}
 use Rattle.gc_station.specs.Marks.{end_of, with_marks}
 use Rattle.gc_station.specs.Scopes.{Reads}
 use Rattle.gc_station.specs.declared.mark.Mark.{Mark}
+use Rattle.gc_catalogue.specs.declared.answer.Reading.TheVariants as reading
 
 -- the return code other than 0 that a reading has, with communication code 0; `None` for any other reading
 abbrev pub code_in : Reading → Option ℕ

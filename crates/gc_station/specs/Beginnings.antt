@@ -3,14 +3,9 @@
 -- line feed; if the station had synchronized before it was made, the connection is drained, too, until it is quiet. The `word`
 -- of a station is the list of the ids of the null procedures that aren't answered yet, in order. An act is one call on the
 -- link, with its result.
+use Rattle.gc_station.specs.Common.{AllByRecursion, filter_map, IsSubsequence, the_word, fresh, heard, Task, Act, Put, Gave, Opened}
 use Rattle.std.specs.Prelude.{◌≡◌, ℕ, true, false, List, [], ◌∷◌, ◌++◌, if◌then◌else◌}
-use Rattle.std.specs.List.{AllByRecursion, filter_map}
-use Rattle.gc_client.specs.Beginning.{IsSubsequence, the_word}
-pub use Rattle.gc_client.specs.Beginning.{unanswered_after}
-use Rattle.gc_client.specs.Rule.{fresh, heard}
-use Rattle.gc_texts.specs.declared.tasks.Task.{Task}
 use Rattle.gc_station.specs.declared.plan.Plan.{Plan}
-use Rattle.gc_links.specs.Acts.{Act, Put, Gave, Opened}
 use Rattle.gc_station.specs.Deciding.{has_begun}
 use Rattle.gc_station.specs.Ends.{Resynchronizes}
 use Rattle.gc_station.specs.Quiet.{IsAsking, SendsRequest, IsQuietFirst, StaysConnected}
@@ -18,6 +13,7 @@ use Rattle.gc_station.specs.Runs.{state_after}
 use Rattle.gc_station.specs.Scopes.{Scope}
 use Rattle.gc_station.specs.ActKinds.{Puts}
 use Rattle.gc_station.specs.Model.{Model, Runs, after, is_heard, lines_completed, null_text, opening, action_at}
+pub use Rattle.gc_client.specs.Beginning.{unanswered_after}
 
 -- the lines that the act completes and the station hears, if it has the model `s` before the act; none in a phase in which what
 -- comes is discarded

@@ -1,7 +1,7 @@
 -- When a part of a run has synchronized, this project's own: the lines that it heard answer all of its synchronization. A part
 -- reaches from one synchronization of the station to the next (`Parts`).
+use Rattle.gc_station.specs.Common.{the_word}
 use Rattle.std.specs.Prelude.{◌≡◌, ◌⊎◌, ℕ, List, [], ◌∷◌}
-use Rattle.gc_client.specs.Beginning.{the_word}
 use Rattle.gc_station.specs.Beginnings.{unanswered_after}
 use Rattle.gc_station.specs.Parts.{Part, SyncStep, Asks, Hears}
 

@@ -3,17 +3,10 @@
 -- a row no two have one id. Procedures that aren't in the table may leave what it keeps. So no command is sent unless one of the
 -- seven requests before it is a call of the table that a reply ended. As no reply has ended a request of a client that is new, the
 -- first one after a synchronization is a null procedure (`NullFirst`). A part reaches from one synchronization to the next (`Parts`).
+use Rattle.gc_station.specs.Common.{AllByRecursion, is_of_table, Asked, Step, Send, begun, course, WINDOW, IsNearTheTable, Task}
 use Rattle.std.specs.Prelude.{◌≡◌, ◌⊎◌, ℕ, true, false, List, ◌∷◌, ◌++◌, length, Some, slice_get}
-use Rattle.std.specs.List.{AllByRecursion}
-use Rattle.gc_catalogue.specs.Asked.{is_of_table}
-use Rattle.gc_catalogue.specs.declared.asked.Asked.{Asked}
-use Rattle.gc_client.specs.OneForOne.{Step, Send, begun, course}
-use Rattle.gc_client.specs.declared.window.TheConstants.{WINDOW}
-use Rattle.gc_session.specs.Laws.{IsNearTheTable}
-use Rattle.gc_texts.specs.declared.tasks.Task.{Task}
 use Rattle.gc_station.specs.declared.mark.Mark.{Mark}
 use Rattle.gc_station.specs.declared.plan.Plan.{Plan}
-use Rattle.gc_station.specs.declared.progress.Action.TheVariants as action
 use Rattle.gc_station.specs.Deciding.{has_begun, action_to_send, action_room}
 use Rattle.gc_station.specs.Links.{parts}
 use Rattle.gc_station.specs.Marks.{commands_in}
@@ -21,6 +14,7 @@ use Rattle.gc_station.specs.Model.{Model, waiting_of}
 use Rattle.gc_station.specs.Parts.{Part}
 use Rattle.gc_station.specs.Progressing.{is_over}
 use Rattle.gc_station.specs.Runs.{state_after, OfEachRun}
+use Rattle.gc_station.specs.declared.progress.Action.TheVariants as action
 
 -- wherever a command is sent in this part of a run, one of the seven requests before it in the part is a call of the table that a
 -- reply ended (`IsNearTheTable`). `front` are the client's steps before the command

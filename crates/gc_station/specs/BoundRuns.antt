@@ -1,22 +1,9 @@
 -- Runs that are computed, this project's own: one over a line on which no connection can be made, in which each due cycle is recorded by
 -- its bound; and for four premises of the bound a run that meets the others, in which one isn't. An act is one call on the link, with
 -- its result.
+use Rattle.gc_station.specs.Common.{AllByRecursion, with_end, no_values, Value, Table, InstrumentNo, no_again, no_codes, Missed, no_needs, Once, Task, Act, Told, Put, Gave, Silent, Opened, Unopened, Moment}
 use Rattle.std.specs.Prelude.{◌≡◌, ℕ, suc, ◌+◌, ◌<◌, ◌≤◌, Bool, true, false, List, [], ◌∷◌, length, codes, pos, None}
-use Rattle.std.specs.List.{AllByRecursion}
-use Rattle.gc_lines.specs.Lines.{with_end}
-use Rattle.gc_values.specs.FileValues.{no_values}
 use Rattle.gc_catalogue.specs.declared.answer.Answer.TheVariants.{Long}
-use Rattle.gc_catalogue.specs.declared.answer.Reading.TheVariants.{Value}
-use Rattle.gc_catalogue.specs.declared.asked.Asked.TheVariants.{Table}
-use Rattle.gc_catalogue.specs.declared.call.Call.TheVariants.{InstrumentNo}
-use Rattle.gc_texts.specs.Again.{no_again}
-use Rattle.gc_texts.specs.Codes.{no_codes}
-use Rattle.gc_texts.specs.Endings.{Missed}
-use Rattle.gc_texts.specs.ValueItems.{no_needs}
-use Rattle.gc_texts.specs.declared.agree.Twice.TheVariants.{Once}
-use Rattle.gc_texts.specs.declared.tasks.Task.{Task}
-use Rattle.gc_links.specs.Acts.{Act, Told, Put, Gave, Silent, Opened, Unopened}
-use Rattle.gc_links.specs.declared.link.Moment.{Moment}
 use Rattle.gc_station.specs.CallTimes.{CallsReturn, ReadingsReturn}
 use Rattle.gc_station.specs.Cycles.{ClockRises}
 use Rattle.gc_station.specs.Model.{opening, Runs}

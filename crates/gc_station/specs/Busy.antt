@@ -1,11 +1,8 @@
 -- Busy answers, this project's own: an answer with communication code 0 and a return code by which, as the text says, the instrument
 -- tells that it is busy, and which isn't accepted. The instrument is still at work on the command, whose reply may come later. So the
 -- station asks for nothing until the command's whole deadline has passed since that answer.
+use Rattle.gc_station.specs.Common.{Asked, Settlement, lists_code, Expected}
 use Rattle.std.specs.Prelude.{ℕ, ◌&&◌, Bool, not, List, fold, Option, Some, None, if◌then◌else◌, max}
-use Rattle.gc_catalogue.specs.declared.asked.Asked.{Asked}
-use Rattle.gc_client.specs.Rule.{Settlement}
-use Rattle.gc_texts.specs.Codes.{lists_code}
-use Rattle.gc_texts.specs.declared.near.Expected.{Expected}
 use Rattle.gc_station.specs.Attempts.{code_of}
 use Rattle.gc_station.specs.Marks.{with_marks}
 use Rattle.gc_station.specs.Scopes.{Reads}

@@ -1,9 +1,7 @@
 -- How long the calls on the link take: this project's own. That they return in their time is a premise. An act is one call on the link,
 -- with its result.
+use Rattle.gc_station.specs.Common.{IsEarliest, deadlines, Task, Act}
 use Rattle.std.specs.Prelude.{◌≡◌, ℕ, ◌+◌, ◌≤◌, List, [], ◌∷◌, ◌++◌, Option, MatchOption}
-use Rattle.gc_client.specs.Rule.{IsEarliest, deadlines}
-use Rattle.gc_texts.specs.declared.tasks.Task.{Task}
-use Rattle.gc_links.specs.Acts.{Act}
 use Rattle.gc_station.specs.ActKinds.{moment_in}
 use Rattle.gc_station.specs.Model.{Model, action_at, waiting_of}
 use Rattle.gc_station.specs.Pace.{read_timeout}

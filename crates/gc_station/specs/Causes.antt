@@ -1,9 +1,9 @@
 -- The fault that the program reports if a run ends for a cause, this project's own.
+use Rattle.gc_station.specs.Common.{RunFault}
 use Rattle.std.specs.Prelude.{Option, Some, None}
-use Rattle.gc_texts.specs.declared.fault.RunFault.{RunFault}
-use Rattle.gc_texts.specs.declared.fault.RunFault.TheVariants as fault
 use Rattle.gc_station.specs.declared.cause.Cause.{Cause}
 use Rattle.gc_station.specs.declared.cause.Cause.TheVariants.{Done, Dead, Read, End, Write, Clock, Open, Turns, Stale, Stopped, SetUp}
+use Rattle.gc_texts.specs.declared.fault.RunFault.TheVariants as fault
 
 -- the fault that a run reports if it stopped for this cause; `None` if the run is done, or its end was asked for
 abbrev pub fault_of_cause : Cause → Option RunFault

@@ -1,12 +1,10 @@
 -- Chains, this project's own: a command that goes on with a chain is sent only once the one before it in its cycle was answered
 -- well, on the connection on which that was sent. An act is one call on the link, with its result.
+use Rattle.gc_station.specs.Common.{AllByRecursion, Task, Act}
 use Rattle.std.specs.Prelude.{◌≡◌, ◌+◌, ◌<◌, true, List, [], ◌∷◌, ◌++◌}
-use Rattle.std.specs.List.{AllByRecursion}
-use Rattle.gc_texts.specs.declared.tasks.Task.{Task}
 use Rattle.gc_station.specs.declared.plan.Plan.{Plan}
 use Rattle.gc_station.specs.declared.progress.Action.TheVariants.{Send}
 use Rattle.gc_station.specs.declared.progress.Progress.{Progress}
-use Rattle.gc_links.specs.Acts.{Act}
 use Rattle.gc_station.specs.Answers.{IsAnsweredIn}
 use Rattle.gc_station.specs.Qualities.{IsGoodAnswer}
 use Rattle.gc_station.specs.Quiet.{KeepsOpen}

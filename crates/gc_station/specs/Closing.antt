@@ -1,15 +1,12 @@
 -- Why each act is made, and why a connection is closed: this project's own. An act is one call on the link, with its result.
+use Rattle.gc_station.specs.Common.{fresh, Task, Act, Untold, Cut, Ended, Broke, Closed, Unopened}
 use Rattle.std.specs.Prelude.{◌≡◌, ◌⊎◌, ◌≤◌, ℕ, false, List, [], length}
-use Rattle.gc_client.specs.Rule.{fresh}
-use Rattle.gc_texts.specs.declared.tasks.Task.{Task}
 use Rattle.gc_station.specs.declared.cause.Cause.{Cause}
-use Rattle.gc_station.specs.declared.cause.Cause.TheVariants as cause
 use Rattle.gc_station.specs.declared.plan.Plan.{Plan}
 use Rattle.gc_station.specs.declared.progress.Action.{Action}
 use Rattle.gc_station.specs.declared.progress.Action.TheVariants.{Ask, Close, Stop}
 use Rattle.gc_station.specs.declared.progress.Progress.{Progress}
 use Rattle.gc_station.specs.declared.progress.Waiting.{Waiting}
-use Rattle.gc_links.specs.Acts.{Act, Untold, Cut, Ended, Broke, Closed, Unopened}
 use Rattle.gc_station.specs.Deciding.{is_up}
 use Rattle.gc_station.specs.Progressing.{is_finished, is_spared}
 use Rattle.gc_station.specs.Quiet.{HasLast}
@@ -17,6 +14,7 @@ use Rattle.gc_station.specs.Reasons.{HoldsBefore, IsAtItsEnd, IsFinished}
 use Rattle.gc_station.specs.Runs.{state_after, OfEachRun}
 use Rattle.gc_station.specs.Model.{Model, waiting_of, action_at, Performs}
 use Rattle.gc_station.specs.Scopes.{Scope}
+use Rattle.gc_station.specs.declared.cause.Cause.TheVariants as cause
 
 -- if a null procedure of a synchronization is sent next, the client is as at its start (`fresh`), and no request is outstanding.
 -- Nothing is said of any other action

@@ -1,21 +1,13 @@
 -- Whether a command was answered well, in the codes of its reply's line: this project's own.
+use Rattle.gc_station.specs.Common.{ReplyFields, IsReply, Answer, Reading, Asked, Lost, lists_code, no_codes, is_off_target, Expected, ValueFault, OffTarget}
 use Rattle.std.specs.Prelude.{◌≡◌, ◌≢◌, ◌⊎◌, ℕ, true, false, List, Some, None}
-use Rattle.gc_lines.specs.Replies.{ReplyFields, IsReply}
-use Rattle.gc_catalogue.specs.declared.answer.Answer.{Answer}
-use Rattle.gc_catalogue.specs.declared.answer.Reading.{Reading}
-use Rattle.gc_catalogue.specs.declared.answer.Reading.TheVariants as reading
-use Rattle.gc_catalogue.specs.declared.asked.Asked.{Asked}
-use Rattle.gc_client.specs.Rule.{Answered, Late, Lost}
-use Rattle.gc_texts.specs.Codes.{lists_code, no_codes}
-use Rattle.gc_texts.specs.Endings as end
-use Rattle.gc_texts.specs.Nears.{is_off_target}
-use Rattle.gc_texts.specs.declared.near.Expected.{Expected}
-use Rattle.gc_texts.specs.declared.quality.Quality.TheVariants as quality
-use Rattle.gc_values.specs.declared.fault.ValueFault.{ValueFault}
-use Rattle.gc_texts.specs.declared.judgement.Judgement.TheVariants.{OffTarget}
+use Rattle.gc_client.specs.Prelude.{Answered, Late}
 use Rattle.gc_station.specs.Marks.{answered_as, end_of, is_well, passes_rules}
 use Rattle.gc_station.specs.Saying.{IsSaid}
 use Rattle.gc_station.specs.Scopes.{AreReadings, Reads}
+use Rattle.gc_catalogue.specs.declared.answer.Reading.TheVariants as reading
+use Rattle.gc_texts.specs.Endings as end
+use Rattle.gc_texts.specs.declared.quality.Quality.TheVariants as quality
 
 -- `claim` is true if these fields of a reply to `call` have communication code 0 and an accepted return code other than 0, and
 -- would say `zeroed` with return code 0, by the form if there is one

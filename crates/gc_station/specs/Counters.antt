@@ -1,15 +1,10 @@
 -- The counters of a text, this project's own: a counter is a line with an item `>`, and is counted in the order of the text from 0. Of
 -- each the number is kept that the answer had under this item which was recorded last in the run. The next answer to that line is to have
 -- a greater one there.
+use Rattle.gc_station.specs.Common.{Decimal, Settlement, Asked, End, line_of, count_in, Expected}
 use Rattle.std.specs.Prelude.{ℕ, List, [], ◌∷◌, fold, Option, Some, None, get_or, if◌then◌else◌, nat_lt, slice_set}
-use Rattle.gc_values.specs.declared.decimal.Decimal.{Decimal}
-use Rattle.gc_client.specs.Rule.{Settlement}
-use Rattle.gc_catalogue.specs.declared.asked.Asked.{Asked}
-use Rattle.gc_texts.specs.Endings.{End, line_of}
-use Rattle.gc_texts.specs.Expectations.{count_in}
 use Rattle.gc_texts.specs.declared.expectation.Expectation.{Expectation}
 use Rattle.gc_texts.specs.declared.expectation.TheConstants.{COUNTERS}
-use Rattle.gc_texts.specs.declared.near.Expected.{Expected}
 use Rattle.gc_station.specs.Marks.{end_of, with_marks}
 use Rattle.gc_station.specs.Scopes.{Reads}
 use Rattle.gc_station.specs.declared.mark.Mark.{Mark}

@@ -1,10 +1,8 @@
 -- A tally counts the records of the last attempts: this project's own.
+use Rattle.gc_station.specs.Common.{is_good, End, Answered, Unreadable, Judged, Late, Skipped, NoValue, Missed, capped, is_same, judged_count, Judgement}
 use Rattle.std.specs.Prelude.{◌≡◌, ℕ, suc, Bool, true, false, List, [], ◌∷◌, if◌then◌else◌, ◌||◌, ◌&&◌, not, nat_eq, nat_lt}
-use Rattle.gc_texts.specs.Qualities.{is_good}
-use Rattle.gc_texts.specs.Endings.{End, Answered, Unreadable, Judged, Late, Lost, Skipped, NoValue, Missed}
+use Rattle.gc_texts.specs.Prelude.{Lost}
 use Rattle.gc_station.specs.Records.{Record}
-use Rattle.gc_texts.specs.declared.judgement.Judgement.{Judgement}
-use Rattle.gc_texts.specs.Judgements.{capped, is_same, judged_count}
 use Rattle.gc_station.specs.Tallies.{tally_of}
 use Rattle.gc_station.specs.declared.tally.Tally.{Tally}
 

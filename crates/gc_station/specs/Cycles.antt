@@ -1,13 +1,8 @@
 -- When cycles begin, and which commands aren't sent, in the acts' own moments: this project's own. From the beginning of a cycle on it is
 -- known when the next one is due (`due_at`). A cycle counts as begun when it was due, or when it began if that is earlier: it was asked for
 -- then, or it is the first one. An act is one call on the link, with its result.
+use Rattle.gc_station.specs.Common.{AllByRecursion, Skipped, NoValue, Missed, lack, Task, Act, Told, Moment}
 use Rattle.std.specs.Prelude.{◌≡◌, ℕ, suc, ◌+◌, ◌-◌, ◌*◌, ◌%◌, ◌<◌, ◌≤◌, ◌⊎◌, true, false, min, List, [], ◌∷◌, ◌++◌, Some, None, MatchOption}
-use Rattle.std.specs.List.{AllByRecursion}
-use Rattle.gc_texts.specs.Endings.{Skipped, NoValue, Missed}
-use Rattle.gc_texts.specs.ValueItems.{lack}
-use Rattle.gc_texts.specs.declared.tasks.Task.{Task}
-use Rattle.gc_links.specs.Acts.{Act, Told}
-use Rattle.gc_links.specs.declared.link.Moment.{Moment}
 use Rattle.gc_station.specs.ActKinds.{moment_in}
 use Rattle.gc_station.specs.Deciding.{later, may_go}
 use Rattle.gc_station.specs.Progressing.{due_at}

@@ -4,22 +4,21 @@
 -- (`Clearing`), until a connection is quiet (`Draining`), with a connection for requests (`Ready`), before a close (`Closing`),
 -- and at the end (`Over`). Of the progress, `left` counts the cycles that haven't begun, and `unsent` the commands of the cycle
 -- that are left: neither sent, nor recorded without being sent, nor left out.
+use Rattle.gc_station.specs.Common.{width_within, is_line_dead, next_waiting, next_room, next_flush, next_to_send, next_synchronizing, lack}
 use Rattle.std.specs.Prelude.{ℕ, ◌-◌, ◌&&◌, ◌||◌, Bool, true, false, not, if◌then◌else◌, nat_lt, nat_le, nat_eq, is_some}
-pub use Rattle.gc_catalogue.specs.Moments.{later}
 use Rattle.gc_session.specs.declared.choices.Choices.{Choices}
 use Rattle.gc_session.specs.declared.load.Load.{Load}
-use Rattle.gc_session.specs.Choices.{width_within, is_line_dead, next_waiting, next_room, next_flush, next_to_send, next_synchronizing}
-use Rattle.gc_session.specs.Exchange as exchange
-use Rattle.gc_texts.specs.ValueItems.{lack}
 use Rattle.gc_station.specs.declared.plan.Plan.{Plan}
 use Rattle.gc_station.specs.declared.cause.Cause.TheVariants.{Done, Dead, Turns, Stale, Stopped, SetUp}
 use Rattle.gc_station.specs.declared.progress.Phase.{Phase}
-use Rattle.gc_station.specs.declared.progress.Phase.TheVariants as phase
 use Rattle.gc_station.specs.declared.progress.Action.{Action}
 use Rattle.gc_station.specs.declared.progress.Action.TheVariants.{ReadClock, Renew, Begin, Open, Clear, Ask, Send, Skip, Pass, Flush, Read, Close, Stop, Prepare}
 use Rattle.gc_station.specs.declared.progress.Progress.{Progress}
 use Rattle.gc_station.specs.declared.progress.Until.TheVariants.{Limit, Due}
 use Rattle.gc_station.specs.declared.progress.Waiting.{Waiting}
+pub use Rattle.gc_catalogue.specs.Moments.{later}
+use Rattle.gc_session.specs.Exchange as exchange
+use Rattle.gc_station.specs.declared.progress.Phase.TheVariants as phase
 
 -- how many requests may be in flight that haven't timed out: as many as the plan says, but at least one and at most seven
 abbrev pub width_of : Plan → ℕ

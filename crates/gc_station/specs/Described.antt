@@ -1,14 +1,7 @@
 -- Answers of described procedures, this project's own: whatever the line, the instrument or its operator did, an answer of a command whose
 -- procedure the text describes is read by that description.
+use Rattle.gc_station.specs.Common.{ReplyFields, IsReply, ValueFault, Answer, Answered, Unreadable, line_of, IsFormAnswer, IsFormFault, Form, Quality, Task}
 use Rattle.std.specs.Prelude.{◌≡◌, ℕ, List, Some}
-use Rattle.gc_lines.specs.Replies.{ReplyFields, IsReply}
-use Rattle.gc_values.specs.declared.fault.ValueFault.{ValueFault}
-use Rattle.gc_catalogue.specs.declared.answer.Answer.{Answer}
-use Rattle.gc_texts.specs.Endings.{Answered, Unreadable, line_of}
-use Rattle.gc_texts.specs.Forms.{IsFormAnswer, IsFormFault}
-use Rattle.gc_texts.specs.declared.form.Form.{Form}
-use Rattle.gc_texts.specs.declared.quality.Quality.{Quality}
-use Rattle.gc_texts.specs.declared.tasks.Task.{Task}
 use Rattle.gc_station.specs.Qualities.{form_at}
 use Rattle.gc_station.specs.Records.{Record}
 use Rattle.gc_station.specs.Runs.{OfAnyRecord}

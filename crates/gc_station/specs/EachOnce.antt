@@ -1,25 +1,22 @@
 -- Each command once, this project's own: the commands that had their turn, cycle by cycle and in order, are the records of a
 -- run that are of cycles, and after them the outstanding commands, but for those of attempts that were left out, each once. An
 -- act is one call on the link, with its result.
+use Rattle.gc_station.specs.Common.{Asked, of_pending, Task, Act}
 use Rattle.std.specs.Prelude.{◌≡◌, ◌⊎◌, ℕ, zero, suc, List, [], ◌∷◌, ◌++◌, take, drop, nat_eq, map, Option, filter, not}
-use Rattle.gc_catalogue.specs.declared.asked.Asked.{Asked}
 use Rattle.gc_client.specs.declared.pending.Pending.{Pending}
-use Rattle.gc_client.specs.OneForOne.{of_pending}
-use Rattle.gc_texts.specs.declared.tasks.Task.{Task}
 use Rattle.gc_station.specs.declared.plan.Plan.{Plan}
 use Rattle.gc_station.specs.declared.cause.Cause.{Cause}
 use Rattle.gc_station.specs.declared.cause.Cause.TheVariants.{Done}
 use Rattle.gc_station.specs.declared.mark.Mark.{Mark}
 use Rattle.gc_station.specs.declared.progress.Action.TheVariants.{Stop}
-use Rattle.gc_links.specs.Acts.{Act}
 use Rattle.gc_station.specs.Marks.{with_marks}
 use Rattle.gc_station.specs.Records.{Record}
-pub use Rattle.gc_station.specs.Requests.{RunRequest, requests, of_command, of_task, in_text}
 use Rattle.gc_station.specs.Runs.{state_after}
 use Rattle.gc_station.specs.Model.{Model, action_at}
 use Rattle.gc_station.specs.NextCommand.{cycles_begun, place_next}
 use Rattle.gc_station.specs.Scopes.{Scope}
 use Rattle.gc_station.specs.Links.{IsBefore}
+pub use Rattle.gc_station.specs.Requests.{RunRequest, requests, of_command, of_task, in_text}
 
 -- the commands of one cycle, in order: those of the list `commands` but the first `setup`, which are the setup
 abbrev pub commands_of_cycle : (cycle setup : ℕ) (commands : List Task) → List RunRequest

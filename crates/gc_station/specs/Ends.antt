@@ -3,17 +3,12 @@
 -- act that recorded it as lost a line came with the id of a request that was put after it, or the station resynchronizes,
 -- because all that is outstanding has timed out, and there is no room for another request or the cycle is overdue, or the run stopped.
 -- An act is one call on the link, with its result.
+use Rattle.gc_station.specs.Common.{Asked, Waits, deadlines, heard, Late, Task, Moment, Act, Told, Gave}
 use Rattle.std.specs.Prelude.{◌≡◌, ◌⊎◌, ℕ, ◌<◌, ◌≤◌, List, [], ◌∷◌, ◌++◌, Some, IsSomeAnd}
-use Rattle.gc_catalogue.specs.declared.asked.Asked.{Asked}
-use Rattle.gc_client.specs.Ids.{Waits}
-use Rattle.gc_client.specs.Rule.{deadlines, heard}
-use Rattle.gc_texts.specs.Endings.{Late, Lost}
-use Rattle.gc_texts.specs.declared.tasks.Task.{Task}
+use Rattle.gc_texts.specs.Prelude.{Lost}
 use Rattle.gc_station.specs.declared.cause.Cause.{Cause}
-use Rattle.gc_links.specs.declared.link.Moment.{Moment}
 use Rattle.gc_station.specs.declared.plan.Plan.{Plan}
 use Rattle.gc_station.specs.declared.progress.Action.TheVariants.{Renew, Stop}
-use Rattle.gc_links.specs.Acts.{Act, Told, Gave}
 use Rattle.gc_station.specs.Answers.{IsRecordedBy, IsRepliedIn, Completes, deadline_after}
 use Rattle.gc_station.specs.Quiet.{IsAsking}
 use Rattle.gc_station.specs.Records.{Record}

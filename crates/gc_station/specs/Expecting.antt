@@ -1,12 +1,8 @@
 -- Expectations, this project's own: which values a text expects of an answer, and what a station does if they are other ones. An answer
 -- that isn't as expected shows that the instrument isn't as the text takes it to be. So the setup is sent anew. An act is one call on the
 -- link, with its result.
+use Rattle.gc_station.specs.Common.{Judged, line_of, meets, Unexpected, Task, Act}
 use Rattle.std.specs.Prelude.{◌≡◌, ℕ, ◌<◌, Bool, true, false, List, [], ◌∷◌, ◌++◌, Some}
-use Rattle.gc_texts.specs.Endings.{Judged, line_of}
-use Rattle.gc_texts.specs.Expectations.{meets}
-use Rattle.gc_texts.specs.declared.judgement.Judgement.TheVariants.{Unexpected}
-use Rattle.gc_texts.specs.declared.tasks.Task.{Task}
-use Rattle.gc_links.specs.Acts.{Act}
 use Rattle.gc_station.specs.declared.plan.Plan.{Plan}
 use Rattle.gc_station.specs.declared.progress.Action.TheVariants.{Send}
 use Rattle.gc_station.specs.Answers.{IsWrittenAt, IsRecordedBy}

@@ -1,8 +1,7 @@
 -- The first acts of a run, as a run of their own that returns: this project's own. So what is true of each run that returns, whatever turns
 -- it is given, is true of a run that goes on, or is killed, at each of its moments. An act is one call on the link, with its result.
+use Rattle.gc_station.specs.Common.{Task, Act, Closed}
 use Rattle.std.specs.Prelude.{◌≡◌, ◌⊎◌, ℕ, ◌<◌, ◌≤◌, List, [], ◌∷◌, ◌++◌, length}
-use Rattle.gc_texts.specs.declared.tasks.Task.{Task}
-use Rattle.gc_links.specs.Acts.{Act, Closed}
 use Rattle.gc_station.specs.Model.{Runs, action_at, opening}
 use Rattle.gc_station.specs.Records.{Grew, Record}
 use Rattle.gc_station.specs.Runs.{state_after}

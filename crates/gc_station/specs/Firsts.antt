@@ -1,18 +1,11 @@
 -- The answers of a chain's first sending, with which those of its second are compared: this project's own.
+use Rattle.gc_station.specs.Common.{Answer, End, Answered, is_compared, Twice, Form, Expected, Unconfirmed, Turn}
 use Rattle.std.specs.Prelude.{ℕ, Bool, true, ◌-◌, ◌==◌, ◌&&◌, if◌then◌else◌, nat_lt, List, [], ◌∷◌, ◌++◌, take, Option, Some, None, slice_get, unwrap_or}
-use Rattle.gc_catalogue.specs.declared.answer.Answer.{Answer}
-use Rattle.gc_texts.specs.Endings.{End, Answered}
-use Rattle.gc_texts.specs.Forms.{is_compared}
-use Rattle.gc_texts.specs.declared.agree.Twice.{Twice}
-use Rattle.gc_texts.specs.declared.agree.Twice.TheVariants as twice
-use Rattle.gc_texts.specs.declared.form.Form.{Form}
-use Rattle.gc_texts.specs.declared.near.Expected.{Expected}
-use Rattle.gc_texts.specs.declared.quality.Quality.TheVariants.{Unconfirmed}
-use Rattle.gc_texts.specs.declared.turn.Turn.{Turn}
 use Rattle.gc_station.specs.declared.firsts.FirstAnswer.{FirstAnswer}
 use Rattle.gc_station.specs.declared.firsts.TheConstants.{FIRSTS}
 use Rattle.gc_station.specs.declared.mark.Mark.{Mark}
 use Rattle.gc_station.specs.Records.{Record}
+use Rattle.gc_texts.specs.declared.agree.Twice.TheVariants as twice
 
 -- the answer `first` of a first sending, if it is that of the same command of the text as `turn` is of, in this cycle and in the
 -- attempt before

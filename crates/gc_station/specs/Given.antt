@@ -1,9 +1,8 @@
 -- What came on a connection, this project's own: the bytes that were given on it while they were heard. An act is one call on
 -- the link, with its result.
+use Rattle.gc_station.specs.Common.{Task, Act, Gave, Closed}
 use Rattle.std.specs.Prelude.{ℕ, Bool, List, [], ◌∷◌, ◌++◌, if◌then◌else◌}
-use Rattle.gc_texts.specs.declared.tasks.Task.{Task}
 use Rattle.gc_station.specs.declared.plan.Plan.{Plan}
-use Rattle.gc_links.specs.Acts.{Act, Gave, Closed}
 use Rattle.gc_station.specs.Model.{Model, opening, is_heard, after}
 use Rattle.gc_station.specs.Scopes.{Scope}
 

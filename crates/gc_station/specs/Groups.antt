@@ -1,7 +1,6 @@
 -- Commands that have their turn in one of several cycles: this project's own.
+use Rattle.gc_station.specs.Common.{AllByRecursion, Task}
 use Rattle.std.specs.Prelude.{◌≡◌, ℕ, suc, ◌*◌, ◌<◌, true, List, [], ◌∷◌, drop}
-use Rattle.std.specs.List.{AllByRecursion}
-use Rattle.gc_texts.specs.declared.tasks.Task.{Task}
 use Rattle.gc_station.specs.NextCommand.{cycles_begun, commands_left, rests}
 use Rattle.gc_station.specs.Records.{Record}
 use Rattle.gc_station.specs.Runs.{state_after, OfEachRun, WhereNext}

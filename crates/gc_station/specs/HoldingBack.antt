@@ -2,13 +2,8 @@
 -- allows may take the replies that are still in flight for those of later requests with the same ids. So no request is sent unless the
 -- outstanding ones, and those that the last line ended that ended any, are together fewer than seven. That is what the laws on damaged
 -- lines ask of a client (`gc_theorems`). A part reaches from one synchronization to the next (`Parts`).
+use Rattle.gc_station.specs.Common.{Asked, Step, Send, fresh, WINDOW, client_after, last_ended}
 use Rattle.std.specs.Prelude.{◌≡◌, ℕ, ◌+◌, ◌<◌, List, ◌∷◌, ◌++◌, length, Some, slice_get}
-use Rattle.gc_catalogue.specs.declared.asked.Asked.{Asked}
-use Rattle.gc_client.specs.OneForOne.{Step, Send}
-use Rattle.gc_client.specs.Rule.{fresh}
-use Rattle.gc_client.specs.declared.window.TheConstants.{WINDOW}
-use Rattle.gc_session.specs.Courses.{client_after}
-use Rattle.gc_session.specs.Laws.{last_ended}
 use Rattle.gc_station.specs.Links.{parts}
 use Rattle.gc_station.specs.Parts.{Part}
 use Rattle.gc_station.specs.Runs.{OfEachRun}

@@ -2,12 +2,8 @@
 -- the line that settled last was, and then replies to requests that it ended may still come, with ids that a later request could have. A
 -- line with a sign-on in it shows that the instrument was switched on or off. After either (`calls_for_renewal`) nothing is sent before the
 -- station has synchronized anew. A part reaches from one synchronization to the next (`Parts`).
+use Rattle.gc_station.specs.Common.{Asked, Step, Send, Hear, fresh, calls_for_renewal, client_after}
 use Rattle.std.specs.Prelude.{◌≡◌, ℕ, false, List, ◌∷◌, ◌++◌, Some, slice_get}
-use Rattle.gc_catalogue.specs.declared.asked.Asked.{Asked}
-use Rattle.gc_client.specs.OneForOne.{Step, Send, Hear}
-use Rattle.gc_client.specs.Rule.{fresh}
-use Rattle.gc_session.specs.Lines.{calls_for_renewal}
-use Rattle.gc_session.specs.Courses.{client_after}
 use Rattle.gc_station.specs.Links.{parts}
 use Rattle.gc_station.specs.Parts.{Part}
 use Rattle.gc_station.specs.Runs.{OfEachRun}

@@ -1,14 +1,9 @@
 -- What lasts while a run goes on, this project's own: at each act of the link all that the acts before it settled is in the
 -- book; and it lasts before anything is sent, read, opened or closed. An act is one call on the link, with its result. The book is
 -- what takes the texts of the records; `text` gives the text of a record.
+use Rattle.gc_station.specs.Common.{Appends, Task, RunFault, Output, Act, Closed, AddsActs, acts_code}
 use Rattle.std.specs.Prelude.{◌≡◌, ℕ, Bool, true, false, List, [], ◌∷◌, ◌++◌, Option, Result, Ok, Err, refl}
 use Rattle.std.specs.Coded.{Coded, code_by, coded×, coded_ℕ, coded_bool, coded_list, coded_option}
-use Rattle.std.specs.Io.KnownBytes.{Appends}
-use Rattle.gc_texts.specs.declared.tasks.Task.{Task}
-use Rattle.gc_texts.specs.declared.fault.RunFault.{RunFault}
-use Rattle.gc_texts.specs.declared.fault.RunFault.TheVariants.{Output}
-use Rattle.gc_links.specs.Acts.{Act, Closed, AddsActs}
-use Rattle.gc_links.specs.Coding.{acts_code}
 use Rattle.gc_station.specs.declared.plan.Plan.{Plan}
 use Rattle.gc_station.specs.declared.progress.Action.{Action}
 use Rattle.gc_station.specs.declared.progress.Action.TheVariants.{ReadClock, Renew, Begin, Skip, Pass}

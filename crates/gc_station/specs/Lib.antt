@@ -1,3 +1,5 @@
+mod Common
+pub mod Prelude
 pub mod Causes
 pub mod Saying
 pub mod Scopes

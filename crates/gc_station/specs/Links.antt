@@ -1,10 +1,8 @@
 -- Chains by the parts of a run, this project's own: the commands of a chain are requests of one part, each after the answer of
 -- the one before it. A part reaches from one synchronization to the next (`Parts`). An act is one call on the link, with its
 -- result.
+use Rattle.gc_station.specs.Common.{Act, Expected, Task}
 use Rattle.std.specs.Prelude.{◌≡◌, ◌⊎◌, ℕ, suc, ◌<◌, ◌≤◌, true, List, ◌++◌, drop, length, Some, slice_get}
-use Rattle.gc_links.specs.Acts.{Act}
-use Rattle.gc_texts.specs.declared.near.Expected.{Expected}
-use Rattle.gc_texts.specs.declared.tasks.Task.{Task}
 use Rattle.gc_station.specs.Parts.{Part, mark_of, parts_of}
 use Rattle.gc_station.specs.Qualities.{IsGoodAnswer}
 use Rattle.gc_station.specs.Records.{Record, Grew}

@@ -1,31 +1,15 @@
 -- Marks, this project's own: for each outstanding request, which command of which cycle it is; a null procedure of the
 -- station's own has none.
+use Rattle.gc_station.specs.Common.{Answer, Reading, Asked, Settlement, Outcome, Lost, Wish, agrees, lists_code, End, meets, is_off_target, is_good, is_confirmed, as_zero, Judgement, OffTarget, Unexpected, Disagree, Expected, Occasion, Twice, Quality}
 use Rattle.std.specs.Prelude.{ℕ, suc, Bool, true, false, List, [], ◌∷◌, map, Option, Some, None, ◌&&◌, not, slice_get, unwrap_or}
-use Rattle.gc_catalogue.specs.declared.answer.Answer.{Answer}
-use Rattle.gc_catalogue.specs.declared.answer.Reading.{Reading}
-use Rattle.gc_catalogue.specs.declared.answer.Reading.TheVariants as reading
-use Rattle.gc_catalogue.specs.declared.asked.Asked.{Asked}
-use Rattle.gc_client.specs.Rule.{Settlement, Outcome, Answered, Late, Lost}
-use Rattle.gc_texts.specs.declared.wish.Wish.{Wish}
-use Rattle.gc_texts.specs.Agrees.{agrees}
-use Rattle.gc_texts.specs.Codes.{lists_code}
-use Rattle.gc_texts.specs.Endings.{End}
-use Rattle.gc_texts.specs.Expectations.{meets}
-use Rattle.gc_texts.specs.Nears.{is_off_target}
-use Rattle.gc_texts.specs.Qualities.{is_good, is_confirmed}
-use Rattle.gc_texts.specs.Zeroed.{as_zero}
-use Rattle.gc_texts.specs.declared.judgement.Judgement.{Judgement}
-use Rattle.gc_texts.specs.declared.judgement.Judgement.TheVariants.{OffTarget, Unexpected, Disagree}
-use Rattle.gc_texts.specs.declared.near.Expected.{Expected}
-use Rattle.gc_texts.specs.declared.occasion.Occasion.{Occasion}
-use Rattle.gc_texts.specs.declared.agree.Twice.{Twice}
-use Rattle.gc_texts.specs.declared.agree.Twice.TheVariants as twice
-use Rattle.gc_texts.specs.declared.quality.Quality.{Quality}
-use Rattle.gc_texts.specs.declared.quality.Quality.TheVariants as quality
-use Rattle.gc_texts.specs.Endings as end
+use Rattle.gc_client.specs.Prelude.{Answered, Late}
 use Rattle.gc_station.specs.declared.mark.Mark.{Mark}
 use Rattle.gc_station.specs.Records.{Record}
 use Rattle.gc_station.specs.Scopes.{Reads}
+use Rattle.gc_catalogue.specs.declared.answer.Reading.TheVariants as reading
+use Rattle.gc_texts.specs.declared.agree.Twice.TheVariants as twice
+use Rattle.gc_texts.specs.declared.quality.Quality.TheVariants as quality
+use Rattle.gc_texts.specs.Endings as end
 
 -- how many of these marks are of commands; a null procedure has none
 abbrev pub commands_in : List (Option Mark) → ℕ

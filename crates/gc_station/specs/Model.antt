@@ -1,31 +1,11 @@
 -- What a station is after the acts of its link, this project's own: the client's rule over what really happened, and how far
 -- the station is. Each act is the one that the station was to make next. An act is one call on the link, with its result. `until`
 -- says what a read waits for.
+use Rattle.gc_station.specs.Common.{rest_behind, with_end, Decimal, Asked, Table, NullProc, request_line, asked_line, WINDOW, ById, Settlement, Settled, fresh, sends, hears, heard, expires, restarts, deadlines, call_at, End, Skipped, NoValue, Missed, Occasion, Task, Wish, is_none_left, client_sent, is_reply, calls_for_renewal, Moment, Act, Told, Cut, Gave, Silent, Ended, Broke, Closed, Opened}
 use Rattle.std.specs.Prelude.{◌≡◌, ℕ, ◌-◌, Bool, true, false, List, [], ◌∷◌, ◌++◌, length, drop, take, map, Option, Some, None, if◌then◌else◌, ◌⊎◌}
-use Rattle.gc_lines.specs.Frames.{rest_behind}
-use Rattle.gc_lines.specs.Lines.{with_end}
-use Rattle.gc_values.specs.declared.decimal.Decimal.{Decimal}
-pub use Rattle.gc_lines.specs.Passing.{lines_completed}
-use Rattle.gc_catalogue.specs.declared.asked.Asked.{Asked}
-use Rattle.gc_catalogue.specs.declared.asked.Asked.TheVariants.{Table}
-use Rattle.gc_catalogue.specs.declared.call.Call.TheVariants.{NullProc}
-use Rattle.gc_catalogue.specs.Texts.{request_line}
-use Rattle.gc_catalogue.specs.Asked.{asked_line}
-use Rattle.gc_client.specs.declared.window.TheConstants.{WINDOW}
-use Rattle.gc_client.specs.Rule.{ById, Settlement, Settled, fresh, sends, hears, heard, expires, restarts, deadlines}
-use Rattle.gc_texts.specs.Tasks.{call_at}
-use Rattle.gc_texts.specs.declared.occasion.Occasion.{Occasion}
-use Rattle.gc_texts.specs.declared.tasks.Task.{Task}
-use Rattle.gc_texts.specs.declared.wish.Wish.{Wish}
-use Rattle.gc_session.specs.Exchange.{is_none_left}
-use Rattle.gc_session.specs.Sessions.{client_sent}
-use Rattle.gc_session.specs.Lines.{is_reply, calls_for_renewal}
-use Rattle.gc_links.specs.declared.link.Moment.{Moment}
 use Rattle.gc_station.specs.declared.plan.Plan.{Plan}
 use Rattle.gc_station.specs.declared.cause.Cause.{Cause}
-use Rattle.gc_station.specs.declared.cause.Cause.TheVariants as cause
 use Rattle.gc_station.specs.declared.progress.Phase.{Phase}
-use Rattle.gc_station.specs.declared.progress.Phase.TheVariants as phase
 use Rattle.gc_station.specs.declared.progress.Action.{Action}
 use Rattle.gc_station.specs.declared.progress.Action.TheVariants.{ReadClock, Renew, Begin, Open, Clear, Ask, Send, Skip, Pass, Flush, Read, Close, Stop, Prepare}
 use Rattle.gc_station.specs.declared.progress.Progress.{Progress}
@@ -34,7 +14,6 @@ use Rattle.gc_station.specs.declared.progress.Waiting.{Waiting}
 use Rattle.gc_station.specs.declared.firsts.FirstAnswer.{FirstAnswer}
 use Rattle.gc_station.specs.declared.mark.Mark.{Mark}
 use Rattle.gc_station.specs.declared.station.sending.Outgoing.{Outgoing}
-use Rattle.gc_links.specs.Acts.{Act, Told, Cut, Gave, Silent, Ended, Broke, Closed, Opened}
 use Rattle.gc_station.specs.ActKinds.{Puts, ReadsClock, IsOpening, ReadsLink}
 use Rattle.gc_station.specs.Deciding.{later, is_preparing, lacks_value, action_of}
 use Rattle.gc_station.specs.Attempts.{listed_after, listed_after_settlements}
@@ -49,7 +28,9 @@ use Rattle.gc_station.specs.Requests.{RunRequest, requests, of_task, command_at}
 use Rattle.gc_station.specs.Scopes.{Scope, Reads}
 use Rattle.gc_station.specs.Watching.{unanswered, fresh_after, fresh_of, cut_to}
 use Rattle.gc_station.specs.declared.watching.Watch.{Watch}
-use Rattle.gc_texts.specs.Endings.{End, Skipped, NoValue, Missed}
+pub use Rattle.gc_lines.specs.Passing.{lines_completed}
+use Rattle.gc_station.specs.declared.cause.Cause.TheVariants as cause
+use Rattle.gc_station.specs.declared.progress.Phase.TheVariants as phase
 
 -- the state of a station after the acts of a run so far
 pub record Model : Type 0 where

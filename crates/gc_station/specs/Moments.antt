@@ -1,12 +1,7 @@
 -- When each command of a run ended, in the moments that its acts read, by the clock of time stamps; and why a reply is unreadable: this
 -- project's own. An act is one call on the link, with its result.
+use Rattle.gc_station.specs.Common.{Act, Moment, Missed, Unreadable, line_of, ValueFault, Task}
 use Rattle.std.specs.Prelude.{◌≡◌, ℕ, ◌<◌, List, [], ◌∷◌, ◌++◌, Option, Some, None}
-use Rattle.gc_links.specs.Acts.{Act}
-use Rattle.gc_links.specs.declared.link.Moment.{Moment}
-use Rattle.gc_catalogue.specs.declared.answer.Reading.TheVariants as reading
-use Rattle.gc_texts.specs.Endings.{Missed, Unreadable, line_of}
-use Rattle.gc_values.specs.declared.fault.ValueFault.{ValueFault}
-use Rattle.gc_texts.specs.declared.tasks.Task.{Task}
 use Rattle.gc_station.specs.ActKinds.{moment_in}
 use Rattle.gc_station.specs.Answers.{IsAnsweredIn, IsWrittenAt}
 use Rattle.gc_station.specs.Cycles.{ClockRises, IsMissedIn}
@@ -16,6 +11,7 @@ use Rattle.gc_station.specs.Runs.{OfEachRecord}
 use Rattle.gc_station.specs.Saying.{Says}
 use Rattle.gc_station.specs.Scopes.{Scope}
 use Rattle.gc_station.specs.declared.plan.Plan.{Plan}
+use Rattle.gc_catalogue.specs.declared.answer.Reading.TheVariants as reading
 
 -- the moment `m`, by the clock of time stamps; `now` if there is none
 abbrev pub utc_or : (now : ℕ) → Option Moment → ℕ

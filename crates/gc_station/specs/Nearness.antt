@@ -1,19 +1,9 @@
 -- Where an answer was measured, this project's own: whatever the line, the instrument or its operator did, an answered command
 -- of a target with a known place was measured there, as far as its answer has a direction, or a distance and the place one. An act
 -- is one call on the link, with its result.
+use Rattle.gc_station.specs.Common.{Answer, Value, Refused, Asked, lists_code, Answered, Judged, IsThere, IsAway, as_zero, Codes, OffTarget, Quality, Task}
 use Rattle.std.specs.Prelude.{◌≡◌, ◌⊎◌, ℕ, true, List, Some, slice_get}
-use Rattle.gc_catalogue.specs.declared.answer.Answer.{Answer}
-use Rattle.gc_catalogue.specs.declared.answer.Reading.TheVariants.{Value, Refused}
-use Rattle.gc_catalogue.specs.declared.asked.Asked.{Asked}
-use Rattle.gc_texts.specs.Codes.{lists_code}
-use Rattle.gc_texts.specs.Endings.{Answered, Judged}
-use Rattle.gc_texts.specs.Nears.{IsThere, IsAway}
-use Rattle.gc_texts.specs.Zeroed.{as_zero}
-use Rattle.gc_texts.specs.declared.codes.Codes.{Codes}
-use Rattle.gc_texts.specs.declared.judgement.Judgement.TheVariants.{OffTarget}
 use Rattle.gc_texts.specs.declared.near.Near.{Near}
-use Rattle.gc_texts.specs.declared.quality.Quality.{Quality}
-use Rattle.gc_texts.specs.declared.tasks.Task.{Task}
 use Rattle.gc_station.specs.Records.{Record}
 use Rattle.gc_station.specs.Runs.{OfAnyRecord}
 use Rattle.gc_station.specs.Saying.{Says}

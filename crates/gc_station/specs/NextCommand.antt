@@ -1,19 +1,13 @@
 -- The next command of a station's list, this project's own: its place, its mark and how it stands to the commands after it, at a
 -- given progress.
+use Rattle.gc_station.specs.Common.{no_again, no_codes, no_needs, no_values, Expected, Task, Turn}
 use Rattle.std.specs.Prelude.{ℕ, ◌+◌, ◌-◌, ◌%◌, ◌||◌, Bool, false, not, List, [], ◌∷◌, length, drop, None, if◌then◌else◌, nat_eq, nat_le}
-use Rattle.gc_texts.specs.Again.{no_again}
-use Rattle.gc_values.specs.FileValues.{no_values}
-use Rattle.gc_texts.specs.Codes.{no_codes}
-use Rattle.gc_texts.specs.ValueItems.{no_needs}
-use Rattle.gc_texts.specs.declared.agree.Twice.TheVariants as twice
-use Rattle.gc_texts.specs.declared.near.Expected.{Expected}
-use Rattle.gc_texts.specs.declared.tasks.Task.{Task}
-use Rattle.gc_texts.specs.declared.turn.Turn.{Turn}
 use Rattle.gc_texts.specs.declared.value_item.Needs.{Needs}
 use Rattle.gc_station.specs.declared.plan.Plan.{Plan}
 use Rattle.gc_station.specs.declared.progress.Progress.{Progress}
 use Rattle.gc_station.specs.declared.progress.Upcoming.{Upcoming}
 use Rattle.gc_station.specs.declared.mark.Mark.{Mark}
+use Rattle.gc_texts.specs.declared.agree.Twice.TheVariants as twice
 
 -- the place of the cycle's next command in the list `commands`, counted from 0, at the progress `p`. The setup is at the front
 -- of the list, and the commands of a cycle are its end, of which `p.unsent` are left. If none is left, as before the first cycle,

@@ -1,7 +1,7 @@
 -- A run that is computed, this project's own, in which cycles have no due moments. It meets all other premises of the bound by which a
 -- due cycle is recorded, and no cycle is. An act is one call on the link, with its result.
+use Rattle.gc_station.specs.Common.{Act, Told, Silent, Unopened}
 use Rattle.std.specs.Prelude.{◌≡◌, ◌≤◌, false, List, [], ◌∷◌, length}
-use Rattle.gc_links.specs.Acts.{Act, Told, Silent, Unopened}
 use Rattle.gc_station.specs.BoundRuns.{plan_of, scope, at, outage_commands, AreAtMost, IsBeyondBound}
 use Rattle.gc_station.specs.Cycles.{ClockRises}
 use Rattle.gc_station.specs.Model.{opening, Runs}

@@ -2,13 +2,8 @@
 -- reply may still be on its way, or may be kept by the instrument, and come once more; it has the id of one of the client's first
 -- requests. So the first of these is a null procedure, which is alone on the line, and no command is sent before a reply has ended
 -- one. A part reaches from one synchronization to the next (`Parts`).
+use Rattle.gc_station.specs.Common.{Asked, Table, NullProc, Course, Step, Send, Wanted, begun, course, Settlement, Lost, deadlines, WINDOW}
 use Rattle.std.specs.Prelude.{◌≡◌, ◌⊎◌, ℕ, List, [], ◌∷◌, ◌++◌, length, Option, Some, None, slice_get}
-use Rattle.gc_catalogue.specs.declared.asked.Asked.{Asked}
-use Rattle.gc_catalogue.specs.declared.asked.Asked.TheVariants.{Table}
-use Rattle.gc_catalogue.specs.declared.call.Call.TheVariants.{NullProc}
-use Rattle.gc_client.specs.OneForOne.{Course, Step, Send, Wanted, begun, course}
-use Rattle.gc_client.specs.Rule.{Settlement, Lost, deadlines}
-use Rattle.gc_client.specs.declared.window.TheConstants.{WINDOW}
 use Rattle.gc_station.specs.declared.mark.Mark.{Mark}
 use Rattle.gc_station.specs.Links.{parts}
 use Rattle.gc_station.specs.Parts.{Part}

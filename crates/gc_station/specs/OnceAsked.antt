@@ -1,8 +1,6 @@
 -- How long a run goes on once its end was asked for: this project's own. An act is one call on the link, with its result.
+use Rattle.gc_station.specs.Common.{AllByRecursion, Task, Act}
 use Rattle.std.specs.Prelude.{◌≡◌, ℕ, ◌+◌, ◌*◌, ◌<◌, ◌≤◌, true, false, if◌then◌else◌, List, [], ◌∷◌, ◌++◌}
-use Rattle.std.specs.List.{AllByRecursion}
-use Rattle.gc_texts.specs.declared.tasks.Task.{Task}
-use Rattle.gc_links.specs.Acts.{Act}
 use Rattle.gc_station.specs.Behind.{AreOfTable}
 use Rattle.gc_station.specs.Cycles.{ClockRises}
 use Rattle.gc_station.specs.Deciding.{is_between_chains}

@@ -1,18 +1,18 @@
 -- How long a read waits, what health of the link is reported, and which overrun: this project's own. Moments are by the clock for deadlines, in
 -- milliseconds.
+use Rattle.gc_station.specs.Common.{asks_at, past_at}
 use Rattle.std.specs.Prelude.{ℕ, ◌-◌, ◌&&◌, Bool, not, if◌then◌else◌, nat_eq, nat_lt, min, max, Option, Some, None}
 use Rattle.gc_station.specs.declared.book.LinkHealth.{LinkHealth}
 use Rattle.gc_station.specs.declared.book.LinkHealth.TheVariants.{Fine, Idle, Unconnected, Unquiet, Unheard}
 use Rattle.gc_station.specs.declared.plan.Plan.{Plan}
 use Rattle.gc_station.specs.declared.progress.Phase.{Phase}
-use Rattle.gc_station.specs.declared.progress.Phase.TheVariants as phase
 use Rattle.gc_station.specs.declared.progress.Progress.{Progress}
 use Rattle.gc_station.specs.declared.progress.Until.{Until}
 use Rattle.gc_station.specs.declared.progress.Until.TheVariants.{Limit, Due}
-use Rattle.gc_session.specs.Exchange.{asks_at, past_at}
 use Rattle.gc_station.specs.Deciding.{later, has_begun, is_due, is_out_of_time}
 use Rattle.gc_station.specs.NextCommand.{cycles_begun}
 use Rattle.gc_station.specs.Progressing.{is_idle, due_at}
+use Rattle.gc_station.specs.declared.progress.Phase.TheVariants as phase
 
 -- the moment of the next attempt to connect: the end of the pause, or, if no connection is wanted before the next cycle is due,
 -- that due moment if it is later

@@ -1,22 +1,13 @@
 -- A run of a station as its client has it, this project's own: a part for each synchronization, with what happens while the
 -- station synchronizes, then the client's steps, and which command each request is that is sent. An act is one call on the
 -- link, with its result.
+use Rattle.gc_station.specs.Common.{AllZip, Asked, Table, NullProc, Wanted, Step, Send, Hear, Expire, Expected, Occasion, Task, End, Answered, Unreadable, Judged, Late, Skipped, NoValue, Missed, Act, Told, Put, Cut, Gave, Silent}
 use Rattle.std.specs.Prelude.{◌≡◌, ℕ, ◌&&◌, Bool, true, false, if◌then◌else◌, List, [], ◌∷◌, ◌++◌, map, Option, Some, None, slice_get, unwrap_or, filter}
-use Rattle.std.specs.List.{AllZip}
-use Rattle.gc_catalogue.specs.declared.asked.Asked.{Asked}
-use Rattle.gc_catalogue.specs.declared.asked.Asked.TheVariants.{Table}
-use Rattle.gc_catalogue.specs.declared.call.Call.TheVariants.{NullProc}
-use Rattle.gc_client.specs.OneForOne.{Wanted, Step, Send, Hear, Expire}
-use Rattle.gc_texts.specs.declared.near.Expected.{Expected}
-use Rattle.gc_texts.specs.declared.occasion.Occasion.{Occasion}
-use Rattle.gc_texts.specs.declared.tasks.Task.{Task}
-use Rattle.gc_texts.specs.Endings.{End, Answered, Unreadable, Judged, Late, Lost, Skipped, NoValue, Missed}
+use Rattle.gc_texts.specs.Prelude.{Lost}
 use Rattle.gc_station.specs.declared.plan.Plan.{Plan}
 use Rattle.gc_station.specs.declared.mark.Mark.{Mark}
 use Rattle.gc_station.specs.declared.station.sending.Outgoing.{Outgoing}
 use Rattle.gc_station.specs.declared.progress.Action.{Action}
-use Rattle.gc_station.specs.declared.progress.Action.TheVariants as action
-use Rattle.gc_links.specs.Acts.{Act, Told, Put, Cut, Gave, Silent}
 use Rattle.gc_station.specs.Deciding.{later, has_begun}
 use Rattle.gc_station.specs.Progressing.{loses_all}
 use Rattle.gc_station.specs.Marks.{occasion_of}
@@ -24,6 +15,7 @@ use Rattle.gc_station.specs.Records.{Record}
 use Rattle.gc_station.specs.Requests.{asked_at}
 use Rattle.gc_station.specs.Model.{Model, action_at, lines_completed, is_heard, after, request_for, null_request, request_of_setup, mark_sent}
 use Rattle.gc_station.specs.NextCommand.{commands_left}
+use Rattle.gc_station.specs.declared.progress.Action.TheVariants as action
 
 -- one step of a station while it synchronizes
 pub data SyncStep : Type 0 where

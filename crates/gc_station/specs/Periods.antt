@@ -1,7 +1,7 @@
 -- Cycles that begin by the clock: how far apart their due moments are. This project's own. Times are in milliseconds, and moments since
 -- 1970-01-01, UTC.
+use Rattle.gc_station.specs.Common.{later}
 use Rattle.std.specs.Prelude.{ℕ, ◌-◌, ◌%◌, if◌then◌else◌, nat_eq, nat_le, Option, Some, None}
-use Rattle.gc_catalogue.specs.Moments.{later}
 
 -- how long the moment `utc` is after the last one that is `at` after a whole multiple of `every`, which is above 0
 abbrev pub past_multiple : (every at utc : ℕ) → ℕ

@@ -1,27 +1,23 @@
 -- What each act does to how far a station is, this project's own. That is its progress: the phase that it is in, how far its exchange
 -- with the instrument is, the moment read last, and how many cycles, commands of the cycle, tries and turns are left. An act is one call
 -- on the link, with its result.
+use Rattle.gc_station.specs.Common.{Asked, Settlement, no_values, no_needs, Moment}
 use Rattle.std.specs.Prelude.{ℕ, ◌+◌, ◌-◌, ◌&&◌, ◌||◌, Bool, true, false, not, if◌then◌else◌, nat_lt, nat_le, nat_eq, min, max, List, [], ◌∷◌}
-use Rattle.gc_catalogue.specs.declared.asked.Asked.{Asked}
-use Rattle.gc_client.specs.Rule.{Settlement}
-use Rattle.gc_session.specs.Exchange as exchange
 use Rattle.gc_session.specs.declared.exchange.Exchange.{Exchange}
-use Rattle.gc_values.specs.FileValues.{no_values}
-use Rattle.gc_texts.specs.ValueItems.{no_needs}
-use Rattle.gc_links.specs.declared.link.Moment.{Moment}
 use Rattle.gc_station.specs.declared.plan.Plan.{Plan}
 use Rattle.gc_station.specs.declared.cause.Cause.{Cause}
-use Rattle.gc_station.specs.declared.cause.Cause.TheVariants as cause
 use Rattle.gc_station.specs.declared.progress.Phase.{Phase}
-use Rattle.gc_station.specs.declared.progress.Phase.TheVariants as phase
 use Rattle.gc_station.specs.declared.progress.Progress.{Progress}
 use Rattle.gc_station.specs.declared.progress.Until.{Until}
 use Rattle.gc_station.specs.declared.progress.Until.TheVariants.{Limit, Due}
 use Rattle.gc_station.specs.declared.progress.Upcoming.{Upcoming}
 use Rattle.gc_station.specs.declared.progress.Waiting.{Waiting}
 use Rattle.gc_station.specs.Deciding.{later, is_up, is_past, is_quiet, is_due, goes_on, has_begun}
-pub use Rattle.gc_station.specs.Deciding.{is_idle, is_finished}
 use Rattle.gc_station.specs.Periods.{period_from}
+use Rattle.gc_session.specs.Exchange as exchange
+use Rattle.gc_station.specs.declared.cause.Cause.TheVariants as cause
+use Rattle.gc_station.specs.declared.progress.Phase.TheVariants as phase
+pub use Rattle.gc_station.specs.Deciding.{is_idle, is_finished}
 
 -- the progress of a station that has done nothing
 abbrev pub at_start : Plan → (turns : ℕ) → Progress

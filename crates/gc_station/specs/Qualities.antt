@@ -1,26 +1,14 @@
 -- What the quality of an answer says of its line, this project's own: fine with both codes 0, a warning with a return code that
 -- the text accepts of that command, unconfirmed with either in the first sending of a chain that is sent twice, and else refused.
+use Rattle.gc_station.specs.Common.{Answer, Reading, Asked, lists_code, no_codes, Answered, is_good, as_zero, Twice, First, Codes, Form, Quality, Fine, Warning, Unconfirmed, Task}
 use Rattle.std.specs.Prelude.{◌≡◌, ℕ, true, false, List, Option, Some, None}
-use Rattle.gc_catalogue.specs.declared.answer.Answer.{Answer}
-use Rattle.gc_catalogue.specs.declared.answer.Reading.{Reading}
-use Rattle.gc_catalogue.specs.declared.answer.Reading.TheVariants as reading
-use Rattle.gc_catalogue.specs.declared.asked.Asked.{Asked}
-use Rattle.gc_texts.specs.Codes.{lists_code, no_codes}
-use Rattle.gc_texts.specs.Endings.{Answered}
-use Rattle.gc_texts.specs.Qualities.{is_good}
-use Rattle.gc_texts.specs.Zeroed.{as_zero}
-use Rattle.gc_texts.specs.declared.agree.Twice.{Twice}
-use Rattle.gc_texts.specs.declared.agree.Twice.TheVariants.{First}
-use Rattle.gc_texts.specs.declared.codes.Codes.{Codes}
-use Rattle.gc_texts.specs.declared.form.Form.{Form}
-use Rattle.gc_texts.specs.declared.quality.Quality.{Quality}
-use Rattle.gc_texts.specs.declared.quality.Quality.TheVariants.{Fine, Warning, Unconfirmed, Refused}
-use Rattle.gc_texts.specs.declared.tasks.Task.{Task}
+use Rattle.gc_texts.specs.declared.quality.Quality.TheVariants.{Refused}
 use Rattle.gc_station.specs.NextCommand.{expected_at}
 use Rattle.gc_station.specs.Records.{Record}
 use Rattle.gc_station.specs.Runs.{OfAnyRecord}
 use Rattle.gc_station.specs.Saying.{Says}
 use Rattle.gc_station.specs.Scopes.{Reads}
+use Rattle.gc_catalogue.specs.declared.answer.Reading.TheVariants as reading
 
 -- the answer that a reading has; `None` if it is a refusal, a fault of communication or unreadable
 abbrev pub answer_in : Reading → Option Answer

@@ -1,11 +1,9 @@
 -- Which acts are requests, stay on a connection, or are quiet: this project's own, in terms of the acts alone. An act is one
 -- call on the link, with its result.
+use Rattle.gc_station.specs.Common.{AllByRecursion, Moment, Act, Told, Put, Cut, Silent, Closed, Opened, Unopened}
 use Rattle.std.specs.Prelude.{◌≡◌, ◌≢◌, ℕ, ◌-◌, ◌≤◌, List, [], ◌∷◌, ◌++◌, IsSome, IsSomeAnd}
-use Rattle.std.specs.List.{AllByRecursion}
-use Rattle.gc_links.specs.declared.link.Moment.{Moment}
 use Rattle.gc_station.specs.declared.progress.Action.{Action}
 use Rattle.gc_station.specs.declared.progress.Action.TheVariants.{Prepare, Send, Flush}
-use Rattle.gc_links.specs.Acts.{Act, Told, Put, Cut, Silent, Closed, Opened, Unopened}
 use Rattle.gc_station.specs.ActKinds.{moment_in}
 
 -- one of these acts is the last, and `Holds` is true of the acts before it and of it

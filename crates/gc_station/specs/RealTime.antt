@@ -1,11 +1,7 @@
 -- By when the commands of a due cycle have their records, at each moment that is read: this project's own. What the calls on the link
 -- take is a premise. An act is one call on the link, with its result.
+use Rattle.gc_station.specs.Common.{Appends, AllByRecursion, deadlines, Task, Act, AddsActs}
 use Rattle.std.specs.Prelude.{◌≡◌, ℕ, suc, ◌+◌, ◌*◌, ◌<◌, ◌≤◌, max, true, false, List, ◌∷◌, ◌++◌, length, Option}
-use Rattle.std.specs.Io.KnownBytes.{Appends}
-use Rattle.std.specs.List.{AllByRecursion}
-use Rattle.gc_client.specs.Rule.{deadlines}
-use Rattle.gc_texts.specs.declared.tasks.Task.{Task}
-use Rattle.gc_links.specs.Acts.{Act, AddsActs}
 use Rattle.gc_station.specs.ActKinds.{ReadsClock}
 use Rattle.gc_station.specs.CallTimes.{IsAskedToWait, CallsReturn, ReadingsReturn}
 use Rattle.gc_station.specs.Cycles.{ClockRises}

@@ -1,19 +1,19 @@
 -- Reasons, this project's own: what has to hold if an act is the next one. It is said apart from the tests of `Deciding`, some of
 -- which decide the same, so that the laws check these.
+use Rattle.gc_station.specs.Common.{WINDOW}
 use Rattle.std.specs.Prelude.{◌+◌, ◌≡◌, ℕ, ◌-◌, ◌<◌, ◌≤◌, ◌⊎◌, true, false}
-use Rattle.gc_client.specs.declared.window.TheConstants.{WINDOW}
 use Rattle.gc_station.specs.declared.plan.Plan.{Plan}
 use Rattle.gc_station.specs.declared.cause.Cause.{Cause}
 use Rattle.gc_station.specs.declared.cause.Cause.TheVariants.{Done, Dead, Turns, Stale, Stopped, SetUp}
 use Rattle.gc_station.specs.declared.progress.Phase.{Phase}
-use Rattle.gc_station.specs.declared.progress.Phase.TheVariants as phase
 use Rattle.gc_station.specs.declared.progress.Action.{Action}
-use Rattle.gc_station.specs.declared.progress.Action.TheVariants as action
 use Rattle.gc_station.specs.declared.progress.Progress.{Progress}
 use Rattle.gc_station.specs.declared.progress.Until.{Until}
 use Rattle.gc_station.specs.declared.progress.Until.TheVariants.{Limit, Due}
 use Rattle.gc_station.specs.declared.progress.Waiting.{Waiting}
 use Rattle.gc_station.specs.Deciding.{width_of, has_begun, is_up, is_unquiet, is_wanted, is_idle, is_silent, is_dead, is_stale, lacks_value, may_go, is_preparing}
+use Rattle.gc_station.specs.declared.progress.Phase.TheVariants as phase
+use Rattle.gc_station.specs.declared.progress.Action.TheVariants as action
 
 -- another request may be sent: fewer that haven't timed out are in flight than `width_of` allows; all that are outstanding, and those
 -- that the last line ended that ended any, are together fewer than the window has places; since the station synchronized no line called

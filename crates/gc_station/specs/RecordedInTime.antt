@@ -1,11 +1,6 @@
 -- By when the commands of a due cycle have their records: this project's own. An act is one call on the link, with its result.
+use Rattle.gc_station.specs.Common.{AllByRecursion, is_of_table, Task, Act, Moment}
 use Rattle.std.specs.Prelude.{◌≡◌, ◌⊎◌, ℕ, zero, suc, ◌+◌, ◌-◌, ◌*◌, ◌<◌, ◌≤◌, true, false, if◌then◌else◌, List, [], ◌∷◌, ◌++◌, length, take}
-use Rattle.std.specs.List.{AllByRecursion}
-use Rattle.gc_catalogue.specs.Asked.{is_of_table}
-use Rattle.gc_texts.specs.declared.tasks.Task.{Task}
-use Rattle.gc_links.specs.Acts.{Act}
-use Rattle.gc_links.specs.declared.link.Moment.{Moment}
-pub use Rattle.gc_station.specs.CallTimes.{MayTakeTime}
 use Rattle.gc_station.specs.CallTimes.{CallsReturn}
 use Rattle.gc_station.specs.Cycles.{ClockRises, BeginsAt, counts_from}
 use Rattle.gc_station.specs.Deciding.{setup_permits, is_preparing}
@@ -23,6 +18,7 @@ use Rattle.gc_station.specs.declared.progress.Action.{Action}
 use Rattle.gc_station.specs.declared.progress.Action.TheVariants.{Begin, Skip, Pass, Read}
 use Rattle.gc_station.specs.declared.progress.Progress.{Progress}
 use Rattle.gc_station.specs.declared.progress.Until.{Until}
+pub use Rattle.gc_station.specs.CallTimes.{MayTakeTime}
 
 -- each command of the first `n` cycles had its record, in order, or was left out with its attempt, after the first of `acts`
 -- (`before`). By the law `records_stay` these records stay

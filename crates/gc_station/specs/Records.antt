@@ -1,14 +1,9 @@
 -- Records: what a station writes of each command that ended, this project's own. A book is what takes their texts, in order;
 -- `text` gives the text of a record.
+use Rattle.gc_station.specs.Common.{flat_map, Appends, TakesPart, Turn, Wish, End, ending_seen}
 use Rattle.std.specs.Prelude.{◌≡◌, ℕ, ◌<◌, List, ◌∷◌, ◌++◌, length, take, Option, Result, Ok, Err}
-use Rattle.std.specs.List.{flat_map}
-use Rattle.std.specs.Io.KnownBytes.{Appends}
-use Rattle.gc_lines.specs.Ports.{TakesPart}
 use Rattle.gc_texts.specs.declared.stamp.Stamp.{Stamp}
-use Rattle.gc_texts.specs.declared.turn.Turn.{Turn}
-use Rattle.gc_texts.specs.declared.wish.Wish.{Wish}
 use Rattle.gc_texts.specs.declared.ending.Ending.{Ending}
-use Rattle.gc_texts.specs.Endings.{End, ending_seen}
 use Rattle.gc_station.specs.Scopes.{ForEachReadings, Reads}
 
 -- how a command ended

@@ -1,11 +1,7 @@
 -- The request of each record, this project's own: an act of the run writes it, with the record's id, at the moment that the record
 -- has. An act is one call on the link, with its result.
+use Rattle.gc_station.specs.Common.{with_end, asked_line, IDS, Act, Task}
 use Rattle.std.specs.Prelude.{◌≡◌, ℕ, ◌<◌, List, Some, None}
-use Rattle.gc_lines.specs.Lines.{with_end}
-use Rattle.gc_catalogue.specs.Asked.{asked_line}
-use Rattle.gc_client.specs.declared.window.TheConstants.{IDS}
-use Rattle.gc_links.specs.Acts.{Act}
-use Rattle.gc_texts.specs.declared.tasks.Task.{Task}
 use Rattle.gc_station.specs.ActKinds.{Puts}
 use Rattle.gc_station.specs.Answers.{IsRecordedBy}
 use Rattle.gc_station.specs.Moments.{utc_read}

@@ -1,16 +1,8 @@
 -- The requests of a run, by their cycles and places: this project's own. A command that sets the clock asks for the moment at
 -- which its request is sent, and one that takes values of files for these; as the text has it, either counts as one for the beginning of
 -- 1970.
+use Rattle.gc_station.specs.Common.{Asked, Table, SetDate, Wanted, date_time, call_at, Occasion, Task, Wish}
 use Rattle.std.specs.Prelude.{ℕ, ◌+◌, Bool, true, false, List, [], ◌∷◌, drop, Option, Some, None}
-use Rattle.gc_catalogue.specs.declared.asked.Asked.{Asked}
-use Rattle.gc_catalogue.specs.declared.asked.Asked.TheVariants.{Table}
-use Rattle.gc_catalogue.specs.declared.call.Call.TheVariants.{SetDate}
-use Rattle.gc_client.specs.OneForOne.{Wanted}
-use Rattle.gc_texts.specs.Stamps.{date_time}
-use Rattle.gc_texts.specs.Tasks.{call_at}
-use Rattle.gc_texts.specs.declared.occasion.Occasion.{Occasion}
-use Rattle.gc_texts.specs.declared.tasks.Task.{Task}
-use Rattle.gc_texts.specs.declared.wish.Wish.{Wish}
 
 -- a request of a run
 pub record RunRequest : Type 0 where

@@ -1,13 +1,8 @@
 -- Chains that are sent again, this project's own: a further attempt of a chain is sent only if a command of the attempt before
 -- ended as its rule names, and it is left out only if none did, or its cycle is missed. A command that rests in its cycle is left out, too.
 -- An act is one call on the link, with its result.
+use Rattle.gc_station.specs.Common.{AllByRecursion, Asked, repeats_after, End, Answered, Expected, Task}
 use Rattle.std.specs.Prelude.{◌≡◌, ◌⊎◌, ℕ, ◌<◌, Bool, true, if◌then◌else◌, nat_eq, List, ◌∷◌, ◌++◌, Option, None}
-use Rattle.std.specs.List.{AllByRecursion}
-use Rattle.gc_catalogue.specs.declared.asked.Asked.{Asked}
-use Rattle.gc_texts.specs.Again.{repeats_after}
-use Rattle.gc_texts.specs.Endings.{End, Answered}
-use Rattle.gc_texts.specs.declared.near.Expected.{Expected}
-use Rattle.gc_texts.specs.declared.tasks.Task.{Task}
 use Rattle.gc_station.specs.Attempts.{code_in}
 use Rattle.gc_station.specs.Marks.{commands_in}
 use Rattle.gc_station.specs.Model.{Model, waiting_of}

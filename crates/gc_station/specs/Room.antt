@@ -1,7 +1,6 @@
 -- How many requests may be in flight if one is sent: this project's own. An act is one call on the link, with its result.
+use Rattle.gc_station.specs.Common.{deadlines, WINDOW}
 use Rattle.std.specs.Prelude.{◌+◌, ◌≡◌, ◌⊎◌, ◌<◌, length}
-use Rattle.gc_client.specs.Rule.{deadlines}
-use Rattle.gc_client.specs.declared.window.TheConstants.{WINDOW}
 use Rattle.gc_station.specs.Quiet.{IsAsking}
 use Rattle.gc_station.specs.Runs.{state_after, OfAnyActs}
 use Rattle.gc_station.specs.Model.{action_at}

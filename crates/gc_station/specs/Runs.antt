@@ -1,12 +1,8 @@
 -- Whole runs of a station, this project's own: each act was the one that was to be made next, and the book has what they
 -- record. An act is one call on the link, with its result. The book is what takes the texts of the records; `text` gives the text
 -- of a record.
+use Rattle.gc_station.specs.Common.{AllByRecursion, Appends, Task, RunFault, Output, Act, Closed, AddsActs}
 use Rattle.std.specs.Prelude.{◌≡◌, ◌⊎◌, ℕ, Bool, true, List, [], ◌∷◌, ◌++◌, Option, Some, None, Result, Ok, Err}
-use Rattle.std.specs.List.{AllByRecursion}
-use Rattle.std.specs.Io.KnownBytes.{Appends}
-use Rattle.gc_texts.specs.declared.tasks.Task.{Task}
-use Rattle.gc_texts.specs.declared.fault.RunFault.{RunFault}
-use Rattle.gc_texts.specs.declared.fault.RunFault.TheVariants.{Output}
 use Rattle.gc_station.specs.Causes.{fault_of_cause}
 use Rattle.gc_station.specs.declared.book.Book.{Ghosts as Book}
 use Rattle.gc_station.specs.declared.plan.Plan.{Plan}
@@ -14,7 +10,6 @@ use Rattle.gc_station.specs.declared.cause.Cause.{Cause}
 use Rattle.gc_station.specs.declared.progress.Action.{Action}
 use Rattle.gc_station.specs.declared.progress.Action.TheVariants.{Stop}
 use Rattle.gc_station.specs.declared.tally.Tally.{Tally}
-use Rattle.gc_links.specs.Acts.{Act, Closed, AddsActs}
 use Rattle.gc_station.specs.Records.{Record, texts_of, WritesPart}
 use Rattle.gc_station.specs.Model.{Model, opening, action_at, after_all, Runs}
 use Rattle.gc_station.specs.Tallies.{tally_of}

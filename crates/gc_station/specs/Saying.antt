@@ -1,13 +1,7 @@
 -- What a reply says of a command: what its codes and its parameters say of the call, or, where its text describes the procedure, its
 -- parameters by the form of the description. This project's own.
+use Rattle.gc_station.specs.Common.{ReplyFields, IsAskedReading, IsReadingBy, Reading, Asked, IsFormAnswer, IsFormFault, Form}
 use Rattle.std.specs.Prelude.{ℕ, List, Option, Some, None}
-use Rattle.gc_lines.specs.Replies.{ReplyFields}
-use Rattle.gc_catalogue.specs.Asked.{IsAskedReading}
-use Rattle.gc_catalogue.specs.Readings.{IsReadingBy}
-use Rattle.gc_catalogue.specs.declared.answer.Reading.{Reading}
-use Rattle.gc_catalogue.specs.declared.asked.Asked.{Asked}
-use Rattle.gc_texts.specs.Forms.{IsFormAnswer, IsFormFault}
-use Rattle.gc_texts.specs.declared.form.Form.{Form}
 
 -- what the line of a reply says of a call, for each call and each line
 abbrev pub Says : Type 0

@@ -1,10 +1,7 @@
 -- What the laws on a run take beside its plan and its commands, this project's own: how many turns it has, what is watched,
 -- and what each reply says of its call.
+use Rattle.gc_station.specs.Common.{Reading, Asked, ReadsBy, Form}
 use Rattle.std.specs.Prelude.{◌≡◌, ℕ, List, Option}
-use Rattle.gc_catalogue.specs.declared.answer.Reading.{Reading}
-use Rattle.gc_catalogue.specs.declared.asked.Asked.{Asked}
-use Rattle.gc_client.specs.Settlements.{ReadsBy}
-use Rattle.gc_texts.specs.declared.form.Form.{Form}
 use Rattle.gc_station.specs.Saying.{Says, IsSaid}
 
 -- what the line of a reply says of a call, read by a form if there is one, for each of these, each call and each line

@@ -1,9 +1,8 @@
 -- The setup, this project's own: the first commands of the list are sent once on each connection, and once after each
 -- synchronization, before any command of a cycle. Each is sent only after the good answer of the one before it. An act is one
 -- call on the link, with its result.
+use Rattle.gc_station.specs.Common.{Task, Act}
 use Rattle.std.specs.Prelude.{◌≡◌, ◌⊎◌, ℕ, ◌+◌, ◌<◌, ◌≤◌, true, nat_eq, List, [], ◌∷◌, ◌++◌, length, drop, map, Option, Some, None, filter}
-use Rattle.gc_texts.specs.declared.tasks.Task.{Task}
-use Rattle.gc_links.specs.Acts.{Act}
 use Rattle.gc_station.specs.declared.cause.Cause.{Cause}
 use Rattle.gc_station.specs.declared.mark.Mark.{Mark}
 use Rattle.gc_station.specs.declared.plan.Plan.{Plan}

@@ -1,13 +1,8 @@
 -- How long no reply line came before a connection is closed for that: this project's own. An act is one call on the link, with
 -- its result.
+use Rattle.gc_station.specs.Common.{AllByRecursion, option_map_or, deadlines, Task, is_reply, Act, Put, Gave}
 use Rattle.std.specs.Prelude.{◌≡◌, ◌⊎◌, ℕ, ◌-◌, ◌<◌, ◌≤◌, false, List, [], ◌∷◌, ◌++◌}
-use Rattle.std.specs.List.{AllByRecursion}
-use Rattle.std.specs.Option.{option_map_or}
-use Rattle.gc_client.specs.Rule.{deadlines}
-use Rattle.gc_texts.specs.declared.tasks.Task.{Task}
-use Rattle.gc_session.specs.Lines.{is_reply}
 use Rattle.gc_station.specs.declared.plan.Plan.{Plan}
-use Rattle.gc_links.specs.Acts.{Act, Put, Gave}
 use Rattle.gc_station.specs.ActKinds.{moment_in}
 use Rattle.gc_station.specs.Deciding.{has_begun}
 use Rattle.gc_station.specs.Quiet.{TellsMoment, IsListening, StaysConnected}

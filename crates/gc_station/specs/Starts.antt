@@ -1,10 +1,7 @@
 -- Starts of the instrument, this project's own. A sign-on shows that it was switched on or off, and then it may no longer be as the setup
 -- left it. So the setup is sent anew. An act is one call on the link, with its result.
+use Rattle.gc_station.specs.Common.{list_any, is_sign_on, Task, Act}
 use Rattle.std.specs.Prelude.{◌≡◌, ◌<◌, ℕ, true, List, [], ◌∷◌, ◌++◌}
-use Rattle.std.specs.List.{list_any}
-use Rattle.gc_texts.specs.SignOns.{is_sign_on}
-use Rattle.gc_texts.specs.declared.tasks.Task.{Task}
-use Rattle.gc_links.specs.Acts.{Act}
 use Rattle.gc_station.specs.declared.plan.Plan.{Plan}
 use Rattle.gc_station.specs.declared.progress.Action.TheVariants.{Send}
 use Rattle.gc_station.specs.Beginnings.{lines_heard_at}

@@ -1,17 +1,9 @@
 -- No part of a promise: what the functions of a station do to it, in terms of its model. An act is one call on the link, with
 -- its result.
+use Rattle.gc_station.specs.Common.{Appends, option_to_list, StandsFor, line_in, lent_seen, WINDOW, expires, Task, Act, Told, Untold, AddsActs, Moment}
 use Rattle.std.specs.Prelude.{◌≡◌, ℕ, ◌<◌, ◌≤◌, Bool, false, List, [], ◌∷◌, ◌++◌, length, drop, map, Option, Some, None, Result, Ok, Err}
-use Rattle.std.specs.Io.KnownBytes.{Appends}
-use Rattle.std.specs.Option.{option_to_list}
-use Rattle.gc_lines.specs.Assembler.{StandsFor}
-use Rattle.gc_lines.specs.Frames.{line_in}
-use Rattle.gc_lines.specs.Lent.{lent_seen}
 use Rattle.gc_lines.specs.declared.frame.Lent.{Lent}
-use Rattle.gc_client.specs.declared.window.TheConstants.{WINDOW}
-use Rattle.gc_client.specs.Rule.{expires}
-use Rattle.gc_texts.specs.declared.tasks.Task.{Task}
 use Rattle.gc_station.specs.declared.plan.Plan.{Plan}
-use Rattle.gc_station.specs.declared.cause.Cause.TheVariants as cause
 use Rattle.gc_station.specs.declared.progress.Action.{Action}
 use Rattle.gc_station.specs.declared.progress.Action.TheVariants.{Prepare, Send, Skip, Ask, Flush, Read, Stop}
 use Rattle.gc_station.specs.declared.progress.Progress.{Progress}
@@ -19,8 +11,6 @@ use Rattle.gc_station.specs.declared.progress.Until.{Until}
 use Rattle.gc_station.specs.declared.progress.Waiting.{Waiting}
 use Rattle.gc_station.specs.declared.station.Station.{Station}
 use Rattle.gc_station.specs.declared.station.sending.Outgoing.{Outgoing}
-use Rattle.gc_links.specs.Acts.{Act, Told, Untold, AddsActs}
-use Rattle.gc_links.specs.declared.link.Moment.{Moment}
 use Rattle.gc_station.specs.Deciding.{has_begun}
 use Rattle.gc_station.specs.Marks.{commands_in, last_well}
 use Rattle.gc_station.specs.NextCommand.{upcoming_after}
@@ -32,6 +22,7 @@ use Rattle.gc_station.specs.Model.{Model, Performs, moved, stepped, waiting_by, 
 use Rattle.gc_station.specs.Tallies.{empty_counts, tallied}
 use Rattle.gc_station.specs.Watching.{fresh_of, cut_to}
 use Rattle.gc_station.specs.Writing.{recorded_unsent}
+use Rattle.gc_station.specs.declared.cause.Cause.TheVariants as cause
 
 -- what a decision looks at besides the progress, of a station
 abbrev pub waiting_of_station : Station → Waiting

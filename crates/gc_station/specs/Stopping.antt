@@ -1,11 +1,7 @@
 -- How a run ends that is stale, and one whose end was asked for: this project's own. An act is one call on the link, with its
 -- result.
+use Rattle.gc_station.specs.Common.{AllByRecursion, option_map_or, Task, Act, Gave, Closed, Moment}
 use Rattle.std.specs.Prelude.{◌≡◌, ◌⊎◌, ℕ, ◌-◌, ◌<◌, ◌≤◌, ◌||◌, min, Bool, true, false, List, [], ◌∷◌, ◌++◌}
-use Rattle.std.specs.List.{AllByRecursion}
-use Rattle.std.specs.Option.{option_map_or}
-use Rattle.gc_texts.specs.declared.tasks.Task.{Task}
-use Rattle.gc_links.specs.Acts.{Act, Gave, Closed}
-use Rattle.gc_links.specs.declared.link.Moment.{Moment}
 use Rattle.gc_station.specs.declared.cause.Cause.{Cause}
 use Rattle.gc_station.specs.declared.cause.Cause.TheVariants.{Stale, Stopped}
 use Rattle.gc_station.specs.declared.plan.Plan.{Plan}

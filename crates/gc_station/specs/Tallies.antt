@@ -1,11 +1,8 @@
 -- How many commands ended how, this project's own: the counts are those of the last attempt of each chain. Commands of the setup
 -- aren't counted.
+use Rattle.gc_station.specs.Common.{End, Answered, Unreadable, Judged, Late, Skipped, NoValue, Missed, capped, one_more, none_judged, judged_one_more, judged_sum, is_good, Quality, Turn}
 use Rattle.std.specs.Prelude.{ℕ, ◌+◌, List, [], ◌∷◌, if◌then◌else◌, nat_eq, nat_lt}
-use Rattle.gc_texts.specs.Endings.{End, Answered, Unreadable, Judged, Late, Lost, Skipped, NoValue, Missed}
-use Rattle.gc_texts.specs.Judgements.{capped, one_more, none_judged, judged_one_more, judged_sum}
-use Rattle.gc_texts.specs.Qualities.{is_good}
-use Rattle.gc_texts.specs.declared.quality.Quality.{Quality}
-use Rattle.gc_texts.specs.declared.turn.Turn.{Turn}
+use Rattle.gc_texts.specs.Prelude.{Lost}
 use Rattle.gc_station.specs.Records.{Record}
 use Rattle.gc_station.specs.declared.tally.Counts.{Counts}
 use Rattle.gc_station.specs.declared.tally.Tally.{Tally}

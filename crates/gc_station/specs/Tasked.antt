@@ -1,7 +1,7 @@
 -- Which command of the text a record is of, and what its request asked: this project's own. A command that sets the clock asks
 -- for the moment at which its request is sent, and one that takes values of files for these. An act is one call on the link, with its result.
+use Rattle.gc_station.specs.Common.{Task}
 use Rattle.std.specs.Prelude.{◌≡◌, ℕ, List, Some, is_some, slice_get}
-use Rattle.gc_texts.specs.declared.tasks.Task.{Task}
 use Rattle.gc_station.specs.Parts.{went_out}
 use Rattle.gc_station.specs.Records.{Record}
 use Rattle.gc_station.specs.Requests.{command_sent}

@@ -1,16 +1,14 @@
 -- How many connections ended, or couldn't be made, since a command was settled: this project's own. An act is one call on the
 -- link, with its result.
+use Rattle.gc_station.specs.Common.{Task, Moment, Act, Gave, Closed, Opened, Unopened}
 use Rattle.std.specs.Prelude.{◌≡◌, ◌≢◌, ◌⊎◌, ℕ, suc, ◌<◌, ◌≤◌, true, false, List, [], ◌∷◌, ◌++◌}
-use Rattle.gc_texts.specs.declared.tasks.Task.{Task}
 use Rattle.gc_station.specs.declared.cause.Cause.{Cause}
-use Rattle.gc_station.specs.declared.cause.Cause.TheVariants as cause
-use Rattle.gc_links.specs.declared.link.Moment.{Moment}
 use Rattle.gc_station.specs.declared.plan.Plan.{Plan}
 use Rattle.gc_station.specs.declared.progress.Action.TheVariants.{Stop}
-use Rattle.gc_links.specs.Acts.{Act, Gave, Closed, Opened, Unopened}
 use Rattle.gc_station.specs.Runs.{state_after}
 use Rattle.gc_station.specs.Model.{Model, after, action_at, opening, Runs}
 use Rattle.gc_station.specs.Scopes.{Scope}
+use Rattle.gc_station.specs.declared.cause.Cause.TheVariants as cause
 
 -- a cause for which a connection ended or couldn't be made, and after which the run reconnects, unless it is done or no try is
 -- left

@@ -1,11 +1,7 @@
 -- The values of files in requests, this project's own: those of the last moment that was read before the request was sent. An act is one
 -- call on the link, with its result.
+use Rattle.gc_station.specs.Common.{no_values, Act, Moment, lack, Task}
 use Rattle.std.specs.Prelude.{◌≡◌, ◌<◌, ℕ, false, List, [], ◌∷◌, Option, Some, None, slice_get}
-use Rattle.gc_values.specs.FileValues.{no_values}
-use Rattle.gc_links.specs.Acts.{Act}
-use Rattle.gc_links.specs.declared.link.Moment.{Moment}
-use Rattle.gc_texts.specs.ValueItems.{lack}
-use Rattle.gc_texts.specs.declared.tasks.Task.{Task}
 use Rattle.gc_station.specs.ActKinds.{moment_in}
 use Rattle.gc_station.specs.Moments.{utc_read}
 use Rattle.gc_station.specs.Records.{Record}

@@ -1,9 +1,6 @@
 -- Which commands of a run are watched, and when each of them was answered well last: this project's own.
+use Rattle.gc_station.specs.Common.{AllByRecursion, flat_map, option_map_or, End, Task}
 use Rattle.std.specs.Prelude.{◌≡◌, ℕ, ◌≤◌, ◌==◌, ◌&&◌, Bool, if◌then◌else◌, nat_lt, min, List, [], ◌∷◌, drop, map, Option, Some, None}
-use Rattle.std.specs.List.{AllByRecursion, flat_map}
-use Rattle.std.specs.Option.{option_map_or}
-use Rattle.gc_texts.specs.Endings.{End}
-use Rattle.gc_texts.specs.declared.tasks.Task.{Task}
 use Rattle.gc_station.specs.declared.watching.Watch.{Watch}
 use Rattle.gc_station.specs.Marks.{ended_confirmed}
 use Rattle.gc_station.specs.Records.{Record}

@@ -2,13 +2,8 @@
 -- work on a command, whose reply may come later. So nothing is asked before the command's whole deadline has passed since that answer; and
 -- then the station synchronizes, so that a reply that comes late isn't taken for another's, and does the setup anew. An act is one call on
 -- the link, with its result.
+use Rattle.gc_station.specs.Common.{Refused, lists_code, line_of, Task, Act, Moment}
 use Rattle.std.specs.Prelude.{◌≡◌, ℕ, ◌<◌, ◌≤◌, true, false, List, [], ◌∷◌, ◌++◌, None, Some, slice_get}
-use Rattle.gc_catalogue.specs.declared.answer.Reading.TheVariants.{Refused}
-use Rattle.gc_texts.specs.Codes.{lists_code}
-use Rattle.gc_texts.specs.Endings.{line_of}
-use Rattle.gc_texts.specs.declared.tasks.Task.{Task}
-use Rattle.gc_links.specs.Acts.{Act}
-use Rattle.gc_links.specs.declared.link.Moment.{Moment}
 use Rattle.gc_station.specs.declared.plan.Plan.{Plan}
 use Rattle.gc_station.specs.declared.progress.Action.TheVariants.{Send}
 use Rattle.gc_station.specs.ActKinds.{moment_in}

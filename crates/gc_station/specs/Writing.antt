@@ -1,11 +1,7 @@
 -- No part of a promise: what is written and noted of the settlements of outstanding requests, and what of a book stays.
+use Rattle.gc_station.specs.Common.{Asked, settlement_seen, FailsWith, Moment, End}
 use Rattle.std.specs.Prelude.{◌≡◌, ℕ, Bool, false, List, map, Option, Result, OnOk}
-use Rattle.gc_catalogue.specs.declared.asked.Asked.{Asked}
-use Rattle.gc_client.specs.Rule
-use Rattle.gc_client.specs.Settlements.{settlement_seen}
 use Rattle.gc_client.specs.declared.settlement.Settlement.{Settlement}
-use Rattle.gc_lines.specs.Ports.{FailsWith}
-use Rattle.gc_links.specs.declared.link.Moment.{Moment}
 use Rattle.gc_station.specs.Attempts.{listed_after, listed_after_settlements}
 use Rattle.gc_station.specs.Busy.{busy_after, busy_after_settlements}
 use Rattle.gc_station.specs.Counters.{count_noted, counts_after_settlements}
@@ -19,7 +15,7 @@ use Rattle.gc_station.specs.declared.book.Book.{Ghosts as Book}
 use Rattle.gc_station.specs.declared.mark.Mark.{Mark}
 use Rattle.gc_station.specs.declared.recorded.Recorded.{Recorded}
 use Rattle.gc_station.specs.declared.station.Station.{Station}
-use Rattle.gc_texts.specs.Endings.{End}
+use Rattle.gc_client.specs.Rule
 
 -- the records of settlements as the client returns them, by the marks of all outstanding requests, all made at the moment `utc`
 -- by the clock of time stamps (`records_of`)

@@ -1,16 +1,11 @@
 -- No part of a promise: which reading the code takes for what a reply says by a form, and for what a refused one would say with return
 -- code 0.
+use Rattle.gc_station.specs.Common.{ReplyFields, IsReply, Reading, Asked, ReadsBy, as_zero, Form}
 use Rattle.std.specs.Prelude.{◌≡◌, Option, Some, None}
-use Rattle.gc_lines.specs.Replies.{ReplyFields, IsReply}
-use Rattle.gc_catalogue.specs.declared.answer.Reading.{Reading}
-use Rattle.gc_catalogue.specs.declared.answer.Reading.TheVariants as reading
-use Rattle.gc_catalogue.specs.declared.asked.Asked.{Asked}
-use Rattle.gc_client.specs.Settlements.{ReadsBy}
 use Rattle.gc_client.specs.declared.settlement.Outcome.{Outcome}
 use Rattle.gc_client.specs.declared.settlement.Outcome.TheVariants.{Answered}
-use Rattle.gc_texts.specs.Zeroed.{as_zero}
-use Rattle.gc_texts.specs.declared.form.Form.{Form}
 use Rattle.gc_station.specs.Saying.{IsSaid, IsSaidInForm}
+use Rattle.gc_catalogue.specs.declared.answer.Reading.TheVariants as reading
 
 -- `zeroed` is what the line of a refused reply to `call` would say with return code 0, read by the form if there is one; of any other
 -- outcome nothing is said

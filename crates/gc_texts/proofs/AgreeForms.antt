@@ -1,15 +1,5 @@
 -- Which lines are `agree`, and what they say.
-use Rattle.std.proofs.Common.{◌≡◌, inl, inr, ℕ, List, ◌++◌, get_or, true, false, Option, Some, None, arith, refl, ap, sym, ◌∙◌, codes}
-use Rattle.gc_values.specs.declared.decimal.Decimal.{Decimal}
-use Rattle.gc_values.proofs.DecimalLaws.{spells_unique}
-use Rattle.gc_values.specs.Decimals.{SpellsDecimal}
-use Rattle.gc_values.specs.Directions.{is_tolerance}
-use Rattle.gc_texts.specs.Agrees.{AreAgreeWords, IsAgreeText}
-use Rattle.gc_texts.specs.Nears.{is_length}
-use Rattle.gc_texts.specs.TaskLines.{SetsAccepted, SetsAgree}
-use Rattle.gc_texts.specs.Words.{first_word, second_word, after_two_words}
-use Rattle.gc_texts.specs.declared.agree.Agree.{Agree}
-use Rattle.gc_texts.specs.declared.codes.Codes.{Codes}
+use Rattle.gc_texts.proofs.Common.{◌≡◌, inl, inr, ℕ, List, ◌++◌, get_or, true, false, Option, Some, None, arith, refl, ap, sym, ◌∙◌, codes, Decimal, spells_unique, SpellsDecimal, is_tolerance, AreAgreeWords, IsAgreeText, is_length, SetsAccepted, SetsAgree, first_word, second_word, after_two_words, Agree, Codes}
 use Rattle.gc_texts.proofs.Cutting.{holds_of_rest}
 
 -- two tolerances with equal angles and equal distances are equal

@@ -1,9 +1,5 @@
 -- What is at fault in the numbers of a line `agree` is at fault in the line.
-use Rattle.std.proofs.Common.{◌≡◌, ℕ, List, codes}
-use Rattle.gc_texts.specs.Cuts.{behind}
-use Rattle.gc_texts.specs.Troubles.{IsAgreeTrouble, IsWordTrouble}
-use Rattle.gc_texts.specs.Words.{first_word}
-use Rattle.gc_texts.specs.declared.trouble.Trouble.{Trouble}
+use Rattle.gc_texts.proofs.Common.{◌≡◌, ℕ, List, codes, behind, IsAgreeTrouble, IsWordTrouble, first_word, Trouble}
 use Rattle.gc_texts.specs.declared.trouble.Trouble.TheVariants as trouble
 
 -- the trouble of the numbers that follow the word `agree` is one of the line, which sets something

@@ -2,44 +2,15 @@
 -- the deadline, the accepted return codes, the retry, whether commands are chained, and the target of the group that a command
 -- may continue. A group is a run of commands for one target, which a line `chained`, `unchained`, `retry`, `agree`, `at start`,
 -- `each cycle` or `every N cycles` ends. `Says` says that a mode is what these lines say.
-use Rattle.std.proofs.Common.{◌≡◌, inl, inr, ◌+◌, ◌≤◌, nat_le, nat_lt, if◌then◌else◌, arith, ℕ, ◌&&◌, ◌||◌, Bool, true, false, not, List, [], ◌∷◌, ◌++◌, length, map, Option, Some, None, refl, sym, ap, ◌∙◌, subst, append_assoc, append-nil}
-use Rattle.std.specs.List.{AllByRecursion}
-use Rattle.std.proofs.lemmas.Bool.{eq-eqb, and_parts, and_from}
-use Rattle.std.proofs.lemmas.List.{length-map, length-append, map-append}
-use Rattle.std.proofs.SliceLists.{all_by_recursion_push}
-use Rattle.std.proofs.lemmas.Option.{none-some, same_Some}
-use Rattle.gc_texts.specs.Chained.{section_after, every_after, setup_commands, cycle_commands, IsSetAfter, SaysNoDeadline, IsDeadlineAfter, SaysNoChaining, chaining_line, IsChainingAfter, SaysNoCodes, AreAcceptedAfter, SaysNoBusy, AreBusyAfter, SaysNoRetry, IsRetryAfter, SaysNoAgree, IsAgreeAfter, IsSentAfter, KeepsGroup, EndsInGroupOf, IsTaskOf, TasksFollowTheirLines}
-use Rattle.gc_texts.specs.Attempts.{attempt_number, in_attempt, laid_out}
-use Rattle.gc_texts.specs.Repeats.{RetriesHold}
-use Rattle.gc_texts.specs.Codes.{no_codes}
-use Rattle.gc_texts.specs.Expectations.{counts}
-use Rattle.gc_texts.specs.Retries.{no_retry}
+use Rattle.gc_texts.proofs.Common.{◌≡◌, inl, inr, ◌+◌, ◌≤◌, nat_le, nat_lt, if◌then◌else◌, arith, ℕ, ◌&&◌, ◌||◌, Bool, true, false, not, List, [], ◌∷◌, ◌++◌, length, map, Option, Some, None, refl, sym, ap, ◌∙◌, subst, append_assoc, append-nil, AllByRecursion, eq-eqb, and_parts, and_from, length-map, length-append, map-append, all_by_recursion_push, none-some, same_Some, section_after, every_after, setup_commands, cycle_commands, IsSetAfter, SaysNoDeadline, IsDeadlineAfter, SaysNoChaining, chaining_line, IsChainingAfter, SaysNoCodes, AreAcceptedAfter, SaysNoBusy, AreBusyAfter, SaysNoRetry, IsRetryAfter, SaysNoAgree, IsAgreeAfter, IsSentAfter, KeepsGroup, EndsInGroupOf, IsTaskOf, TasksFollowTheirLines, attempt_number, in_attempt, laid_out, RetriesHold, no_codes, counts, no_retry, Form, Wording, Again, Agree, Twice, Once, Planned, no_again, near_of, is_unwatched, TasksSeen, IsTasks, first_mode, mode_after, continues_group, chained_at, counter_at, needs_from, place_in_chain, standing_of, task_at, setup_at, setup_of, planned_at, planned_of, tasks_of, form_of_asked, placed, Expectation, Wish, Near, Standing, values_asked, TaskLine, Mode, Task}
 use Rattle.gc_texts.specs.Wordings.{sets_clock}
-use Rattle.gc_texts.specs.declared.form.Form.{Form}
-use Rattle.gc_texts.specs.declared.wording.Wording.{Wording}
-use Rattle.gc_texts.specs.declared.again.Again.{Again}
-use Rattle.gc_texts.specs.declared.agree.Agree.{Agree}
-use Rattle.gc_texts.specs.declared.agree.Twice.{Twice}
-use Rattle.gc_texts.specs.declared.agree.Twice.TheVariants.{Once, First}
-use Rattle.gc_texts.specs.declared.attempts.Planned.{Planned}
-use Rattle.gc_texts.specs.Again.{no_again}
-use Rattle.gc_texts.specs.Nears.{near_of}
-use Rattle.gc_texts.specs.Watching.{is_unwatched}
-use Rattle.gc_texts.specs.Tasks.{TasksSeen, IsTasks, first_mode, mode_after, continues_group, chained_at, counter_at, needs_from, place_in_chain, standing_of, task_at, setup_at, setup_of, planned_at, planned_of, tasks_of, form_of_asked, placed}
-use Rattle.gc_texts.specs.declared.expectation.Expectation.{Expectation}
-use Rattle.gc_texts.specs.declared.wish.Wish.{Wish}
-use Rattle.gc_texts.specs.declared.near.Near.{Near}
-use Rattle.gc_texts.specs.declared.mode.Standing.{Standing}
-use Rattle.gc_texts.specs.ValueItems.{values_asked}
-use Rattle.gc_texts.specs.declared.task_line.TaskLine.{TaskLine}
-use Rattle.gc_texts.specs.declared.task_line.TaskLine.TheVariants as says
-use Rattle.gc_texts.specs.declared.mode.Mode.{Mode}
-use Rattle.gc_texts.specs.declared.tasks.Task.{Task}
+use Rattle.gc_texts.specs.declared.agree.Twice.TheVariants.{First}
 use Rattle.gc_texts.proofs.TaskReading.{standing_after_lines, mode_after_lines, mode_after_both, given_both}
 use Rattle.gc_texts.proofs.FirstAttempts.{chains_have_first}
 use Rattle.gc_texts.proofs.SameRules.{SameRules, same_rules}
 use Rattle.gc_texts.proofs.SentAs.{IsFirstSent}
 use Rattle.gc_texts.proofs.TaskLaws.{continued_group_is}
+use Rattle.gc_texts.specs.declared.task_line.TaskLine.TheVariants as says
 
 -- after lines, the mode is that of the setup exactly where `section_after` says so of these lines; `mode` holds before them
 section_after_lines : (mode : Mode) (lines : List TaskLine) → (mode_after_lines mode lines).setup ≡ section_after mode.setup lines

@@ -1,21 +1,6 @@
 -- The line `T 5007 now`: it asks one target, and has the form of no other command, because `now` is no list of the six parameters
 -- that procedure 5007 has.
-use Rattle.std.proofs.Common.{◌≡◌, ℕ, List, [], ◌∷◌, length, Some, arith, refl, ap, subst, sym, ◌∙◌, codes, unwrap_or}
-use Rattle.std.proofs.lemmas.List.{length-map}
-use Rattle.gc_catalogue.specs.Calls.{IsCall, call_fields}
-use Rattle.gc_catalogue.specs.declared.call.Call.{Call}
-use Rattle.gc_values.specs.Params.{IsParam}
-use Rattle.gc_values.specs.Item.{kind_of}
-use Rattle.gc_values.specs.Digits.{number}
-use Rattle.gc_values.proofs.ListLaws.{same_count}
-use Rattle.gc_values.proofs.ParamLists.{one_list, joined_params}
-use Rattle.gc_texts.specs.Commands.{IsCommand}
-use Rattle.gc_texts.specs.Cuts.{before, behind}
-use Rattle.gc_texts.specs.TaskLines.{SetsClock}
-use Rattle.gc_texts.specs.Wishes.{IsWish}
-use Rattle.gc_texts.specs.Words.{first_word, second_word}
-use Rattle.gc_texts.specs.declared.commands.Command.{Command}
-use Rattle.gc_texts.specs.declared.wish.Wish.{Wish}
+use Rattle.gc_texts.proofs.Common.{◌≡◌, ℕ, List, [], ◌∷◌, length, Some, arith, refl, ap, subst, sym, ◌∙◌, codes, unwrap_or, length-map, IsCall, call_fields, Call, IsParam, kind_of, number, same_count, one_list, joined_params, IsCommand, before, behind, SetsClock, IsWish, first_word, second_word, Command, Wish}
 use Rattle.gc_texts.proofs.Cutting.{lacks_by_test, digits_lack_spaces, has_mark}
 use Rattle.gc_texts.proofs.Fronts.{behind_mark}
 use Rattle.gc_texts.proofs.Procedures.{one_number, procedure_parts}

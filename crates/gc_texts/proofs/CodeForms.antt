@@ -2,15 +2,7 @@
 -- space (byte 32) between two. A line `accept` or `busy` with no code after it sets none; one with a list after it sets
 -- those. While a list is read, `left` is what is unread of the text (`None` at its end), `read` the codes so far, and
 -- `count` how many they are; `rest` is what is left after the next word.
-use Rattle.std.proofs.Common.{◌≡◌, ◌⊎◌, ◌<◌, ◌≤◌, ◌+◌, ◌-◌, inl, inr, ℕ, suc, replicate, slice_set, List, [], ◌∷◌, ◌++◌, length, get_or, Option, Some, None, arith, ap, subst, sym, ◌∙◌, append_assoc, append-nil, codes}
-use Rattle.std.proofs.Math.Seq.{set-append_seam}
-use Rattle.std.proofs.lemmas.List.{length_push}
-use Rattle.gc_texts.specs.Codes.{IsCodeList, IsCode, no_codes, padded_codes}
-use Rattle.gc_texts.specs.Cuts.{Cuts, Lacks}
-use Rattle.gc_texts.specs.TaskLines.{IsWordAnd, SetsAccepted, SetsBusy}
-use Rattle.gc_texts.specs.declared.codes.Codes.{Codes}
-use Rattle.gc_texts.specs.LineForms.{IsReadAs}
-use Rattle.gc_texts.specs.Words.{AreWords}
+use Rattle.gc_texts.proofs.Common.{◌≡◌, ◌⊎◌, ◌<◌, ◌≤◌, ◌+◌, ◌-◌, inl, inr, ℕ, suc, replicate, slice_set, List, [], ◌∷◌, ◌++◌, length, get_or, Option, Some, None, arith, ap, subst, sym, ◌∙◌, append_assoc, append-nil, codes, set-append_seam, length_push, IsCodeList, IsCode, no_codes, padded_codes, Cuts, Lacks, IsWordAnd, SetsAccepted, SetsBusy, Codes, IsReadAs, AreWords}
 use Rattle.gc_texts.proofs.Cutting.{read_alike, holds_of_rest, digits_lack_spaces}
 use Rattle.gc_texts.proofs.Procedures.{one_number}
 use Rattle.gc_texts.proofs.WordForms.{IsWordForm, one_word_list, AreLeft, ReadsWords, all_words_read, next_item_of, one_more_read}

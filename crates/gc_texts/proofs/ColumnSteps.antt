@@ -1,12 +1,6 @@
 -- Fields tested from the left for whether they may be columns: `k` were tested.
-use Rattle.std.proofs.Common.{◌≡◌, ◌<◌, ◌+◌, ◌-◌, ℕ, Bool, true, false, ◌&&◌, ◌||◌, List, [], ◌∷◌, length, map, take, drop, get_or, refl, ap, sym, ◌∙◌, arith, cond, length-drop}
+use Rattle.gc_texts.proofs.Common.{◌≡◌, ◌<◌, ◌+◌, ◌-◌, ℕ, Bool, true, false, ◌&&◌, ◌||◌, List, [], ◌∷◌, length, map, take, drop, get_or, refl, ap, sym, ◌∙◌, arith, cond, length-drop, list_any, bytes_eq, drop_more, take_all, are_columns, ends_as_text, is_column, is_name_of_row, is_named, suits_name, FieldSeen, field_seen, Field}
 use Rattle.std.specs.Prelude.{not}
-use Rattle.std.specs.List.{list_any}
-use Rattle.std.specs.Str.{bytes_eq}
-use Rattle.std.proofs.lemmas.List.{drop_more, take_all}
-use Rattle.gc_texts.specs.ColumnNames.{are_columns, ends_as_text, is_column, is_name_of_row, is_named, suits_name}
-use Rattle.gc_texts.specs.Fields.{FieldSeen, field_seen}
-use Rattle.gc_texts.specs.declared.field.Field.{Field}
 
 -- whether one of the fields has a name, by the fields of the code
 named_seen : (name : List ℕ) (fields : List Field) → list_any (λ (f : Field). bytes_eq f.name.items name) fields ≡ is_named name (map field_seen fields)

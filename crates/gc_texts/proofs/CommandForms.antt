@@ -1,15 +1,6 @@
 -- Which lines have the form of a command, and of which one.
-use Rattle.std.proofs.Common.{◌≡◌, ℕ, List, Option, Some, None, ap, subst, sym, ◌∙◌}
+use Rattle.gc_texts.proofs.Common.{◌≡◌, ℕ, List, Option, Some, None, ap, subst, sym, ◌∙◌, same_Some, Call, IsCommand, Cuts, OneCommandList, is_kept, text_lines, IsTarget, IsProcedureText, NoTarget, Command}
 use Rattle.std.specs.Prelude.{filter}
-use Rattle.std.proofs.lemmas.Option.{same_Some}
-use Rattle.gc_catalogue.specs.declared.call.Call.{Call}
-use Rattle.gc_texts.specs.Commands.{IsCommand}
-use Rattle.gc_texts.specs.Cuts.{Cuts}
-use Rattle.gc_texts.specs.Laws.{OneCommandList}
-use Rattle.gc_texts.specs.LineForms.{is_kept, text_lines}
-use Rattle.gc_texts.specs.Procedures.{IsTarget, IsProcedureText}
-use Rattle.gc_texts.specs.Troubles.{NoTarget}
-use Rattle.gc_texts.specs.declared.commands.Command.{Command}
 use Rattle.gc_texts.proofs.Cutting.{cut_found, one_front, digits_lack_spaces}
 use Rattle.gc_texts.proofs.OneReading.{one_procedure, one_list}
 use Rattle.gc_texts.proofs.Procedures.{one_number}

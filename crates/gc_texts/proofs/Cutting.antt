@@ -1,14 +1,7 @@
 -- Texts cut at the first mark, which is a byte, as LF between lines or a space between words; and what is read of a text, if
 -- anything.
-use Rattle.std.proofs.Common.{◌≡◌, ◌≢◌, ◌<◌, ◌+◌, ◌≤◌, ◌==◌, false, ℕ, zero, suc, List, [], ◌∷◌, ◌++◌, length, take, drop, get_or, Option, Some, None, arith, refl, ap, subst, sym, ◌∙◌}
-use Rattle.std.specs.List.{list_any}
-use Rattle.std.proofs.lemmas.Bool.{eqb-true, eqb-false, eq-eqb, or_parts}
-use Rattle.std.proofs.lemmas.List.{append_cancel_left, take_all, take-append-drop, drop_more}
+use Rattle.gc_texts.proofs.Common.{◌≡◌, ◌≢◌, ◌<◌, ◌+◌, ◌≤◌, ◌==◌, false, ℕ, zero, suc, List, [], ◌∷◌, ◌++◌, length, take, drop, get_or, Option, Some, None, arith, refl, ap, subst, sym, ◌∙◌, list_any, eqb-true, eqb-false, eq-eqb, or_parts, append_cancel_left, take_all, take-append-drop, drop_more, AreDigits, Lacks, Cuts, IsReadAs, IsWordAnd}
 use Rattle.memchr.specs.Find.{IsFirstByte, is_byte}
-use Rattle.gc_values.specs.Digits.{AreDigits}
-use Rattle.gc_texts.specs.Cuts.{Lacks, Cuts}
-use Rattle.gc_texts.specs.LineForms.{IsReadAs}
-use Rattle.gc_texts.specs.TaskLines.{IsWordAnd}
 
 -- where `Says` and `Sets` hold of the same values, what is read by the one (`IsReadAs`) is read by the other
 pub read_alike : {Value : Type 0} (Says Sets : Value → Type 0) (r : Option Value) → ((v : Value) → Says v → Sets v) → ((v : Value) → Sets v → Says v)

@@ -1,9 +1,6 @@
 -- Paths with a date in them, byte by byte: a `%` with the letter behind it, and any other byte.
-use Rattle.std.specs.Prelude.{MatchOption}
-use Rattle.std.proofs.Common.{◌≡◌, ◌≢◌, ◌==◌, ◌&&◌, ◌||◌, Bool, true, false, ℕ, List, [], ◌∷◌, ◌++◌, Option, None, refl, ap, sym, subst, ◌∙◌, append_assoc}
+use Rattle.gc_texts.proofs.Common.{MatchOption, ◌≡◌, ◌≢◌, ◌==◌, ◌&&◌, ◌||◌, Bool, true, false, ℕ, List, [], ◌∷◌, ◌++◌, Option, None, refl, ap, sym, subst, ◌∙◌, append_assoc, eq-eqb, ne_eqb, dated, has_date, is_date_letter, is_dated_path, is_letter, part_text}
 use Rattle.std.proofs.lemmas.List.{append-nil}
-use Rattle.std.proofs.lemmas.Bool.{eq-eqb, ne_eqb}
-use Rattle.gc_texts.specs.DatedPaths.{dated, has_date, is_date_letter, is_dated_path, is_letter, part_text}
 
 -- a byte that is no `%` stays
 dated_other : (utc a : ℕ) (rest : List ℕ) → (a == 37) ≡ false → dated utc (a ∷ rest) ≡ a ∷ dated utc rest

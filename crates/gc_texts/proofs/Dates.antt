@@ -1,13 +1,8 @@
 -- How days pass: within a month, to its end, and to the end of a year. `y`, `m`, `d` are a year, a month and a day of that month.
 -- Where `d` is a date, `days` is counted from it, and `left` from the first of a month or a year, as the loops count down what is
 -- left.
-use Rattle.std.proofs.Common.{◌≡◌, ℕ, zero, suc, ◌+◌, ◌<◌, ◌≤◌, ◌-◌, ◌==◌, ◌||◌, Bool, true, false, if◌then◌else◌, inl, inr, refl, sym, ap, subst, ◌∙◌, arith}
+use Rattle.gc_texts.proofs.Common.{◌≡◌, ℕ, zero, suc, ◌+◌, ◌<◌, ◌≤◌, ◌-◌, ◌==◌, ◌||◌, Bool, true, false, if◌then◌else◌, inl, inr, refl, sym, ap, subst, ◌∙◌, arith, lt-ltb, le-ltb, cond-true, cond-false, cond_both, leb_tells, Date, is_leap, month_days, year_days, next_day, days_after}
 use Rattle.std.specs.Prelude.{nat_lt}
-use Rattle.std.proofs.lemmas.Bool.{lt-ltb, le-ltb, cond-true, cond-false, cond_both}
-use Rattle.std.proofs.lemmas.Bool.Decides.{leb_tells}
-use Rattle.gc_texts.specs.declared.stamp.Date.{Date}
-use Rattle.gc_catalogue.specs.Calendar.{is_leap, month_days}
-use Rattle.gc_texts.specs.Stamps.{year_days, next_day, days_after}
 
 -- how many days the first n months of a year have together
 unfoldable pub days_of_months : (year n : ℕ) → ℕ

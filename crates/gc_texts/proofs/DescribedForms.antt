@@ -1,24 +1,6 @@
 -- Lines that ask for a procedure that has to be described (`IsDescribedWish`): their parts, and that they have no other form.
-use Rattle.std.proofs.Common.{◌≡◌, ◌<◌, ℕ, List, ◌∷◌, ◌++◌, length, Option, Some, None, arith, refl, ap, sym, ◌∙◌, subst, codes}
-use Rattle.gc_catalogue.specs.RawTexts.{raw_bytes}
-use Rattle.gc_catalogue.specs.declared.asked.Asked.TheVariants.{Raw}
-use Rattle.gc_catalogue.specs.declared.call.Call.TheVariants.{SetDate}
-use Rattle.gc_catalogue.specs.declared.raw.RawCall.{RawCall}
-use Rattle.gc_catalogue.proofs.AskedRules.{one_asked}
-use Rattle.gc_values.specs.Digits.{number}
-use Rattle.gc_texts.specs.Commands.{IsCommand}
-use Rattle.gc_texts.specs.Cuts.{Cuts, Lacks, before, behind}
-use Rattle.gc_texts.specs.LineForms.{IsReadAs}
-use Rattle.gc_texts.specs.Procedures.{IsRpc, IsTarget}
-use Rattle.gc_texts.specs.TaskLines.{SetsClock}
-use Rattle.gc_texts.specs.Troubles.{NoTarget}
-use Rattle.gc_texts.specs.Wishes.{IsDescribedWish, IsOutsideRequest, IsRawRequest, IsWish, IsWorded}
-use Rattle.gc_texts.specs.Words.{first_word, second_word}
-use Rattle.gc_texts.specs.declared.commands.Command.{Command}
+use Rattle.gc_texts.proofs.Common.{◌≡◌, ◌<◌, ℕ, List, ◌∷◌, ◌++◌, length, Option, Some, None, arith, refl, ap, sym, ◌∙◌, subst, codes, raw_bytes, Raw, SetDate, RawCall, one_asked, number, IsCommand, Cuts, Lacks, before, behind, IsReadAs, IsRpc, IsTarget, SetsClock, NoTarget, IsDescribedWish, IsOutsideRequest, IsRawRequest, IsWish, IsWorded, first_word, second_word, Command, Wish, Wording, Plain, Described, Now}
 use Rattle.gc_texts.specs.declared.stamp.TheConstants.{FIRST_MOMENT}
-use Rattle.gc_texts.specs.declared.wish.Wish.{Wish}
-use Rattle.gc_texts.specs.declared.wording.Wording.{Wording}
-use Rattle.gc_texts.specs.declared.wording.Wording.TheVariants.{Plain, Described, Now}
 use Rattle.gc_texts.proofs.Fronts.{before_mark, behind_mark, behind_none}
 use Rattle.gc_texts.proofs.Procedures.{one_number}
 use Rattle.gc_texts.proofs.RawForms.{expect_is_no_digits, number_word, raw_is_no_digits}

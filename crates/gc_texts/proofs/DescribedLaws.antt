@@ -1,30 +1,14 @@
 -- Descriptions read back, and parameters of described procedures are checked as those of the table's.
-use Rattle.std.proofs.Common.{◌≡◌, ℕ, Bool, true, false, ◌&&◌, nat_lt, List, [], ◌∷◌, ◌++◌, length, map, arith, refl, ap, subst, sym, ◌∙◌, codes}
-use Rattle.std.specs.List.{AllByRecursion, list_all}
-use Rattle.std.proofs.lemmas.Bool.{and_parts}
-use Rattle.gc_values.specs.Lists.{AreItems, AreParams, IsListFault, kinds_of}
-use Rattle.gc_values.specs.Lists as lists
-use Rattle.gc_values.specs.declared.fault.ValueFault.{ValueFault}
-use Rattle.gc_values.specs.declared.value.Kind.{Kind}
-use Rattle.gc_values.specs.declared.value.Kind.TheVariants as kind
-use Rattle.gc_values.specs.declared.value.Value.{Value}
-use Rattle.gc_texts.specs.Cuts.{Lacks}
+use Rattle.gc_texts.proofs.Common.{◌≡◌, ℕ, Bool, true, false, ◌&&◌, nat_lt, List, [], ◌∷◌, ◌++◌, length, map, arith, refl, ap, subst, sym, ◌∙◌, codes, AllByRecursion, list_all, and_parts, AreItems, AreParams, IsListFault, kinds_of, ValueFault, Kind, Value, Lacks, cons_head, cons_tail, DescriptionSeen, description_seen, last_word, FieldSeen, HaveNames, field_seen, field_words, is_field_name, is_name_byte, is_small_letter, kind_word, AreOfKinds, BeginAs, IsKindsFault, IsRpc, words_of, Description, Field, Arrow}
 use Rattle.gc_texts.specs.DescribedLaws.{AreCheckedAsTheTables, ColumnExamples, DescriptionsReadBack, OneDescription, closed_kinds, spaced}
-use Rattle.gc_lines.proofs.Lists.{cons_head, cons_tail}
-use Rattle.gc_texts.specs.Descriptions.{DescriptionSeen, description_seen, last_word}
-use Rattle.gc_texts.specs.Fields.{FieldSeen, HaveNames, field_seen, field_words, is_field_name, is_name_byte, is_small_letter, kind_word}
-use Rattle.gc_texts.specs.KindLists.{AreOfKinds, BeginAs, IsKindsFault}
-use Rattle.gc_texts.specs.KindLists as lists_of_kinds
-use Rattle.gc_texts.specs.Procedures.{IsRpc}
-use Rattle.gc_texts.specs.WordLists.{words_of}
-use Rattle.gc_texts.specs.declared.description.Description.{Description}
-use Rattle.gc_texts.specs.declared.field.Field.{Field}
-use Rattle.gc_texts.specs.declared.field.Stop.TheVariants.{Arrow}
 use Rattle.gc_texts.proofs.Cutting.{digits_lack_spaces, lacks_by_test}
 use Rattle.gc_texts.proofs.DescriptionForms.{end_of, end_words}
 use Rattle.gc_texts.proofs.FieldForms.{same_fields}
 use Rattle.gc_texts.proofs.Procedures.{one_number}
 use Rattle.gc_texts.proofs.WordLists.{words_behind, words_lacking}
+use Rattle.gc_values.specs.Lists as lists
+use Rattle.gc_values.specs.declared.value.Kind.TheVariants as kind
+use Rattle.gc_texts.specs.KindLists as lists_of_kinds
 
 -- As the table's.
 

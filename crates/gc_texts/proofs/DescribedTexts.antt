@@ -1,45 +1,9 @@
 -- What a text says of procedures outside the table holds for its commands, and which columns it adds.
-use Rattle.std.proofs.Common.{◌≡◌, ◌≤◌, ◌+◌, ℕ, Bool, true, false, ◌==◌, ◌&&◌, ◌||◌, not, nat_lt, List, [], ◌∷◌, ◌++◌, length, map, Option, Some, None, cond, arith, refl, ap, sym, ◌∙◌, subst, append_assoc, append-nil, if◌then◌else◌, codes}
-use Rattle.std.specs.List.{AllByRecursion}
-use Rattle.std.specs.Str.{bytes_eq}
-use Rattle.std.specs.Option.{option_map}
-use Rattle.std.proofs.lemmas.Slice.Eq.{bytes_eq-Decides}
-use Rattle.std.proofs.lemmas.Bool.{and_parts, eq-eqb, eqb-true, leb-true, not-true, or_parts}
-use Rattle.std.proofs.Math.Bool.{or-true}
-use Rattle.std.proofs.lemmas.List.{length-append}
-use Rattle.std.proofs.lemmas.List.Concat.{flat_map-append}
-use Rattle.std.proofs.lemmas.Option.{none-some, same_Some}
-use Rattle.arrayvec.specs.ArrayVec.{ArrayVec}
-use Rattle.gc_catalogue.specs.declared.answer.Answer.TheVariants.{Nothing}
-use Rattle.gc_catalogue.specs.declared.asked.Asked.{Asked}
-use Rattle.gc_catalogue.specs.declared.asked.Asked.TheVariants.{Table, Raw}
-use Rattle.gc_values.specs.declared.decimal.Decimal.{Decimal}
-use Rattle.gc_values.specs.declared.direction.Direction.{Direction}
-use Rattle.gc_values.specs.declared.value.Value.{Value}
-use Rattle.gc_lines.proofs.Lists.{cons_head, cons_tail}
+use Rattle.gc_texts.proofs.Common.{◌≡◌, ◌≤◌, ◌+◌, ℕ, Bool, true, false, ◌==◌, ◌&&◌, ◌||◌, not, nat_lt, List, [], ◌∷◌, ◌++◌, length, map, Option, Some, None, cond, arith, refl, ap, sym, ◌∙◌, subst, append_assoc, append-nil, if◌then◌else◌, codes, AllByRecursion, bytes_eq, option_map, bytes_eq-Decides, and_parts, eq-eqb, eqb-true, leb-true, not-true, or_parts, or-true, length-append, flat_map-append, none-some, same_Some, ArrayVec, Nothing, Asked, Table, Raw, Decimal, Direction, Value, cons_head, cons_tail, are_columns, described_as, description_seen, is_described, FieldSeen, HaveNames, field_seen, answer_from, decimal_at, form_of, AreLinesOf, decimal_in, direction_from, measured_direction, value_under, direction_of, distance_of, are_of_one_sort, fresh_name, fresh_names, has_column, is_fresh, is_new_column, new_columns, with_columns, IsTaskLine, IsInPlace, IsTasks, MayFollow, TasksSeen, described_at, described_of, first_mode, form_of_asked, has_room_for, name_at, names_of, near_at, nears_of, no_standing, placed, standing_after, standing_by, tasks_of, unwatched_at, unwatched_of, Description, Field, Form, Name, Near, Standing, TaskLine, Task, Described}
 use Rattle.gc_texts.specs.DescribedTexts.{DescribedCommandsFit, FormsAreDescribed, FormsHoldForAll, HasItsForm, MeasuredAsColumns, OneFormReading, TextsAddColumns}
-use Rattle.gc_texts.specs.ColumnNames.{are_columns}
-use Rattle.gc_texts.specs.Descriptions.{described_as, description_seen, is_described}
-use Rattle.gc_texts.specs.Fields.{FieldSeen, HaveNames, field_seen}
-use Rattle.gc_texts.specs.Forms.{answer_from, decimal_at, form_of}
-use Rattle.gc_texts.specs.LineForms.{AreLinesOf}
-use Rattle.gc_texts.specs.Measured.{decimal_in, direction_from, measured_direction, value_under}
-use Rattle.gc_texts.specs.Nears.{direction_of, distance_of}
-use Rattle.gc_texts.specs.NewColumns.{are_of_one_sort, fresh_name, fresh_names, has_column, is_fresh, is_new_column, new_columns, with_columns}
-use Rattle.gc_texts.specs.TaskLines.{IsTaskLine}
-use Rattle.gc_texts.specs.Tasks.{IsInPlace, IsTasks, MayFollow, TasksSeen, described_at, described_of, first_mode, form_of_asked, has_room_for, name_at, names_of, near_at, nears_of, no_standing, placed, standing_after, standing_by, tasks_of, unwatched_at, unwatched_of}
-use Rattle.gc_texts.specs.declared.description.Description.{Description}
-use Rattle.gc_texts.specs.declared.field.Field.{Field}
-use Rattle.gc_texts.specs.declared.form.Form.{Form}
-use Rattle.gc_texts.specs.declared.name.Name.{Name}
-use Rattle.gc_texts.specs.declared.near.Near.{Near}
-use Rattle.gc_texts.specs.declared.mode.Standing.{Standing}
-use Rattle.gc_texts.specs.declared.task_line.TaskLine.{TaskLine}
-use Rattle.gc_texts.specs.declared.task_line.TaskLine.TheVariants as says
-use Rattle.gc_texts.specs.declared.tasks.Task.{Task}
-use Rattle.gc_texts.specs.declared.wording.Wording.TheVariants.{Described}
 use Rattle.gc_texts.proofs.FormReadings.{decimal_of_place, one_form_reading}
 use Rattle.gc_texts.proofs.TaskReading.{columns_of_both, placed_alike}
+use Rattle.gc_texts.specs.declared.task_line.TaskLine.TheVariants as says
 
 -- Descriptions among others.
 

@@ -1,9 +1,5 @@
 -- What is at fault in what follows the word `procedure` is at fault in the line.
-use Rattle.std.proofs.Common.{◌≡◌, ℕ, List, ◌++◌, codes, append_assoc, sym, ◌∙◌}
-use Rattle.gc_texts.specs.Cuts.{behind}
-use Rattle.gc_texts.specs.Troubles.{IsDescriptionTrouble, IsOutsideTrouble, IsWordTrouble}
-use Rattle.gc_texts.specs.Words.{first_word}
-use Rattle.gc_texts.specs.declared.trouble.Trouble.{Trouble}
+use Rattle.gc_texts.proofs.Common.{◌≡◌, ℕ, List, ◌++◌, codes, append_assoc, sym, ◌∙◌, behind, IsDescriptionTrouble, IsOutsideTrouble, IsWordTrouble, first_word, Trouble}
 use Rattle.gc_texts.specs.declared.trouble.Trouble.TheVariants as trouble
 
 -- the trouble of what follows the word `procedure` is one of the line, which sets something

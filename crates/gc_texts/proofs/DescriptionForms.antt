@@ -1,14 +1,6 @@
 -- Which texts describe a procedure, as they are read: the number, the parameters, and the columns.
-use Rattle.std.proofs.Common.{◌≡◌, ℕ, Bool, true, false, List, [], ◌∷◌, ◌++◌, get_or, Some, None, arith, refl, ap, subst, sym, ◌∙◌, codes}
+use Rattle.gc_texts.proofs.Common.{◌≡◌, ℕ, Bool, true, false, List, [], ◌∷◌, ◌++◌, get_or, Some, None, arith, refl, ap, subst, sym, ◌∙◌, codes, IsNoProcedure, IsProcedure, are_columns, AreFields, DescriptionSeen, EndsColumns, EndsParameters, IsDescription, IsEnd, IsNoColumns, IsNoEnd, IsNoParameters, is_arrow, last_word, EndsFields, FieldSeen, IsNoFieldList, field_words, words_from, IsRpc, TakesWord, words_of, Stop, End, Arrow, More}
 use Rattle.std.specs.Prelude.{IsTrue, IsFalse}
-use Rattle.gc_catalogue.specs.Calls.{IsNoProcedure, IsProcedure}
-use Rattle.gc_texts.specs.ColumnNames.{are_columns}
-use Rattle.gc_texts.specs.Descriptions.{AreFields, DescriptionSeen, EndsColumns, EndsParameters, IsDescription, IsEnd, IsNoColumns, IsNoEnd, IsNoParameters, is_arrow, last_word}
-use Rattle.gc_texts.specs.Fields.{EndsFields, FieldSeen, IsNoFieldList, field_words, words_from}
-use Rattle.gc_texts.specs.Procedures.{IsRpc}
-use Rattle.gc_texts.specs.WordLists.{TakesWord, words_of}
-use Rattle.gc_texts.specs.declared.field.Stop.{Stop}
-use Rattle.gc_texts.specs.declared.field.Stop.TheVariants.{End, Arrow, More}
 use Rattle.gc_texts.proofs.FieldForms.{same_fields}
 use Rattle.gc_texts.proofs.Procedures.{one_number}
 

@@ -1,16 +1,8 @@
 -- Which answers have a direction, and which a distance.
-use Rattle.std.proofs.Common.{◌≡◌, ◌==◌, [], ◌∷◌, Bool, true, false, refl, sym, ap, ◌∙◌}
+use Rattle.gc_texts.proofs.Common.{◌≡◌, ◌==◌, [], ◌∷◌, Bool, true, false, refl, sym, ap, ◌∙◌, list_any, answer_fields, call_fields, Answer, Nothing, Call, NullProc, direction_of, distance_of, call_gives_direction, call_gives_distance, DirectionsAreAskedFor, DistancesAreAskedFor}
 use Rattle.std.specs.Prelude.{is_some}
-use Rattle.std.specs.List.{list_any}
-use Rattle.gc_catalogue.specs.Answers.{answer_fields}
-use Rattle.gc_catalogue.specs.Calls.{call_fields}
-use Rattle.gc_catalogue.specs.declared.answer.Answer.{Answer}
-use Rattle.gc_catalogue.specs.declared.answer.Answer.TheVariants.{Nothing}
 use Rattle.gc_catalogue.specs.declared.answer.Shape.{Shape}
 use Rattle.gc_catalogue.specs.declared.answer.Shape.TheVariants as shape
-use Rattle.gc_catalogue.specs.declared.call.Call.{Call}
-use Rattle.gc_catalogue.specs.declared.call.Call.TheVariants.{NullProc}
-use Rattle.gc_texts.specs.Nears.{direction_of, distance_of, call_gives_direction, call_gives_distance, DirectionsAreAskedFor, DistancesAreAskedFor}
 
 -- whether the answers of this shape have a direction
 abbrev has_direction : Shape → Bool

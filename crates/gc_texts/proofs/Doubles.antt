@@ -1,13 +1,5 @@
 -- Doubles that are no place, no tolerance or no length.
-use Rattle.std.proofs.Common.{◌≡◌, List, Option, ℕ, false, ap, ◌∙◌}
-use Rattle.std.proofs.lemmas.Bool.{both_ways}
-use Rattle.gc_values.specs.Directions.{is_place, is_tolerance}
-use Rattle.gc_values.specs.declared.decimal.Decimal.{Decimal}
-use Rattle.gc_values.proofs.DecimalLaws.{spells_unique}
-use Rattle.gc_values.specs.Decimals.{SpellsDecimal}
-use Rattle.gc_texts.specs.Nears.{is_length, AreRangeWords, AreNearWords}
-use Rattle.gc_texts.specs.declared.near.Near.{Near}
-use Rattle.gc_texts.specs.declared.near.Range.{Range}
+use Rattle.gc_texts.proofs.Common.{◌≡◌, List, Option, ℕ, false, ap, ◌∙◌, both_ways, is_place, is_tolerance, SpellsDecimal, Decimal, spells_unique, is_length, AreRangeWords, AreNearWords, Near, Range}
 
 -- which numbers can't be written by the words of four that say where a target is
 module _ (target hz v tolerance : List ℕ) (words : Option (List ℕ)) (near : Near) (are : AreNearWords target hz v tolerance words near) where

@@ -1,11 +1,6 @@
 -- Which lines are `every N cycles`, and what they say. What follows `every ` is cut at its first space: `front` is what is before that space,
 -- and `word` what follows it.
-use Rattle.std.proofs.Common.{◌≡◌, ◌≤◌, ℕ, zero, suc, List, ◌∷◌, ◌++◌, get_or, Option, Some, None, arith, refl, ap, subst, sym, ◌∙◌, codes}
-use Rattle.std.proofs.lemmas.List.{append_cancel_left}
-use Rattle.std.proofs.lemmas.Option.{same_Some}
-use Rattle.gc_texts.specs.Cuts.{Cuts}
-use Rattle.gc_texts.specs.Procedures.{IsNumber}
-use Rattle.gc_texts.specs.TaskLines.{IsEveryLine}
+use Rattle.gc_texts.proofs.Common.{◌≡◌, ◌≤◌, ℕ, zero, suc, List, ◌∷◌, ◌++◌, get_or, Option, Some, None, arith, refl, ap, subst, sym, ◌∙◌, codes, append_cancel_left, same_Some, Cuts, IsNumber, IsEveryLine}
 use Rattle.gc_texts.proofs.Cutting.{cut_found, digits_lack_spaces}
 use Rattle.gc_texts.proofs.Procedures.{one_number}
 

@@ -1,17 +1,5 @@
 -- Which lines have the form `T expect REQUEST = ITEMS`, and what they say.
-use Rattle.std.proofs.Common.{◌≡◌, ◌≢◌, ℕ, true, false, List, [], ◌∷◌, ◌++◌, Option, Some, None, arith, refl, sym, ap, ◌∙◌, subst, codes, append_assoc}
-use Rattle.std.proofs.lemmas.Option.{none-some, same_Some}
-use Rattle.std.proofs.SliceLists.{all_by_recursion_push}
-use Rattle.gc_texts.specs.Cuts.{Cuts, Lacks, before}
-use Rattle.gc_texts.specs.Expectations.{ends_in_space, expectation_of, items_trouble}
-use Rattle.gc_texts.specs.Procedures.{IsTarget}
-use Rattle.gc_texts.specs.TaskLines.{AreRequestAndItems, IsExpectLine, SetsClock}
-use Rattle.gc_texts.specs.Wishes.{IsWorded}
-use Rattle.gc_texts.specs.Words.{first_word, second_word, after_two_words}
-use Rattle.gc_texts.specs.declared.expectation.Expectation.{Expectation}
-use Rattle.gc_texts.specs.declared.wish.Wish.{Wish}
-use Rattle.gc_texts.specs.declared.wording.Wording.{Wording}
-use Rattle.gc_texts.specs.declared.wording.Wording.TheVariants.{Plain, Described, Now}
+use Rattle.gc_texts.proofs.Common.{◌≡◌, ◌≢◌, ℕ, true, false, List, [], ◌∷◌, ◌++◌, Option, Some, None, arith, refl, sym, ap, ◌∙◌, subst, codes, append_assoc, none-some, same_Some, all_by_recursion_push, Cuts, Lacks, before, ends_in_space, expectation_of, items_trouble, IsTarget, AreRequestAndItems, IsExpectLine, SetsClock, IsWorded, first_word, second_word, after_two_words, Expectation, Wish, Wording, Plain, Described, Now}
 use Rattle.gc_texts.proofs.DescribedForms.{described_is_no_expect, one_worded, worded_of_target}
 use Rattle.gc_texts.proofs.Cutting.{cut_found}
 use Rattle.gc_texts.proofs.Fronts.{before_lacks}

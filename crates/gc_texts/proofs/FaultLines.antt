@@ -1,10 +1,6 @@
 -- The lines of faults: what is printed after a number.
-use Rattle.std.proofs.Common.{◌≡◌, ℕ, List, [], ◌∷◌, ◌++◌, refl, sym, ap, append_assoc}
+use Rattle.gc_texts.proofs.Common.{◌≡◌, ℕ, List, [], ◌∷◌, ◌++◌, refl, sym, ap, append_assoc, decimal, numbered_fault, fault_detail, fault_line, RunFault}
 use Rattle.std.specs.Prelude.{codes}
-use Rattle.std.specs.Fmt.{decimal}
-use Rattle.gc_lines.specs.Answering.{numbered_fault}
-use Rattle.gc_texts.specs.Faults.{fault_detail, fault_line}
-use Rattle.gc_texts.specs.declared.fault.RunFault.{RunFault}
 use Rattle.gc_texts.specs.declared.fault.RunFault.TheVariants.{Write, Schedule}
 
 -- a fault other than `Write` and `Schedule` has nothing printed after its number

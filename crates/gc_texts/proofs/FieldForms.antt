@@ -1,11 +1,7 @@
 -- Fields and their words: words say one list of fields at most. While a list is read, `words` are those that are left.
-use Rattle.std.proofs.Common.{◌≡◌, ◌≤◌, ◌<◌, ◌+◌, ◌==◌, ℕ, true, false, List, [], ◌∷◌, ◌++◌, length, get_or, arith, refl, ap, subst, sym, ◌∙◌, length-append, codes, if◌then◌else◌}
-use Rattle.std.proofs.lemmas.List.{length_push}
-use Rattle.gc_values.specs.declared.value.Kind.{Kind}
+use Rattle.gc_texts.proofs.Common.{◌≡◌, ◌≤◌, ◌<◌, ◌+◌, ◌==◌, ℕ, true, false, List, [], ◌∷◌, ◌++◌, length, get_or, arith, refl, ap, subst, sym, ◌∙◌, codes, if◌then◌else◌, length_push, Kind, FieldSeen, EndsFields, HaveNames, IsNoField, IsNoFieldList, ReadsField, field_words, is_field_name, kind_word, words_from, Stop, End, Arrow, More}
+use Rattle.std.proofs.Common.{length-append}
 use Rattle.gc_values.specs.declared.value.Kind.TheVariants as kind
-use Rattle.gc_texts.specs.Fields.{FieldSeen, EndsFields, HaveNames, IsNoField, IsNoFieldList, ReadsField, field_words, is_field_name, kind_word, words_from}
-use Rattle.gc_texts.specs.declared.field.Stop.{Stop}
-use Rattle.gc_texts.specs.declared.field.Stop.TheVariants.{End, Arrow, More}
 
 -- the kind that a word names, by its first byte and its length; of a word that names none, any
 abbrev kind_by_bytes : List ℕ → Kind

@@ -1,11 +1,5 @@
 -- The files of the values that tasks take, task by task.
-use Rattle.std.proofs.Common.{◌≡◌, inl, inr, ◌≤◌, ◌<◌, ◌==◌, ◌&&◌, ◌+◌, ℕ, not, take, drop, get_or, List, [], ◌∷◌, ◌++◌, length, arith, refl, ap, sym, subst, ◌∙◌}
-use Rattle.std.proofs.lemmas.List.{drop_more, length-append, take_all, take_more}
-use Rattle.gc_catalogue.specs.RawTexts.{raw_bytes}
-use Rattle.gc_values.specs.declared.file_value.ValueFile.{ValueFile}
-use Rattle.gc_texts.specs.ValueFiles.{AddsFilesOf, AreFilesFrom, AreFilesOf, AreNextFiles, NameFiles, takes_next}
-use Rattle.gc_texts.specs.ValueItems.{value_items}
-use Rattle.gc_texts.specs.declared.tasks.Task.{Task}
+use Rattle.gc_texts.proofs.Common.{◌≡◌, inl, inr, ◌≤◌, ◌<◌, ◌==◌, ◌&&◌, ◌+◌, ℕ, not, take, drop, get_or, List, [], ◌∷◌, ◌++◌, length, arith, refl, ap, sym, subst, ◌∙◌, drop_more, length-append, take_all, take_more, raw_bytes, ValueFile, AddsFilesOf, AreFilesFrom, AreFilesOf, AreNextFiles, NameFiles, takes_next, value_items, Task}
 
 -- items name as many files as they are
 same_many : (items : List (List ℕ)) (xs ys : List ValueFile) → NameFiles items xs → NameFiles items ys → length xs ≡ length ys

@@ -1,14 +1,5 @@
 -- The first attempt of each command of the cycle is among the tasks that its chain gives.
-use Rattle.std.proofs.Common.{◌≡◌, ◌*◌, if◌then◌else◌, ℕ, zero, suc, Bool, true, false, List, [], ◌∷◌, ◌++◌, length, map, Option, refl, sym, ap, ◌∙◌, subst, append_assoc}
-use Rattle.std.proofs.lemmas.List.{map-append}
-use Rattle.gc_texts.specs.Again.{no_again}
-use Rattle.gc_texts.specs.Attempts.{in_attempt, attempts_from, tasks_planned, attempts, laid_from}
-use Rattle.gc_texts.specs.Sendings.{sendings}
-use Rattle.gc_texts.specs.declared.again.Again.{Again}
-use Rattle.gc_texts.specs.declared.agree.Agree.{Agree}
-use Rattle.gc_texts.specs.declared.attempts.Planned.{Planned}
-use Rattle.gc_texts.specs.declared.retry.Retry.{Retry}
-use Rattle.gc_texts.specs.declared.tasks.Task.{Task}
+use Rattle.gc_texts.proofs.Common.{◌≡◌, ◌*◌, if◌then◌else◌, ℕ, zero, suc, Bool, true, false, List, [], ◌∷◌, ◌++◌, length, map, Option, refl, sym, ap, ◌∙◌, subst, append_assoc, map-append, no_again, in_attempt, attempts_from, tasks_planned, attempts, laid_from, sendings, Again, Agree, Planned, Retry, Task}
 use Rattle.gc_texts.proofs.SameRules.{SameRules}
 use Rattle.gc_texts.proofs.SentAs.{IsFirstSent, HasFirstSent, sendings_have_first}
 

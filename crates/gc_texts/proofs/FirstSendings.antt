@@ -1,29 +1,9 @@
 -- Each second sending of a command follows its first.
-use Rattle.std.proofs.Common.{◌≡◌, ◌<◌, ◌≤◌, ◌+◌, ◌*◌, ℕ, zero, suc, Bool, true, false, List, [], ◌∷◌, ◌++◌, length, map, Option, Some, None, arith, refl, ap, sym, subst, ◌∙◌, append_assoc, append-nil, if◌then◌else◌}
-use Rattle.std.specs.List.{AllByRecursion}
-use Rattle.std.proofs.lemmas.List.{map-append}
-use Rattle.std.proofs.SliceLists.{all_by_recursion_push}
-use Rattle.gc_lines.proofs.Lists.{cons_head, cons_tail}
-use Rattle.gc_texts.specs.Again.{no_again}
-use Rattle.gc_texts.specs.Attempts.{in_attempt, attempts_from, tasks_planned, attempts, laid_from, laid_out}
-use Rattle.gc_texts.specs.Retries.{no_retry}
-use Rattle.gc_texts.specs.Sendings.{sent_as, sent_from, sendings}
+use Rattle.gc_texts.proofs.Common.{◌≡◌, ◌<◌, ◌≤◌, ◌+◌, ◌*◌, ℕ, zero, suc, Bool, true, false, List, [], ◌∷◌, ◌++◌, length, map, Option, Some, None, arith, refl, ap, sym, subst, ◌∙◌, append_assoc, append-nil, if◌then◌else◌, AllByRecursion, map-append, all_by_recursion_push, cons_head, cons_tail, no_again, in_attempt, attempts_from, tasks_planned, attempts, laid_from, laid_out, no_retry, sent_as, sent_from, sendings, first_mode, mode_after, task_at, setup_of, planned_of, placed, Description, Again, Agree, Twice, Near, Mode, Retry, First, Second, Planned, TaskLine, Task}
 use Rattle.gc_texts.specs.SentTwice.{FollowsInChain, AreBothSendings, HasFirstSending, SecondsFollowTheirFirsts}
-use Rattle.gc_texts.specs.Tasks.{first_mode, mode_after, task_at, setup_of, planned_of, placed}
-use Rattle.gc_texts.specs.declared.description.Description.{Description}
-use Rattle.gc_texts.specs.declared.again.Again.{Again}
-use Rattle.gc_texts.specs.declared.agree.Agree.{Agree}
-use Rattle.gc_texts.specs.declared.agree.Twice.{Twice}
-use Rattle.gc_texts.specs.declared.agree.Twice.TheVariants as twice
-use Rattle.gc_texts.specs.declared.near.Near.{Near}
-use Rattle.gc_texts.specs.declared.mode.Mode.{Mode}
-use Rattle.gc_texts.specs.declared.retry.Retry.{Retry}
-use Rattle.gc_texts.specs.declared.sending.Sending.TheVariants.{First, Second}
-use Rattle.gc_texts.specs.declared.attempts.Planned.{Planned}
-use Rattle.gc_texts.specs.declared.task_line.TaskLine.{TaskLine}
-use Rattle.gc_texts.specs.declared.task_line.TaskLine.TheVariants as says
-use Rattle.gc_texts.specs.declared.tasks.Task.{Task}
 use Rattle.gc_texts.proofs.SentAs.{all_of_both}
+use Rattle.gc_texts.specs.declared.agree.Twice.TheVariants as twice
+use Rattle.gc_texts.specs.declared.task_line.TaskLine.TheVariants as says
 
 -- of each second sending among these tasks, which follow `earlier`, the tasks before it have the first
 abbrev Follow : (earlier tasks : List Task) → Type 0

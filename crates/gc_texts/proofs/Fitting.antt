@@ -1,17 +1,5 @@
 -- Whether a request for a procedure that has to be described fits its description.
-use Rattle.std.proofs.Common.{◌≡◌, ◌<◌, ℕ, true, false, nat_lt, inl, inr, ◌⊎◌, List, Some, arith, refl, ap, sym, subst, ◌∙◌}
-use Rattle.std.proofs.lemmas.Bool.Decides.{nat_tests}
-use Rattle.std.proofs.lemmas.Option.{same_Some}
-use Rattle.gc_catalogue.specs.RawTexts.{raw_bytes}
-use Rattle.gc_catalogue.specs.declared.asked.Asked.{Asked}
-use Rattle.gc_catalogue.specs.declared.asked.Asked.TheVariants.{Raw}
-use Rattle.gc_catalogue.specs.declared.raw.RawCall.{RawCall}
-use Rattle.gc_values.specs.declared.value.Value.{Value}
-use Rattle.gc_texts.specs.Descriptions.{described_as, kinds_asked}
-use Rattle.gc_texts.specs.KindLists.{AreOfKinds}
-use Rattle.gc_texts.specs.Tasks.{IsFitting, IsTaken}
-use Rattle.gc_texts.specs.ValueItems.{AreValueFiles, sampled, value_items, values_in}
-use Rattle.gc_texts.specs.declared.description.Description.{Description}
+use Rattle.gc_texts.proofs.Common.{◌≡◌, ◌<◌, ℕ, true, false, nat_lt, inl, inr, ◌⊎◌, List, Some, arith, refl, ap, sym, subst, ◌∙◌, nat_tests, same_Some, raw_bytes, Asked, Raw, RawCall, Value, described_as, kinds_asked, AreOfKinds, IsFitting, IsTaken, AreValueFiles, sampled, value_items, values_in, Description}
 
 -- what is asked for in two ways
 same_raw : (r s : RawCall) → ◌≡◌ {A = Asked} (Raw r) (Raw s) → r ≡ s

@@ -1,19 +1,7 @@
 -- How a form's answers are read: in one way at most, and by the places of the columns of a measurement.
-use Rattle.std.proofs.Common.{◌≡◌, ◌<◌, ◌≤◌, ◌+◌, ℕ, Bool, true, false, List, [], ◌∷◌, length, map, drop, get_or, Option, Some, None, arith, refl, ap, sym, ◌∙◌, cond, if◌then◌else◌}
-use Rattle.std.specs.Option.{option_map}
-use Rattle.std.specs.Str.{bytes_eq}
-use Rattle.std.proofs.lemmas.List.{drop_all, drop_more, drop-drop}
-use Rattle.gc_catalogue.specs.declared.answer.Answer.{Answer}
-use Rattle.gc_catalogue.specs.declared.answer.Reading.{Reading}
-use Rattle.gc_catalogue.specs.declared.answer.Reading.TheVariants as reading
-use Rattle.gc_values.specs.declared.value.Value.{Value}
-use Rattle.gc_texts.specs.Fields.{FieldSeen, field_seen}
-use Rattle.gc_texts.specs.Forms.{IsFormAnswer, IsFormReading, decimal_at, measured_part, place_named}
-use Rattle.gc_texts.specs.KindLists.{AreOfKinds, kinds_seen}
-use Rattle.gc_texts.specs.Measured.{decimal_in, first_value, value_under}
-use Rattle.gc_texts.specs.declared.field.Field.{Field}
-use Rattle.gc_texts.specs.declared.form.Form.{Form}
+use Rattle.gc_texts.proofs.Common.{◌≡◌, ◌<◌, ◌≤◌, ◌+◌, ℕ, Bool, true, false, List, [], ◌∷◌, length, map, drop, get_or, Option, Some, None, arith, refl, ap, sym, ◌∙◌, cond, if◌then◌else◌, option_map, bytes_eq, drop_all, drop_more, drop-drop, Answer, Reading, Value, FieldSeen, field_seen, IsFormAnswer, IsFormReading, decimal_at, measured_part, place_named, AreOfKinds, kinds_seen, decimal_in, first_value, value_under, Field, Form}
 use Rattle.gc_texts.proofs.KindReadings.{fault_has_no_values, one_kinds_fault, values_once}
+use Rattle.gc_catalogue.specs.declared.answer.Reading.TheVariants as reading
 
 -- The place of a name, looked for from the left: `k` fields have another name.
 

@@ -1,7 +1,5 @@
 -- What is before the first mark of a text, and what follows it. A mark is a byte, as LF or a space.
-use Rattle.std.proofs.Common.{Bool, true, false, if◌then◌else◌, ◌≡◌, ℕ, ◌==◌, List, [], ◌∷◌, ◌++◌, Option, Some, None, unwrap_or, refl, sym, ap, ◌∙◌}
-use Rattle.std.proofs.lemmas.Bool.{cond-true, cond-false, eq-eqb, eqb-false, ne_eqb}
-use Rattle.gc_texts.specs.Cuts.{Lacks, Cuts, before, behind}
+use Rattle.gc_texts.proofs.Common.{Bool, true, false, if◌then◌else◌, ◌≡◌, ℕ, ◌==◌, List, [], ◌∷◌, ◌++◌, Option, Some, None, unwrap_or, refl, sym, ap, ◌∙◌, cond-true, cond-false, eq-eqb, eqb-false, ne_eqb, Lacks, Cuts, before, behind}
 
 -- in a text that is a front without the mark, then the mark, and then a rest, what is before the first mark is the front
 pub before_mark : (mark : ℕ) (front rest : List ℕ) → Lacks mark front → before mark (front ++ mark ∷ rest) ≡ front

@@ -1,7 +1,6 @@
 -- The items of a text, taken one after the other, and the place of `..` in one.
-use Rattle.std.proofs.Common.{◌≡◌, ◌≤◌, ◌+◌, ◌==◌, ℕ, Bool, true, false, List, [], ◌∷◌, length, filter, cond, Option, Some, None, option_map, arith, refl, ap, sym, ◌∙◌, codes}
-use Rattle.std.specs.List.{starts_with}
-use Rattle.gc_texts.specs.Expectations.{counters_in, dots_in, is_counter, is_item, items_in, no_item_in}
+use Rattle.gc_texts.proofs.Common.{◌≡◌, ◌≤◌, ◌+◌, ◌==◌, ℕ, Bool, true, false, List, [], ◌∷◌, length, filter, cond, Option, Some, None, arith, refl, ap, sym, ◌∙◌, codes, starts_with, counters_in, dots_in, is_counter, is_item, items_in, no_item_in}
+use Rattle.std.proofs.Common.{option_map}
 use Rattle.gc_texts.proofs.WordLists.{pieces_few}
 
 -- a text without bytes is empty

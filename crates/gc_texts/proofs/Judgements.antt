@@ -1,13 +1,8 @@
 -- What is true of each judgement: of its word, and of its count. A fact that a test shows of all judgements (`of_each`) needs no row here.
-use Rattle.std.proofs.Common.{◌≡◌, ℕ, ◌+◌, Bool, true, false, not, ◌&&◌, ◌==◌, List, [], ◌∷◌, Option, Some, None, refl, ap, sym, ◌∙◌, if◌then◌else◌}
-use Rattle.std.specs.List.{list_all, list_any}
-use Rattle.std.proofs.lemmas.Bool.{and_parts, not-true}
-use Rattle.gc_texts.specs.Judgements.{judgements, judgement_word, IsJudgement, capped, one_more, judged_count, judged_one_more, judged_sum, none_judged, is_same}
+use Rattle.gc_texts.proofs.Common.{◌≡◌, ℕ, ◌+◌, Bool, true, false, not, ◌&&◌, ◌==◌, List, [], ◌∷◌, Option, Some, None, refl, ap, sym, ◌∙◌, if◌then◌else◌, list_all, list_any, and_parts, not-true, judgements, judgement_word, IsJudgement, capped, one_more, judged_count, judged_one_more, judged_sum, none_judged, is_same, OffTarget, Unexpected, Disagree, Lacks}
 use Rattle.gc_texts.specs.declared.judgement.Judgement.{Judgement}
-use Rattle.gc_texts.specs.declared.judgement.Judgement.TheVariants.{OffTarget, Unexpected, Disagree}
 use Rattle.gc_texts.specs.declared.judgement.JudgementCounts.{JudgementCounts}
 use Rattle.gc_texts.proofs.Cutting.{lacks_by_test}
-use Rattle.gc_texts.specs.Cuts.{Lacks}
 
 -- a test that all judgements pass is passed by each
 pub of_each : (p : Judgement → Bool) → list_all p judgements ≡ true → (j : Judgement) → p j ≡ true

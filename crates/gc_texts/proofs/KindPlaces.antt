@@ -1,13 +1,8 @@
 -- The kinds of fields put into 16 places, from the left: those of the first `k` were.
-use Rattle.std.proofs.Common.{◌≡◌, ◌<◌, ◌≤◌, ◌+◌, ◌-◌, ℕ, suc, Bool, List, [], ◌∷◌, ◌++◌, length, map, take, get_or, replicate, slice_set, arith, refl, ap, sym, ◌∙◌, subst, append_assoc}
-use Rattle.std.proofs.Math.Seq.{set-append_seam}
+use Rattle.gc_texts.proofs.Common.{◌≡◌, ◌<◌, ◌≤◌, ◌+◌, ◌-◌, ℕ, suc, Bool, List, [], ◌∷◌, ◌++◌, length, map, take, get_or, replicate, slice_set, arith, refl, ap, sym, ◌∙◌, subst, append_assoc, set-append_seam, length_push, length-append, length-map, length-replicate, length-take-le, map-append, take_all, take_at, take_more, Kind, field_seen, kinds_of_fields, padded_kinds, Field}
 use Rattle.std.proofs.Props.{props}
-use Rattle.std.proofs.lemmas.List.{length_push, length-append, length-map, length-replicate, length-take-le, map-append, take_all, take_at, take_more}
-use Rattle.gc_values.specs.declared.value.Kind.{Kind}
 use Rattle.gc_values.specs.declared.value.Kind.TheVariants.{Bool as Boolean}
-use Rattle.gc_texts.specs.Fields.{field_seen}
-use Rattle.gc_texts.specs.KindLists.{kinds_of, kinds_of_fields, padded_kinds}
-use Rattle.gc_texts.specs.declared.field.Field.{Field}
+use Rattle.gc_texts.specs.KindLists.{kinds_of}
 use Rattle.gc_texts.specs.declared.kinds.Kinds.{Kinds}
 
 -- the kinds of the first k fields

@@ -1,15 +1,6 @@
 -- Parameters have values of kinds in one way at most, or one fault, and never both.
-use Rattle.std.proofs.Common.{◌≡◌, ℕ, inl, inr, List, [], ◌∷◌, length, arith, refl, ap, sym, ◌∙◌, subst}
-use Rattle.gc_values.specs.Item.{IsItemFault}
-use Rattle.gc_values.specs.Lists.{FirstFault}
-use Rattle.gc_values.specs.Params.{quotes}
-use Rattle.gc_values.specs.declared.fault.ValueFault.{ValueFault}
-use Rattle.gc_values.specs.declared.value.Kind.{Kind}
-use Rattle.gc_values.specs.declared.value.Value.{Value}
+use Rattle.gc_texts.proofs.Common.{◌≡◌, ℕ, inl, inr, List, [], ◌∷◌, length, arith, refl, ap, sym, ◌∙◌, subst, IsItemFault, FirstFault, quotes, ValueFault, Kind, Value, one_first_fault, even_not_odd, one_list, params_even, AreOfKinds, BeginAs, IsItemsMisfit, IsKindsFault, KindsSeen, SuitsCount, faulty_item, faulty_items, open_quote, too_many, wrong_count}
 use Rattle.gc_values.proofs.ItemLaws.{item_has_no_fault, one_value}
-use Rattle.gc_values.proofs.ListLaws.{one_first_fault}
-use Rattle.gc_values.proofs.ParamLists.{even_not_odd, one_list, params_even}
-use Rattle.gc_texts.specs.KindLists.{AreOfKinds, BeginAs, IsItemsMisfit, IsKindsFault, KindsSeen, SuitsCount, faulty_item, faulty_items, open_quote, too_many, wrong_count}
 
 -- two lists of kinds that say the same
 pub same_kinds_seen : (a b : KindsSeen) → a.kinds ≡ b.kinds → a.more ≡ b.more → a ≡ b

@@ -1,14 +1,6 @@
 -- Items read as values of kinds, from the left: `ks` and `items` are all kinds and items.
-use Rattle.std.proofs.Common.{◌≡◌, ◌<◌, ◌≤◌, ◌+◌, ℕ, Bool, true, false, inl, inr, List, [], ◌∷◌, ◌++◌, length, drop, get_or, arith, subst, sym, ap, ◌∙◌, append_assoc, append-nil}
-use Rattle.std.specs.Prelude.{Result, Ok, Err, IfOk, IfErr}
-use Rattle.std.proofs.lemmas.List.{drop_more, length_push}
-use Rattle.gc_values.specs.Item.{kind_of, IsItem, IsItemFault}
-use Rattle.gc_values.specs.Lists.{FirstFault}
-use Rattle.gc_values.specs.declared.fault.ValueFault.{ValueFault}
-use Rattle.gc_values.specs.declared.value.Kind.{Kind}
-use Rattle.gc_values.specs.declared.value.Value.{Value}
-use Rattle.gc_texts.specs.KindLists.{AreOfKinds, BeginAs, HaveValues, IsItemsMisfit, IsKindsFault, KindsSeen, SuitsCount, faulty_items}
-use Rattle.gc_values.specs.Params.{IsParams}
+use Rattle.gc_texts.proofs.Common.{◌≡◌, ◌<◌, ◌≤◌, ◌+◌, ℕ, Bool, true, false, inl, inr, List, [], ◌∷◌, ◌++◌, length, drop, get_or, arith, subst, sym, ap, ◌∙◌, append_assoc, append-nil, IfOk, IfErr, drop_more, length_push, kind_of, IsItem, IsItemFault, FirstFault, IsParams, ValueFault, Kind, Value, AreOfKinds, BeginAs, HaveValues, IsItemsMisfit, IsKindsFault, KindsSeen, SuitsCount, faulty_items}
+use Rattle.std.specs.Prelude.{Result, Ok, Err}
 
 -- `read` are the values of the first k items, of the first k kinds: where the items from place k on have values of the kinds from there on,
 -- all items have `read` and then these; and the first fault from there on is the first of all

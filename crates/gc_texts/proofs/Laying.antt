@@ -1,12 +1,6 @@
 -- How far the chains of a text are laid out: which attempts were appended to the tasks before (`old`).
-use Rattle.std.proofs.Common.{◌≡◌, ◌<◌, ◌≤◌, ◌+◌, ◌-◌, ◌*◌, ℕ, zero, suc, Bool, true, get_or, take, drop, Option, List, [], ◌∷◌, ◌++◌, length, map, arith, ap, subst, sym, ◌∙◌, append_assoc, if◌then◌else◌}
-use Rattle.std.proofs.lemmas.List.{drop_more, drop-drop}
+use Rattle.gc_texts.proofs.Common.{◌≡◌, ◌<◌, ◌≤◌, ◌+◌, ◌-◌, ◌*◌, ℕ, zero, suc, Bool, true, get_or, take, drop, Option, List, [], ◌∷◌, ◌++◌, length, map, arith, ap, subst, sym, ◌∙◌, append_assoc, if◌then◌else◌, drop_more, drop-drop, in_attempt, attempts_from, attempts, laid_from, laid_out, Agree, Retry, Planned, Task}
 use Rattle.gc_client.proofs.Lists.{take_next, head_of_drop}
-use Rattle.gc_texts.specs.Attempts.{in_attempt, attempts_from, attempts, laid_from, laid_out}
-use Rattle.gc_texts.specs.declared.agree.Agree.{Agree}
-use Rattle.gc_texts.specs.declared.retry.Retry.{Retry}
-use Rattle.gc_texts.specs.declared.attempts.Planned.{Planned}
-use Rattle.gc_texts.specs.declared.tasks.Task.{Task}
 
 -- to the tasks `old` the attempts of these commands before number `attempt` were appended, which gave the tasks `now`; to come are
 -- that attempt and the `left` ones after it

@@ -1,3 +1,4 @@
+mod Common
 pub mod Cutting
 pub mod Fronts
 pub mod Procedures

@@ -1,7 +1,5 @@
 -- One CR at the end of a line.
-use Rattle.std.proofs.Common.{◌≡◌, ◌≢◌, ℕ, List, [], ◌∷◌, ◌++◌, refl, ap, ◌==◌}
-use Rattle.std.proofs.lemmas.Bool.{ne_eqb, cond-false}
-use Rattle.gc_texts.specs.LineForms.{without_cr}
+use Rattle.gc_texts.proofs.Common.{◌≡◌, ◌≢◌, ℕ, List, [], ◌∷◌, ◌++◌, refl, ap, ◌==◌, ne_eqb, cond-false, without_cr}
 
 -- a CR at the end is dropped
 pub without_cr-end : (front : List ℕ) → without_cr (front ++ 13 ∷ []) ≡ front

@@ -1,7 +1,6 @@
 -- A line of a text by its number: the lines are cut off one by one, `left` is what is left of the text (`now` where there is
 -- something), and `wanted` is the wanted line's number among the lines that are left, from 1.
-use Rattle.std.proofs.Common.{◌≡◌, ◌-◌, ◌<◌, ◌≤◌, ℕ, suc, List, [], ◌∷◌, get_or, Option, Some, arith, ap, sym, ◌∙◌}
-use Rattle.gc_texts.specs.LineForms.{CutsLine}
+use Rattle.gc_texts.proofs.Common.{◌≡◌, ◌-◌, ◌<◌, ◌≤◌, ℕ, suc, List, [], ◌∷◌, get_or, Option, Some, arith, ap, sym, ◌∙◌, CutsLine}
 use Rattle.gc_texts.proofs.TextLines.{lines_left, lines-cut}
 
 -- the lines of what is left are the line that is cut off, and then those of the rest

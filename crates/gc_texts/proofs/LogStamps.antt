@@ -1,23 +1,10 @@
 -- The bytes of a log line: none of them is a space in its moment, and all of them are printable.
-use Rattle.std.proofs.Common.{◌≡◌, ℕ, zero, suc, ◌+◌, ◌/◌, ◌%◌, ◌<◌, ◌≤◌, ◌^◌, true, List, [], ◌∷◌, ◌++◌, refl, sym, subst, arith}
+use Rattle.gc_texts.proofs.Common.{◌≡◌, ℕ, zero, suc, ◌+◌, ◌/◌, ◌%◌, ◌<◌, ◌≤◌, ◌^◌, true, List, [], ◌∷◌, ◌++◌, refl, sym, subst, arith, decimal, All, AllByRecursion, div-add-mod, cond_both, ltb-true, and_parts, recursion_from_All, All-from_recursion, All-append, Lacks, LogLinesReadBack, LogLinesArePrintable, mark_text, is_unescaped, hex_digit, escape, escaped, IsPrintable, IsPrintableByte, month_days, next_day, days_after, date_of, two_digits, three_digits, date_text, time_text, stamp_text, LogMark, Went, WentPart, Came, CamePart, Link, Date}
 use Rattle.std.specs.Prelude.{nat_lt, ◌==◌, ◌&&◌, not}
-use Rattle.std.specs.Fmt.{decimal}
-use Rattle.std.specs.List.{All, AllByRecursion}
 use Rattle.std.specs.Str.Parse.{AllDigits}
-use Rattle.std.proofs.Math.Nat.{div-add-mod}
 use Rattle.std.proofs.lemmas.Fmt.{decimal_is_IsNumeral}
 use Rattle.std.proofs.lemmas.Str.Parse.{digit_from_value}
-use Rattle.std.proofs.lemmas.Bool.{cond_both, ltb-true, and_parts}
-use Rattle.std.proofs.lemmas.List.Elements.{recursion_from_All, All-from_recursion, All-append}
 use Rattle.gc_values.proofs.Every.{every_weaker as all_on}
-use Rattle.gc_texts.specs.Cuts.{Lacks}
-use Rattle.gc_texts.specs.Laws.{LogLinesReadBack, LogLinesArePrintable}
-use Rattle.gc_texts.specs.Logs.{mark_text, is_unescaped, hex_digit, escape, escaped, IsPrintable, IsPrintableByte}
-use Rattle.gc_catalogue.specs.Calendar.{month_days}
-use Rattle.gc_texts.specs.Stamps.{next_day, days_after, date_of, two_digits, three_digits, date_text, time_text, stamp_text}
-use Rattle.gc_texts.specs.declared.log_line.LogMark.{LogMark}
-use Rattle.gc_texts.specs.declared.log_line.LogMark.TheVariants.{Went, WentPart, Came, CamePart, Link}
-use Rattle.gc_texts.specs.declared.stamp.Date.{Date}
 use Rattle.gc_texts.proofs.Dates.{at_most_31_days}
 use Rattle.gc_texts.proofs.Logs.{IsOfBytes, bytes_by_recursion, high_digit_small, one_log_line}
 

@@ -1,16 +1,8 @@
 -- Lines of a log: each byte reads back, and so does each line. A log line is a moment, a space, a mark (which says whether
 -- bytes went or came, whole or in part, or that it is about the link), a space and the escaped bytes.
-use Rattle.std.proofs.Common.{◌≡◌, ◌≢◌, ℕ, ◌+◌, ◌/◌, ◌%◌, ◌<◌, ◌≤◌, true, false, cond, List, [], ◌∷◌, ◌++◌, length, Option, Some, None, refl, sym, ap, subst, ◌∙◌, arith, append_assoc, append-nil, length-append}
-use Rattle.std.specs.List.{AllByRecursion}
+use Rattle.gc_texts.proofs.Common.{◌≡◌, ◌≢◌, ℕ, ◌+◌, ◌/◌, ◌%◌, ◌<◌, ◌≤◌, true, false, cond, List, [], ◌∷◌, ◌++◌, length, Option, Some, None, refl, sym, ap, subst, ◌∙◌, arith, append_assoc, append-nil, AllByRecursion, div-add-mod, cond_both, eqb-true, ltb-true, ltb-false, recursion_from_All, All-from_recursion, same_Some, Lacks, Cuts, mark_text, is_unescaped, hex_digit, escape, escaped, AreBytes, BeginsWithNoByte, IsPrintable, IsLogLine, LogMark, Went, WentPart, Came, CamePart, Link}
+use Rattle.std.proofs.Common.{length-append}
 use Rattle.std.specs.Prelude.{nat_lt, ◌==◌, codes}
-use Rattle.std.proofs.Math.Nat.{div-add-mod}
-use Rattle.std.proofs.lemmas.Bool.{cond_both, eqb-true, ltb-true, ltb-false}
-use Rattle.std.proofs.lemmas.List.Elements.{recursion_from_All, All-from_recursion}
-use Rattle.std.proofs.lemmas.Option.{same_Some}
-use Rattle.gc_texts.specs.Cuts.{Lacks, Cuts}
-use Rattle.gc_texts.specs.Logs.{mark_text, is_unescaped, hex_digit, escape, escaped, AreBytes, BeginsWithNoByte, IsPrintable, IsLogLine}
-use Rattle.gc_texts.specs.declared.log_line.LogMark.{LogMark}
-use Rattle.gc_texts.specs.declared.log_line.LogMark.TheVariants.{Went, WentPart, Came, CamePart, Link}
 use Rattle.gc_texts.proofs.Cutting.{lacks_by_test, cut_found, one_front}
 
 -- a text is of bytes: each of its numbers is below 256. `AreBytes` says the same by places, and this by recursion

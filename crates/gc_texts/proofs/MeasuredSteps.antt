@@ -1,11 +1,5 @@
 -- The column of a name, looked for from the left: `k` fields have another name.
-use Rattle.std.proofs.Common.{◌≡◌, ◌<◌, ◌≤◌, ◌+◌, ℕ, true, false, List, length, map, drop, get_or, Some, None, ap, sym, ◌∙◌, cond}
-use Rattle.std.specs.Str.{bytes_eq}
-use Rattle.std.proofs.lemmas.List.{drop_all, drop_more, drop-drop}
-use Rattle.gc_values.specs.declared.value.Value.{Value}
-use Rattle.gc_texts.specs.Fields.{field_seen}
-use Rattle.gc_texts.specs.Measured.{first_value, value_under}
-use Rattle.gc_texts.specs.declared.field.Field.{Field}
+use Rattle.gc_texts.proofs.Common.{◌≡◌, ◌<◌, ◌≤◌, ◌+◌, ℕ, true, false, List, length, map, drop, get_or, Some, None, ap, sym, ◌∙◌, cond, bytes_eq, drop_all, drop_more, drop-drop, Value, field_seen, first_value, value_under, Field}
 
 -- the value at a place
 pub value_there : (values : List Value) (k : ℕ) (d : Value) → k < length values → Some (get_or values k d) ≡ first_value (drop k values)

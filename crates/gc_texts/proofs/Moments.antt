@@ -1,9 +1,7 @@
 -- A stamp's numbers, from its milliseconds since 1 January 1970. `more` is the milliseconds beyond whole seconds.
-use Rattle.std.proofs.Common.{◌≡◌, ℕ, ◌+◌, ◌*◌, ◌/◌, ◌%◌, ◌<◌, List, [], ◌∷◌, ◌++◌, refl, ap, ◌∙◌, arith}
+use Rattle.gc_texts.proofs.Common.{◌≡◌, ℕ, ◌+◌, ◌*◌, ◌/◌, ◌%◌, ◌<◌, List, [], ◌∷◌, ◌++◌, refl, ap, ◌∙◌, arith, div-add-mod, next_day, days_after, date_of, two_digits, three_digits, date_text, clock_text, time_text, stamp_text}
 use Rattle.std.specs.Prelude.{codes}
-use Rattle.std.proofs.Math.Nat.{div-add-mod}
 use Rattle.gc_texts.specs.Moments.{millis_of, digit, StampsAreMoments}
-use Rattle.gc_texts.specs.Stamps.{next_day, days_after, date_of, two_digits, three_digits, date_text, clock_text, time_text, stamp_text}
 use Rattle.gc_texts.proofs.Dates.{days_sum}
 
 -- the number of `a` tens and `b` ones is written as the digit of a and the digit of b

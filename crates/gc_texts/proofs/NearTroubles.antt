@@ -1,9 +1,5 @@
 -- What is at fault in the numbers of a line `near` is at fault in the line.
-use Rattle.std.proofs.Common.{◌≡◌, ℕ, List, inl, inr, refl, sym, subst, codes}
-use Rattle.gc_values.specs.Directions.{is_tolerance}
-use Rattle.gc_texts.specs.Troubles.{HasTarget, IsFit, fits_hz, fits_v, IsRestTrouble, IsNearTrouble, IsWordTrouble}
-use Rattle.gc_texts.specs.Words.{first_word, second_word, third_word, after_two_words}
-use Rattle.gc_texts.specs.declared.trouble.Trouble.{Trouble}
+use Rattle.gc_texts.proofs.Common.{◌≡◌, ℕ, List, inl, inr, refl, sym, subst, codes, is_tolerance, HasTarget, IsFit, fits_hz, fits_v, IsRestTrouble, IsNearTrouble, IsWordTrouble, first_word, second_word, third_word, after_two_words, Trouble}
 use Rattle.gc_texts.specs.declared.trouble.Trouble.TheVariants as trouble
 
 -- where the three numbers that follow `near T` fit, what follows them is at fault in all of the numbers

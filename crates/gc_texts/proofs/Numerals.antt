@@ -1,23 +1,12 @@
 -- The number that a text spells, as `specs/Numerals` computes it, is the one that it spells.
-use Rattle.std.proofs.Common.{◌≡◌, ℕ, ◌+◌, ◌*◌, ◌^◌, ◌<◌, ◌%◌, ◌==◌, ◌&&◌, ◌||◌, Bool, true, false, nat_le, nat_lt, not, unsigned_abs, inl, inr, List, [], ◌∷◌, ◌++◌, length, Option, None, Some, ℤ, if◌then◌else◌, arith, refl, sym, ap, ◌∙◌, subst, append-nil}
-use Rattle.std.proofs.lemmas.Bool.{and_parts, and_from, both_ways, cases_eq, cond-true, eqb-false, eqb-true, ltb-true, lt-ltb, ne_eqb}
-use Rattle.std.proofs.lemmas.Option.{none-some, same_Some}
+use Rattle.gc_texts.proofs.Common.{◌≡◌, ℕ, ◌+◌, ◌*◌, ◌^◌, ◌<◌, ◌%◌, ◌==◌, ◌&&◌, ◌||◌, Bool, true, false, nat_le, nat_lt, not, unsigned_abs, inl, inr, List, [], ◌∷◌, ◌++◌, length, Option, None, Some, ℤ, if◌then◌else◌, arith, refl, sym, ap, ◌∙◌, subst, append-nil, and_parts, and_from, both_ways, cases_eq, cond-true, eqb-false, eqb-true, ltb-true, lt-ltb, ne_eqb, none-some, same_Some, StartsNoDigit, CutsDigits, CutsFraction, CutsSign, ReadsExponent, SpellsDecimal, IsDigit, AreDigits, number, Fraction, is_decimal, signed, half_up, half_up_rounds, stripped_is, ten_pow_pos, Absent, Plus, Minus, is_minus, sign_text, Exponent, IsExponent, IsExponentDigits, exponent_text, mark, ups, fraction_digits, Spells, NamesFraction, Placed, stripped, Decimal, IsReadAs}
 use borrow.Author.Tests.{leb-true, le-leb}
-use Rattle.gc_values.specs.Cut.{StartsNoDigit, CutsDigits, CutsFraction, CutsSign, ReadsExponent}
-use Rattle.gc_values.specs.Decimals.{SpellsDecimal, decimal}
-use Rattle.gc_values.specs.Digits.{IsDigit, AreDigits, number}
-use Rattle.gc_values.specs.Fraction.{Fraction, is_decimal, signed}
-use Rattle.gc_values.specs.Nearest.{half_up}
-use Rattle.gc_values.specs.RoundedFacts.{half_up_rounds, stripped_is, ten_pow_pos}
-use Rattle.gc_values.specs.Spelling.{Absent, Plus, Minus, is_minus, sign_text, Exponent, IsExponent, IsExponentDigits, exponent_text, mark, ups, fraction_digits, Spells, NamesFraction}
-use Rattle.gc_values.specs.Zeros.{Placed, stripped}
-use Rattle.gc_values.specs.declared.decimal.Decimal.{Decimal}
+use Rattle.gc_values.specs.Prelude.{decimal}
 use Rattle.gc_values.proofs.DecimalLemmas.{same_decimal}
 use Rattle.gc_values.proofs.ReadLemmas.{spells_once}
 use Rattle.gc_values.proofs.Rounded.{rounded_from}
 use Rattle.gc_values.proofs.Unique.{Cut, same_parts, numeral_of, cut_is_numeral, sign_once, digits_no_sign}
 use Rattle.gc_texts.proofs.Items.{no_bytes}
-use Rattle.gc_texts.specs.LineForms.{IsReadAs}
 use Rattle.gc_texts.specs.Numerals.{begins_with_minus, behind_sign, is_digit, digits_at, behind_digits, places_at, behind_places, Tens, tens_of, exponent_at, if_decimal, rounded_if, numeral_if, decimal_in, DecimalsAreSpelled}
 
 -- How a text is cut.

@@ -1,11 +1,6 @@
 -- A procedure's text gives one call at most, and lines give one list of items at most where each gives one item at most.
-use Rattle.std.proofs.Common.{◌≡◌, ℕ, List, [], ◌∷◌, refl, ap, subst, ◌∙◌, unwrap_or}
-use Rattle.std.specs.List.{AllZip}
-use Rattle.gc_catalogue.specs.declared.call.Call.{Call}
-use Rattle.gc_catalogue.specs.Calls.{IsCall}
+use Rattle.gc_texts.proofs.Common.{◌≡◌, ℕ, List, [], ◌∷◌, refl, ap, subst, ◌∙◌, unwrap_or, AllZip, Call, IsCall, Cuts, IsRpc, IsProcedureText}
 use Rattle.gc_catalogue.proofs.CallLaws.{one_call}
-use Rattle.gc_texts.specs.Cuts.{Cuts}
-use Rattle.gc_texts.specs.Procedures.{IsRpc, IsProcedureText}
 use Rattle.gc_texts.proofs.Cutting.{digits_lack_spaces}
 use Rattle.gc_texts.proofs.Procedures.{one_number, cuts_at_params, procedure_parts}
 

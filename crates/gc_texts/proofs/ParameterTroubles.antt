@@ -1,13 +1,9 @@
 -- What `parameters_trouble` reports of parameters with a fault names what is at fault in them (`IsCallTrouble`). `rpc` is the
 -- procedure's number.
-use Rattle.std.proofs.Common.{◌≡◌, ℕ, List, refl, subst, sym}
-use Rattle.gc_catalogue.specs.Calls.{IsParameterCount, IsRefusal}
+use Rattle.gc_texts.proofs.Common.{◌≡◌, ℕ, List, refl, subst, sym, IsParameterCount, IsRefusal, ValueFault, IsCallTrouble, parameters_trouble, Trouble}
 use Rattle.gc_catalogue.specs.declared.fault.CallFault.{CallFault}
 use Rattle.gc_catalogue.specs.declared.fault.CallFault.TheVariants.{Parameters}
-use Rattle.gc_values.specs.declared.fault.ValueFault.{ValueFault}
 use Rattle.gc_values.specs.declared.fault.ValueFault.TheVariants as fault
-use Rattle.gc_texts.specs.Troubles.{IsCallTrouble, parameters_trouble}
-use Rattle.gc_texts.specs.declared.trouble.Trouble.{Trouble}
 
 -- where the procedure has `count` parameters and refuses the given ones with the fault `e`, what `parameters_trouble` reports of
 -- `e` is what is at fault in the procedure's number and these parameters

@@ -1,28 +1,8 @@
 -- Where targets are, as lines of a text say it, and what follows for the tasks of a target and for an answer.
-use Rattle.std.proofs.Common.{◌≡◌, ℕ, zero, suc, ◌+◌, take, drop, ◌<◌, get_or, slice_set, arith, ◌==◌, ◌&&◌, ◌||◌, ◌⊎◌, inl, inr, not, nat_le, nat_lt, List, [], ◌∷◌, ◌++◌, length, map, Option, Some, None, Bool, true, false, cond, refl, sym, ap, ◌∙◌, subst, append_assoc, append-nil}
-use Rattle.std.proofs.lemmas.Bool.{eq-eqb, eqb-true, lt-leb, leb-false, and_parts, and_right, and_cases, or_parts, or_cases, not-true, not-false, both_ways}
-use Rattle.std.proofs.Math.Bool.{or-true}
-use Rattle.std.proofs.lemmas.List.Concat.{flat_map-append}
-use Rattle.gc_catalogue.specs.declared.answer.Answer.{Answer}
-use Rattle.gc_values.specs.Decimals.{is_within}
-use Rattle.gc_values.specs.Directions.{is_near}
-use Rattle.gc_values.specs.declared.decimal.Decimal.{Decimal}
-use Rattle.gc_values.specs.declared.direction.Direction.{Direction}
+use Rattle.gc_texts.proofs.Common.{◌≡◌, ℕ, zero, suc, ◌+◌, take, drop, ◌<◌, get_or, slice_set, arith, ◌==◌, ◌&&◌, ◌||◌, ◌⊎◌, inl, inr, not, nat_le, nat_lt, List, [], ◌∷◌, ◌++◌, length, map, Option, Some, None, Bool, true, false, cond, refl, sym, ap, ◌∙◌, subst, append_assoc, append-nil, eq-eqb, eqb-true, lt-leb, leb-false, and_parts, and_right, and_cases, or_parts, or_cases, not-true, not-false, both_ways, or-true, flat_map-append, Answer, is_within, is_near, Decimal, Direction, cons_head, cons_tail, PlacesHoldForAll, UnwatchedHoldForAll, has_near, near_of, direction_of, distance_of, is_away, is_out_of_range, is_off_target, IsThere, IsInAnotherDirection, IsAtAnotherDistance, IsAway, described_at, no_standing, standing_by, first_mode, tasks_of, name_at, near_at, nears_of, unwatched_at, unwatched_of, placed, MayFollow, is_unwatched, Description, Name, Near, Standing, Range, TaskLine, Task}
 use Rattle.gc_values.proofs.NearLemmas.{near_is_within}
 use Rattle.gc_values.proofs.WithinLemmas.{is_within_exactly}
-use Rattle.gc_lines.proofs.Lists.{cons_head, cons_tail}
-use Rattle.gc_texts.specs.Chained.{PlacesHoldForAll, UnwatchedHoldForAll}
-use Rattle.gc_texts.specs.Nears.{has_near, near_of, direction_of, distance_of, is_away, is_out_of_range, is_off_target, IsThere, IsInAnotherDirection, IsAtAnotherDistance, IsAway}
-use Rattle.gc_texts.specs.Tasks.{described_at, no_standing, standing_by, first_mode, tasks_of, name_at, near_at, nears_of, unwatched_at, unwatched_of, placed, MayFollow}
-use Rattle.gc_texts.specs.Watching.{is_unwatched}
-use Rattle.gc_texts.specs.declared.description.Description.{Description}
-use Rattle.gc_texts.specs.declared.name.Name.{Name}
-use Rattle.gc_texts.specs.declared.near.Near.{Near}
-use Rattle.gc_texts.specs.declared.mode.Standing.{Standing}
-use Rattle.gc_texts.specs.declared.near.Range.{Range}
-use Rattle.gc_texts.specs.declared.task_line.TaskLine.{TaskLine}
 use Rattle.gc_texts.specs.declared.task_line.TaskLine.TheVariants as says
-use Rattle.gc_texts.specs.declared.tasks.Task.{Task}
 
 -- where lines may follow these names and places, and one of them says where a target is, neither `nears` nor a line before it
 -- says where that target is

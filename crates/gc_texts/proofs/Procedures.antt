@@ -1,13 +1,7 @@
 -- Which texts are those of a procedure: its number in digits and, after a space (byte 32), its parameters, if there are any.
 -- A text that is cut at its first space has a front and, if it has a space, a rest.
-use Rattle.std.proofs.Common.{◌≡◌, ◌<◌, ℕ, List, [], ◌∷◌, ◌++◌, length, Option, Some, None, arith, refl, ap, subst, sym, ◌∙◌, unwrap_or}
+use Rattle.gc_texts.proofs.Common.{◌≡◌, ◌<◌, ℕ, List, [], ◌∷◌, ◌++◌, length, Option, Some, None, arith, refl, ap, subst, sym, ◌∙◌, unwrap_or, Call, IsCall, Cuts, Lacks, IsNumber, IsRpc, IsProcedureText, HasBytes, params_text_of, IsReadAs, NoRpc}
 use Rattle.std.proofs.lemmas.List.{append-nil}
-use Rattle.gc_catalogue.specs.declared.call.Call.{Call}
-use Rattle.gc_catalogue.specs.Calls.{IsCall}
-use Rattle.gc_texts.specs.Cuts.{Cuts, Lacks}
-use Rattle.gc_texts.specs.Procedures.{IsNumber, IsRpc, IsProcedureText, HasBytes, params_text_of}
-use Rattle.gc_texts.specs.LineForms.{IsReadAs}
-use Rattle.gc_texts.specs.Troubles.{NoRpc}
 use Rattle.gc_texts.proofs.Cutting.{read_alike, cut_once, digits_lack_spaces}
 
 -- where a text is digits without a space, and then parameters after a space, or none, the digits and the parameters are its cut

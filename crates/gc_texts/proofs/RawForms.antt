@@ -1,16 +1,5 @@
 -- Lines that ask for a procedure that isn't in the table (`IsRawWish`): their words, and that no command's line is one of them.
-use Rattle.std.proofs.Common.{◌≡◌, ◌<◌, ◌≤◌, ◌==◌, ℕ, List, [], ◌∷◌, ◌++◌, length, get_or, Option, Some, None, Bool, true, false, cond, arith, refl, ap, sym, ◌∙◌, codes, append-nil}
-use Rattle.gc_values.specs.Digits.{AreDigits}
-use Rattle.gc_catalogue.specs.declared.asked.Asked.TheVariants.{Raw}
-use Rattle.gc_catalogue.specs.RawTexts.{raw_bytes}
-use Rattle.gc_catalogue.specs.declared.raw.RawCall.{RawCall}
-use Rattle.gc_catalogue.proofs.AskedRules.{one_asked}
-use Rattle.gc_texts.specs.Commands.{IsCommand}
-use Rattle.gc_texts.specs.Cuts.{before}
-use Rattle.gc_texts.specs.Procedures.{params_text_of}
-use Rattle.gc_texts.specs.Wishes.{IsRawWish}
-use Rattle.gc_texts.specs.Words.{first_word, second_word, third_word}
-use Rattle.gc_texts.specs.declared.commands.Command.{Command}
+use Rattle.gc_texts.proofs.Common.{◌≡◌, ◌<◌, ◌≤◌, ◌==◌, ℕ, List, [], ◌∷◌, ◌++◌, length, get_or, Option, Some, None, Bool, true, false, cond, arith, refl, ap, sym, ◌∙◌, codes, append-nil, AreDigits, Raw, raw_bytes, RawCall, one_asked, IsCommand, before, params_text_of, IsRawWish, first_word, second_word, third_word, Command}
 use Rattle.gc_texts.proofs.Cutting.{digits_lack_spaces}
 use Rattle.gc_texts.proofs.Fronts.{before_mark, before_none, behind_mark}
 use Rattle.gc_texts.proofs.Procedures.{one_number}

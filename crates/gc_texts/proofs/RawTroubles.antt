@@ -1,20 +1,7 @@
 -- What is at fault in a request whose first word is `raw`, and the names of procedures by their numbers.
-use Rattle.std.proofs.Common.{◌≡◌, inl, inr, ℕ, List, [], ◌∷◌, ◌++◌, codes, append_assoc, cond, refl, ap, subst, sym, ◌∙◌}
-use Rattle.std.proofs.lemmas.Bool.{ne_eqb}
-use Rattle.gc_catalogue.specs.Calls.{call_fields, IsNoProcedure}
-use Rattle.gc_catalogue.specs.Names.{call_name}
-use Rattle.gc_catalogue.specs.Raws.{IsRawRefusal}
-use Rattle.gc_catalogue.specs.declared.call.Call.{Call}
-use Rattle.gc_catalogue.specs.declared.call.Call.TheVariants.{NullProc}
+use Rattle.gc_texts.proofs.Common.{◌≡◌, inl, inr, ℕ, List, [], ◌∷◌, ◌++◌, codes, append_assoc, cond, refl, ap, subst, sym, ◌∙◌, ne_eqb, call_fields, IsNoProcedure, call_name, IsRawRefusal, Call, NullProc, NamesAreTheCatalogues, name_among, IsRpc, raw_trouble, IsRaw, IsRawWordsTrouble, IsRequestTrouble, IsAskingTrouble, IsProcedureTrouble, behind, second_word, after_two_words, Trouble}
 use Rattle.gc_catalogue.specs.declared.raw.RawFault.{RawFault}
 use Rattle.gc_catalogue.specs.declared.raw.RawFault.TheVariants.{InTable, NotPlain, TooLong, OpenQuote, TooMany}
-use Rattle.gc_texts.specs.Laws.{NamesAreTheCatalogues}
-use Rattle.gc_texts.specs.ProcedureNames.{name_among}
-use Rattle.gc_texts.specs.Procedures.{IsRpc}
-use Rattle.gc_texts.specs.Troubles.{raw_trouble, IsRaw, IsRawWordsTrouble, IsRequestTrouble, IsAskingTrouble, IsProcedureTrouble}
-use Rattle.gc_texts.specs.Cuts.{behind}
-use Rattle.gc_texts.specs.Words.{second_word, after_two_words}
-use Rattle.gc_texts.specs.declared.trouble.Trouble.{Trouble}
 use Rattle.gc_texts.specs.declared.trouble.Trouble.TheVariants as trouble
 
 -- the law: the name that is printed of a procedure's number is the catalogue's

@@ -1,25 +1,14 @@
 -- Which texts are the words of a line `retry`, and what they name. A word is a return code, a number from 1 to 65535, or an
 -- outcome, and words have one space (byte 32) between two. While they are read, `left` is what is unread of the text (`None`
 -- at its end), `read` the words so far, and `rest` what is left after the next word.
-use Rattle.std.proofs.Common.{◌≡◌, ◌<◌, ◌≤◌, inl, inr, ℕ, Bool, true, false, ◌==◌, is_some, List, [], ◌∷◌, ◌++◌, get_or, Option, Some, None, arith, refl, ap, subst, sym, ◌∙◌, append-nil, codes, if◌then◌else◌}
+use Rattle.gc_texts.proofs.Common.{◌≡◌, ◌<◌, ◌≤◌, inl, inr, ℕ, Bool, true, false, ◌==◌, is_some, List, [], ◌∷◌, ◌++◌, get_or, Option, Some, None, arith, refl, ap, subst, sym, ◌∙◌, append-nil, codes, if◌then◌else◌, eqb-true, le-leb, ltb-true, ltb-false, no_again, Cuts, Lacks, behind, judgements, judgement_word, IsReason, NamesRule, IsRetryRule, allows_word, count_with, again_with, count_with_words, again_with_words, SetsRetry, AreWords, first_word, Again, Retry, AreDigits, IsReadAs}
 use Rattle.std.specs.Prelude.{nat_le}
-use Rattle.std.proofs.lemmas.Bool.{eqb-true, le-leb, ltb-true, ltb-false}
-use Rattle.gc_texts.specs.Again.{no_again}
-use Rattle.gc_texts.specs.Cuts.{Cuts, Lacks, behind}
-use Rattle.gc_texts.specs.Judgements.{judgements, judgement_word}
-use Rattle.gc_texts.specs.Retries.{IsReason, NamesRule, IsRetryRule, allows_word, count_with, again_with, count_with_words, again_with_words}
-use Rattle.gc_texts.specs.TaskLines.{SetsRetry}
-use Rattle.gc_texts.specs.Words.{AreWords, first_word}
-use Rattle.gc_texts.specs.declared.again.Again.{Again}
 use Rattle.gc_texts.specs.declared.retry.Reason.{Reason}
-use Rattle.gc_texts.specs.declared.retry.Reason.TheVariants as reason
-use Rattle.gc_texts.specs.declared.retry.Retry.{Retry}
-use Rattle.gc_values.specs.Digits.{AreDigits}
-use Rattle.gc_texts.specs.LineForms.{IsReadAs}
 use Rattle.gc_texts.proofs.Cutting.{read_alike, holds_of_rest, lacks_by_test, digits_lack_spaces}
 use Rattle.gc_texts.proofs.Judgements.{of_each, named_among, one_judgement, judgement_lacks_space}
 use Rattle.gc_texts.proofs.Procedures.{one_number}
 use Rattle.gc_texts.proofs.WordForms.{IsWordForm, one_word_list, AreLeft, ReadsWords, all_words_read, next_item_of, one_more_read}
+use Rattle.gc_texts.specs.declared.retry.Reason.TheVariants as reason
 
 -- the first byte of digits, or 0 where there is none, is at most 57, that of 9
 first_digit_low : (word : List ℕ) → AreDigits word → get_or word 0 0 ≤ 57

@@ -1,32 +1,10 @@
 -- The attempts of the chains of a station's text.
-use Rattle.std.proofs.Common.{subst, ◌≡◌, ◌+◌, ◌*◌, inr, inl, ℕ, zero, suc, ◌&&◌, nat_le, Bool, true, false, not, List, [], ◌∷◌, ◌++◌, length, map, Option, Some, None, refl, ap, sym, ◌∙◌, append_assoc, append-nil, if◌then◌else◌}
-use Rattle.std.specs.List.{AllByRecursion, flat_map}
-use Rattle.std.proofs.lemmas.List.{length-map, map-append}
-use Rattle.std.proofs.SliceLists.{all_by_recursion_push}
-use Rattle.gc_texts.specs.Again.{no_again}
-use Rattle.gc_texts.specs.Attempts.{attempt_number, in_attempt, attempts_from, tasks_planned, attempts, laid_from, laid_out}
-use Rattle.gc_texts.specs.Laws.{IsOneChain}
-use Rattle.gc_texts.specs.Nears.{near_of}
-use Rattle.gc_texts.specs.Watching.{is_unwatched}
-use Rattle.gc_texts.specs.Repeats.{as_planned, IsAttempt, AreAttempts, Chain, planned_in, placed_planned, AreLaidOut, ChainsGoOutAgain}
-use Rattle.gc_texts.specs.Retries.{no_retry}
-use Rattle.gc_texts.specs.Sendings.{sent_as, sendings}
-use Rattle.gc_texts.specs.Tasks.{first_mode, mode_after, task_at, setup_of, planned_of, form_of_asked, placed}
-use Rattle.gc_texts.specs.declared.description.Description.{Description}
-use Rattle.gc_texts.specs.declared.again.Again.{Again}
-use Rattle.gc_texts.specs.declared.agree.Agree.{Agree}
-use Rattle.gc_texts.specs.declared.near.Near.{Near}
-use Rattle.gc_texts.specs.declared.retry.Retry.{Retry}
-use Rattle.gc_texts.specs.declared.sending.Sending.{Sending}
-use Rattle.gc_texts.specs.declared.sending.Sending.TheVariants.{Once, First, Second}
-use Rattle.gc_texts.specs.declared.task_line.TaskLine.{TaskLine}
-use Rattle.gc_texts.specs.declared.task_line.TaskLine.TheVariants as says
-use Rattle.gc_texts.specs.declared.mode.Mode.{Mode}
-use Rattle.gc_texts.specs.declared.attempts.Planned.{Planned}
-use Rattle.gc_texts.specs.declared.tasks.Task.{Task}
+use Rattle.gc_texts.proofs.Common.{subst, ◌≡◌, ◌+◌, ◌*◌, inr, inl, ℕ, zero, suc, ◌&&◌, nat_le, Bool, true, false, not, List, [], ◌∷◌, ◌++◌, length, map, Option, Some, None, refl, ap, sym, ◌∙◌, append_assoc, append-nil, if◌then◌else◌, AllByRecursion, flat_map, length-map, map-append, all_by_recursion_push, no_again, attempt_number, in_attempt, attempts_from, tasks_planned, attempts, laid_from, laid_out, IsOneChain, near_of, is_unwatched, as_planned, IsAttempt, AreAttempts, Chain, planned_in, placed_planned, AreLaidOut, ChainsGoOutAgain, no_retry, sent_as, sendings, first_mode, mode_after, task_at, setup_of, planned_of, form_of_asked, placed, Description, Again, Agree, Near, Retry, Sending, First, Second, TaskLine, Mode, Planned, Task}
+use Rattle.gc_texts.specs.declared.sending.Sending.TheVariants.{Once}
 use Rattle.gc_texts.proofs.SameRules.{HasRules, SameRules, same_rules}
 use Rattle.gc_texts.proofs.SentAs.{all_sendings, placed_sendings}
 use Rattle.gc_texts.proofs.TaskLaws.{IsAsPlanned, AreAsPlanned, CommandsKeepTargets, commands_keep_targets}
+use Rattle.gc_texts.specs.declared.task_line.TaskLine.TheVariants as says
 
 -- the cycle's commands, as their lines give them, are as planned (`AreAsPlanned`)
 cycle_as_planned : (mode : Mode) (lines : List TaskLine) → AreAsPlanned (planned_of mode lines)

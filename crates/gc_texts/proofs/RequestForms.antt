@@ -1,13 +1,5 @@
 -- A wish is a target without a space, a space and a request.
-use Rattle.std.proofs.Common.{◌≡◌, ℕ, List, [], ◌∷◌, ◌++◌, Option, Some, None, refl, sym, ap, ◌∙◌, subst, codes}
-use Rattle.gc_catalogue.specs.declared.asked.Asked.{Asked}
-use Rattle.gc_catalogue.specs.declared.asked.Asked.TheVariants.{Table, Raw}
-use Rattle.gc_texts.specs.Cuts.{Cuts, Lacks, before, behind}
-use Rattle.gc_texts.specs.LineForms.{IsReadAs}
-use Rattle.gc_texts.specs.Procedures.{IsProcedureText, IsTarget}
-use Rattle.gc_texts.specs.Troubles.{NoTarget}
-use Rattle.gc_texts.specs.Wishes.{AsksFor, IsRawRequest, IsRequest, IsWish}
-use Rattle.gc_texts.specs.declared.wish.Wish.{Wish}
+use Rattle.gc_texts.proofs.Common.{◌≡◌, ℕ, List, [], ◌∷◌, ◌++◌, Option, Some, None, refl, sym, ap, ◌∙◌, subst, codes, Asked, Table, Raw, Cuts, Lacks, before, behind, IsReadAs, IsProcedureText, IsTarget, NoTarget, AsksFor, IsRawRequest, IsRequest, IsWish, Wish}
 use Rattle.gc_texts.proofs.Cutting.{has_mark, one_front, digits_lack_spaces}
 use Rattle.gc_texts.proofs.Fronts.{before_mark, behind_mark, behind_none}
 

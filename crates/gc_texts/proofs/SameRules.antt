@@ -1,15 +1,7 @@
 -- The rules of a chain, its retry and its `agree`, are those of each of its commands.
-use Rattle.std.proofs.Common.{◌⊎◌, ◌&&◌, nat_lt, ◌≡◌, inr, inl, Bool, true, false, List, [], ◌∷◌, ◌++◌, Option, None, refl, ap, sym, ◌∙◌, if◌then◌else◌}
-use Rattle.std.proofs.lemmas.Bool.{and_parts}
-use Rattle.std.proofs.lemmas.Option.{none-some}
-use Rattle.gc_texts.specs.Tasks.{mode_after, continues_group, task_at, planned_of}
-use Rattle.gc_texts.specs.declared.agree.Agree.{Agree}
-use Rattle.gc_texts.specs.declared.retry.Retry.{Retry}
-use Rattle.gc_texts.specs.declared.task_line.TaskLine.{TaskLine}
-use Rattle.gc_texts.specs.declared.task_line.TaskLine.TheVariants as says
-use Rattle.gc_texts.specs.declared.mode.Mode.{Mode}
-use Rattle.gc_texts.specs.declared.attempts.Planned.{Planned}
+use Rattle.gc_texts.proofs.Common.{◌⊎◌, ◌&&◌, nat_lt, ◌≡◌, inr, inl, Bool, true, false, List, [], ◌∷◌, ◌++◌, Option, None, refl, ap, sym, ◌∙◌, if◌then◌else◌, and_parts, none-some, mode_after, continues_group, task_at, planned_of, Agree, Retry, TaskLine, Mode, Planned}
 use Rattle.gc_texts.proofs.TaskLaws.{continued_group_is}
+use Rattle.gc_texts.specs.declared.task_line.TaskLine.TheVariants as says
 
 -- a command has this retry and this `agree`
 pub record HasRules (retry : Retry) (agree : Option Agree) (p : Planned) : Type 0 where

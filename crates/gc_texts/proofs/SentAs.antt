@@ -1,17 +1,7 @@
 -- What stays in the sendings of a chain's commands, and where each command is in the first of them.
-use Rattle.std.proofs.Common.{◌≡◌, ◌<◌, ◌+◌, ℕ, get_or, take, length-take-le, List, [], ◌∷◌, ◌++◌, length, map, Option, Some, None, arith, refl, ap, sym, ◌∙◌, append_assoc}
-use Rattle.std.specs.List.{AllByRecursion}
-use Rattle.std.proofs.lemmas.List.{length-map, length-append, map-append}
-use Rattle.gc_texts.specs.Attempts.{tasks_planned}
-use Rattle.gc_texts.specs.Sendings.{sent_as, sent_from, sendings}
-use Rattle.gc_texts.specs.declared.description.Description.{Description}
-use Rattle.gc_texts.specs.declared.agree.Agree.{Agree}
-use Rattle.gc_texts.specs.declared.attempts.Planned.{Planned}
-use Rattle.gc_texts.specs.declared.near.Near.{Near}
-use Rattle.gc_texts.specs.declared.sending.Sending.{Sending}
-use Rattle.gc_texts.specs.declared.sending.Sending.TheVariants.{Once, First, Second}
-use Rattle.gc_texts.specs.declared.tasks.Task.{Task}
-use Rattle.gc_texts.specs.Tasks.{placed}
+use Rattle.gc_texts.proofs.Common.{◌≡◌, ◌<◌, ◌+◌, ℕ, get_or, take, List, [], ◌∷◌, ◌++◌, length, map, Option, Some, None, arith, refl, ap, sym, ◌∙◌, append_assoc, AllByRecursion, length-map, length-append, map-append, tasks_planned, sent_as, sent_from, sendings, Description, Agree, Planned, Near, Sending, First, Second, Task, placed}
+use Rattle.std.proofs.Common.{length-take-le}
+use Rattle.gc_texts.specs.declared.sending.Sending.TheVariants.{Once}
 use Rattle.gc_texts.proofs.SettlementLines.{split_at_item}
 
 -- a sending of some commands and then others is that of the ones, and then that of the others, whose places follow

@@ -1,12 +1,7 @@
 -- The lines of settlements, one more after those before it.
-use Rattle.std.proofs.Common.{◌≡◌, ◌+◌, ◌<◌, ℕ, List, [], ◌∷◌, ◌++◌, take, drop, map, get_or, length, sym, ap, ◌∙◌, arith, append_assoc, append-nil}
-use Rattle.std.proofs.lemmas.List.{length-map, map_push, take_more, length-take}
-use Rattle.gc_catalogue.specs.declared.call.Call.{Call}
-use Rattle.gc_client.specs.declared.settlement.Settlement.{Settlement}
-use Rattle.gc_client.specs.Rule
-use Rattle.gc_client.specs.Settlements.{settlement_seen}
-use Rattle.gc_texts.specs.Settlements.{settlement_line, settlement_lines_from, settlement_lines}
+use Rattle.gc_texts.proofs.Common.{◌≡◌, ◌+◌, ◌<◌, ℕ, List, [], ◌∷◌, ◌++◌, take, drop, map, get_or, length, sym, ap, ◌∙◌, arith, append_assoc, append-nil, length-map, map_push, take_more, length-take, Call, Settlement, settlement_seen, settlement_line, settlement_lines_from, settlement_lines}
 use Rattle.gc_texts.proofs.Cutting.{split_place}
+use Rattle.gc_client.specs.Rule
 
 -- where x is the item at place i of a list, the first i + 1 items are the first i and x, and the list is these and what
 -- follows them

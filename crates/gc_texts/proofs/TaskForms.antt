@@ -1,31 +1,6 @@
 -- Which lines have the forms of a station's text.
-use Rattle.std.proofs.Common.{◌≡◌, ◌<◌, ◌≤◌, ◌==◌, inl, inr, ℕ, List, [], ◌∷◌, ◌++◌, get_or, true, false, Option, Some, None, arith, refl, ap, subst, sym, ◌∙◌, codes, ne_eqb, if◌then◌else◌}
-use Rattle.std.proofs.lemmas.List.{append_cancel_left}
-use Rattle.gc_catalogue.specs.declared.asked.Asked.{Asked}
-use Rattle.gc_catalogue.specs.declared.asked.Asked.TheVariants.{Table, Raw}
-use Rattle.gc_values.specs.Digits.{AreDigits}
-use Rattle.gc_values.proofs.DecimalLaws.{spells_unique}
-use Rattle.gc_texts.specs.Cuts.{Cuts, behind}
-use Rattle.gc_texts.specs.Names.{is_name}
-use Rattle.gc_texts.specs.Procedures.{IsNumber, IsTarget}
-use Rattle.gc_texts.specs.Troubles.{NoTarget}
-use Rattle.gc_texts.specs.Nears.{AreRangeWords, IsRangeOf, AreNearWords, IsNearText}
-use Rattle.gc_texts.specs.TaskLines.{IsDeadlineLine, IsDescribingLine, IsExpectLine, SetsClock, IsNameLine, IsNearLine, IsUnwatchedLine, SetsAccepted, IsCommandLine, IsTaskLine}
-use Rattle.gc_texts.specs.Descriptions.{IsDescription, description_seen}
-use Rattle.gc_texts.specs.Wishes.{AsksFor, IsWorded}
-use Rattle.gc_texts.specs.Words.{first_word, second_word, third_word, after_three_words}
-use Rattle.gc_texts.specs.declared.codes.Codes.{Codes}
-use Rattle.gc_texts.specs.declared.description.Description.{Description}
-use Rattle.gc_texts.specs.declared.wish.Wish.{Wish}
-use Rattle.gc_texts.specs.declared.wording.Wording.{Wording}
-use Rattle.gc_texts.specs.declared.wording.Wording.TheVariants.{Plain, Described, Now}
-use Rattle.gc_texts.specs.declared.expectation.Expectation.{Expectation}
-use Rattle.gc_texts.specs.declared.name.Name.{Name}
-use Rattle.gc_texts.specs.declared.near.Near.{Near}
-use Rattle.gc_texts.specs.declared.near.Range.{Range}
-use Rattle.gc_texts.specs.declared.task_line.TaskLine.{TaskLine}
-use Rattle.gc_texts.specs.declared.task_line.TaskLine.TheVariants as says
-use Rattle.gc_texts.specs.LineForms.{IsReadAs}
+use Rattle.gc_texts.proofs.Common.{◌≡◌, ◌<◌, ◌≤◌, ◌==◌, inl, inr, ℕ, List, [], ◌∷◌, ◌++◌, get_or, true, false, Option, Some, None, arith, refl, ap, subst, sym, ◌∙◌, codes, if◌then◌else◌, append_cancel_left, Asked, Table, Raw, AreDigits, spells_unique, Cuts, behind, is_name, IsNumber, IsTarget, NoTarget, AreRangeWords, IsRangeOf, AreNearWords, IsNearText, IsDeadlineLine, IsDescribingLine, IsExpectLine, SetsClock, IsNameLine, IsNearLine, IsUnwatchedLine, SetsAccepted, IsCommandLine, IsTaskLine, IsDescription, description_seen, AsksFor, IsWorded, first_word, second_word, third_word, after_three_words, Codes, Description, Wish, Wording, Plain, Described, Now, Expectation, Name, Near, Range, TaskLine, IsReadAs}
+use Rattle.std.proofs.Common.{ne_eqb}
 use Rattle.gc_texts.proofs.Cutting.{read_alike, holds_of_rest, cut_once, cut_found, one_front, digits_lack_spaces}
 use Rattle.gc_texts.proofs.AgreeForms.{one_agreeing, accept_is_no_agree, agree_is_no_start}
 use Rattle.gc_texts.proofs.ClockForms.{one_clock, wish_is_no_clock}
@@ -37,6 +12,7 @@ use Rattle.gc_texts.proofs.ReasonForms.{one_retrying}
 use Rattle.gc_texts.proofs.ExpectForms.{clock_is_no_expect, expects_of_target, one_expectation, wish_is_no_expect}
 use Rattle.gc_texts.proofs.RawForms.{digits_begin_low}
 use Rattle.gc_texts.proofs.Procedures.{one_number}
+use Rattle.gc_texts.specs.declared.task_line.TaskLine.TheVariants as says
 
 -- the digits of a deadline's line are what follows `deadline `
 pub deadline_digits : (line rest : List ℕ) (deadline : ℕ) → line ≡ codes "deadline " ++ rest → (is : IsDeadlineLine line deadline) → is.digits ≡ rest

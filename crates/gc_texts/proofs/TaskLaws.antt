@@ -1,47 +1,11 @@
 -- Laws of a station's text: it has one reading; a command text (lines of commands alone) is one; and chains keep their targets.
 -- The mode at a line is what the lines before it make hold there, and a group a run of commands for one target (`specs/Tasks`).
-use Rattle.std.proofs.Common.{arith, subst, length, ◌||◌, ◌+◌, ◌*◌, zero, suc, nat_lt, if◌then◌else◌, append_assoc, append-nil, ◌≡◌, ℕ, List, [], ◌∷◌, ◌++◌, map, Option, Some, None, Bool, true, false, ◌&&◌, ◌⊎◌, inl, inr, refl, ap, sym, ◌∙◌}
+use Rattle.gc_texts.proofs.Common.{arith, subst, length, ◌||◌, ◌+◌, ◌*◌, zero, suc, nat_lt, if◌then◌else◌, append_assoc, append-nil, ◌≡◌, ℕ, List, [], ◌∷◌, ◌++◌, map, Option, Some, None, Bool, true, false, ◌&&◌, ◌⊎◌, inl, inr, refl, ap, sym, ◌∙◌, AllByRecursion, flat_map, length-map, map-append, all_by_recursion_push, eqb-true, le-leb, and_from, and_parts, both_ways, or-true, nat_tests, same_Some, no_again, no_codes, IsCommand, OneTaskList, CommandsAreTasks, plain_tasks, CommandsArePlain, KeepTargets, IsOneChain, ChainsKeepTargets, attempt_number, in_attempt, attempts_from, tasks_planned, attempts, laid_from, laid_out, sendings, no_retry, Description, Again, Agree, Once, Retry, Planned, is_kept, text_lines, AreLinesOf, IsTaskLine, TasksSeen, first_mode, mode_after, continues_group, task_at, setup_of, planned_of, tasks_of, name_at, names_of, near_at, nears_of, unwatched_at, unwatched_of, described_at, described_of, form_of_asked, placed, no_standing, standing_by, MayFollow, new_columns, no_needs, wish_of, Asked, Table, Raw, Plain, Command, Name, Near, Standing, TaskLine, Mode, Task}
 use Rattle.std.specs.Prelude.{filter}
-use Rattle.std.specs.List.{AllByRecursion, flat_map}
-use Rattle.std.proofs.lemmas.List.{length-map, map-append}
-use Rattle.std.proofs.SliceLists.{all_by_recursion_push}
-use Rattle.std.proofs.lemmas.Bool.{eqb-true, le-leb, and_from, and_parts, both_ways}
-use Rattle.std.proofs.Math.Bool.{or-true}
-use Rattle.std.proofs.lemmas.Bool.Decides.{nat_tests}
-use Rattle.std.proofs.lemmas.Option.{same_Some}
-use Rattle.gc_texts.specs.Again.{no_again}
-use Rattle.gc_texts.specs.Codes.{no_codes}
-use Rattle.gc_texts.specs.Commands.{IsCommand}
-use Rattle.gc_texts.specs.Laws.{OneTaskList, CommandsAreTasks, plain_tasks, CommandsArePlain, KeepTargets, IsOneChain, ChainsKeepTargets}
-use Rattle.gc_texts.specs.Attempts.{attempt_number, in_attempt, attempts_from, tasks_planned, attempts, laid_from, laid_out}
-use Rattle.gc_texts.specs.Sendings.{sendings}
-use Rattle.gc_texts.specs.Retries.{no_retry}
-use Rattle.gc_texts.specs.declared.description.Description.{Description}
-use Rattle.gc_texts.specs.declared.again.Again.{Again}
-use Rattle.gc_texts.specs.declared.agree.Agree.{Agree}
-use Rattle.gc_texts.specs.declared.agree.Twice.TheVariants.{Once}
-use Rattle.gc_texts.specs.declared.retry.Retry.{Retry}
-use Rattle.gc_texts.specs.declared.attempts.Planned.{Planned}
-use Rattle.gc_texts.specs.LineForms.{is_kept, text_lines, AreLinesOf}
-use Rattle.gc_texts.specs.TaskLines.{IsTaskLine}
-use Rattle.gc_texts.specs.Tasks.{TasksSeen, first_mode, mode_after, continues_group, task_at, setup_of, planned_of, tasks_of, name_at, names_of, near_at, nears_of, unwatched_at, unwatched_of, described_at, described_of, form_of_asked, placed, no_standing, standing_by, MayFollow}
-use Rattle.gc_texts.specs.NewColumns.{new_columns}
-use Rattle.gc_texts.specs.ValueItems.{no_needs}
-use Rattle.gc_texts.specs.Wishes.{wish_of}
-use Rattle.gc_catalogue.specs.declared.asked.Asked.{Asked}
-use Rattle.gc_catalogue.specs.declared.asked.Asked.TheVariants.{Table, Raw}
-use Rattle.gc_texts.specs.declared.wording.Wording.TheVariants.{Plain}
-use Rattle.gc_texts.specs.declared.commands.Command.{Command}
-use Rattle.gc_texts.specs.declared.name.Name.{Name}
-use Rattle.gc_texts.specs.declared.near.Near.{Near}
-use Rattle.gc_texts.specs.declared.mode.Standing.{Standing}
-use Rattle.gc_texts.specs.declared.task_line.TaskLine.{TaskLine}
-use Rattle.gc_texts.specs.declared.task_line.TaskLine.TheVariants as says
-use Rattle.gc_texts.specs.declared.mode.Mode.{Mode}
-use Rattle.gc_texts.specs.declared.tasks.Task.{Task}
 use Rattle.gc_texts.proofs.OneReading.{one_list}
 use Rattle.gc_texts.proofs.SentAs.{all_sendings}
 use Rattle.gc_texts.proofs.TaskForms.{one_said}
+use Rattle.gc_texts.specs.declared.task_line.TaskLine.TheVariants as says
 
 -- what two texts give is the same if the numbers of setup tasks are, the tasks, the names, the places, the unwatched targets, the
 -- descriptions and the columns that these add

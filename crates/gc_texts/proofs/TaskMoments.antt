@@ -1,14 +1,6 @@
 -- What a task asks for, whenever it is sent.
-use Rattle.std.proofs.Common.{◌≡◌, Bool, true, false, drop, if◌then◌else◌, refl, ap, sym, ◌∙◌}
-use Rattle.gc_catalogue.specs.declared.asked.Asked.{Asked}
-use Rattle.gc_catalogue.specs.declared.asked.Asked.TheVariants.{Table, Raw}
-use Rattle.gc_catalogue.specs.declared.call.Call.TheVariants.{SetDate}
-use Rattle.gc_catalogue.specs.declared.raw.RawCall.{RawCall}
-use Rattle.gc_texts.specs.Stamps.{date_time}
-use Rattle.gc_texts.specs.Tasks.{call_at, made_at}
-use Rattle.gc_texts.specs.ValueItems.{filled_call}
+use Rattle.gc_texts.proofs.Common.{◌≡◌, Bool, true, false, drop, if◌then◌else◌, refl, ap, sym, ◌∙◌, Asked, Table, Raw, SetDate, RawCall, date_time, call_at, made_at, filled_call, Task}
 use Rattle.gc_texts.specs.declared.occasion.Occasion.{Occasion}
-use Rattle.gc_texts.specs.declared.tasks.Task.{Task}
 use Rattle.gc_texts.proofs.ValueForms.{filled_keeps_number}
 
 -- what holds of the call of a task's text, of the call that sets the clock to this moment, and, if the text's call is a request of a

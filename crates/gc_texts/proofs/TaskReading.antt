@@ -1,36 +1,13 @@
 -- The tasks, names and places of lines that follow one another, and how far the reading of a station's text has come
 -- (`ReadsTasks`). The mode at a line is what the lines before it make hold there.
-use Rattle.std.proofs.lemmas.Bool.{cond_both}
-use Rattle.std.proofs.lemmas.List.{length-append}
-use Rattle.std.proofs.lemmas.List.Concat.{flat_map-append}
+use Rattle.gc_texts.proofs.Common.{cond_both, length-append, flat_map-append, ◌⊎◌, inr, arith, if◌then◌else◌, ◌≡◌, ◌+◌, ◌≤◌, ℕ, List, [], ◌∷◌, ◌++◌, length, Option, Bool, true, false, refl, ap, subst, sym, ◌∙◌, append_assoc, append-nil, flat_map, is_skipped, is_kept, IsTaskLine, LinesGave, Grows, CountsAtMost, counters_with, no_standing, standing_after, standing_by, standing_in, standing_of, first_mode, mode_after, chained_at, place_in_chain, task_at, given_by, setup_at, setup_of, planned_at, planned_of, name_at, names_of, near_at, nears_of, unwatched_at, unwatched_of, described_at, described_of, columns_at, IsInPlace, MayFollow, FirstFaultyTaskLine, ReachesASoundTaskLine, ArrayVec, counts, fresh_names, new_columns, with_columns, Expectation, Description, Name, Near, TaskLine, Mode, Standing, values_asked, Wording, Plain, Now, Described, raw_bytes, Asked, Table, Raw}
 use Rattle.std.proofs.lemmas.Slice.Zip.{AllZip-long}
-use Rattle.std.proofs.Common.{◌⊎◌, inr, arith, if◌then◌else◌, ◌≡◌, ◌+◌, ◌≤◌, ℕ, List, [], ◌∷◌, ◌++◌, length, Option, Bool, true, false, refl, ap, subst, sym, ◌∙◌, append_assoc, append-nil}
-use Rattle.std.specs.List.{flat_map}
 use Rattle.std.specs.Prelude.{filter}
-use Rattle.gc_texts.specs.LineForms.{is_skipped, is_kept}
-use Rattle.gc_texts.specs.TaskLines.{IsTaskLine}
-use Rattle.gc_texts.specs.Tasks.{LinesGave, Grows, CountsAtMost, counters_with, no_standing, standing_after, standing_by, standing_in, standing_of, first_mode, mode_after, chained_at, place_in_chain, task_at, given_by, setup_at, setup_of, planned_at, planned_of, name_at, names_of, near_at, nears_of, unwatched_at, unwatched_of, described_at, described_of, columns_at, IsInPlace, MayFollow, FirstFaultyTaskLine, ReachesASoundTaskLine}
-use Rattle.arrayvec.specs.ArrayVec.{ArrayVec}
-use Rattle.gc_texts.specs.Expectations.{counts}
-use Rattle.gc_texts.specs.NewColumns.{fresh_names, new_columns, with_columns}
-use Rattle.gc_texts.specs.declared.expectation.Expectation.{Expectation}
-use Rattle.gc_texts.specs.declared.description.Description.{Description}
-use Rattle.gc_texts.specs.declared.name.Name.{Name}
-use Rattle.gc_texts.specs.declared.near.Near.{Near}
-use Rattle.gc_texts.specs.declared.task_line.TaskLine.{TaskLine}
-use Rattle.gc_texts.specs.declared.mode.Mode.{Mode}
-use Rattle.gc_texts.specs.declared.mode.Standing.{Standing}
-use Rattle.gc_texts.specs.ValueItems.{values_asked}
-use Rattle.gc_texts.specs.declared.wording.Wording.{Wording}
-use Rattle.gc_texts.specs.declared.wording.Wording.TheVariants.{Plain, Now, Described}
-use Rattle.gc_catalogue.specs.RawTexts.{raw_bytes}
-use Rattle.gc_catalogue.specs.declared.asked.Asked.{Asked}
-use Rattle.gc_catalogue.specs.declared.asked.Asked.TheVariants.{Table, Raw}
 use Rattle.gc_texts.proofs.ValueForms.{few_raw, few_value_items}
-use Rattle.gc_texts.specs.declared.task_line.TaskLine.TheVariants as says
 use Rattle.gc_texts.specs.declared.tasks.Given.{Given}
 use Rattle.gc_texts.proofs.TaskForms.{one_said}
 use Rattle.gc_texts.proofs.TextLines.{HasRead, ReadsSoFar, lines_left, reads_few, is_here, line_skips, line_reads}
+use Rattle.gc_texts.specs.declared.task_line.TaskLine.TheVariants as says
 
 -- the mode after these lines, where `mode` holds before the first
 abbrev pub mode_after_lines : Mode → List TaskLine → Mode

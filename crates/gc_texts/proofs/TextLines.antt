@@ -1,13 +1,9 @@
 -- The lines of a text, one after another. A text is cut into pieces at each LF; `before` is the beginning of the first piece. A
 -- line is a piece without the CR at its end, if it has one. `ReadsSoFar` says how far the reading of a text has come. A line that is
 -- empty or begins with `#` is skipped; any other has to have the form of an item. LF is byte 10, and CR byte 13.
-use Rattle.std.proofs.Common.{◌≡◌, ◌≢◌, ◌<◌, ◌≤◌, ◌+◌, ℕ, List, [], ◌∷◌, ◌++◌, length, map, Option, Some, None, true, false, cond, arith, ap, subst, sym, ◌∙◌, ◌==◌, append_assoc, append-nil, length-append, ne_eqb}
+use Rattle.gc_texts.proofs.Common.{◌≡◌, ◌≢◌, ◌<◌, ◌≤◌, ◌+◌, ℕ, List, [], ◌∷◌, ◌++◌, length, map, Option, Some, None, true, false, cond, arith, ap, subst, sym, ◌∙◌, ◌==◌, append_assoc, append-nil, cond_both, length-map, filter-append, Lacks, ItemForm, CutsLine, text_pieces, without_cr, text_lines, is_skipped, is_kept, AreLinesOf, HasKeptLine, FirstFaulty, ReachesASoundLine}
+use Rattle.std.proofs.Common.{length-append, ne_eqb}
 use Rattle.std.specs.Prelude.{filter, not}
-use Rattle.std.proofs.lemmas.Bool.{cond_both}
-use Rattle.std.proofs.lemmas.List.{length-map}
-use Rattle.std.proofs.lemmas.List.Elements.{filter-append}
-use Rattle.gc_texts.specs.Cuts.{Lacks}
-use Rattle.gc_texts.specs.LineForms.{ItemForm, CutsLine, text_pieces, without_cr, text_lines, is_skipped, is_kept, AreLinesOf, HasKeptLine, FirstFaulty, ReachesASoundLine}
 
 -- the lines of what is left of a text; none where nothing is (`None`). What is left after a last LF is the empty text, one empty
 -- line

@@ -1,26 +1,8 @@
 -- Items of parameters that stand for values of files: how many there are, and the request that they make with values.
-use Rattle.std.proofs.Common.{◌≡◌, ◌≤◌, ◌<◌, ◌+◌, ◌++◌, ℕ, zero, suc, Bool, true, false, not, nat_le, ◌&&◌, IfSome, IfNone, Option, None, Some, List, [], ◌∷◌, length, filter, cond, nat_lt, unwrap_or, arith, refl, ap, sym, subst, ◌∙◌, append_assoc, append-nil}
-use Rattle.std.specs.List.{flat_map, list_any}
-use Rattle.std.proofs.lemmas.Option.{none-some, same_Some}
-use Rattle.gc_lines.proofs.Lists.{cons_tail}
-use Rattle.gc_values.specs.FileValues.{IsFileAt, has_path, is_foreign}
+use Rattle.gc_texts.proofs.Common.{◌≡◌, ◌≤◌, ◌<◌, ◌+◌, ◌++◌, ℕ, zero, suc, Bool, true, false, not, nat_le, ◌&&◌, IfSome, IfNone, Option, None, Some, List, [], ◌∷◌, length, filter, cond, nat_lt, unwrap_or, arith, refl, ap, sym, subst, ◌∙◌, append_assoc, append-nil, flat_map, list_any, none-some, same_Some, cons_tail, IsFileAt, has_path, is_foreign, joined, Cuts, Lacks, IsReadAs, IsNumber, and_parts, cond_both, not-true, or_parts, length-append, length-take-le, same_from_push, request_if, with_params, may_have, params_few, raw_bytes, RawCall, AreValueFiles, IsSoundItem, IsValueFile, filled, filled_call, has_quote, is_value_item, put_in, text_for, value_items, values_after, values_in, with_item, AddsFiles, NameFiles, ValueFile, pieces_of}
 use Rattle.gc_values.specs.declared.file_value.TheConstants.{PATH_BYTES}
-use Rattle.gc_texts.specs.Cuts.{Cuts, Lacks}
-use Rattle.gc_texts.specs.LineForms.{IsReadAs}
-use Rattle.gc_texts.specs.Procedures.{IsNumber}
 use Rattle.gc_texts.proofs.Cutting.{cut_once}
 use Rattle.gc_texts.proofs.Procedures.{one_number}
-use Rattle.std.proofs.lemmas.Bool.{and_parts, cond_both, not-true, or_parts}
-use Rattle.std.proofs.lemmas.List.{length-append, length-take-le, same_from_push}
-use Rattle.gc_catalogue.specs.RawAgain.{request_if, with_params}
-use Rattle.gc_catalogue.specs.RawFacts.{may_have, params_few}
-use Rattle.gc_catalogue.specs.RawTexts.{raw_bytes}
-use Rattle.gc_catalogue.specs.declared.raw.RawCall.{RawCall}
-use Rattle.gc_texts.specs.ValueItems.{AreValueFiles, IsSoundItem, IsValueFile, filled, filled_call, has_quote, is_value_item, put_in, text_for, value_items, values_after, values_in, with_item}
-use Rattle.gc_texts.specs.ValueFiles.{AddsFiles, NameFiles}
-use Rattle.gc_values.specs.Params.{joined}
-use Rattle.gc_values.specs.declared.file_value.ValueFile.{ValueFile}
-use Rattle.gc_texts.specs.WordLists.{pieces_of}
 use Rattle.gc_texts.proofs.WordLists.{pieces_few}
 
 -- a request has at most 503 bytes of parameters

@@ -1,12 +1,5 @@
 -- Which lines have the form of a wish, and of which one.
-use Rattle.std.proofs.Common.{◌≡◌, ℕ, List, ap, ◌∙◌}
-use Rattle.gc_catalogue.specs.declared.asked.Asked.{Asked}
-use Rattle.gc_catalogue.specs.declared.asked.Asked.TheVariants.{Table, Raw}
-use Rattle.gc_catalogue.specs.declared.raw.RawCall.{RawCall}
-use Rattle.gc_texts.specs.Commands.{IsCommand}
-use Rattle.gc_texts.specs.Wishes.{AsksFor, IsRawWish, IsWish}
-use Rattle.gc_texts.specs.declared.commands.Command.{Command}
-use Rattle.gc_texts.specs.declared.wish.Wish.{Wish}
+use Rattle.gc_texts.proofs.Common.{◌≡◌, ℕ, List, ap, ◌∙◌, Asked, Table, Raw, RawCall, IsCommand, AsksFor, IsRawWish, IsWish, Command, Wish}
 use Rattle.gc_texts.proofs.CommandForms.{one_command}
 use Rattle.gc_texts.proofs.RawForms.{command_is_no_raw_wish, one_raw}
 

@@ -1,10 +1,7 @@
 -- Texts that are words of one form (`AreWords`), one for each item, with one space (byte 32) between two. While the words are
 -- read, `left` is what is unread of the text (`None` at its end), `read` the items so far, and `rest` what is left after the next
 -- word.
-use Rattle.std.proofs.Common.{◌≡◌, ℕ, List, [], ◌∷◌, ◌++◌, Option, Some, None, refl, ap, subst, sym, ◌∙◌, append_assoc}
-use Rattle.gc_texts.specs.Cuts.{Cuts, Lacks}
-use Rattle.gc_texts.specs.LineForms.{ItemForm}
-use Rattle.gc_texts.specs.Words.{AreWords}
+use Rattle.gc_texts.proofs.Common.{◌≡◌, ℕ, List, [], ◌∷◌, ◌++◌, Option, Some, None, refl, ap, subst, sym, ◌∙◌, append_assoc, Cuts, Lacks, ItemForm, AreWords}
 use Rattle.gc_texts.proofs.Cutting.{cut_found, cut_none, one_front, has_mark}
 
 -- a word of this form has no space, and is one item at most

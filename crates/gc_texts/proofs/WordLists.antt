@@ -1,8 +1,5 @@
 -- The pieces of a text, cut off one after the other at the first mark.
-use Rattle.std.proofs.Common.{◌≡◌, ℕ, ◌==◌, ◌≤◌, ◌+◌, List, [], ◌∷◌, ◌++◌, length, Option, Some, None, refl, ap, ◌∙◌, arith}
-use Rattle.std.proofs.lemmas.Bool.{cond-true, cond-false, cond_both, ne_eqb, eq-eqb}
-use Rattle.gc_texts.specs.Cuts.{Lacks, Cuts}
-use Rattle.gc_texts.specs.WordLists.{with_front, pieces_of, pieces_left}
+use Rattle.gc_texts.proofs.Common.{◌≡◌, ℕ, ◌==◌, ◌≤◌, ◌+◌, List, [], ◌∷◌, ◌++◌, length, Option, Some, None, refl, ap, ◌∙◌, arith, cond-true, cond-false, cond_both, ne_eqb, eq-eqb, Lacks, Cuts, with_front, pieces_of, pieces_left}
 
 -- a text without the mark is one piece
 pub words_lacking : (mark : ℕ) (word : List ℕ) → Lacks mark word → pieces_of mark word ≡ word ∷ []

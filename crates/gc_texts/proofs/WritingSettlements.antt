@@ -1,14 +1,5 @@
 -- The lines of settlements, written one after the other.
-use Rattle.std.proofs.Common.{◌≡◌, ℕ, ◌+◌, ◌<◌, List, ◌∷◌, ◌++◌, length, take, drop, map, get_or, Option, sym, ap, ◌∙◌, subst}
-use Rattle.std.specs.Io.KnownBytes.{Appends}
-use Rattle.std.proofs.lemmas.List.{map-append}
-use Rattle.std.proofs.KnownBytes.{Appends-trans}
-use Rattle.gc_lines.specs.Ports.{TakesFront}
-use Rattle.gc_lines.proofs.Known.{Appends-is}
-use Rattle.gc_catalogue.specs.declared.call.Call.{Call}
-use Rattle.gc_client.specs.declared.settlement.Settlement.{Settlement}
-use Rattle.gc_client.specs.Settlements.{settlement_seen}
-use Rattle.gc_texts.specs.Settlements.{settlement_line, settlement_lines_from, WrotePartOfSettlements}
+use Rattle.gc_texts.proofs.Common.{◌≡◌, ℕ, ◌+◌, ◌<◌, List, ◌∷◌, ◌++◌, length, take, drop, map, get_or, Option, sym, ap, ◌∙◌, subst, Appends, map-append, Appends-trans, TakesFront, Appends-is, Call, Settlement, settlement_seen, settlement_line, settlement_lines_from, WrotePartOfSettlements}
 use Rattle.gc_texts.proofs.SettlementLines.{split_at_item, front_length, lines_to_next}
 
 -- a sink took the lines of the first i settlements, numbered from `place` on, and `line` is that of the next one (s). The sink

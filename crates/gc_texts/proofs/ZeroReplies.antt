@@ -1,14 +1,7 @@
 -- The line of a reply with return code 0 is a reply, with that code and the same other fields.
-use Rattle.std.proofs.Common.{◌≡◌, ℕ, List, arith, sym, ap, subst}
-use Rattle.gc_lines.specs.Laws.{IsReplyInRange}
-use Rattle.gc_lines.specs.Readers.{reply_at}
-use Rattle.gc_lines.specs.Replies.{ReplyFields, IsReply, reply_text}
+use Rattle.gc_texts.proofs.Common.{◌≡◌, ℕ, List, arith, sym, ap, subst, IsReplyInRange, reply_at, ReplyFields, IsReply, reply_text, Reading, Asked, IsAskedReading, ReadsBy}
 use Rattle.gc_lines.proofs.Replies.{reply_found, reply_again}
 use Rattle.gc_lines.proofs.Written.{reply_back}
-use Rattle.gc_catalogue.specs.declared.answer.Reading.{Reading}
-use Rattle.gc_catalogue.specs.declared.asked.Asked.{Asked}
-use Rattle.gc_catalogue.specs.Asked.{IsAskedReading}
-use Rattle.gc_client.specs.Settlements.{ReadsBy}
 use Rattle.gc_texts.specs.Zeroed.{zeroed, as_zero}
 
 -- the fields of a reply, with return code 0 in place of theirs, are within the ranges of a reply's fields

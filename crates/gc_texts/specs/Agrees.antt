@@ -1,14 +1,8 @@
 -- Chains that are sent twice: how far apart the answers of the two sendings may be, and whether two answers agree. This project's own.
+use Rattle.gc_texts.specs.Common.{bytes_eq, Answer, Nothing, Short, Version, Long, Name, Date, Temperature, Place, Height, Angles, Measured, MeasuredMode, DateTime, SpellsDecimal, decimal_eq, is_within, zero, is_near, is_tolerance, Decimal}
 use Rattle.std.specs.Prelude.{◌≡◌, ℕ, ◌==◌, ◌&&◌, Bool, true, false, List, Option, None, Some}
 use Rattle.std.specs.Ordering.{int_eq}
-use Rattle.std.specs.Str.{bytes_eq}
-use Rattle.gc_catalogue.specs.declared.answer.Answer.{Answer}
-use Rattle.gc_catalogue.specs.declared.answer.Answer.TheVariants.{Nothing, Short, Version, Long, Name, Date, Temperature, Place, Height, Angles, Measured, MeasuredMode}
-use Rattle.gc_catalogue.specs.declared.call.DateTime.{DateTime}
 use Rattle.gc_catalogue.specs.declared.call.Station.{Station}
-use Rattle.gc_values.specs.Decimals.{SpellsDecimal, decimal_eq, is_within, zero}
-use Rattle.gc_values.specs.Directions.{is_near, is_tolerance}
-use Rattle.gc_values.specs.declared.decimal.Decimal.{Decimal}
 use Rattle.gc_texts.specs.Nears.{is_length}
 use Rattle.gc_texts.specs.Words.{first_word, second_word, after_two_words}
 use Rattle.gc_texts.specs.declared.agree.Agree.{Agree}

@@ -1,6 +1,6 @@
 -- What holds of a command in a station's text, by the lines before it: this project's own.
+use Rattle.gc_texts.specs.Common.{AllByRecursion}
 use Rattle.std.specs.Prelude.{◌≡◌, ◌⊎◌, ℕ, ◌+◌, ◌<◌, ◌≤◌, nat_le, nat_lt, ◌&&◌, ◌||◌, if◌then◌else◌, Bool, not, true, false, List, [], ◌∷◌, ◌++◌, length, Option, None, Some}
-use Rattle.std.specs.List.{AllByRecursion}
 use Rattle.gc_texts.specs.Codes.{no_codes}
 use Rattle.gc_texts.specs.Expectations.{counts}
 use Rattle.gc_texts.specs.Nears.{near_of}
@@ -19,8 +19,8 @@ use Rattle.gc_texts.specs.declared.wish.Wish.{Wish}
 use Rattle.gc_texts.specs.declared.wording.Wording.{Wording}
 use Rattle.gc_texts.specs.declared.near.Near.{Near}
 use Rattle.gc_texts.specs.declared.task_line.TaskLine.{TaskLine}
-use Rattle.gc_texts.specs.declared.task_line.TaskLine.TheVariants as says
 use Rattle.gc_texts.specs.declared.tasks.Task.{Task}
+use Rattle.gc_texts.specs.declared.task_line.TaskLine.TheVariants as says
 
 -- whether the commands after this line are setup, where `setup` says whether those before it are: `at start`, `each cycle` and
 -- `every N cycles` set that, and any other line leaves it as it is

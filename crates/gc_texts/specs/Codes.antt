@@ -1,6 +1,6 @@
 -- Lists of return codes in a station's text: this project's own.
+use Rattle.gc_texts.specs.Common.{list_any}
 use Rattle.std.specs.Prelude.{◌≡◌, ℕ, ◌-◌, ◌≤◌, ◌==◌, ◌&&◌, Bool, not, List, [], ◌++◌, length, replicate}
-use Rattle.std.specs.List.{list_any}
 use Rattle.gc_texts.specs.Procedures.{IsNumber}
 use Rattle.gc_texts.specs.Words.{AreWords}
 use Rattle.gc_texts.specs.declared.codes.Codes.{Codes}

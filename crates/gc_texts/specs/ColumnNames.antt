@@ -1,10 +1,8 @@
 -- The columns that a described procedure's values may have: this project's own.
+use Rattle.gc_texts.specs.Common.{ends_with, list_any, bytes_eq, Kind}
 use Rattle.std.specs.Prelude.{ℕ, Bool, true, false, not, ◌==◌, ◌&&◌, List, [], ◌∷◌, if◌then◌else◌, codes}
-use Rattle.std.specs.List.{ends_with, list_any}
-use Rattle.std.specs.Str.{bytes_eq}
-use Rattle.gc_values.specs.declared.value.Kind.{Kind}
-use Rattle.gc_values.specs.declared.value.Kind.TheVariants as kind
 use Rattle.gc_texts.specs.Fields.{FieldSeen}
+use Rattle.gc_values.specs.declared.value.Kind.TheVariants as kind
 
 -- whether a name is one of these
 abbrev pub is_among : List (List ℕ) → (name : List ℕ) → Bool

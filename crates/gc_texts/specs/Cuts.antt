@@ -1,6 +1,6 @@
 -- Texts cut at a mark, which is a byte, as LF between lines or a space between words: this project's own. `behind mark text` is what
 -- follows the first mark; empty where there is none.
-use Rattle.std.specs.List.{AllByRecursion, starts_with}
+use Rattle.gc_texts.specs.Common.{AllByRecursion, starts_with}
 use Rattle.std.specs.Prelude.{◌≡◌, ◌≢◌, ◌==◌, ◌||◌, ℕ, Bool, false, List, [], ◌∷◌, ◌++◌, Option, None, Some, if◌then◌else◌}
 pub use Rattle.std.specs.Io.BufRead.{drop_through as behind}
 

@@ -1,7 +1,7 @@
 -- Paths with a date in them: `%` and a letter stand for a part of the moment, UTC: `%Y` for the year, `%m`, `%d` and `%H` for the month,
 -- the day and the hour in two digits, and `%%` for a percent sign. The letters are those of strftime; the rest is this project's own.
+use Rattle.gc_texts.specs.Common.{decimal}
 use Rattle.std.specs.Prelude.{ℕ, Bool, true, false, ◌==◌, not, ◌&&◌, ◌||◌, List, [], ◌∷◌, ◌++◌, codes, if◌then◌else◌}
-use Rattle.std.specs.Fmt.{decimal}
 use Rattle.gc_texts.specs.Stamps.{date_at, hours_at, since_midnight, two_digits}
 
 -- whether `%` and this letter stand for a part of the moment: `Y`, `m`, `d` or `H`

@@ -1,17 +1,13 @@
 -- Laws of descriptions of procedures: this project's own, as descriptions are.
+use Rattle.gc_texts.specs.Common.{IsNoProcedure, AreParams, IsListFault, kinds_of, ValueFault, Kind, Value}
 use Rattle.std.specs.Prelude.{◌≡◌, ℕ, false, true, List, [], ◌∷◌, ◌++◌, codes}
-use Rattle.gc_catalogue.specs.Calls.{IsNoProcedure}
-use Rattle.gc_values.specs.Lists.{AreParams, IsListFault, kinds_of}
-use Rattle.gc_values.specs.declared.fault.ValueFault.{ValueFault}
-use Rattle.gc_values.specs.declared.value.Kind.{Kind}
-use Rattle.gc_values.specs.declared.value.Kind.TheVariants as kind
-use Rattle.gc_values.specs.declared.value.Value.{Value}
 use Rattle.gc_texts.specs.ColumnNames.{are_columns, is_column}
 use Rattle.gc_texts.specs.Descriptions.{AreFields, DescriptionSeen, IsDescription, last_word}
 use Rattle.gc_texts.specs.Fields.{field_words, is_field_name}
 use Rattle.gc_texts.specs.KindLists.{AreOfKinds, IsKindsFault, KindsSeen}
 use Rattle.gc_texts.specs.Procedures.{IsRpc}
 use Rattle.gc_texts.specs.WordLists.{words_of}
+use Rattle.gc_values.specs.declared.value.Kind.TheVariants as kind
 
 -- kinds of a list that has no more items than kinds
 abbrev pub closed_kinds : List Kind → KindsSeen

@@ -1,13 +1,6 @@
 -- Laws of what a station's text says of procedures that aren't in the table: this project's own.
+use Rattle.gc_texts.specs.Common.{AllByRecursion, Nothing, Reading, Asked, Raw, RawCall, Direction, Value}
 use Rattle.std.specs.Prelude.{◌≡◌, ◌≤◌, ℕ, Bool, true, List, ◌∷◌, ◌++◌, length, map, Option, None, Some}
-use Rattle.std.specs.List.{AllByRecursion}
-use Rattle.gc_catalogue.specs.declared.answer.Answer.TheVariants.{Nothing}
-use Rattle.gc_catalogue.specs.declared.answer.Reading.{Reading}
-use Rattle.gc_catalogue.specs.declared.asked.Asked.{Asked}
-use Rattle.gc_catalogue.specs.declared.asked.Asked.TheVariants.{Raw}
-use Rattle.gc_catalogue.specs.declared.raw.RawCall.{RawCall}
-use Rattle.gc_values.specs.declared.direction.Direction.{Direction}
-use Rattle.gc_values.specs.declared.value.Value.{Value}
 use Rattle.gc_texts.specs.Fields.{field_seen}
 use Rattle.gc_texts.specs.Forms.{IsFormReading, form_of, measured_part}
 use Rattle.gc_texts.specs.Measured.{measured_direction, measured_distance}
@@ -19,10 +12,10 @@ use Rattle.gc_texts.specs.declared.expectation.Expectation.{Expectation}
 use Rattle.gc_texts.specs.declared.field.Field.{Field}
 use Rattle.gc_texts.specs.declared.form.Form.{Form}
 use Rattle.gc_texts.specs.declared.task_line.TaskLine.{TaskLine}
-use Rattle.gc_texts.specs.declared.task_line.TaskLine.TheVariants as says
 use Rattle.gc_texts.specs.declared.tasks.Task.{Task}
 use Rattle.gc_texts.specs.declared.wish.Wish.{Wish}
 use Rattle.gc_texts.specs.declared.wording.Wording.TheVariants.{Described}
+use Rattle.gc_texts.specs.declared.task_line.TaskLine.TheVariants as says
 
 -- what is asked for behind the lines `front` is a procedure that one of them describes, by its number, with parameters that it may be asked
 -- for with: of the kinds that this line says, with a number in the place of each value of a file (`IsTaken`); and where `described` are the text's descriptions, its answers are read by the form that the line says

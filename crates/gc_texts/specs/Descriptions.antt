@@ -1,7 +1,6 @@
 -- Descriptions of procedures that aren't in the table: this project's own.
+use Rattle.gc_texts.specs.Common.{list_any, IsNoProcedure}
 use Rattle.std.specs.Prelude.{◌≡◌, ◌≤◌, ◌==◌, ℕ, Bool, true, false, List, [], ◌∷◌, ◌++◌, length, map, find, Option, codes}
-use Rattle.std.specs.List.{list_any}
-use Rattle.gc_catalogue.specs.Calls.{IsNoProcedure}
 use Rattle.gc_texts.specs.ColumnNames.{are_columns}
 use Rattle.gc_texts.specs.Fields.{FieldSeen, HaveNames, field_seen, field_words, words_from}
 use Rattle.gc_texts.specs.KindLists.{KindsSeen, kinds_of_fields}

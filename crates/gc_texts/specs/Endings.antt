@@ -1,7 +1,6 @@
 -- How a command of a station's setup or cycle ended: this project's own.
+use Rattle.gc_texts.specs.Common.{Answer, ValueFault}
 use Rattle.std.specs.Prelude.{ℕ, List, [], Option, Some, None, option_map, codes}
-use Rattle.gc_catalogue.specs.declared.answer.Answer.{Answer}
-use Rattle.gc_values.specs.declared.fault.ValueFault.{ValueFault}
 use Rattle.gc_texts.specs.Judgements.{judgement_word}
 use Rattle.gc_texts.specs.Qualities.{quality_word}
 use Rattle.gc_texts.specs.declared.judgement.Judgement.{Judgement}

@@ -1,12 +1,6 @@
 -- What a station's text expects of the values of an answer: items with a comma between two, one for each value. This project's own.
+use Rattle.gc_texts.specs.Common.{list_any, starts_with, bytes_eq, reply_at, ReplyFields, LineFault, decimal_eq, units, Decimal}
 use Rattle.std.specs.Prelude.{ℕ, ◌+◌, ◌-◌, ◌==◌, ◌&&◌, ◌||◌, Bool, true, false, not, nat_lt, int_le, List, [], ◌∷◌, ◌++◌, length, take, drop, filter, replicate, slice_get, Option, None, Some, option_map, Result, Ok, Err, if◌then◌else◌, codes}
-use Rattle.std.specs.List.{list_any, starts_with}
-use Rattle.std.specs.Str.{bytes_eq}
-use Rattle.gc_lines.specs.Readers.{reply_at}
-use Rattle.gc_lines.specs.Replies.{ReplyFields}
-use Rattle.gc_lines.specs.declared.fault.LineFault.{LineFault}
-use Rattle.gc_values.specs.Decimals.{decimal_eq, units}
-use Rattle.gc_values.specs.declared.decimal.Decimal.{Decimal}
 use Rattle.gc_texts.specs.Cuts.{before}
 use Rattle.gc_texts.specs.Numerals.{decimal_in}
 use Rattle.gc_texts.specs.WordLists.{pieces_of}

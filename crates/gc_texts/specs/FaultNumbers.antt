@@ -1,16 +1,12 @@
 -- The table of the faults: which number each has. The numbers are this project's own.
+use Rattle.gc_texts.specs.Common.{value_fault_number, ValueFault, serve_fault_number, line_fault_number, call_fault_number, refusal_number}
 use Rattle.std.specs.Prelude.{◌≡◌, ℕ, [], ◌∷◌, map}
-use Rattle.gc_values.specs.ValueFault.{value_fault_number}
-use Rattle.gc_values.specs.declared.fault.ValueFault.{ValueFault}
+use Rattle.gc_lines.specs.declared.served.TheConstants.{READ_FAILED, WRITE_FAILED, READS_SPENT}
+use Rattle.gc_texts.specs.Faults.{run_fault_number}
 use Rattle.gc_values.specs.declared.fault.ValueFault.TheVariants as value
-use Rattle.gc_lines.specs.Answering.{serve_fault_number}
-use Rattle.gc_lines.specs.Faults.{line_fault_number}
 use Rattle.gc_lines.specs.declared.fault.LineFault.TheVariants as line
 use Rattle.gc_lines.specs.declared.served.ServeFault.TheVariants as serving
-use Rattle.gc_lines.specs.declared.served.TheConstants.{READ_FAILED, WRITE_FAILED, READS_SPENT}
-use Rattle.gc_catalogue.specs.CallFault.{call_fault_number, refusal_number}
 use Rattle.gc_catalogue.specs.declared.fault.CallFault.TheVariants as call
-use Rattle.gc_texts.specs.Faults.{run_fault_number}
 use Rattle.gc_texts.specs.declared.fault.RunFault.TheVariants as run
 
 -- each fault has the number of the table

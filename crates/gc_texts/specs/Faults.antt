@@ -1,13 +1,11 @@
 -- The faults of the engines, and how the program reports an end: numbers, texts and statuses are this project's own.
+use Rattle.gc_texts.specs.Common.{decimal, Appends, numbered_fault, how_far}
 use Rattle.std.specs.Prelude.{◌≡◌, ℕ, List, [], ◌++◌, Option, Result, Ok, Err, codes}
-use Rattle.std.specs.Fmt.{decimal}
-use Rattle.std.specs.Io.KnownBytes.{Appends}
-use Rattle.gc_lines.specs.Answering.{numbered_fault, how_far}
 use Rattle.gc_lines.specs.declared.served.Served.{Served}
 use Rattle.gc_lines.specs.declared.served.ServeFault.{ServeFault}
-use Rattle.gc_lines.specs.declared.served.ServeFault.TheVariants as serving
 use Rattle.gc_texts.specs.declared.fault.RunFault.{RunFault}
 use Rattle.gc_texts.specs.declared.fault.RunFault.TheVariants.{SceneFull, Read, Write, TooManyReads, LinkClosed, Mute, Clock, Stale, SetUp, NoCommand, Schedule, Memory, InputTooLong, Socket, Output, StreamClosed, Log, NoTerminal, Held, Forbidden, RecordsUnopened, RecordsHeld, RecordsForeign}
+use Rattle.gc_lines.specs.declared.served.ServeFault.TheVariants as serving
 
 -- the number of a fault
 abbrev pub run_fault_number : RunFault → ℕ

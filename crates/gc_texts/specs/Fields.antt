@@ -1,11 +1,10 @@
 -- The fields of a described procedure, each a name and a kind, and the words that say them: this project's own.
+use Rattle.gc_texts.specs.Common.{AllByRecursion, list_all, Kind}
 use Rattle.std.specs.Prelude.{◌≡◌, ◌≤◌, ◌==◌, ◌&&◌, ◌||◌, ℕ, Bool, true, false, nat_lt, List, [], ◌∷◌, ◌++◌, length, codes}
-use Rattle.std.specs.List.{AllByRecursion, list_all}
-use Rattle.gc_values.specs.declared.value.Kind.{Kind}
-use Rattle.gc_values.specs.declared.value.Kind.TheVariants as kind
 use Rattle.gc_texts.specs.declared.field.Field.{Field}
 use Rattle.gc_texts.specs.declared.field.Stop.{Stop}
 use Rattle.gc_texts.specs.declared.field.Stop.TheVariants.{End, Arrow, More}
+use Rattle.gc_values.specs.declared.value.Kind.TheVariants as kind
 
 -- whether a byte is a small letter
 abbrev pub is_small_letter : ℕ → Bool

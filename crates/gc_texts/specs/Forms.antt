@@ -1,20 +1,14 @@
 -- The forms of described procedures' answers, and what a reply says by one: this project's own.
+use Rattle.gc_texts.specs.Common.{bytes_eq, Answer, Angles, Measured, Nothing, Reading, Decimal, ValueFault, Value}
 use Rattle.std.specs.Prelude.{◌≡◌, ◌+◌, ◌&&◌, ℕ, Bool, false, is_some, nat_eq, List, [], ◌∷◌, drop, map, Option, None, Some, if◌then◌else◌, codes}
 use Rattle.std.specs.Option.{option_map}
-use Rattle.std.specs.Str.{bytes_eq}
-use Rattle.gc_catalogue.specs.declared.answer.Answer.{Answer}
-use Rattle.gc_catalogue.specs.declared.answer.Answer.TheVariants.{Angles, Measured, Nothing}
-use Rattle.gc_catalogue.specs.declared.answer.Reading.{Reading}
-use Rattle.gc_catalogue.specs.declared.answer.Reading.TheVariants as reading
-use Rattle.gc_values.specs.declared.decimal.Decimal.{Decimal}
-use Rattle.gc_values.specs.declared.fault.ValueFault.{ValueFault}
-use Rattle.gc_values.specs.declared.value.Value.{Value}
 use Rattle.gc_texts.specs.Descriptions.{described_as}
 use Rattle.gc_texts.specs.Fields.{FieldSeen, field_seen}
 use Rattle.gc_texts.specs.KindLists.{AreOfKinds, IsKindsFault, kinds_of, kinds_seen}
 use Rattle.gc_texts.specs.Measured.{decimal_in, first_value}
 use Rattle.gc_texts.specs.declared.description.Description.{Description}
 use Rattle.gc_texts.specs.declared.form.Form.{Form}
+use Rattle.gc_catalogue.specs.declared.answer.Reading.TheVariants as reading
 
 -- the place of the field with this name, counted from 0, if there is one
 abbrev pub place_named : (name : List ℕ) → List FieldSeen → Option ℕ

@@ -1,8 +1,7 @@
 -- Facts about the places for kinds, which values of `Kinds` hold: this project's own.
+use Rattle.gc_texts.specs.Common.{Kind, Bool}
 use Rattle.std.proofs.Common.{◌≡◌, ◌≤◌, ◌-◌, List, ◌++◌, length, map, take, replicate, arith}
 use Rattle.std.proofs.lemmas.List.{length-append, length-map, length-take, length-replicate}
-use Rattle.gc_values.specs.declared.value.Kind.{Kind}
-use Rattle.gc_values.specs.declared.value.Kind.TheVariants.{Bool}
 use Rattle.gc_texts.specs.Fields.{FieldSeen}
 
 -- of fields at most 16 are taken

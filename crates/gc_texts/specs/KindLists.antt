@@ -1,14 +1,7 @@
 -- Lists of kinds, and which lists of parameters have values of these kinds: the order of the faults is that of the table's
 -- procedures. That more items may follow is this project's own.
+use Rattle.gc_texts.specs.Common.{kind_of, IsItem, FirstFault, AreTooMany, HasOpenQuote, IsParams, ValueFault, OpenQuote, TooMany, Count, Kind, Bool as Boolean, Value}
 use Rattle.std.specs.Prelude.{◌≡◌, ◌≤◌, ◌-◌, ℕ, Bool, true, false, List, [], ◌∷◌, ◌++◌, length, map, take, replicate}
-use Rattle.gc_values.specs.Item.{kind_of, IsItem}
-use Rattle.gc_values.specs.Lists.{FirstFault}
-use Rattle.gc_values.specs.Params.{AreTooMany, HasOpenQuote, IsParams}
-use Rattle.gc_values.specs.declared.fault.ValueFault.{ValueFault}
-use Rattle.gc_values.specs.declared.fault.ValueFault.TheVariants.{OpenQuote, TooMany, Count}
-use Rattle.gc_values.specs.declared.value.Kind.{Kind}
-use Rattle.gc_values.specs.declared.value.Kind.TheVariants.{Bool as Boolean}
-use Rattle.gc_values.specs.declared.value.Value.{Value}
 use Rattle.gc_texts.specs.Fields.{FieldSeen}
 use Rattle.gc_texts.specs.KindFacts.{few_kinds, sixteen_places}
 use Rattle.gc_texts.specs.declared.kinds.Kinds.{Kinds}

@@ -1,16 +1,13 @@
 -- Laws of the texts: this project's own, as the texts are.
+use Rattle.gc_texts.specs.Common.{AllByRecursion, call_fields, call_name, Call}
 use Rattle.std.specs.Prelude.{◌≡◌, ◌<◌, ◌^◌, ℕ, ◌+◌, ◌++◌, Bool, true, false, List, [], ◌∷◌, length, map, Option, None, Some}
 use Rattle.gc_texts.specs.Codes.{no_codes}
 use Rattle.gc_texts.specs.Commands.{IsCommands}
-use Rattle.std.specs.List.{AllByRecursion}
 use Rattle.gc_texts.specs.Again.{no_again}
 use Rattle.gc_texts.specs.Tasks.{TasksSeen, IsTasks}
 use Rattle.gc_texts.specs.ProcedureNames.{name_in_table}
 use Rattle.gc_texts.specs.ValueItems.{no_needs}
 use Rattle.gc_texts.specs.Wishes.{wish_of}
-use Rattle.gc_catalogue.specs.Calls.{call_fields}
-use Rattle.gc_catalogue.specs.Names.{call_name}
-use Rattle.gc_catalogue.specs.declared.call.Call.{Call}
 use Rattle.gc_texts.specs.Logs.{log_text, AreBytes, IsPrintable, IsLogLine}
 use Rattle.gc_texts.specs.Stamps.{stamp_text}
 use Rattle.gc_texts.specs.declared.agree.Twice.TheVariants.{Once}

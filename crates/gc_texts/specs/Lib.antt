@@ -1,3 +1,5 @@
+mod Common
+pub mod Prelude
 pub mod Cuts
 pub mod WordLists
 pub mod LineForms

@@ -1,6 +1,6 @@
 -- A text of lines, each of which is written for one item: this project's own.
+use Rattle.gc_texts.specs.Common.{AllZip}
 use Rattle.std.specs.Prelude.{◌≡◌, ℕ, ◌+◌, ◌-◌, ◌<◌, ◌≤◌, ◌↔◌, ◌==◌, Bool, true, List, [], ◌∷◌, ◌++◌, length, get_or, map, filter, not, if◌then◌else◌, MatchOption, Option, Result, Err}
-use Rattle.std.specs.List.{AllZip}
 use Rattle.gc_texts.specs.Cuts.{Cuts}
 use Rattle.gc_texts.specs.declared.fault.RunFault.{RunFault}
 use Rattle.gc_texts.specs.declared.fault.RunFault.TheVariants.{Schedule, Memory, InputTooLong}

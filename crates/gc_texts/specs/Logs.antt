@@ -1,11 +1,11 @@
 -- Lines of a log: what was on a link, in printable characters alone. Their form is this project's own.
+use Rattle.gc_texts.specs.Common.{flat_map}
 use Rattle.std.specs.Prelude.{◌≡◌, ◌<◌, ℕ, ◌/◌, ◌%◌, ◌+◌, ◌≤◌, ◌==◌, ◌&&◌, Bool, not, nat_lt, List, [], ◌∷◌, ◌++◌, All, if◌then◌else◌, codes}
-use Rattle.std.specs.List.{flat_map}
-pub use Rattle.gc_catalogue.specs.Bytes.{AreBytes}
 use Rattle.gc_texts.specs.Cuts.{Lacks}
 use Rattle.gc_texts.specs.Stamps.{stamp_text}
 use Rattle.gc_texts.specs.declared.log_line.LogMark.{LogMark}
 use Rattle.gc_texts.specs.declared.log_line.LogMark.TheVariants.{Went, WentPart, Came, CamePart, Link}
+pub use Rattle.gc_catalogue.specs.Bytes.{AreBytes}
 
 -- the mark of a log line, as it is written
 abbrev pub mark_text : LogMark → List ℕ

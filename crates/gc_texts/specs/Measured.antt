@@ -1,11 +1,8 @@
 -- Where an answer of a described procedure was measured, by the names of its columns: this project's own.
+use Rattle.gc_texts.specs.Common.{bytes_eq, Decimal, Direction, Value}
 use Rattle.std.specs.Prelude.{ℕ, List, [], ◌∷◌, drop, Option, None, Some, if◌then◌else◌, codes}
-use Rattle.std.specs.Str.{bytes_eq}
-use Rattle.gc_values.specs.declared.decimal.Decimal.{Decimal}
-use Rattle.gc_values.specs.declared.direction.Direction.{Direction}
-use Rattle.gc_values.specs.declared.value.Value.{Value}
-use Rattle.gc_values.specs.declared.value.Value.TheVariants as value
 use Rattle.gc_texts.specs.Fields.{FieldSeen}
+use Rattle.gc_values.specs.declared.value.Value.TheVariants as value
 
 -- the first value, if there is one
 abbrev pub first_value : List Value → Option Value

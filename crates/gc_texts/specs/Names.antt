@@ -1,6 +1,6 @@
 -- Names of targets: this project's own.
+use Rattle.gc_texts.specs.Common.{list_any}
 use Rattle.std.specs.Prelude.{ℕ, ◌==◌, ◌&&◌, ◌||◌, Bool, false, not, nat_lt, List, [], ◌∷◌, length, if◌then◌else◌}
-use Rattle.std.specs.List.{list_any}
 use Rattle.gc_texts.specs.declared.name.Name.{Name}
 
 -- whether a byte may not stand in a name: it isn't printable ASCII, or is a comma or a double quote

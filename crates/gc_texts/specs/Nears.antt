@@ -1,20 +1,7 @@
 -- Where a target is, and whether an answer was measured there: this project's own. When a direction is near another is the
 -- rule of gc_values' `Directions`; when a distance is, that of its `Decimals`.
+use Rattle.gc_texts.specs.Common.{list_any, IsAnswerOf, call_fields, Answer, Angles, Measured, MeasuredMode, Asked, Table, Raw, Call, GetAngle, SimpleMea, QuickDist, MeasDistance, SpellsDecimal, fraction, is_within, units, IsNear, is_near, is_place, is_tolerance, is_up_to, IsWithin, Decimal, Direction}
 use Rattle.std.specs.Prelude.{◌≡◌, ◌⊎◌, ℕ, pos, ◌==◌, ◌||◌, Bool, true, false, not, List, [], ◌∷◌, Option, None, Some, is_some, find}
-use Rattle.std.specs.List.{list_any}
-use Rattle.gc_catalogue.specs.Answers.{IsAnswerOf}
-use Rattle.gc_catalogue.specs.Calls.{call_fields}
-use Rattle.gc_catalogue.specs.declared.answer.Answer.{Answer}
-use Rattle.gc_catalogue.specs.declared.answer.Answer.TheVariants.{Angles, Measured, MeasuredMode}
-use Rattle.gc_catalogue.specs.declared.asked.Asked.{Asked}
-use Rattle.gc_catalogue.specs.declared.asked.Asked.TheVariants.{Table, Raw}
-use Rattle.gc_catalogue.specs.declared.call.Call.{Call}
-use Rattle.gc_catalogue.specs.declared.call.Call.TheVariants.{GetAngle, SimpleMea, QuickDist, MeasDistance}
-use Rattle.gc_values.specs.Decimals.{SpellsDecimal, fraction, is_within, units}
-use Rattle.gc_values.specs.Directions.{IsNear, is_near, is_place, is_tolerance, is_up_to}
-use Rattle.gc_values.specs.Fraction.{IsWithin}
-use Rattle.gc_values.specs.declared.decimal.Decimal.{Decimal}
-use Rattle.gc_values.specs.declared.direction.Direction.{Direction}
 use Rattle.gc_texts.specs.Cuts.{Cuts, behind}
 use Rattle.gc_texts.specs.Procedures.{IsTarget}
 use Rattle.gc_texts.specs.Words.{first_word, second_word, third_word, after_three_words}

@@ -1,10 +1,7 @@
 -- The columns that descriptions of procedures add to those of the table's quantities: this project's own.
+use Rattle.gc_texts.specs.Common.{flat_map, list_all, list_any, bytes_eq, ArrayVec, Kind}
 use Rattle.std.specs.Prelude.{ℕ, Bool, not, ◌&&◌, ◌||◌, List, [], ◌∷◌, ◌++◌, if◌then◌else◌}
-use Rattle.std.specs.List.{flat_map, list_all, list_any}
-use Rattle.std.specs.Str.{bytes_eq}
-use Rattle.arrayvec.specs.ArrayVec.{ArrayVec}
 use Rattle.gc_texts.specs.ColumnNames.{is_decimal, is_name_of_decimal, is_name_of_text, is_name_of_whole, is_text, is_whole}
-use Rattle.gc_values.specs.declared.value.Kind.{Kind}
 use Rattle.gc_texts.specs.declared.description.Description.{Description}
 use Rattle.gc_texts.specs.declared.field.Field.{Field}
 

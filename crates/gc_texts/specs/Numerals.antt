@@ -1,13 +1,9 @@
 -- The number that a text spells, computed: this project's own. `specs/Spelling` of gc_values says which texts spell which numbers, and a law
 -- that this finds just these.
+use Rattle.gc_texts.specs.Common.{SpellsDecimal, number, is_decimal, signed, half_up, Placed, stripped, Decimal}
 use Rattle.std.specs.Prelude.{◌≡◌, ◌↔◌, ℕ, ◌+◌, ◌*◌, ◌^◌, ◌==◌, ◌&&◌, ◌||◌, Bool, true, false, nat_le, nat_lt, List, [], ◌∷◌, ◌++◌, length, Option, None, Some, ℤ, if◌then◌else◌}
 use Rattle.std.proofs.Common.{refl}
-use Rattle.gc_values.specs.Decimals.{SpellsDecimal, decimal}
-use Rattle.gc_values.specs.Digits.{number}
-use Rattle.gc_values.specs.Fraction.{is_decimal, signed}
-use Rattle.gc_values.specs.Nearest.{half_up}
-use Rattle.gc_values.specs.Zeros.{Placed, stripped}
-use Rattle.gc_values.specs.declared.decimal.Decimal.{Decimal}
+use Rattle.gc_values.specs.Prelude.{decimal}
 
 -- whether a text begins with a minus
 abbrev pub begins_with_minus : List ℕ → Bool

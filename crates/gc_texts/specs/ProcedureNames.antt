@@ -1,10 +1,6 @@
 -- The names of the procedures by their numbers: those of the manual's procedure tables.
+use Rattle.gc_texts.specs.Common.{call_fields, call_name, Call, NullProc, SetPrecision, GetPrecision, ComVersion, InstrumentNo, InstrumentName, SetDate, GetDate, IntTemp, CsvVersion, DoMeasure, GetStation, SetStation, GetHeight, SetHeight, GetFace, GetAngle, SimpleMea, QuickDist, SetPrism, GetPrism, MeasDistance, Position, ChangeFace, FineAdjust, zero}
 use Rattle.std.specs.Prelude.{ℕ, ◌==◌, pos, false, List, [], ◌∷◌, if◌then◌else◌}
-use Rattle.gc_catalogue.specs.Calls.{call_fields}
-use Rattle.gc_catalogue.specs.Names.{call_name}
-use Rattle.gc_catalogue.specs.declared.call.Call.{Call}
-use Rattle.gc_catalogue.specs.declared.call.Call.TheVariants.{NullProc, SetPrecision, GetPrecision, ComVersion, InstrumentNo, InstrumentName, SetDate, GetDate, IntTemp, CsvVersion, DoMeasure, GetStation, SetStation, GetHeight, SetHeight, GetFace, GetAngle, SimpleMea, QuickDist, SetPrism, GetPrism, MeasDistance, Position, ChangeFace, FineAdjust}
-use Rattle.gc_values.specs.Decimals.{zero}
 
 -- a call of each procedure; its parameters don't matter
 abbrev pub each_procedure : List Call

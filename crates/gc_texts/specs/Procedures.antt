@@ -1,8 +1,6 @@
 -- Numbers of a text, and procedures with their parameters, as the texts of commands, stations and schedules have them: this project's own.
+use Rattle.gc_texts.specs.Common.{NamesNumber, IsCall, Call}
 use Rattle.std.specs.Prelude.{◌≡◌, ℕ, ◌<◌, ◌≤◌, List, [], ◌∷◌, ◌++◌, length, Option, Some, None, unwrap_or}
-use Rattle.gc_values.specs.Whole.{NamesNumber}
-use Rattle.gc_catalogue.specs.Calls.{IsCall}
-use Rattle.gc_catalogue.specs.declared.call.Call.{Call}
 
 -- the text is the number `n` in digits, without a sign, and `n` is at most `max`
 pub record IsNumber (text : List ℕ) (n max : ℕ) : Type 0 where

@@ -1,6 +1,6 @@
 -- What holds of the chains of a station's text and of their attempts: this project's own.
+use Rattle.gc_texts.specs.Common.{AllByRecursion, flat_map}
 use Rattle.std.specs.Prelude.{◌≡◌, ℕ, zero, suc, ◌+◌, Bool, false, List, [], ◌∷◌, ◌++◌, length, map, Option}
-use Rattle.std.specs.List.{AllByRecursion, flat_map}
 use Rattle.gc_texts.specs.Again.{no_again}
 use Rattle.gc_texts.specs.Attempts.{attempt_number}
 use Rattle.gc_texts.specs.Chained.{section_after, IsRetryAfter, IsAgreeAfter}
@@ -14,11 +14,11 @@ use Rattle.gc_texts.specs.declared.description.Description.{Description}
 use Rattle.gc_texts.specs.declared.near.Near.{Near}
 use Rattle.gc_texts.specs.declared.retry.Retry.{Retry}
 use Rattle.gc_texts.specs.declared.task_line.TaskLine.{TaskLine}
-use Rattle.gc_texts.specs.declared.task_line.TaskLine.TheVariants as says
 use Rattle.gc_texts.specs.declared.wish.Wish.{Wish}
 use Rattle.gc_texts.specs.declared.wording.Wording.{Wording}
 use Rattle.gc_texts.specs.declared.attempts.Planned.{Planned}
 use Rattle.gc_texts.specs.declared.tasks.Task.{Task}
+use Rattle.gc_texts.specs.declared.task_line.TaskLine.TheVariants as says
 
 -- a task without what distinguishes the attempts of its chain: it has no rule, attempt number 1 and a count of others of 0, as before its
 -- chain was laid out in attempts, and all else is kept

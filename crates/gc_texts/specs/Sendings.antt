@@ -2,10 +2,10 @@
 -- This project's own.
 use Rattle.std.specs.Prelude.{ℕ, ◌+◌, true, List, [], ◌∷◌, ◌++◌, length, Option, None, Some}
 use Rattle.gc_texts.specs.declared.agree.Agree.{Agree}
-use Rattle.gc_texts.specs.declared.agree.Twice.TheVariants as twice
 use Rattle.gc_texts.specs.declared.sending.Sending.{Sending}
 use Rattle.gc_texts.specs.declared.sending.Sending.TheVariants.{Once, First, Second}
 use Rattle.gc_texts.specs.declared.tasks.Task.{Task}
+use Rattle.gc_texts.specs.declared.agree.Twice.TheVariants as twice
 
 -- a command of a chain as it is in this sending; `nth` is its place in the chain, counted from 0, and `count` how many commands the chain
 -- has. In two sendings the places of the commands are counted through both, and all commands of the second are chained

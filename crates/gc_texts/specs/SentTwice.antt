@@ -1,6 +1,6 @@
 -- What holds of the tasks of a chain that is sent twice: this project's own.
+use Rattle.gc_texts.specs.Common.{AllByRecursion}
 use Rattle.std.specs.Prelude.{◌≡◌, ℕ, ◌+◌, ◌<◌, Bool, true, List, [], ◌∷◌, ◌++◌}
-use Rattle.std.specs.List.{AllByRecursion}
 use Rattle.gc_texts.specs.Tasks.{TasksSeen, IsTasks}
 use Rattle.gc_texts.specs.declared.agree.Agree.{Agree}
 use Rattle.gc_texts.specs.declared.agree.Twice.TheVariants.{First, Second}

@@ -1,8 +1,6 @@
 -- Moments as text: UTC by the Gregorian calendar, in the form of ISO 8601; that a stamp has milliseconds is this project's own.
+use Rattle.gc_texts.specs.Common.{decimal, is_leap, month_days, DateTime}
 use Rattle.std.specs.Prelude.{ℕ, zero, suc, ◌+◌, ◌/◌, ◌%◌, nat_lt, List, [], ◌∷◌, ◌++◌, if◌then◌else◌, codes, min, pos}
-use Rattle.std.specs.Fmt.{decimal}
-use Rattle.gc_catalogue.specs.Calendar.{is_leap, month_days}
-use Rattle.gc_catalogue.specs.declared.call.DateTime.{DateTime}
 use Rattle.gc_texts.specs.declared.stamp.Date.{Date}
 
 -- how many days a year has

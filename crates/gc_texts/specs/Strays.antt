@@ -2,8 +2,8 @@
 -- nothing was altered it repeats the reply that settled last, so its id is the one before that of the oldest outstanding request, or
 -- before the next id if none is outstanding. Any other stray shows that it was altered, or the line that settled last. A reply without
 -- an id shows nothing: such replies may come from elsewhere.
+use Rattle.gc_texts.specs.Common.{place}
 use Rattle.std.specs.Prelude.{ℕ, Bool, false, ◌&&◌, not, Option, Some, None, nat_lt, nat_eq}
-use Rattle.gc_client.specs.Rule.{place}
 use Rattle.gc_client.specs.declared.window.TheConstants.{WINDOW}
 
 -- whether a reply is a stray that can't repeat the reply that settled last: no request is outstanding with its id, which isn't the one

@@ -1,7 +1,6 @@
 -- The lines of a station's text, and what each says: this project's own.
+use Rattle.gc_texts.specs.Common.{Table, SetDate}
 use Rattle.std.specs.Prelude.{◌≡◌, ◌⊎◌, ℕ, ◌≤◌, true, false, List, ◌∷◌, ◌++◌, Option, None, Some, codes}
-use Rattle.gc_catalogue.specs.declared.asked.Asked.TheVariants.{Table}
-use Rattle.gc_catalogue.specs.declared.call.Call.TheVariants.{SetDate}
 use Rattle.gc_texts.specs.Agrees.{IsAgreeText}
 use Rattle.gc_texts.specs.Codes.{IsCodeList, no_codes}
 use Rattle.gc_texts.specs.Descriptions.{IsDescription, description_seen}

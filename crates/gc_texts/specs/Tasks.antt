@@ -5,16 +5,8 @@
 -- is setup, in every how many cycles it has its turn, how many commands of each section are in front, how many of those in front are in the
 -- last chain, how many have an item `>`, and how many values of files these take. A group is a run of commands for one target, with no line
 -- `chained`, `unchained`, `retry`, `agree`, `at start`, `each cycle` or `every N cycles` between them.
+use Rattle.gc_texts.specs.Common.{flat_map, ArrayVec, Asked, raw_bytes, Table, Raw, SetDate, RawCall, FILE_VALUES, Value}
 use Rattle.std.specs.Prelude.{◌≡◌, ℕ, ◌+◌, ◌*◌, ◌≤◌, ◌<◌, ◌⊎◌, ◌==◌, ◌&&◌, ◌||◌, Bool, true, false, not, nat_le, nat_lt, List, [], ◌∷◌, ◌++◌, length, map, filter, drop, Option, None, Some, Vec, vec_capacity, vec_len, if◌then◌else◌}
-use Rattle.std.specs.List.{flat_map}
-use Rattle.arrayvec.specs.ArrayVec.{ArrayVec}
-use Rattle.gc_catalogue.specs.declared.asked.Asked.{Asked}
-use Rattle.gc_catalogue.specs.RawTexts.{raw_bytes}
-use Rattle.gc_catalogue.specs.declared.asked.Asked.TheVariants.{Table, Raw}
-use Rattle.gc_catalogue.specs.declared.call.Call.TheVariants.{SetDate}
-use Rattle.gc_catalogue.specs.declared.raw.RawCall.{RawCall}
-use Rattle.gc_values.specs.declared.file_value.TheConstants.{FILE_VALUES}
-use Rattle.gc_values.specs.declared.value.Value.{Value}
 use Rattle.gc_texts.specs.Again.{no_again}
 use Rattle.gc_texts.specs.Attempts.{laid_out}
 use Rattle.gc_texts.specs.Codes.{no_codes}
@@ -41,7 +33,6 @@ use Rattle.gc_texts.specs.declared.form.Form.{Form}
 use Rattle.gc_texts.specs.declared.name.Name.{Name}
 use Rattle.gc_texts.specs.declared.near.Near.{Near}
 use Rattle.gc_texts.specs.declared.task_line.TaskLine.{TaskLine}
-use Rattle.gc_texts.specs.declared.task_line.TaskLine.TheVariants as says
 use Rattle.gc_texts.specs.declared.mode.Mode.{Mode}
 use Rattle.gc_texts.specs.declared.mode.Standing.{Standing}
 use Rattle.gc_texts.specs.declared.occasion.Occasion.{Occasion}
@@ -54,6 +45,7 @@ use Rattle.gc_texts.specs.declared.turn.Turn.{Turn}
 use Rattle.gc_texts.specs.declared.wish.Wish.{Wish}
 use Rattle.gc_texts.specs.declared.wording.Wording.{Wording}
 use Rattle.gc_texts.specs.declared.wording.Wording.TheVariants.{Described}
+use Rattle.gc_texts.specs.declared.task_line.TaskLine.TheVariants as says
 
 -- the mode before any line: the caller's deadline and chaining, no group, no code that is accepted beside 0 or says busy, no retry, and no
 -- second sending;

@@ -1,17 +1,9 @@
 -- Which field of a faulty line of a station's text, or of a text of commands, is at fault: this project's own.
+use Rattle.gc_texts.specs.Common.{decimal, IsCall, IsNoProcedure, IsParameterCount, IsProcedure, IsRefusal, IsRawCall, IsRawRefusal, Call, ValueFault, Count, TooMany, SpellsDecimal, zero, is_place, is_tolerance, Decimal}
 use Rattle.std.specs.Prelude.{◌≡◌, ◌≢◌, ℕ, ◌<◌, ◌⊎◌, Bool, true, false, List, ◌∷◌, ◌++◌, length, Some, None, codes}
-use Rattle.std.specs.Fmt.{decimal}
-use Rattle.gc_catalogue.specs.Calls.{IsCall, IsNoProcedure, IsParameterCount, IsProcedure, IsRefusal}
-use Rattle.gc_catalogue.specs.Raws.{IsRawCall, IsRawRefusal}
-use Rattle.gc_catalogue.specs.declared.call.Call.{Call}
 use Rattle.gc_catalogue.specs.declared.fault.CallFault.TheVariants.{Unknown, Parameters}
 use Rattle.gc_catalogue.specs.declared.raw.RawFault.{RawFault}
 use Rattle.gc_catalogue.specs.declared.raw.RawFault.TheVariants.{InTable, TooLong}
-use Rattle.gc_values.specs.declared.fault.ValueFault.{ValueFault}
-use Rattle.gc_values.specs.declared.fault.ValueFault.TheVariants.{Count, TooMany}
-use Rattle.gc_values.specs.Decimals.{SpellsDecimal, zero}
-use Rattle.gc_values.specs.Directions.{is_place, is_tolerance}
-use Rattle.gc_values.specs.declared.decimal.Decimal.{Decimal}
 use Rattle.gc_texts.specs.Procedures.{IsRpc, IsTarget}
 use Rattle.gc_texts.specs.Cuts.{Cuts, Lacks, behind}
 use Rattle.gc_texts.specs.Descriptions.{IsDescription, description_seen}
@@ -23,10 +15,10 @@ use Rattle.gc_texts.specs.ValueItems.{AreValueFiles, value_items, values_in}
 use Rattle.gc_texts.specs.Words.{first_word, second_word, third_word, after_two_words}
 use Rattle.gc_texts.specs.declared.description.Description.{Description}
 use Rattle.gc_texts.specs.declared.task_line.TaskLine.{TaskLine}
-use Rattle.gc_texts.specs.declared.task_line.TaskLine.TheVariants as says
 use Rattle.gc_texts.specs.declared.trouble.Trouble.{Trouble}
-use Rattle.gc_texts.specs.declared.trouble.Trouble.TheVariants as trouble
 use Rattle.gc_texts.specs.declared.wording.Wording.TheVariants.{Described}
+use Rattle.gc_texts.specs.declared.task_line.TaskLine.TheVariants as says
+use Rattle.gc_texts.specs.declared.trouble.Trouble.TheVariants as trouble
 
 -- what is reported of this fault in the parameters of a procedure that has `count` of them: `count`, where the line has another
 -- number of them; else that their spelling is at fault

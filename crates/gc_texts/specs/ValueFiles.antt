@@ -1,10 +1,6 @@
 -- The files of the values that a station's tasks take, in the order of the values: this project's own.
+use Rattle.gc_texts.specs.Common.{raw_bytes, Raw, RawCall, FILE_VALUES, ValueFile}
 use Rattle.std.specs.Prelude.{◌≡◌, ◌⊎◌, ◌≤◌, ◌==◌, ◌&&◌, ◌++◌, ℕ, Bool, true, false, not, List, [], ◌∷◌, length}
-use Rattle.gc_catalogue.specs.RawTexts.{raw_bytes}
-use Rattle.gc_catalogue.specs.declared.asked.Asked.TheVariants.{Raw}
-use Rattle.gc_catalogue.specs.declared.raw.RawCall.{RawCall}
-use Rattle.gc_values.specs.declared.file_value.TheConstants.{FILE_VALUES}
-use Rattle.gc_values.specs.declared.file_value.ValueFile.{ValueFile}
 use Rattle.gc_texts.specs.ValueItems.{IsValueFile, value_items}
 use Rattle.gc_texts.specs.declared.tasks.Task.{Task}
 

@@ -1,15 +1,6 @@
 -- Values of files in a command's parameters: which items stand for them, and the request that they make with values. This project's own.
+use Rattle.gc_texts.specs.Common.{list_any, IsFileAt, value_bytes, value_text, joined, FILE_VALUES, ValueFile, with_params, raw_bytes, Asked, Raw, RawCall}
 use Rattle.std.specs.Prelude.{◌≡◌, ◌≤◌, ◌==◌, ◌++◌, ℕ, Bool, true, false, List, [], ◌∷◌, length, take, drop, filter, replicate, Option, unwrap_or, codes, if◌then◌else◌}
-use Rattle.std.specs.List.{list_any}
-use Rattle.gc_values.specs.FileValues.{IsFileAt, value_bytes, value_text}
-use Rattle.gc_values.specs.Params.{joined}
-use Rattle.gc_values.specs.declared.file_value.TheConstants.{FILE_VALUES}
-use Rattle.gc_values.specs.declared.file_value.ValueFile.{ValueFile}
-use Rattle.gc_catalogue.specs.RawAgain.{with_params}
-use Rattle.gc_catalogue.specs.RawTexts.{raw_bytes}
-use Rattle.gc_catalogue.specs.declared.asked.Asked.{Asked}
-use Rattle.gc_catalogue.specs.declared.asked.Asked.TheVariants.{Raw}
-use Rattle.gc_catalogue.specs.declared.raw.RawCall.{RawCall}
 use Rattle.gc_texts.specs.Procedures.{IsNumber}
 use Rattle.gc_texts.specs.WordLists.{pieces_of}
 use Rattle.gc_texts.specs.declared.value_item.Needs.{Needs}

@@ -1,6 +1,6 @@
 -- Which targets a station's text leaves unwatched: this project's own.
+use Rattle.gc_texts.specs.Common.{list_any}
 use Rattle.std.specs.Prelude.{ℕ, ◌==◌, Bool, List}
-use Rattle.std.specs.List.{list_any}
 
 -- whether one of these targets is this one
 abbrev pub is_unwatched : (target : ℕ) → (unwatched : List ℕ) → Bool

@@ -1,7 +1,6 @@
 -- Texts that are read whole from a source, what they give, and why they are refused: this project's own.
+use Rattle.gc_texts.specs.Common.{Consumes, IsAtEnd, Ports}
 use Rattle.std.specs.Prelude.{◌≡◌, ℕ, ◌+◌, ◌<◌, ◌≤◌, ◌⊎◌, Bool, true, false, List, length, Option}
-use Rattle.std.specs.Io.KnownBytes.{Consumes, IsAtEnd}
-use Rattle.gc_lines.specs.Answering.{Ports}
 use Rattle.gc_lines.specs.declared.ports.Source.{Ghosts as Source}
 use Rattle.gc_texts.specs.Commands.{IsCommand, IsCommands}
 use Rattle.gc_texts.specs.LineForms.{TextFault}

@@ -1,10 +1,7 @@
 -- Wishes: what a station is to ask, and of which target: a procedure of the table, or any other with its parameters as they are. This
 -- project's own.
+use Rattle.gc_texts.specs.Common.{Asked, Table, Raw, raw_bytes, RawCall}
 use Rattle.std.specs.Prelude.{◌≡◌, ◌⊎◌, ◌<◌, ℕ, List, length, codes}
-use Rattle.gc_catalogue.specs.declared.asked.Asked.{Asked}
-use Rattle.gc_catalogue.specs.declared.asked.Asked.TheVariants.{Table, Raw}
-use Rattle.gc_catalogue.specs.RawTexts.{raw_bytes}
-use Rattle.gc_catalogue.specs.declared.raw.RawCall.{RawCall}
 use Rattle.gc_texts.specs.Commands.{IsCommand}
 use Rattle.gc_texts.specs.Procedures.{IsProcedureText, IsRpc, IsTarget}
 use Rattle.gc_texts.specs.Cuts.{behind}

@@ -1,8 +1,6 @@
 -- The line that a reply would be if its return code were 0, by which the parameters of a reply with a warning are read: this project's own.
+use Rattle.gc_texts.specs.Common.{LineFault, reply_at, ReplyFields, reply_text}
 use Rattle.std.specs.Prelude.{ℕ, List, Result, Ok, Err}
-use Rattle.gc_lines.specs.declared.fault.LineFault.{LineFault}
-use Rattle.gc_lines.specs.Readers.{reply_at}
-use Rattle.gc_lines.specs.Replies.{ReplyFields, reply_text}
 
 -- where `line` reads as the fields of a reply, the line of the same fields with return code 0; where it doesn't, `line` itself
 abbrev pub zeroed : (read : Result ReplyFields LineFault) → (line : List ℕ) → List ℕ

@@ -1,25 +1,11 @@
 -- Of an agreed answer and the one that it agrees with, one line at least is own, or both are damaged: both records have their answers, and
 -- two records have two requests, which aren't settled by damaged lines at one step.
-use Rattle.std.proofs.Common.{◌≡◌, inl, inr, ℕ, ◌+◌, ◌<◌, true, List, ◌∷◌, ◌++◌, length, Option, Some, sym, ◌∙◌, ap, subst, arith, append_assoc}
-use Rattle.std.specs.Prelude.{slice_get}
+use Rattle.gc_theorems.proofs.Common.{◌≡◌, inl, inr, ℕ, ◌+◌, ◌<◌, true, List, ◌∷◌, ◌++◌, length, Option, Some, sym, ◌∙◌, ap, subst, arith, append_assoc, slice_get, same_Some, Answer, KeptReply, line_of, AgreesWithFirst, went_out, Record, get_behind, Ends, UnderWay, IsAnInstrument, HarmedProgram, IsInHarmedField, IsLocal, IsRunLocal, WasSettledByDamage, parts_of_program, records_of_program, sent_before, HarmedStretch, HasDamageApart}
 use Rattle.std.proofs.lemmas.List.{length-append}
-use Rattle.std.proofs.lemmas.Option.{same_Some}
 use Rattle.gc_lines.proofs.Lists.{all_at}
-use Rattle.gc_catalogue.specs.declared.answer.Answer.{Answer}
-use Rattle.gc_instrument.specs.State.{KeptReply}
-use Rattle.gc_texts.specs.Endings.{line_of}
 use Rattle.gc_texts.specs.declared.agree.Agree.{Agree}
-use Rattle.gc_station.specs.Agreeing.{AgreesWithFirst}
-use Rattle.gc_station.specs.Parts.{went_out}
-use Rattle.gc_station.specs.Records.{Record}
-use Rattle.gc_station.proofs.Lists.{get_behind}
 use Rattle.gc_station.proofs.Nearly.{rows_agree}
-use Rattle.gc_theorems.specs.World.{Ends}
-use Rattle.gc_theorems.specs.Begin.{UnderWay}
-use Rattle.gc_theorems.specs.Instrument.{IsAnInstrument}
 use Rattle.gc_theorems.specs.Agreed.{AnswerOf, HasAnOwnAnswer, HasAnOwnAnswerIfAgreed, IsOneOwn}
-use Rattle.gc_theorems.specs.DamagedRuns.{HarmedProgram, IsInHarmedField, IsLocal, IsRunLocal, WasSettledByDamage, parts_of_program, records_of_program, sent_before}
-use Rattle.gc_theorems.specs.Stretches.{HarmedStretch, HasDamageApart}
 use Rattle.gc_theorems.proofs.FewRecords.{more_sent}
 use Rattle.gc_theorems.proofs.DamagedRuns.{run_local}
 

@@ -1,21 +1,8 @@
 -- Two requests are sent at once, and the instrument keeps a reply with the second one's id: that reply is booked for the
 -- second request.
-use Rattle.std.proofs.Common.{◌≡◌, ℕ, true, false, List, [], ◌∷◌, ◌++◌, Option, Some, sym, ◌∙◌, ap, subst, lit<}
-use Rattle.gc_catalogue.specs.declared.asked.Asked.TheVariants.{Table}
-use Rattle.gc_catalogue.specs.declared.call.Call.TheVariants.{NullProc}
-use Rattle.gc_catalogue.specs.declared.asked.Asked.{Asked}
-use Rattle.gc_client.specs.declared.window.TheConstants.{WINDOW}
-use Rattle.gc_client.specs.Rule.{ById, hears}
-use Rattle.gc_instrument.proofs.Answering.{handed_again}
-use Rattle.gc_instrument.specs.Replying.{Handed, kept_line}
-use Rattle.gc_instrument.specs.State.{State, IsFittingState}
-use Rattle.gc_world.specs.Clients.{by_ids, ids_open}
-use Rattle.gc_theorems.specs.Simulator.{simulator_ends}
-use Rattle.gc_theorems.specs.World.{Numbered, Request, World, Up_deliver, Up_lose, on_wire, replied, with_settled, down_delivered}
-use Rattle.gc_world.proofs.Handing.{exchange, kept_of}
-use Rattle.gc_theorems.specs.Field.{Move, Sends, OnLine, moved}
+use Rattle.gc_theorems.proofs.Common.{◌≡◌, ℕ, true, false, List, [], ◌∷◌, ◌++◌, Option, Some, sym, ◌∙◌, ap, subst, lit<, Table, NullProc, Asked, WINDOW, ById, hears, handed_again, Handed, kept_line, State, IsFittingState, by_ids, ids_open, simulator_ends, Numbered, Request, World, Up_deliver, Up_lose, on_wire, replied, with_settled, down_delivered, exchange, Move, Sends, OnLine, moved, WasMadeFrom, wire_behind}
+use Rattle.gc_world.proofs.Handing.{kept_of}
 use Rattle.gc_theorems.specs.Alone.{SecondIsBookedUnexecuted, two_at_once}
-use Rattle.gc_theorems.specs.Made.{WasMadeFrom, wire_behind}
 
 module _ (s : State) (line : List ℕ) where
   -- the world in which the second request alone is in flight

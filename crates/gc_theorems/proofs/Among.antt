@@ -1,13 +1,6 @@
 -- What is at a place of a list that was appended or cut, or of two lists of which a relation holds place by place; and
 -- settlements among those of requests that were lost.
-use Rattle.std.proofs.Common.{◌≡◌, ℕ, zero, suc, ◌+◌, ◌-◌, List, [], ◌∷◌, ◌++◌, map, Some, refl, sym, ◌∙◌, ap, subst, arith, drop}
-use Rattle.std.specs.Prelude.{slice_get}
-use Rattle.std.specs.List.{AllZip, AllByRecursion}
-use Rattle.gc_catalogue.specs.declared.asked.Asked.{Asked}
-use Rattle.gc_client.specs.declared.pending.Pending.{Pending}
-use Rattle.gc_client.specs.Rule.{Lost, Settlement, lost}
-use Rattle.gc_world.proofs.Places.{slice_drop}
-use Rattle.std.proofs.lemmas.Option.{none-some, same_Some}
+use Rattle.gc_theorems.proofs.Common.{◌≡◌, ℕ, zero, suc, ◌+◌, ◌-◌, List, [], ◌∷◌, ◌++◌, map, Some, refl, sym, ◌∙◌, ap, subst, arith, drop, slice_get, AllZip, AllByRecursion, Asked, Pending, Lost, Settlement, lost, slice_drop, none-some, same_Some}
 
 -- among the settlements of lost requests (`ps`), the one at place n has the outcome `Lost`
 pub lost_at : (ps : List (Pending Asked)) (n : ℕ) (x : Settlement Asked) → slice_get (map lost ps) n ≡ Some x → x.outcome ≡ Lost

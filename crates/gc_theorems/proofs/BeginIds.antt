@@ -1,10 +1,8 @@
 -- A synchronization over a line of ids alone: the line, its two ends, what may happen, and a run. The *word* of a
 -- synchronization is the list of the ids of its null procedures. The client asks them one after the other, each until it is
 -- answered.
+use Rattle.gc_theorems.proofs.Common.{AllByRecursion, IsSubsequence, left_by, without, doubled}
 use Rattle.std.specs.Prelude.{◌≡◌, ℕ, zero, suc, ◌+◌, ◌%◌, Bool, true, false, List, [], ◌∷◌, ◌++◌, map, Option, Some, None}
-use Rattle.std.specs.List.{AllByRecursion}
-use Rattle.gc_client.specs.Beginning.{IsSubsequence, left_by}
-use Rattle.gc_theorems.specs.World.{without, doubled}
 
 -- The line.
 

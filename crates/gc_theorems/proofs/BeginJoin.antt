@@ -1,34 +1,16 @@
 -- A synchronization over lines of bytes is one over their ids: any turns of the former are some moves of the latter. `Shows`
 -- says that the state of the one over ids is that of the one over lines.
-use Rattle.std.proofs.Common.{◌≡◌, ℕ, ◌<◌, ◌⊎◌, inl, inr, Bool, true, false, List, [], ◌∷◌, ◌++◌, map, Option, Some, None, refl, sym, ◌∙◌, ap, subst, arith, append_assoc}
-use mathlib.Core.List.{map-map}
-use mathlib.Core.Path.{ap₂}
-use Rattle.std.specs.List.{filter_map, cons_option, AllByRecursion}
-use Rattle.std.proofs.lemmas.Bool.{ne_eqb, true≢false}
-use Rattle.std.proofs.lemmas.List.{map-append}
-use Rattle.gc_catalogue.specs.Asked.{is_of_table}
-use Rattle.gc_catalogue.specs.declared.asked.Asked.{Asked}
-use Rattle.gc_catalogue.specs.declared.asked.Asked.TheVariants.{Table}
-use Rattle.gc_catalogue.specs.declared.call.Call.TheVariants.{NullProc}
-use Rattle.gc_client.specs.Beginning.{IsSubsequence, the_word, is_answered, left_by, left_when}
-use Rattle.gc_client.specs.Rule as rule
-use Rattle.gc_instrument.specs.Replying.{Handed}
-use Rattle.gc_instrument.specs.State.{KeptReply, kept_id}
-use Rattle.gc_theorems.specs.World.{Ends, Request, without, doubled}
-use Rattle.std.proofs.lemmas.Option.{same_Some, none-some}
-use Rattle.gc_world.proofs.Rows.{each_without, each_doubled}
-use Rattle.gc_theorems.specs.Begin.{InFlight, IsWellFormed, LacksTheWord, AreTurns, SyncModel, SyncTurn, Asks, Comes, Foreign, Reaches, Up_lose, Up_repeat, Down_lose, Down_repeat, Anew, Changes, UnderWay, begins, leaves, ids_under_way, asks, comes, reaches, turns, turned, left_by_turns}
-use Rattle.gc_theorems.specs.Begun.{HasSynchronizedCleanly, NoneIsOld, eighth_null}
-use Rattle.gc_theorems.specs.Instrument.{IsAnInstrument, IsOwnOrNone, MayForget, own_reply}
-use Rattle.gc_theorems.proofs.BeginIds as ids
+use Rattle.gc_theorems.proofs.Common.{◌≡◌, ℕ, ◌<◌, ◌⊎◌, inl, inr, Bool, true, false, List, [], ◌∷◌, ◌++◌, map, Option, Some, None, refl, sym, ◌∙◌, ap, subst, arith, append_assoc, map-map, ap₂, filter_map, cons_option, AllByRecursion, ne_eqb, true≢false, map-append, is_of_table, Asked, Table, NullProc, IsSubsequence, the_word, is_answered, left_by, left_when, Handed, KeptReply, kept_id, Ends, Request, without, doubled, same_Some, none-some, each_without, each_doubled, IsWellFormed, LacksTheWord, AreTurns, SyncModel, SyncTurn, Asks, Reaches, UnderWay, begins, leaves, ids_under_way, asks, comes, reaches, turns, turned, left_by_turns, HasSynchronizedCleanly, eighth_null, IsAnInstrument, IsOwnOrNone, MayForget, own_reply, all_append, every_front as all_front}
+use Rattle.gc_theorems.specs.Begin.{InFlight, Comes, Foreign, Up_lose, Up_repeat, Down_lose, Down_repeat, Anew, Changes}
+use Rattle.gc_theorems.specs.Begun.{NoneIsOld}
 use Rattle.gc_theorems.proofs.BeginIds.{IdSent, IsCleanByIds, aged, begun_anew, ids_in_flight, ids_of, moved}
 use Rattle.gc_theorems.proofs.BeginKilled.{IsFirstLeft, SplitWord, upto_absent_after_moves, upto_absent_unanswered, begins_anew, ids_before, ids_upto}
 use Rattle.gc_theorems.proofs.BeginLists.{each_map}
-use Rattle.gc_lines.proofs.Lists.{all_append}
-use Rattle.gc_values.proofs.Every.{every_front as all_front}
 use Rattle.gc_theorems.proofs.BeginSound.{the_word_begins_cleanly}
 use Rattle.gc_theorems.proofs.Once.{still_retained}
 use Rattle.gc_world.proofs.Queues.{without_map, doubled_map}
+use Rattle.gc_client.specs.Rule as rule
+use Rattle.gc_theorems.proofs.BeginIds as ids
 
 -- Ids. For a line without an id there is the number 8, which no line has as its id.
 

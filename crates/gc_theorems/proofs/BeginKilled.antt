@@ -2,23 +2,13 @@
 -- (The word has the ids of a synchronization's null procedures.) `first` has the ids in flight at the start of a
 -- synchronization, and `left` those of the word that aren't answered yet; old lines are from before it, own ones are its own.
 -- `IsTrying` is the invariant.
-use Rattle.std.proofs.Common.{◌≡◌, ℕ, zero, ◌⊎◌, inl, inr, Bool, true, false, List, [], ◌∷◌, ◌++◌, nat_eq, refl, sym, ◌∙◌, ap, subst, append-nil, append_assoc, Some}
-use Rattle.std.specs.List.{AllByRecursion}
-use mathlib.Core.List.{map-map}
-use Rattle.std.proofs.lemmas.Bool.{eqb-true, false≢true}
-use Rattle.std.proofs.lemmas.List.{append_cancel_left, map-append}
-use Rattle.gc_client.specs.Beginning.{left_by, left_when, IsSubsequence, the_word}
+use Rattle.gc_theorems.proofs.Common.{◌≡◌, ℕ, zero, ◌⊎◌, inl, inr, Bool, true, false, List, [], ◌∷◌, ◌++◌, nat_eq, refl, sym, ◌∙◌, ap, subst, append-nil, append_assoc, Some, AllByRecursion, map-map, eqb-true, false≢true, append_cancel_left, map-append, left_by, left_when, IsSubsequence, the_word, without, doubled, all_append, every_behind as all_behind, every_weaker as all_on, each_without, each_doubled, cons_head, one_front_begins_other}
 use Rattle.gc_theorems.proofs.BeginIds.{IdSent, IdModel, IdMove, moved, aged, begun_anew, AllPairsByRecursion, AllDiffer, Begins, ids_in_flight, ids_of}
-use Rattle.gc_theorems.specs.World.{without, doubled}
-use Rattle.gc_lines.proofs.Lists.{all_append}
-use Rattle.gc_values.proofs.Every.{every_behind as all_behind, every_weaker as all_on}
 use Rattle.gc_theorems.proofs.BeginLists.{each_all, each_both, each_map, each_to_map, pairs_front, pairs_back}
 use Rattle.gc_theorems.proofs.BeginWords.{HasNoMoreWords, subword_front, subword_each, word_ids_differ}
 use Rattle.gc_theorems.proofs.BeginMoves.{Lasts, holds_moved}
 use Rattle.gc_theorems.proofs.BeginLines.{FrontAnswers, IsLine, IsOld, IsOwn, KeepsOwn, HasNoneIfOwn, KeepsTheId, OwnIdsFit, old_if, olds, olds_all, olds_push, no_more_words_without, no_more_words_doubled, line_without, line_doubled, line_asked, line_came}
 use Rattle.gc_theorems.proofs.BeginSound.{sound_at_start}
-use Rattle.gc_world.proofs.Rows.{each_without, each_doubled}
-use Rattle.gc_station.proofs.Lists.{cons_head, one_front_begins_other}
 
 -- The invariant of one synchronization.
 

@@ -1,17 +1,10 @@
 -- The whole line, replies first: what holds of it from the synchronization on, whatever it loses or repeats, and whatever
 -- comes. A line, be it a request or a reply, is old if it is from before this synchronization, and else own. `left` has the ids
 -- of the word that aren't answered yet, and z is the word's last id. `IsLine` is the invariant.
-use Rattle.std.proofs.Common.{◌≡◌, ℕ, zero, suc, inl, Bool, true, false, List, [], ◌∷◌, ◌++◌, nat_eq, refl, sym, ◌∙◌, ap, subst, Some}
-use Rattle.std.specs.List.{AllByRecursion}
-use Rattle.std.proofs.lemmas.Bool.{eqb-true, true≢false, false≢true}
-use Rattle.gc_lines.proofs.Lists.{all_append}
-use Rattle.gc_values.proofs.Every.{every_weaker as all_on}
-use Rattle.gc_client.specs.Beginning.{left_by, left_when, IsSubsequence}
+use Rattle.gc_theorems.proofs.Common.{◌≡◌, ℕ, zero, suc, inl, Bool, true, false, List, [], ◌∷◌, ◌++◌, nat_eq, refl, sym, ◌∙◌, ap, subst, Some, AllByRecursion, eqb-true, true≢false, false≢true, all_append, every_weaker as all_on, left_by, left_when, IsSubsequence, without, doubled, each_without, each_doubled}
 use Rattle.gc_theorems.proofs.BeginIds.{IdSent, AllPairsByRecursion, AllDiffer, ids_of, last}
-use Rattle.gc_theorems.specs.World.{without, doubled}
 use Rattle.gc_theorems.proofs.BeginLists.{pairs_without, pairs_doubled, pairs_push, pairs_of_each}
 use Rattle.gc_theorems.proofs.BeginWords.{HasNoMoreWords, no_more_words_behind, no_more_words_twice, subword_more, cons_not_nil}
-use Rattle.gc_world.proofs.Rows.{each_without, each_doubled}
 
 -- The invariant.
 

@@ -1,13 +1,8 @@
 -- What holds of each element, and of each two, when one is lost, comes twice, or comes at the end; and that what is lost or
 -- comes twice in one of two queues is so in the whole line, the one queue and then the other. `AllPairsByRecursion R` says R of
 -- each element and each one after it; `without k` is the loss of element k, and `doubled k` its repeat.
-use Rattle.std.proofs.Common.{◌≡◌, ℕ, zero, suc, ◌⊎◌, inl, inr, List, [], ◌∷◌, ◌++◌, map, refl, ap}
-use Rattle.std.specs.List.{AllByRecursion}
-use Rattle.gc_lines.proofs.Lists.{all_append}
-use Rattle.gc_values.proofs.Every.{every_front as all_front, every_behind as all_behind}
+use Rattle.gc_theorems.proofs.Common.{◌≡◌, ℕ, zero, suc, ◌⊎◌, inl, inr, List, [], ◌∷◌, ◌++◌, map, refl, ap, AllByRecursion, all_append, every_front as all_front, every_behind as all_behind, without, doubled, each_without, each_doubled}
 use Rattle.gc_theorems.proofs.BeginIds.{AllPairsByRecursion}
-use Rattle.gc_theorems.specs.World.{without, doubled}
-use Rattle.gc_world.proofs.Rows.{each_without, each_doubled}
 
 -- where Q of an element x implies P of f x, and each element of a list has Q, each element of the mapped list has P
 pub each_map : {A B : Type 0} (Q : A → Type 0) (P : B → Type 0) (f : A → B) → ((x : A) → Q x → P (f x)) → (xs : List A) → AllByRecursion Q xs → AllByRecursion P (map f xs)

@@ -1,9 +1,7 @@
 -- A fact of the whole line, replies first, that is preserved by the four things that can happen to the line is preserved by each
 -- move of a synchronization.
-use Rattle.std.proofs.Common.{◌≡◌, ℕ, inl, inr, false, List, [], ◌∷◌, ◌++◌, refl, sym, subst, append_assoc, Some}
-use Rattle.gc_client.specs.Beginning.{left_by}
+use Rattle.gc_theorems.proofs.Common.{◌≡◌, ℕ, inl, inr, false, List, [], ◌∷◌, ◌++◌, refl, sym, subst, append_assoc, Some, left_by, without, doubled}
 use Rattle.gc_theorems.proofs.BeginIds.{IdSent, IdModel, IdMove, Ask, Reach, Pass, Come, Up_lose, Up_repeat, Down_lose, Down_repeat, Anew, asks, reaches, passes, comes, moves, moved}
-use Rattle.gc_theorems.specs.World.{without, doubled}
 use Rattle.gc_theorems.proofs.BeginLists.{lost_back, lost_front, twice_back, twice_front}
 
 -- a fact of the ids that are left, and of the line, is preserved by a loss, a repeat, a request that is sent and a reply that

@@ -1,18 +1,12 @@
 -- A whole synchronization: the invariant of its line (`IsLine`) holds through each move, and so does what is known of the id of
 -- the reply that the instrument keeps (`KeptIdFits`). `IsSound` is both.
-use Rattle.std.proofs.Common.{◌≡◌, ℕ, Bool, true, false, List, [], ◌∷◌, ◌++◌, Option, Some, None, IfSome, nat_eq, refl, sym, ◌∙◌, subst}
-use Rattle.std.specs.List.{AllByRecursion}
-use Rattle.std.proofs.lemmas.Bool.{eqb-true, false≢true}
-use Rattle.gc_client.specs.Beginning.{left_by, left_when, IsSubsequence, the_word}
+use Rattle.gc_theorems.proofs.Common.{◌≡◌, ℕ, Bool, true, false, List, [], ◌∷◌, ◌++◌, Option, Some, None, nat_eq, refl, sym, ◌∙◌, subst, AllByRecursion, eqb-true, false≢true, left_by, left_when, IsSubsequence, the_word, without, doubled, all_append, every_front as all_front, every_behind as all_behind, every_weaker as all_on, each_without, each_doubled}
+use Rattle.std.proofs.Common.{IfSome}
 use Rattle.gc_theorems.proofs.BeginIds.{IdSent, IdModel, IdMove, Ask, Reach, Pass, Come, Up_lose, Up_repeat, Down_lose, Down_repeat, Anew, asks, reaches, kept_past, passes, comes, moves, moved, AllDiffer, ids_of, last, Begins, IsCleanByIds}
-use Rattle.gc_theorems.specs.World.{without, doubled}
 use Rattle.gc_theorems.proofs.BeginLists.{each_all, each_both, pairs_before, pairs_of_each}
-use Rattle.gc_lines.proofs.Lists.{all_append}
-use Rattle.gc_values.proofs.Every.{every_front as all_front, every_behind as all_behind, every_weaker as all_on}
 use Rattle.gc_theorems.proofs.BeginMoves.{Lasts, holds_moves}
 use Rattle.gc_theorems.proofs.BeginWords.{word_ids_differ}
 use Rattle.gc_theorems.proofs.BeginLines.{FrontAnswers, IsLine, IsOld, IsOwn, KeepsOwn, HasNoneIfOwn, KeepsTheId, OwnIdsFit, olds_all, each_own, line_without, line_doubled, line_asked, line_came, front_is_own}
-use Rattle.gc_world.proofs.Rows.{each_without, each_doubled}
 
 -- The invariant.
 

@@ -1,16 +1,7 @@
 -- The runs of `specs/BeginWitness.antt` come out as it says, by computation.
-use Rattle.std.proofs.Common.{◌≤◌, ℕ, List, [], ◌∷◌, refl, arith, lit<}
-use Rattle.std.specs.Prelude.{codes, take, drop}
+use Rattle.gc_theorems.proofs.Common.{◌≤◌, ℕ, List, [], ◌∷◌, refl, arith, lit<, codes, take, header_at, reply_at, Table, InstrumentNo, WINDOW, exec, handed, simulator_ends, Numbered, WasMadeOn}
+use Rattle.std.specs.Prelude.{drop}
 use Rattle.std.specs.Fmt.{digits}
-use Rattle.gc_lines.specs.Readers.{header_at, reply_at}
-use Rattle.gc_catalogue.specs.declared.asked.Asked.TheVariants.{Table}
-use Rattle.gc_catalogue.specs.declared.call.Call.TheVariants.{InstrumentNo}
-use Rattle.gc_client.specs.declared.window.TheConstants.{WINDOW}
-use Rattle.gc_instrument.specs.Execution.{exec}
-use Rattle.gc_instrument.specs.Replying.{handed}
-use Rattle.gc_theorems.specs.Simulator.{simulator_ends}
-use Rattle.gc_theorems.specs.World.{Numbered}
-use Rattle.gc_theorems.specs.Begun.{WasMadeOn}
 use Rattle.gc_theorems.specs.BeginWitness.{AreSomeRuns, IsBookedFromBefore, from, next_moves}
 use Rattle.gc_theorems.proofs.Witness.{opening_fits, units}
 

@@ -1,13 +1,7 @@
 -- When a list of ids contains a word as a subsequence ("the word is in the ids"). If it doesn't, it doesn't either once ids are
 -- lost; nor once an id is repeated directly after itself, if no id is in the word twice.
-use Rattle.std.proofs.Common.{◌≡◌, ℕ, zero, suc, ◌+◌, ◌-◌, ◌%◌, ◌<◌, ◌≤◌, inl, inr, Bool, true, false, not, ◌&&◌, List, [], ◌∷◌, ◌++◌, nat_eq, refl, sym, ◌∙◌, subst, arith, map, Some}
-use Rattle.std.specs.List.{AllByRecursion}
-use mathlib.Core.Path.{ap₂}
-use Rattle.std.proofs.lemmas.Bool.{eq-eqb, eqb-true, eqb-false, false≢true, and_parts, not-true}
-use Rattle.gc_client.specs.Beginning.{left_by, left_when, IsSubsequence, the_word}
+use Rattle.gc_theorems.proofs.Common.{◌≡◌, ℕ, zero, suc, ◌+◌, ◌-◌, ◌%◌, ◌<◌, ◌≤◌, inl, inr, Bool, true, false, not, ◌&&◌, List, [], ◌∷◌, ◌++◌, nat_eq, refl, sym, ◌∙◌, subst, arith, map, Some, AllByRecursion, ap₂, eq-eqb, eqb-true, eqb-false, false≢true, and_parts, not-true, left_by, left_when, IsSubsequence, the_word, Rising, rising_lower}
 use Rattle.gc_theorems.proofs.BeginIds.{AllDiffer, upward}
-use Rattle.gc_world.specs.Order.{Rising}
-use Rattle.gc_world.proofs.Rows.{rising_lower}
 
 -- a list with an element isn't empty
 pub cons_not_nil : {A : Type 0} (x : A) (xs : List A) → x ∷ xs ≡ [] → ⊥

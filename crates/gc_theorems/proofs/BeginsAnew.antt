@@ -1,29 +1,11 @@
 -- A run that resynchronizes, in the field, computed.
-use Rattle.std.proofs.Common.{◌≡◌, inl, List, [], ◌∷◌, refl, sym, subst, lit≤}
-use Rattle.std.specs.Prelude.{◌+◌, codes, map, take, drop}
+use Rattle.gc_theorems.proofs.Common.{◌≡◌, inl, List, [], ◌∷◌, refl, sym, subst, lit≤, codes, take, header_at, reply_at, Table, InstrumentNo, WINDOW, is_off_target, SynchronizesAnew, Part, Runs, opening, parts, state_after, runs-append, Told, begins, WasMadeOn, at_start, null_replies, counting, first_reply, seen, AreShownAs, shown, at, begun_with}
+use Rattle.std.specs.Prelude.{◌+◌, map, drop}
 use Rattle.std.specs.Fmt.{digits}
-use Rattle.gc_lines.specs.Readers.{header_at, reply_at}
-use Rattle.gc_catalogue.specs.declared.asked.Asked.TheVariants.{Table}
-use Rattle.gc_catalogue.specs.declared.call.Call.TheVariants.{InstrumentNo}
-use Rattle.gc_client.specs.declared.window.TheConstants.{WINDOW}
-use Rattle.gc_texts.specs.Nears.{is_off_target}
-use Rattle.gc_station.specs.Beginnings.{SynchronizesAnew}
-use Rattle.gc_station.specs.Parts as part
-use Rattle.gc_station.specs.Parts.{Part}
-use Rattle.gc_station.proofs.Going.{runs-append}
-use Rattle.gc_station.specs.Model.{Runs, opening}
-use Rattle.gc_links.specs.Acts.{Told}
-use Rattle.gc_theorems.specs.Begin.{begins}
 use Rattle.gc_theorems.specs.BeginsAnew.{IsAnsweredAnew, acts, acts_anew, acts_until_anew, answer, commands, from, later_replies, left_by_first, moves, moves_anew, plan, program, scope, six_unanswered, sixth_reply, turns}
-use Rattle.gc_theorems.specs.Begun.{WasMadeOn}
-use Rattle.gc_theorems.specs.CountingChain.{at_start, null_replies, counting, first_reply}
-use Rattle.gc_theorems.specs.Field.{seen}
-use Rattle.gc_theorems.specs.Shown.{AreShownAs, shown}
-use Rattle.gc_theorems.specs.Witness.{at, begun_with}
 use Rattle.gc_theorems.proofs.CountingChain.{counted_in_field, opens_counting, shown_are}
 use Rattle.gc_theorems.proofs.Witness.{asked_each, one_part, part_of, units}
-use Rattle.gc_station.specs.Links.{parts}
-use Rattle.gc_station.specs.Runs.{state_after}
+use Rattle.gc_station.specs.Parts as part
 
 -- what the turns of the second synchronization show to the station
 abbrev all_sync_steps : List part.SyncStep

@@ -1,28 +1,7 @@
 -- After a clean synchronization any possible moves are faithful. The eight null procedures count as requests 0 to 7, which are
 -- settled, and what is in flight belongs to the last of them.
-use Rattle.std.proofs.Common.{◌≡◌, ℕ, ◌+◌, ◌<◌, ◌≤◌, inl, inr, Bool, true, List, [], ◌∷◌, ◌++◌, map, length, Option, Some, None, refl, sym, ◌∙◌, ap, subst, arith, append_assoc}
-use Rattle.std.specs.List.{AllByRecursion}
-use Rattle.std.specs.Prelude.{slice_get}
-use Rattle.std.proofs.lemmas.Option.{none-some}
-use Rattle.gc_catalogue.specs.declared.asked.Asked.{Asked}
-use Rattle.gc_catalogue.specs.declared.asked.Asked.TheVariants.{Table}
-use Rattle.gc_catalogue.specs.declared.call.Call.TheVariants.{NullProc}
-use Rattle.gc_catalogue.specs.Asked.{asked_line, is_of_table}
-use Rattle.gc_client.specs.OneForOne.{Wanted, Course, Step, Send, Hear, Expire, Restart, begun, course, course_after, of_settled, of_pending, sent_on, settled_on}
-use Rattle.gc_client.specs.Rule.{ById, Sending, Settled, Settlement, expires, fresh, heard, restarts, sends, hears_line}
-use Rattle.gc_client.proofs.OneForOne.{accounts_for_sends}
-use Rattle.gc_instrument.specs.State.{KeptReply}
-use Rattle.gc_world.specs.Clients.{ByNumber, by_numbers}
-use Rattle.gc_world.specs.Exchange.{IsExchange}
-use Rattle.gc_world.specs.Order.{Rising, numbers}
-use Rattle.gc_theorems.specs.World.{Ends, Numbered, Request, Wire, World, written}
-use Rattle.gc_world.proofs.Replay.{IsAsSent}
-use Rattle.gc_world.specs.Worlds.{of_sent}
-use Rattle.gc_world.proofs.Sound.{IsGoing, IsComing, Sound}
-use Rattle.gc_theorems.specs.Begin.{UnderWay}
-use Rattle.gc_theorems.specs.Begun.{ArePossibleOnceBegun, IsBehindTheTable, IsClean, IsFaithful, IsSafe, WasMadeOn, WentOutBehindTheTable, eighth_null, of_eighth, ids_begun, numbers_begun, nulls, nulls_settled, world_once_begun}
-use Rattle.gc_theorems.specs.Field.{Move, Sends, AsksOnly, moved, seen}
-use Rattle.gc_theorems.specs.Instrument.{IsAnInstrument, IsAnInstrumentFor, all_known}
+use Rattle.gc_theorems.proofs.Common.{◌≡◌, ℕ, ◌+◌, ◌<◌, ◌≤◌, inl, inr, Bool, true, List, [], ◌∷◌, ◌++◌, map, length, Option, Some, None, refl, sym, ◌∙◌, ap, subst, arith, append_assoc, AllByRecursion, slice_get, none-some, Asked, Table, NullProc, asked_line, is_of_table, Wanted, Course, Hear, Restart, begun, course, course_after, of_settled, of_pending, sent_on, settled_on, ById, Sending, Settled, Settlement, expires, fresh, heard, restarts, sends, hears_line, accounts_for_sends, KeptReply, ByNumber, by_numbers, IsExchange, Rising, numbers, of_sent, Ends, Numbered, Request, Wire, World, written, IsAsSent, IsGoing, IsComing, Sound, UnderWay, ArePossibleOnceBegun, IsBehindTheTable, IsClean, IsFaithful, IsSafe, WasMadeOn, WentOutBehindTheTable, eighth_null, of_eighth, ids_begun, numbers_begun, nulls, nulls_settled, world_once_begun, Move, Sends, AsksOnly, moved, seen, IsAnInstrument, IsAnInstrumentFor, all_known, AccountForSent}
+use Rattle.gc_client.specs.Prelude.{Step, Send, Expire}
 use Rattle.gc_theorems.proofs.BeginLists.{each_map}
 use Rattle.gc_theorems.proofs.Faithful.{faithful_from}
 use Rattle.gc_theorems.proofs.Fresh.{AllBut, AnyLine, AnyRequest, AllExcepted, asks_all, near_the_table, renewed}
@@ -33,7 +12,6 @@ use Rattle.gc_theorems.proofs.Seen.{same_all}
 use Rattle.gc_theorems.proofs.KeptReplies.{KeptIs}
 use Rattle.gc_theorems.proofs.NearTable.{IsNear}
 use Rattle.gc_theorems.proofs.Vouched.{AllVouched, Vouched}
-use Rattle.gc_world.proofs.Settled.{AccountForSent}
 
 -- The course of a client, after what was sent and settled before.
 

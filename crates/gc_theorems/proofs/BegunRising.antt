@@ -1,31 +1,13 @@
 -- `HasRisingIds` holds of what a client has in flight after a clean synchronization: requests and replies whose numbers, from the
 -- eighth null procedure's on, never fall in the order of the line, and whose ids are these numbers modulo 8. The *word* is the
 -- list of the ids of a synchronization's eight null procedures: 6 down to 0, and then 7.
-use Rattle.std.proofs.Common.{◌≡◌, ℕ, ◌+◌, ◌-◌, ◌%◌, ◌<◌, ◌≤◌, Bool, true, false, List, [], ◌∷◌, ◌++◌, length, map, Option, Some, refl, sym, ◌∙◌, ap, subst, arith, ltb, eqb}
-use mathlib.Core.Path.{ap₂}
-use Rattle.std.specs.List.{filter_map, cons_option, AllByRecursion}
-use Rattle.std.proofs.lemmas.Bool.{ltb-false}
-use Rattle.std.proofs.lemmas.List.{map-append}
-use Rattle.gc_values.proofs.Every.{every_weaker as all_on}
-use Rattle.gc_catalogue.specs.declared.asked.Asked.{Asked}
-use Rattle.gc_client.specs.Beginning.{IsSubsequence}
-use Rattle.gc_client.specs.Rule as rule
-use Rattle.gc_client.specs.Rule.{ById}
-use Rattle.gc_instrument.specs.State.{KeptReply}
-use Rattle.gc_world.specs.Clients.{ByNumber, by_ids, by_numbers, number_reply, number_send}
-use Rattle.gc_world.specs.Order.{numbers}
-use Rattle.gc_theorems.specs.World.{Ends, Numbered, Request, Step, Wire, World, happens, down_delivered, requested}
-use Rattle.gc_world.proofs.Sound.{IsComing, IsGoing, Sound, all_sent}
-use Rattle.gc_theorems.specs.Begin.{LacksTheWord, UnderWay, ids_under_way}
-use Rattle.gc_theorems.specs.Beginnings.{HasRisingIds, under_way_on}
-use Rattle.gc_theorems.specs.Begun.{IsClean, world_once_begun, ids_begun, numbers_begun, ArePossibleOnceBegun}
-use Rattle.gc_theorems.specs.Field.{Move, Sends, Tells, Comes, Foreign, OnLine, Anew, Changes, Joins, IsLineStep, ArePossible, moved}
-use Rattle.gc_theorems.specs.Instrument.{IsAnInstrument}
+use Rattle.gc_theorems.proofs.Common.{◌≡◌, ℕ, ◌+◌, ◌-◌, ◌%◌, ◌<◌, ◌≤◌, Bool, true, false, List, [], ◌∷◌, ◌++◌, length, map, Option, Some, refl, sym, ◌∙◌, ap, subst, arith, ltb, eqb, ap₂, filter_map, cons_option, AllByRecursion, ltb-false, map-append, every_weaker as all_on, Asked, IsSubsequence, ById, KeptReply, ByNumber, by_ids, by_numbers, number_reply, number_send, numbers, Ends, Numbered, Request, Step, Wire, World, happens, down_delivered, requested, IsComing, IsGoing, Sound, all_sent, LacksTheWord, UnderWay, ids_under_way, HasRisingIds, under_way_on, IsClean, world_once_begun, ids_begun, numbers_begun, ArePossibleOnceBegun, Move, Sends, Tells, Comes, Foreign, OnLine, Anew, Changes, Joins, IsLineStep, ArePossible, moved, IsAnInstrument}
 use Rattle.gc_theorems.proofs.BeginWords.{subword_front, eight_rising_lack_three, ids_of_numbers}
 use Rattle.gc_theorems.proofs.BeginLists.{each_map}
 use Rattle.gc_theorems.proofs.BegunFaithful.{both_begun, exchange}
 use Rattle.gc_theorems.proofs.LineSteps.{same_over_line}
 use Rattle.gc_theorems.proofs.Moving.{both_all}
+use Rattle.gc_client.specs.Rule as rule
 
 -- Rising ids contain neither the word nor its first three ids.
 

@@ -2,19 +2,7 @@
 -- it is where each but the last has synchronized; and where few are killed, since each that is killed while it synchronizes makes the front
 -- of the word that may be in flight longer by one id at most, and not at all if none of its null procedures was answered. The *word* is the
 -- list of the ids of a synchronization's eight null procedures: 6 down to 0, and then 7.
-use Rattle.std.proofs.Common.{◌≡◌, ℕ, suc, ◌+◌, ◌≤◌, Bool, true, false, if◌then◌else◌, List, [], ◌∷◌, ◌++◌, length, nat_eq, Option, refl, sym, ◌∙◌, ap, subst, arith, append_assoc}
-use Rattle.std.proofs.lemmas.Bool.{eqb-true}
-use Rattle.std.specs.List.{AllByRecursion}
-use Rattle.gc_client.specs.Beginning.{IsSubsequence, the_word}
-use Rattle.gc_instrument.specs.State.{KeptReply}
-use Rattle.gc_theorems.specs.World.{Ends}
-use Rattle.gc_theorems.specs.Begin.{IsWellFormed, LacksTheWord, AreTurns, SyncModel, UnderWay, begins, ids_under_way, leaves}
-use Rattle.gc_theorems.specs.Beginnings.{AreFewKilled, AreOwn, AreRuns, ArePossibleIfBegun, IsOwnIfBegun, HasRisingIds, Run, RunsInARowAreOwn, killed_by, killed_over, killed_unless_begun, left_by_run, left_by_runs, left_if_begun, after_turns}
-use Rattle.gc_theorems.specs.Begun.{ArePossibleOnceBegun}
-use Rattle.gc_theorems.specs.ClientRuns.{PlacedRun, ArePossibleRuns, begun_at, placed_runs}
-use Rattle.gc_theorems.specs.Field.{Move}
-use Rattle.gc_theorems.specs.Instrument.{IsAnInstrument}
-use Rattle.gc_theorems.specs.Owned.{IsOwnRun, NextMayBegin}
+use Rattle.gc_theorems.proofs.Common.{◌≡◌, ℕ, suc, ◌+◌, ◌≤◌, Bool, true, false, if◌then◌else◌, List, [], ◌∷◌, ◌++◌, length, nat_eq, Option, refl, sym, ◌∙◌, ap, subst, arith, append_assoc, eqb-true, AllByRecursion, IsSubsequence, the_word, KeptReply, Ends, IsWellFormed, LacksTheWord, AreTurns, SyncModel, UnderWay, begins, ids_under_way, leaves, AreFewKilled, AreOwn, AreRuns, ArePossibleIfBegun, IsOwnIfBegun, HasRisingIds, Run, RunsInARowAreOwn, killed_by, killed_over, killed_unless_begun, left_by_run, left_by_runs, left_if_begun, after_turns, ArePossibleOnceBegun, PlacedRun, ArePossibleRuns, begun_at, placed_runs, Move, IsAnInstrument, IsOwnRun, NextMayBegin}
 use Rattle.gc_theorems.proofs.BeginJoin.{begins_cleanly, upto_absent_in_left, upto_absent_in_left_unanswered, left_well_formed}
 use Rattle.gc_theorems.proofs.BeginKilled.{IsFirstLeft}
 use Rattle.gc_theorems.proofs.BeginWords.{subword_front}

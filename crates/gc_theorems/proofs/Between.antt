@@ -1,28 +1,10 @@
 -- What is executed between two moves of a stretch, and what it makes of the instrument. A *stretch* is a run once it has
 -- synchronized: what is in flight then, and its moves. `Did` says of two wires, an earlier and a later one, what was executed
 -- between them; `Goes` says it, too, and that the later wire is `IsConsistent` as the earlier one was.
-use Rattle.std.proofs.Common.{◌≡◌, ℕ, ◌+◌, ◌≤◌, Bool, true, false, cond, List, [], ◌∷◌, ◌++◌, length, Option, Some, None, refl, sym, ◌∙◌, ap, subst, arith, append_assoc, append-nil, ltb}
-use Rattle.std.specs.List.{AllByRecursion}
-use Rattle.std.specs.Prelude.{fold, slice_get}
+use Rattle.gc_theorems.proofs.Common.{◌≡◌, ℕ, ◌+◌, ◌≤◌, Bool, true, false, cond, List, [], ◌∷◌, ◌++◌, length, Option, Some, None, refl, sym, ◌∙◌, ap, subst, arith, append_assoc, append-nil, ltb, AllByRecursion, fold, slice_get, all_append, every_weaker as all_on, Asked, Table, NullProc, asked_line, ById, Sending, sends, Handed, KeptReply, by_ids, Ends, Request, Sent, Numbered, Step, Up_deliver, Up_lose, Up_repeat, Down_lose, Down_repeat, Nothing, World, Wire, without, doubled, replied, up_delivered, with_up, with_down, started, requested, down_delivered, happens, get_push, each_without, each_doubled, UnderWay, IsClean, eighth_null, ids_begun, nulls, ArePossibleOnceBegun, Move, Sends, Tells, Comes, Foreign, OnLine, Anew, Changes, Joins, IsLineStep, moves, moved, ArePossible, HasNoStartAmong, IsUndisturbed, HasEffect, AreCalls}
 use Rattle.std.proofs.lemmas.List.{length-append}
 use Rattle.std.proofs.lemmas.List.Sums.{fold-append}
-use Rattle.gc_lines.proofs.Lists.{all_append}
-use Rattle.gc_values.proofs.Every.{every_weaker as all_on}
-use Rattle.gc_catalogue.specs.declared.asked.Asked.{Asked}
-use Rattle.gc_catalogue.specs.declared.asked.Asked.TheVariants.{Table}
-use Rattle.gc_catalogue.specs.declared.call.Call.TheVariants.{NullProc}
-use Rattle.gc_catalogue.specs.Asked.{asked_line}
-use Rattle.gc_client.specs.Rule.{ById, Sending, sends}
-use Rattle.gc_instrument.specs.Replying.{Handed}
-use Rattle.gc_instrument.specs.State.{KeptReply}
-use Rattle.gc_world.specs.Clients.{by_ids}
-use Rattle.gc_theorems.specs.World.{Ends, Request, Sent, Numbered, Step, Up_deliver, Up_lose, Up_repeat, Down_lose, Down_repeat, Nothing, World, Wire, without, doubled, replied, up_delivered, with_up, with_down, started, requested, down_delivered, happens}
-use Rattle.gc_world.proofs.Places.{get_more, get_push}
-use Rattle.gc_world.proofs.Rows.{each_without, each_doubled}
-use Rattle.gc_theorems.specs.Begin.{UnderWay}
-use Rattle.gc_theorems.specs.Begun.{IsClean, eighth_null, ids_begun, nulls, ArePossibleOnceBegun}
-use Rattle.gc_theorems.specs.Field.{Move, Sends, Tells, Comes, Foreign, OnLine, Anew, Changes, Joins, IsLineStep, moves, moved, ArePossible}
-use Rattle.gc_theorems.specs.Chains.{HasNoStartAmong, IsUndisturbed, HasEffect, AreCalls}
+use Rattle.gc_world.proofs.Places.{get_more}
 use Rattle.gc_theorems.proofs.BegunFaithful.{each_of_eighth}
 
 -- What the instrument becomes.

@@ -1,16 +1,6 @@
 -- The id with which an executed request reached the instrument: its number in its stretch, modulo 8. A *stretch* is a run once it
 -- has synchronized: what is in flight then, and its moves. Its requests 0 to 7 are the null procedures of the synchronization.
-use Rattle.std.proofs.Common.{◌≡◌, ℕ, ◌-◌, ◌%◌, List, ◌∷◌, length, Option, refl, sym, ◌∙◌, ap, subst, arith}
-use Rattle.std.specs.List.{AllByRecursion}
-use Rattle.gc_catalogue.specs.declared.asked.Asked.{Asked}
-use Rattle.gc_instrument.specs.State.{KeptReply}
-use Rattle.gc_world.specs.Clients.{by_numbers}
-use Rattle.gc_world.proofs.Sound.{IsGoing}
-use Rattle.gc_theorems.specs.World.{Ends, Up_deliver, Wire}
-use Rattle.gc_theorems.specs.Begun.{WasMadeOn, ids_begun, numbers_begun}
-use Rattle.gc_theorems.specs.Field.{OnLine, moved}
-use Rattle.gc_theorems.specs.Instrument.{IsAnInstrument}
-use Rattle.gc_theorems.specs.Shown.{Stretch}
+use Rattle.gc_theorems.proofs.Common.{◌≡◌, ℕ, ◌-◌, ◌%◌, List, ◌∷◌, length, Option, refl, sym, ◌∙◌, ap, subst, arith, AllByRecursion, Asked, KeptReply, by_numbers, IsGoing, Ends, Up_deliver, Wire, WasMadeOn, ids_begun, numbers_begun, OnLine, moved, IsAnInstrument, Stretch}
 use Rattle.gc_theorems.proofs.Instruments.{exchange_of}
 use Rattle.gc_theorems.proofs.InTime.{IsSoundStretch, clean_of}
 use Rattle.gc_theorems.proofs.Moving.{both_all}

@@ -1,26 +1,10 @@
 -- A run of a chain that points the telescope, in the field, computed.
-use Rattle.std.proofs.Common.{◌≡◌, zero, suc, true, [], ◌∷◌, refl, sym, ap, subst, arith}
-use Rattle.std.specs.Prelude.{take, drop}
+use Rattle.gc_theorems.proofs.Common.{◌≡◌, zero, suc, true, [], ◌∷◌, refl, sym, ap, subst, arith, take, header_at, reply_at, rounded, exec, handed, is_off_target, Task, AreChained, parts, opening, same_Some, IsPointedInField, commands, measures, AreStill, turns_telescope, runs-append, seen, AreShownAs, shown, simulator_ends, begins, eight_answered, plan, replies}
+use Rattle.std.specs.Prelude.{drop}
 use Rattle.std.specs.Fmt.{digits}
-use Rattle.gc_lines.specs.Readers.{header_at, reply_at}
-use Rattle.gc_values.specs.Decimals.{rounded}
-use Rattle.gc_instrument.specs.Execution.{exec}
-use Rattle.gc_instrument.specs.Replying.{handed}
-use Rattle.gc_texts.specs.Nears.{is_off_target}
-use Rattle.gc_texts.specs.declared.tasks.Task.{Task}
-use Rattle.gc_station.specs.Links.{AreChained, parts}
-use Rattle.std.proofs.lemmas.Option.{same_Some}
 use Rattle.gc_theorems.specs.Plain.{plain_task}
-use Rattle.gc_theorems.specs.ChainWitness.{IsPointedInField, acts, at_start, commands, measures, moves, program, scope}
-use Rattle.gc_theorems.specs.Pointing.{AreStill, turns_telescope}
+use Rattle.gc_theorems.specs.ChainWitness.{acts, at_start, moves, program, scope}
 use Rattle.gc_theorems.proofs.Witness.{asked_each, opening_fits, one_part, opens_simulator, units}
-use Rattle.gc_station.proofs.Going.{runs-append}
-use Rattle.gc_station.specs.Model.{opening}
-use Rattle.gc_theorems.specs.Field.{seen}
-use Rattle.gc_theorems.specs.Shown.{AreShownAs, shown}
-use Rattle.gc_theorems.specs.Simulator.{simulator_ends}
-use Rattle.gc_theorems.specs.Begin.{begins}
-use Rattle.gc_theorems.specs.Witness.{eight_answered, plan, replies}
 
 -- each command after the first is chained to the one before it
 pub all_chained : AreChained commands 0 2

@@ -2,50 +2,17 @@
 -- whole run's stretch at that place. So when a chained command is sent, the answer of each one before it in its chain is settled
 -- there. A *part* is what happens in a run from one synchronization to the next, as the station sees it; a *stretch* is what
 -- happens then on the line. The *marks* of a part say for which command each of its requests is, in order.
-use Rattle.std.proofs.Common.{◌≡◌, ◌⊎◌, inl, inr, ℕ, zero, suc, ◌+◌, ◌-◌, ◌<◌, ◌≤◌, drop, length-drop, List, [], ◌∷◌, ◌++◌, length, map, Option, Some, refl, sym, ◌∙◌, ap, subst, arith}
-use Rattle.std.specs.Prelude.{slice_get}
-use Rattle.std.proofs.lemmas.List.{length-map}
-use Rattle.gc_catalogue.specs.declared.asked.Asked.{Asked}
-use Rattle.gc_client.specs.OneForOne as step
-use Rattle.gc_client.specs.OneForOne.{Wanted}
-use Rattle.gc_client.specs.Rule.{Answered, Settlement}
-use Rattle.gc_instrument.specs.State.{KeptReply}
-use Rattle.gc_texts.specs.declared.near.Expected.{Expected}
-use Rattle.gc_texts.specs.Tasks.{call_at}
-use Rattle.gc_texts.specs.declared.tasks.Task.{Task}
-use Rattle.gc_station.specs.declared.plan.Plan.{Plan}
-use Rattle.gc_links.specs.Acts.{Act}
-use Rattle.gc_texts.specs.Endings.{line_of}
-use Rattle.gc_station.specs.Parts as part
-use Rattle.gc_station.specs.Parts.{Part, mark_of}
-use Rattle.gc_station.specs.Records.{Record}
-use Rattle.gc_station.specs.Runs.{state_after}
-use Rattle.gc_station.specs.Scopes.{Scope}
-use Rattle.gc_station.specs.Model.{Runs, opening}
-use Rattle.gc_station.proofs.Booking.{marks_ask_length}
-use Rattle.gc_station.proofs.Lists.{all_at, get_more, all_on}
-use Rattle.gc_station.proofs.Going.{runs_front}
-use Rattle.gc_theorems.specs.World.{Ends, Up_deliver}
-use Rattle.std.proofs.lemmas.Option.{same_Some, slice_get_within}
-use Rattle.gc_theorems.specs.Begin.{AreTurns, UnderWay, begins, leaves, left_by_turns, SyncModel}
-use Rattle.gc_theorems.specs.Beginnings.{ArePossibleIfBegun, AreRuns, Run, after_turns, left_by_run}
-use Rattle.gc_theorems.specs.Begun.{IsSafe, WasMadeOn, world_once_begun, ids_begun}
-use Rattle.gc_theorems.specs.Chains.{AreExecutedInChain, IsChainedTo, IsExecutedInChain}
-use Rattle.gc_theorems.specs.Field.{Move, OnLine, seen}
-use Rattle.gc_theorems.specs.Instrument.{IsAnInstrument}
-use Rattle.gc_theorems.specs.Laws.{asked}
-use Rattle.gc_station.specs.Links.{AreChained, IsBefore, IsAnsweredEarlier, ChainsStay, MarksGoOn, RecordsStay, parts}
-use Rattle.gc_theorems.specs.Runs.{IsInField, IsItsOwn, IsOwnAnswer, Program, own_sent, own_settled, world}
-use Rattle.gc_theorems.specs.Shown.{AreShownAs, Stretch, shown, stretches}
+use Rattle.gc_theorems.proofs.Common.{◌≡◌, ◌⊎◌, inl, inr, ℕ, zero, suc, ◌+◌, ◌-◌, ◌<◌, ◌≤◌, drop, length-drop, List, [], ◌∷◌, ◌++◌, length, map, Option, Some, refl, sym, ◌∙◌, ap, subst, arith, slice_get, length-map, Asked, Wanted, Answered, Settlement, KeptReply, Expected, call_at, line_of, Task, Plan, Act, Part, mark_of, Record, state_after, Scope, Runs, opening, AreChained, IsBefore, IsAnsweredEarlier, ChainsStay, MarksGoOn, RecordsStay, parts, marks_ask_length, get_more, all_on, runs_front, Ends, Up_deliver, same_Some, slice_get_within, AreTurns, UnderWay, begins, leaves, left_by_turns, SyncModel, ArePossibleIfBegun, AreRuns, Run, after_turns, left_by_run, IsSafe, WasMadeOn, world_once_begun, ids_begun, AreExecutedInChain, IsChainedTo, IsExecutedInChain, Move, OnLine, seen, IsAnInstrument, asked, IsInField, IsItsOwn, IsOwnAnswer, Program, own_sent, own_settled, world, AreShownAs, Stretch, shown, stretches, IsFront, front_parts, front_last, cases_order}
+use Rattle.gc_station.proofs.Lists.{all_at}
 use Rattle.gc_theorems.proofs.InTime.{clean_of, front_nil}
 use Rattle.gc_theorems.proofs.Possible.{front_possible}
 use Rattle.gc_theorems.proofs.Safe.{SplitSeen, split_seen}
 use Rattle.gc_theorems.proofs.Among.{get_drop, zip_at}
 use Rattle.gc_theorems.proofs.Joining.{Fits, Matches, joined, run_faithful}
 use Rattle.gc_theorems.proofs.Ordered.{executed_behind, in_front_at}
-use Rattle.gc_station.proofs.PartFronts.{IsFront, front_parts, front_last}
 use Rattle.gc_theorems.proofs.PartFronts.{IsLastSyncWhole, LastIsMarked, last_marked, whole_parts}
-use Rattle.std.proofs.lemmas.Bool.{cases_order}
+use Rattle.gc_client.specs.OneForOne as step
+use Rattle.gc_station.specs.Parts as part
 
 -- The stretches of a front.
 

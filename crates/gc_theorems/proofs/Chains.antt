@@ -1,29 +1,8 @@
 -- Of a chain over a line that damages: a command is sent only after the answers of those before it in its chain, as a request of the same
 -- stretch; and of two requests of a stretch the one that was sent first is executed first.
-use Rattle.std.proofs.Common.{◌≡◌, ℕ, ◌+◌, ◌<◌, List, ◌∷◌, ◌++◌, length, Option, Some, sym, ◌∙◌, ap, subst, arith}
-use Rattle.std.specs.Prelude.{slice_get}
-use Rattle.std.proofs.lemmas.Option.{same_Some, slice_get_within}
-use Rattle.gc_instrument.specs.State.{KeptReply}
-use Rattle.gc_texts.specs.Endings.{line_of}
-use Rattle.gc_station.specs.Links.{IsAnsweredEarlier, IsSentAfter, MarksGoOnIn, parts}
-use Rattle.gc_station.specs.Parts.{Part, mark_of}
-use Rattle.gc_station.specs.Records.{Record}
-use Rattle.gc_station.specs.Runs.{state_after}
-use Rattle.gc_station.specs.Model.{opening}
-use Rattle.gc_station.proofs.Linking.{chains_stay, marks_go_on}
-use Rattle.gc_station.proofs.Lists.{get_more}
-use Rattle.gc_station.proofs.PartFronts.{IsFront, front_last, front_parts}
-use Rattle.gc_station.proofs.SentAt.{records_stay}
-use Rattle.gc_theorems.specs.World.{Ends, Up_deliver}
-use Rattle.gc_theorems.specs.Begin.{UnderWay}
-use Rattle.gc_theorems.specs.Field.{OnLine}
-use Rattle.gc_theorems.specs.Instrument.{IsAnInstrument}
+use Rattle.gc_theorems.proofs.Common.{◌≡◌, ℕ, ◌+◌, ◌<◌, List, ◌∷◌, ◌++◌, length, Option, Some, sym, ◌∙◌, ap, subst, arith, slice_get, same_Some, slice_get_within, KeptReply, line_of, IsAnsweredEarlier, IsSentAfter, MarksGoOnIn, parts, Part, mark_of, Record, state_after, opening, chains_stay, marks_go_on, get_more, IsFront, front_last, front_parts, records_stay, Ends, Up_deliver, UnderWay, OnLine, IsAnInstrument, Harm, Does, WasMadeAmid, HarmedProgram, IsInHarmedField, IsRunLocal, parts_of_program, records_of_program, left_by_sync, HarmedStretch, once_synchronized}
 use Rattle.gc_theorems.proofs.Chained.{not_before_itself, same_place}
 use Rattle.gc_theorems.specs.DamagedChains.{AnswerAt, IsChainedTo, IsInOrderInChain}
-use Rattle.gc_theorems.specs.Harm.{Harm, Does, WasMadeAmid}
-use Rattle.gc_theorems.specs.DamagedRuns.{HarmedProgram, IsInHarmedField, IsRunLocal, parts_of_program, records_of_program}
-use Rattle.gc_theorems.specs.Stretch.{left_by_sync}
-use Rattle.gc_theorems.specs.Stretches.{HarmedStretch, once_synchronized}
 use Rattle.gc_theorems.proofs.InOrder.{made_in_order, rises_begun}
 use Rattle.gc_theorems.proofs.DamagedRuns.{run_local}
 

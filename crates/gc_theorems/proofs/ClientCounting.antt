@@ -1,11 +1,5 @@
 -- How many requests are settled once a line came.
-use Rattle.std.proofs.Common.{◌≡◌, ℕ, ◌+◌, ◌%◌, ◌<◌, ◌≤◌, ◌⊎◌, inl, inr, Bool, true, false, List, [], length, Option, Some, None, refl, sym, ◌∙◌, ap, arith, length-append, ltb}
-use Rattle.std.proofs.lemmas.List.{length-map}
-use Rattle.std.proofs.lemmas.Bool.{ltb-true}
-use Rattle.std.proofs.lemmas.Option.{same_Some}
-use Rattle.gc_client.specs.declared.window.TheConstants.{WINDOW, IDS}
-use Rattle.gc_client.specs.Rule.{place, settle, settles_at, hears}
-use Rattle.gc_theorems.specs.Damage.{Account, IsFresh, Origin, Of, account_heard, account_settled, ended_by}
+use Rattle.gc_theorems.proofs.Common.{◌≡◌, ℕ, ◌+◌, ◌%◌, ◌<◌, ◌≤◌, ◌⊎◌, inl, inr, Bool, true, false, List, [], length, Option, Some, None, refl, sym, ◌∙◌, ap, arith, length-append, ltb, length-map, ltb-true, same_Some, WINDOW, IDS, place, settle, settles_at, hears, Account, IsFresh, Origin, Of, account_heard, account_settled, ended_by}
 use Rattle.gc_theorems.proofs.ClientLocal.{Sound, ends_of, fresh_place, length-settle}
 
 module _ {Q : Type 0} where

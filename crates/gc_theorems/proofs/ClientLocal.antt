@@ -1,13 +1,6 @@
 -- Damage is local while each undamaged line is fresh when it comes.
-use Rattle.std.proofs.Common.{◌≡◌, ℕ, zero, suc, ◌+◌, ◌%◌, ◌<◌, ◌≤◌, Bool, true, false, List, [], ◌∷◌, ◌++◌, length, map, Option, Some, None, refl, sym, ◌∙◌, ap, subst, arith, length-append, length-drop, ltb, eqb}
-use Rattle.std.specs.Prelude.{slice_get, ⊤}
-use Rattle.std.proofs.lemmas.List.{length-map, length_push}
-use Rattle.std.proofs.lemmas.Bool.{ltb-true, eqb-false}
-use Rattle.std.proofs.lemmas.Option.{same_Some, none-some}
-use Rattle.gc_client.specs.declared.window.TheConstants.{WINDOW, IDS}
-use Rattle.gc_client.specs.declared.pending.Pending.{Pending}
-use Rattle.gc_client.specs.Rule.{pending_of, expired, settled_by_line, settle, place, send_unless_full, settles_at, hears}
-use Rattle.gc_theorems.specs.Damage.{Account, Event, Send, Expire, Hear, Origin, Of, Damaged, IsLocal, IsFresh, AllComeFresh, ComesFresh, account, account_after, account_expired, account_heard, account_sent, account_settled, counted, ended_by, ended_by_damage, one_if_damaged, opened}
+use Rattle.gc_theorems.proofs.Common.{◌≡◌, ℕ, zero, suc, ◌+◌, ◌%◌, ◌<◌, ◌≤◌, Bool, true, false, List, [], ◌∷◌, ◌++◌, length, map, Option, Some, None, refl, sym, ◌∙◌, ap, subst, arith, length-append, length-drop, ltb, eqb, slice_get, ⊤, length-map, length_push, ltb-true, eqb-false, same_Some, none-some, WINDOW, IDS, Pending, pending_of, expired, settled_by_line, settle, place, send_unless_full, settles_at, hears, Account, Event, Origin, Of, Damaged, IsFresh, AllComeFresh, ComesFresh, account, account_after, account_expired, account_heard, account_sent, account_settled, counted, ended_by, ended_by_damage, one_if_damaged, opened}
+use Rattle.gc_theorems.specs.Damage.{Send, Expire, Hear, IsLocal}
 
 -- Where a request is outstanding at place k, settling through place k settles k + 1 requests.
 pub length-settle : {Q : Type 0} (k : ℕ) (line : List ℕ) (ps : List (Pending Q)) → k < length ps → length (settle k line ps) ≡ k + 1

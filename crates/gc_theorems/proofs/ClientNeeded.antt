@@ -1,11 +1,5 @@
 -- An undamaged line that isn't fresh ends a request that it wasn't made for.
-use Rattle.std.proofs.Common.{◌≡◌, ℕ, zero, suc, ◌+◌, ◌%◌, ◌<◌, ◌≤◌, List, [], ◌∷◌, ◌++◌, length, Option, Some, refl, sym, ap, subst, arith, ltb}
-use Rattle.std.proofs.lemmas.Bool.{lt-ltb}
-use Rattle.std.specs.Prelude.{slice_get}
-use Rattle.gc_client.specs.declared.window.TheConstants.{WINDOW, IDS}
-use Rattle.gc_client.specs.declared.pending.Pending.{Pending}
-use Rattle.gc_client.specs.Rule.{hears, place, settles_at}
-use Rattle.gc_theorems.specs.Damage.{Account, Event, Of, Origin, AllComeFresh, account, account_heard, account_settled, opened}
+use Rattle.gc_theorems.proofs.Common.{◌≡◌, ℕ, zero, suc, ◌+◌, ◌%◌, ◌<◌, ◌≤◌, List, [], ◌∷◌, ◌++◌, length, Option, Some, refl, sym, ap, subst, arith, ltb, lt-ltb, slice_get, WINDOW, IDS, Pending, hears, place, settles_at, Account, Event, Of, Origin, AllComeFresh, account, account_heard, account_settled, opened}
 use Rattle.gc_theorems.proofs.ClientLocal.{ended_by_line, ends_of, sound_events, sound_opened}
 
 -- the place of the id of request n, where request n + 8 is outstanding

@@ -1,8 +1,7 @@
 -- Runs that are computed: those in which damage spreads, and those that meet the premises.
-use Rattle.std.proofs.Common.{refl, inr, arith}
+use Rattle.gc_theorems.proofs.Common.{refl, inr, arith, IsDamagedSynchronization, SixAreTooMany}
 use Rattle.gc_theorems.specs.Spreading.{HoldingBackMayStop, OneDamagedLineSpreads, RareBoundIsSharp, TwoInARowSpread}
 use Rattle.gc_theorems.specs.PremisesMet.{PremisesAreMet}
-use Rattle.gc_theorems.specs.ClientSynchronizing.{IsDamagedSynchronization, SixAreTooMany}
 
 -- one damaged line spreads
 pub one_spreads : OneDamagedLineSpreads

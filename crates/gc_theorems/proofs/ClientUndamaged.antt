@@ -1,13 +1,6 @@
 -- Without damage the lines have slack at each send, and each answer is own.
-use Rattle.std.proofs.Common.{◌≡◌, ℕ, zero, suc, ◌≤◌, List, [], ◌∷◌, Option, Some, None, refl, ◌∙◌, ap, arith}
-use Rattle.std.specs.Prelude.{IfSome, slice_get}
-use Rattle.std.specs.List.{AllByRecursion}
-use Rattle.std.proofs.lemmas.Option.{same_Some, none-some}
-use Rattle.gc_client.specs.declared.window.TheConstants.{WINDOW}
-use Rattle.gc_client.specs.Rule.{ById, Sending}
-use Rattle.gc_theorems.specs.Damage.{Origin, Of, Damaged, ended_by_damage, one_if_damaged}
-use Rattle.gc_theorems.specs.OneQueue.{InFlight, OneQueue, Step, Send, Expire, Deliver, Damage, Lose, Repeat, Throughout, ArePossible, account_at_end, nothing_in_flight, queue, queue_delivered, queue_sent}
-use Rattle.gc_theorems.specs.Slack.{HasSlack, IfSent, HasNoDamage}
+use Rattle.gc_theorems.proofs.Common.{◌≡◌, ℕ, zero, suc, ◌≤◌, List, [], ◌∷◌, Option, Some, None, refl, ◌∙◌, ap, arith, IfSome, slice_get, AllByRecursion, same_Some, none-some, WINDOW, ById, Sending, Origin, Of, Damaged, ended_by_damage, one_if_damaged, InFlight, OneQueue, Deliver, Damage, Lose, Repeat, Throughout, account_at_end, nothing_in_flight, queue, queue_delivered, queue_sent, HasSlack, IfSent, HasNoDamage}
+use Rattle.gc_theorems.specs.OneQueue.{Step, Send, Expire, ArePossible}
 use Rattle.gc_theorems.proofs.Slack.{local_with_slack}
 
 -- no request was ended by a damaged line, if none of these was

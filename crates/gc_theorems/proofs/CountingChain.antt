@@ -1,30 +1,12 @@
 -- A run of a chain over an instrument that counts, computed.
-use Rattle.std.proofs.Common.{◌≡◌, ℕ, suc, inl, inr, true, false, cond, List, Option, Some, None, [], ◌∷◌, refl, sym, ◌∙◌, ap, subst}
-use Rattle.std.proofs.lemmas.Bool.{eq-eqb, true≢false}
-use Rattle.std.specs.Prelude.{take, drop}
+use Rattle.gc_theorems.proofs.Common.{◌≡◌, ℕ, suc, inl, inr, true, false, cond, List, Option, Some, None, [], ◌∷◌, refl, sym, ◌∙◌, ap, subst, eq-eqb, true≢false, take, header_at, reply_at, Asked, WINDOW, KeptReply, is_off_target, same_Some, commands, points, reads_all, HasEffect, Counter, IsCountedInField, acts, bare, at_start, null_replies, counter_handed, counting, counts, first_reply, kept_by, once_counted, program, stretch, third_reply, IsAnInstrument, KeepsItsReply, AnyState, all_known, own_reply, WasMadeOn, KeptNumber, held, keeper_kept, giving, runs-append, opening, parts, seen, AreShownAs, shown, begins, eight_answered, plan}
+use Rattle.std.specs.Prelude.{drop}
 use Rattle.std.specs.Fmt.{digits}
-use Rattle.gc_lines.specs.Readers.{header_at, reply_at}
-use Rattle.gc_catalogue.specs.declared.asked.Asked.{Asked}
-use Rattle.gc_client.specs.declared.window.TheConstants.{WINDOW}
-use Rattle.gc_instrument.specs.State.{KeptReply}
-use Rattle.gc_texts.specs.Nears.{is_off_target}
-use Rattle.std.proofs.lemmas.Option.{same_Some}
-use Rattle.gc_theorems.specs.ChainWitness.{commands, points, reads_all, scope}
-use Rattle.gc_theorems.specs.Chains.{HasEffect}
-use Rattle.gc_theorems.specs.CountingChain.{Counter, IsCountedInField, acts, bare, at_start, null_replies, counter_handed, counting, counts, first_reply, kept_by, moves, once_counted, program, stretch, third_reply}
-use Rattle.gc_theorems.specs.Instrument.{IsAnInstrument, KeepsItsReply, AnyState, all_known, own_reply}
-use Rattle.gc_theorems.specs.Begun.{WasMadeOn}
-use Rattle.gc_theorems.specs.Needed.{KeptNumber, held, keeper_kept, giving}
+use Rattle.gc_theorems.specs.ChainWitness.{scope}
+use Rattle.gc_theorems.specs.CountingChain.{moves}
 use Rattle.gc_theorems.proofs.ChainWitness.{all_chained}
 use Rattle.gc_theorems.proofs.Needed.{repeats_or_executes_keeps, repeats_or_executes_reads, repeats_or_executes_repeats}
-use Rattle.gc_station.proofs.Going.{runs-append}
-use Rattle.gc_station.specs.Model.{opening}
-use Rattle.gc_theorems.specs.Field.{seen}
-use Rattle.gc_theorems.specs.Shown.{AreShownAs, shown}
-use Rattle.gc_theorems.specs.Begin.{begins}
-use Rattle.gc_theorems.specs.Witness.{eight_answered, plan}
 use Rattle.gc_theorems.proofs.Witness.{OpensWith, asked_each, one_part, units}
-use Rattle.gc_station.specs.Links.{parts}
 
 -- the reply to a request is kept after it, with the request's id
 reply_is_kept : (s : Counter) (id : ℕ) (o : Option ℕ) → held s.keeps id ≡ o → kept_by (counter_handed s id o).state ≡ Some (own_reply id (counter_handed s id o))

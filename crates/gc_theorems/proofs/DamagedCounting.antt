@@ -1,9 +1,5 @@
 -- No more requests are settled by lines that come damaged than such lines come.
-use Rattle.std.proofs.Common.{◌≡◌, ℕ, ◌+◌, ◌≤◌, ◌⊎◌, inl, inr, List, [], ◌∷◌, ◌++◌, length, ◌∙◌, ap, subst, arith}
-use Rattle.std.specs.List.{AllByRecursion}
-use Rattle.gc_lines.proofs.Lists.{cons_tail}
-use Rattle.gc_theorems.specs.World.{Ends}
-use Rattle.gc_theorems.specs.Harm.{Harm, Damages, Harmed, IsByDamage, AreRising, damaged_lines, harms, harmed, one_if_damages}
+use Rattle.gc_theorems.proofs.Common.{◌≡◌, ℕ, ◌+◌, ◌≤◌, ◌⊎◌, inl, inr, List, [], ◌∷◌, ◌++◌, length, ◌∙◌, ap, subst, arith, AllByRecursion, cons_tail, Ends, Harm, Damages, Harmed, IsByDamage, AreRising, damaged_lines, harms, harmed, one_if_damages}
 
 module _ {State : Type 0} (width : ℕ) (ends : Ends State) where
   -- at one of these steps a damaged line comes, and request m is the last one that it settles

@@ -1,21 +1,6 @@
 -- A stretch over a line that damages is local, if damage is apart in it, and its client holds back.
-use Rattle.std.proofs.Common.{◌≡◌, ◌⊎◌, inl, inr, ℕ, ◌<◌, List, [], ◌∷◌, ◌++◌, length, map, Option, refl, sym, ◌∙◌, ap, subst, arith}
-use Rattle.std.proofs.lemmas.List.{length-map, length-append}
-use Rattle.std.proofs.lemmas.Option.{slice_get_within}
-use Rattle.gc_client.specs.Rule.{fresh}
-use Rattle.gc_instrument.specs.State.{KeptReply}
-use Rattle.gc_station.proofs.Booking.{sent_by}
-use Rattle.gc_world.specs.Worlds.{of_sent}
-use Rattle.gc_theorems.specs.World.{Ends}
-use Rattle.gc_theorems.specs.Begin.{IsWellFormed, LacksTheWord, UnderWay, begins}
-use Rattle.gc_theorems.specs.Begun.{nulls, nulls_settled}
-use Rattle.gc_theorems.specs.Instrument.{IsAnInstrument}
-use Rattle.gc_theorems.specs.Harm.{AllMayHarm, AreOwnOr, IsCleanBut, KeepsItsOwnAfter, harm_begun}
-use Rattle.gc_theorems.specs.DamagedHoldingBack.{holding_begun}
-use Rattle.gc_theorems.specs.DamagedRuns.{IsLocal}
-use Rattle.gc_theorems.specs.Stretch.{left_by_sync}
-use Rattle.gc_theorems.specs.Stretches.{ArePossibleIfSynchronized, HarmedStretch, HasDamageApart, IsPossibleStretch, IsSynchronizedUndamaged, at_its_end, left_if_synchronized, once_synchronized, seen_harms, synchronized}
-use Rattle.gc_theorems.specs.DamagedSynchronizing.{AllMaySyncHarm, OwnEighthComes, WasStruck, sync_harmed}
+use Rattle.gc_theorems.proofs.Common.{◌≡◌, ◌⊎◌, inl, inr, ℕ, ◌<◌, List, [], ◌∷◌, ◌++◌, length, map, Option, refl, sym, ◌∙◌, ap, subst, arith, length-map, slice_get_within, fresh, KeptReply, sent_by, of_sent, Ends, IsWellFormed, LacksTheWord, UnderWay, begins, nulls, nulls_settled, IsAnInstrument, AllMayHarm, AreOwnOr, IsCleanBut, KeepsItsOwnAfter, harm_begun, holding_begun, IsLocal, left_by_sync, ArePossibleIfSynchronized, HarmedStretch, HasDamageApart, IsPossibleStretch, IsSynchronizedUndamaged, at_its_end, left_if_synchronized, once_synchronized, seen_harms, synchronized, AllMaySyncHarm, OwnEighthComes, WasStruck, sync_harmed}
+use Rattle.std.proofs.lemmas.List.{length-append}
 use Rattle.gc_theorems.proofs.DamagedCounting.{few_by_damage}
 use Rattle.gc_theorems.proofs.HoldingBack.{fresh_if_held_back, order_if_held_back}
 use Rattle.gc_theorems.proofs.Lacking.{order_lacks}

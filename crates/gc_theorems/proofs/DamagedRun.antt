@@ -1,14 +1,7 @@
 -- The runs of `specs/DamagedRun.antt` come out as it says, by computation.
-use Rattle.std.proofs.Common.{◌≡◌, ℕ, ◌+◌, ◌≤◌, inl, inr, false, [], Some, refl, subst, arith, lit<}
-use Rattle.std.specs.Prelude.{codes}
+use Rattle.gc_theorems.proofs.Common.{◌≡◌, ℕ, ◌+◌, ◌≤◌, inl, inr, false, [], Some, refl, subst, arith, lit<, codes, same_Some, none-some, header_at, reply_at, IDS, exec, handed, AllowsSend}
 use Rattle.std.specs.Fmt.{digits}
-use Rattle.std.proofs.lemmas.Option.{same_Some, none-some}
-use Rattle.gc_lines.specs.Readers.{header_at, reply_at}
-use Rattle.gc_client.specs.declared.window.TheConstants.{IDS}
-use Rattle.gc_instrument.specs.Execution.{exec}
-use Rattle.gc_instrument.specs.Replying.{handed}
 use Rattle.gc_theorems.proofs.Witness.{opening_fits}
-use Rattle.gc_theorems.specs.Harm.{AllowsSend}
 use Rattle.gc_theorems.specs.DamagedRun.{IsDamagedRun, IsDamagedStretch, until_last}
 
 -- a line of request `last` allows a send, also by another name of its number

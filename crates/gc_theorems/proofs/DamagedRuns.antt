@@ -1,57 +1,12 @@
 -- A station's run over a line that damages: each record goes with a request of one of the stretches, and where damage is apart in that
 -- stretch, the record is of the request's own reply, or of a damaged line.
-use Rattle.std.proofs.Common.{◌≡◌, ◌⊎◌, inl, inr, ℕ, suc, ◌+◌, ◌≤◌, true, false, List, [], ◌∷◌, ◌++◌, length, map, Option, Some, None, zero, drop, refl, sym, ◌∙◌, ap, subst, arith}
-use Rattle.std.specs.Prelude.{slice_get, unwrap_or}
-use Rattle.std.specs.List.{AllByRecursion, AllZip}
-use Rattle.std.proofs.lemmas.List.{drop-map}
-use Rattle.std.proofs.lemmas.Bool.{true≢false}
-use Rattle.std.proofs.lemmas.Option.{none-some, same_Some}
+use Rattle.gc_theorems.proofs.Common.{◌≡◌, ◌⊎◌, inl, inr, ℕ, suc, ◌+◌, ◌≤◌, true, false, List, [], ◌∷◌, ◌++◌, length, map, Option, Some, None, zero, drop, refl, sym, ◌∙◌, ap, subst, arith, slice_get, unwrap_or, AllByRecursion, AllZip, drop-map, true≢false, none-some, same_Some, every_weaker as all_on, Asked, is_of_table, the_word, Wanted, ById, Outcome, Answered, Late, Lost, Settlement, fresh, lost, KeptReply, End, line_of, call_at, Occasion, Task, at_any_moment, client_after, unanswered_after, AreBegun, heard_in, IsHeldBack, opening, occasion_of, records_of, Part, MarkAsks, MarksAsk, mark_of, occasion_in, sent_at, went_out, Record, state_after, Reads, marks_ask_at, sent_by, settled_by, CountUp, counted_at, ids_count, parts_begun, invariant_opening, each_once, follows, get_behind, IsRecordOf, was_answered, was_late, get_seen, of_sent, Ends, Sent, IsWellFormed, LacksTheWord, UnderWay, begins, nulls, nulls_settled, IsAnInstrument, TreatsRawsAlike, IsByDamage, KeepsItsOwnAfter, IsOwn, WasMadeAmid, damaged_lines, AnswerIsOwnOrDamaged, AreFewByDamagedLines, AreOfTable, AreSentInStretches, HarmedProgram, HasItsRequest, IsInHarmedField, IsLocal, IsOwnOrByDamage, IsRunLocal, LateIsOwnOrDamaged, count_in, damaged_lines_in, parts_of_program, sent_until, written_in_stretches, AreInARow, HarmedStretch, HasDamageApart, IsDamagedOnceSynchronized, IsPossibleStretch, IsSeenAs, at_its_end, client_sent, client_settled, left_by_stretch, once_synchronized, synchronized, WasStruck}
 use Rattle.gc_lines.proofs.Lists.{all_at}
-use Rattle.gc_values.proofs.Every.{every_weaker as all_on}
-use Rattle.gc_catalogue.specs.declared.asked.Asked.{Asked}
-use Rattle.gc_catalogue.specs.Asked.{is_of_table}
-use Rattle.gc_client.specs.Beginning.{the_word}
-use Rattle.gc_client.specs.OneForOne.{Wanted}
-use Rattle.gc_client.specs.Rule.{ById, Outcome, Answered, Late, Lost, Settlement, fresh, lost}
-use Rattle.gc_instrument.specs.State.{KeptReply}
-use Rattle.gc_texts.specs.Endings.{End, line_of}
-use Rattle.gc_texts.specs.Endings as end
-use Rattle.gc_texts.specs.Tasks.{call_at}
-use Rattle.gc_texts.specs.declared.occasion.Occasion.{Occasion}
-use Rattle.gc_texts.specs.declared.tasks.Task.{Task}
 use Rattle.gc_texts.specs.declared.wish.Wish.{Wish}
-use Rattle.gc_texts.proofs.TaskMoments.{at_any_moment}
-use Rattle.gc_session.specs.Courses.{client_after}
-use Rattle.gc_station.specs.Beginnings.{unanswered_after}
-use Rattle.gc_station.specs.Begun.{AreBegun, heard_in}
-use Rattle.gc_station.specs.HoldingBack.{IsHeldBack}
-use Rattle.gc_station.specs.Model.{opening}
-use Rattle.gc_station.specs.Marks.{occasion_of, records_of}
-use Rattle.gc_station.specs.Parts.{Part, MarkAsks, MarksAsk, mark_of, occasion_in, sent_at, went_out}
-use Rattle.gc_station.specs.Records.{Record}
-use Rattle.gc_station.specs.Runs.{state_after}
 use Rattle.gc_station.proofs.HoldingBack.{held_back}
-use Rattle.gc_station.proofs.Booking.{marks_ask_at, sent_by, settled_by}
-use Rattle.gc_station.proofs.CountedIds.{CountUp, counted_at, ids_count}
-use Rattle.gc_station.specs.Scopes.{Reads}
-use Rattle.gc_station.proofs.Asked.{parts_begun}
-use Rattle.gc_station.proofs.EachRun.{invariant_opening, each_once}
-use Rattle.gc_station.proofs.Following.{follows}
-use Rattle.gc_station.proofs.Lists.{get_behind}
-use Rattle.gc_station.proofs.Meets.{IsRecordOf, was_answered, was_late}
-use Rattle.gc_world.proofs.Places.{get_seen}
-use Rattle.gc_world.specs.Worlds.{of_sent}
-use Rattle.gc_theorems.specs.World.{Ends, Sent}
-use Rattle.gc_theorems.specs.Begin.{IsWellFormed, LacksTheWord, UnderWay, begins}
-use Rattle.gc_theorems.specs.Begun.{nulls, nulls_settled}
-use Rattle.gc_theorems.specs.Instrument.{IsAnInstrument, TreatsRawsAlike}
 use Rattle.gc_theorems.proofs.Among.{among_first, zip_each}
 use Rattle.gc_theorems.proofs.BeginLists.{each_all}
 use Rattle.gc_theorems.proofs.Meant.{are_meant}
-use Rattle.gc_theorems.specs.Harm.{IsByDamage, KeepsItsOwnAfter, IsOwn, WasMadeAmid, damaged_lines}
-use Rattle.gc_theorems.specs.DamagedRuns.{AnswerIsOwnOrDamaged, AreFewByDamagedLines, AreOfTable, AreSentInStretches, HarmedProgram, HasItsRequest, IsInHarmedField, IsLocal, IsOwnOrByDamage, IsRunLocal, LateIsOwnOrDamaged, count_in, damaged_lines_in, parts_of_program, sent_until, written_in_stretches}
-use Rattle.gc_theorems.specs.Stretches.{AreInARow, HarmedStretch, HasDamageApart, IsDamagedOnceSynchronized, IsPossibleStretch, IsSeenAs, at_its_end, client_sent, client_settled, left_by_stretch, once_synchronized, synchronized}
-use Rattle.gc_theorems.specs.DamagedSynchronizing.{WasStruck}
 use Rattle.gc_theorems.proofs.DamagedCounting.{few_by_damage}
 use Rattle.gc_theorems.proofs.DamagedLocal.{local_if_held_back}
 use Rattle.gc_theorems.proofs.FewRecords.{few_records}
@@ -60,6 +15,7 @@ use Rattle.gc_theorems.proofs.Room.{HoldsBackFrom, SendsOnly}
 use Rattle.gc_theorems.proofs.SeenHarms.{IsSeenBy, seen_by_steps}
 use Rattle.gc_theorems.proofs.DamagedUndamaged.{left_harmed}
 use Rattle.gc_theorems.proofs.WellFormed.{left_well_formed, possible_steps}
+use Rattle.gc_texts.specs.Endings as end
 
 -- Lists.
 

@@ -1,39 +1,19 @@
 -- A session over a line that damages: it settles what the world's client settles, and each stretch in which damage is apart is local,
 -- because the session holds back.
-use Rattle.std.proofs.Common.{◌≡◌, ◌⊎◌, inl, inr, ℕ, ◌+◌, ◌<◌, List, [], ◌∷◌, ◌++◌, length, map, drop, Option, Some, None, refl, sym, ◌∙◌, ap, subst, append_assoc, append-nil}
-use Rattle.std.specs.List.{AllByRecursion}
-use Rattle.gc_catalogue.specs.declared.asked.Asked.{Asked}
-use Rattle.gc_client.specs.OneForOne as one
-use Rattle.gc_client.specs.OneForOne.{Step, Wanted, begun, course, sent_on}
-use Rattle.gc_client.specs.Rule.{ById, Sending, fresh, lost, sends}
-use Rattle.gc_client.specs.declared.window.TheConstants.{WINDOW}
-use Rattle.gc_instrument.specs.State.{KeptReply}
-use Rattle.gc_lines.proofs.Lists.{all_append}
-use Rattle.gc_session.specs.Calls.{Call, AsksTheTable, events_all}
-use Rattle.gc_session.specs.Events.{ClientEvent, Stepped, steps_among, steps_since}
-use Rattle.gc_session.specs.Laws.{RequestsAreHeldBack, SessionsAreTheirClients}
-use Rattle.gc_session.specs.Laws as session
-use Rattle.gc_session.specs.Sessions.{Session, opening}
-use Rattle.gc_session.proofs.InTable.{AreInTable, IsInTable, calls_in_table}
-use Rattle.gc_session.proofs.Courses.{course_client}
-use Rattle.gc_session.specs.Courses.{client_after, client_stepped}
-use Rattle.gc_station.proofs.Booking.{course_settled, sent_by, settled_append, settled_by}
-use Rattle.gc_theorems.specs.World.{Ends}
-use Rattle.gc_theorems.specs.Begin.{IsWellFormed, SyncModel, UnderWay, begins}
-use Rattle.gc_theorems.specs.Instrument.{IsAnInstrument, TreatsRawsAlike}
+use Rattle.gc_theorems.proofs.Common.{◌≡◌, ◌⊎◌, inl, inr, ℕ, ◌+◌, ◌<◌, List, [], ◌∷◌, ◌++◌, length, map, drop, Option, Some, None, refl, sym, ◌∙◌, ap, subst, append_assoc, append-nil, AllByRecursion, Asked, Wanted, begun, course, sent_on, ById, Sending, fresh, lost, sends, WINDOW, KeptReply, all_append, events_all, ClientEvent, Stepped, steps_among, steps_since, RequestsAreHeldBack, SessionsAreTheirClients, Session, client_after, client_stepped, AreInTable, IsInTable, calls_in_table, course_client, course_settled, sent_by, settled_append, settled_by, Ends, IsWellFormed, SyncModel, UnderWay, begins, IsAnInstrument, TreatsRawsAlike, Harm, Does, Damages, Strikes, KeepsItsOwnAfter, IsLocal, AreInARow, HarmedStretch, HasDamageApart, IsPossibleStretch, at_its_end, client_settled, left_by_stretch, seen_at, seen_harms, SyncHarm, sync_harms}
+use Rattle.gc_client.specs.Prelude.{Step}
+use Rattle.gc_session.specs.Prelude.{Call, AsksTheTable, opening}
 use Rattle.gc_theorems.proofs.Parting.{IsNoRestart, no_restart_seen, since_both, steps_in_front, turned_one}
 use Rattle.gc_theorems.proofs.SentNear.{OfSends, sends_behind, sends_by_steps, sends_front}
-use Rattle.gc_theorems.specs.Harm.{Harm, Does, Damages, Strikes, KeepsItsOwnAfter}
-use Rattle.gc_theorems.specs.DamagedRuns.{IsLocal}
 use Rattle.gc_theorems.specs.DamagedSessions.{SessionsInHarmedFieldAreLocal, events_in, harm_event, harm_events, settled_in}
-use Rattle.gc_theorems.specs.Stretches.{AreInARow, HarmedStretch, HasDamageApart, IsPossibleStretch, at_its_end, client_settled, left_by_stretch, seen_at, seen_harms}
-use Rattle.gc_theorems.specs.DamagedSynchronizing as sync
-use Rattle.gc_theorems.specs.DamagedSynchronizing.{SyncHarm, sync_harms}
 use Rattle.gc_theorems.proofs.DamagedLocal.{local_if_held_back}
 use Rattle.gc_theorems.proofs.Room.{HoldsBackFrom, SendsOnly}
 use Rattle.gc_theorems.proofs.DamagedRuns.{all_few}
 use Rattle.gc_theorems.proofs.SeenHarms.{seen_by_steps}
 use Rattle.gc_theorems.proofs.WellFormed.{left_well_formed, possible_steps}
+use Rattle.gc_client.specs.OneForOne as one
+use Rattle.gc_session.specs.Laws as session
+use Rattle.gc_theorems.specs.DamagedSynchronizing as sync
 
 -- Steps among events.
 

@@ -1,26 +1,9 @@
 -- The station's run of `specs/DamagedStation.antt` comes out as it says, by computation.
-use Rattle.std.proofs.Common.{◌≡◌, inl, inr, false, [], ◌∷◌, ◌++◌, refl, sym, subst, arith, lit<}
-use Rattle.std.specs.Prelude.{codes, take, drop}
+use Rattle.gc_theorems.proofs.Common.{◌≡◌, inl, inr, false, [], ◌∷◌, ◌++◌, refl, sym, subst, arith, lit<, codes, take, AllZip, header_at, reply_at, Table, InstrumentNo, WINDOW, exec, handed, is_off_target, runs-append, parts, opening, begins, simulator_ends, plan, replies, scope, Damages, WasMadeAmid, WasSettledByDamage, IsSeenAs, once_synchronized, seen_harms, shown_harms}
+use Rattle.std.specs.Prelude.{drop}
 use Rattle.std.specs.Fmt.{digits}
-use Rattle.std.specs.List.{AllZip}
-use Rattle.gc_lines.specs.Readers.{header_at, reply_at}
-use Rattle.gc_catalogue.specs.declared.asked.Asked.TheVariants.{Table}
-use Rattle.gc_catalogue.specs.declared.call.Call.TheVariants.{InstrumentNo}
-use Rattle.gc_client.specs.declared.window.TheConstants.{WINDOW}
-use Rattle.gc_instrument.specs.Execution.{exec}
-use Rattle.gc_instrument.specs.Replying.{handed}
-use Rattle.gc_texts.specs.Nears.{is_off_target}
-use Rattle.gc_station.proofs.Going.{runs-append}
-use Rattle.gc_station.specs.Links.{parts}
-use Rattle.gc_station.specs.Model.{opening}
-use Rattle.gc_theorems.specs.Begin.{begins}
-use Rattle.gc_theorems.specs.Simulator.{simulator_ends}
-use Rattle.gc_theorems.specs.Witness.{plan, replies, scope}
 use Rattle.gc_theorems.proofs.Witness.{asked_each, one_part, opening_fits, opens_simulator, units}
 use Rattle.gc_theorems.specs.DamagedStation.{IsDamagedStation, acts, answer, at_start, commands, damaged, program, steps, stretch, turns, until_damage, until_end, until_last, until_reached}
-use Rattle.gc_theorems.specs.Harm.{Damages, WasMadeAmid}
-use Rattle.gc_theorems.specs.DamagedRuns.{WasSettledByDamage}
-use Rattle.gc_theorems.specs.Stretches.{IsSeenAs, once_synchronized, seen_harms, shown_harms}
 
 -- the run's parts are these: one with these steps, and with the two requests by place and moment; and the empty one after the end
 parts_are : parts plan commands scope acts ≡ one_part (asked_each replies) (seen_harms steps) ((0, 15, 1) ∷ (1, 20, 2) ∷ [])

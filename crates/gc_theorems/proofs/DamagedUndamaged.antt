@@ -1,20 +1,9 @@
 -- A synchronization without damage, as one with damage: it is clean if the word isn't in flight when it begins. And which ids a
 -- synchronization with damage leaves of the word is what the lines that it shows leave of it.
-use Rattle.std.proofs.Common.{◌≡◌, ℕ, inl, List, [], ◌∷◌, map, Option, refl, sym, ◌∙◌, ap, subst, append-nil}
-use Rattle.gc_instrument.specs.State.{KeptReply}
-use Rattle.gc_station.specs.Beginnings.{unanswered_after}
-use Rattle.gc_station.specs.Begun.{heard_in}
-use Rattle.gc_station.proofs.Asked.{heard_append, left_append}
-use Rattle.gc_theorems.specs.World.{Ends}
-use Rattle.gc_theorems.specs.Begin.{AreTurns, IsWellFormed, LacksTheWord, SyncModel, SyncTurn, UnderWay, begins, leaves, turned, turns}
-use Rattle.gc_theorems.specs.Instrument.{IsAnInstrument}
-use Rattle.gc_theorems.specs.Shown.{shows}
+use Rattle.gc_theorems.proofs.Common.{◌≡◌, ℕ, inl, List, [], ◌∷◌, map, Option, refl, sym, ◌∙◌, ap, subst, append-nil, KeptReply, unanswered_after, heard_in, heard_append, left_append, Ends, AreTurns, IsWellFormed, LacksTheWord, SyncModel, SyncTurn, UnderWay, begins, leaves, turned, turns, IsAnInstrument, shows, IsCleanBut, left_by_sync, shown_harms, shows_harm, SyncHarm, AllMaySyncHarm, sync_harmed, sync_harms}
 use Rattle.gc_theorems.proofs.BeginJoin.{begins_cleanly}
 use Rattle.gc_theorems.proofs.Shown.{left_is}
-use Rattle.gc_theorems.specs.Harm.{IsCleanBut}
-use Rattle.gc_theorems.specs.Stretch.{left_by_sync}
-use Rattle.gc_theorems.specs.Stretches.{shown_harms, shows_harm}
-use Rattle.gc_theorems.specs.DamagedSynchronizing.{SyncHarm, Does, Damages, Strikes, AllMaySyncHarm, sync_harmed, sync_harms}
+use Rattle.gc_theorems.specs.DamagedSynchronizing.{Does, Damages, Strikes}
 
 module _ {State : Type 0} (ends : Ends State) where
   -- turns without damage do what they do in the field

@@ -1,26 +1,11 @@
 -- A run over an instrument that keeps no reply, computed.
-use Rattle.std.proofs.Common.{◌≡◌, [], ◌∷◌, refl, sym, subst, lit<, ℕ}
-use Rattle.std.specs.Prelude.{take, drop}
-use Rattle.std.specs.Fmt.{decimal, digits}
-use Rattle.gc_lines.specs.Readers.{header_at, reply_at}
-use Rattle.gc_world.proofs.Handing.{reply_heard}
-use Rattle.gc_catalogue.specs.declared.asked.Asked.TheVariants.{Raw}
-use Rattle.gc_catalogue.specs.declared.raw.RawCall.{RawCall}
-use Rattle.gc_client.specs.declared.window.TheConstants.{WINDOW}
-use Rattle.gc_theorems.specs.Instrument.{IsAnInstrument, AnyState, never_kept}
-use Rattle.gc_theorems.specs.Begin.{begins, left_by_turns, none_under_way}
-use Rattle.gc_theorems.specs.Begun.{WasMadeOn}
+use Rattle.gc_theorems.proofs.Common.{◌≡◌, [], ◌∷◌, refl, sym, subst, lit<, ℕ, take, decimal, header_at, reply_at, reply_heard, Raw, RawCall, WINDOW, IsAnInstrument, AnyState, never_kept, begins, left_by_turns, none_under_way, WasMadeOn, is_off_target, runs-append, opening, parts, state_after, seen, AreShownAs, shown}
+use Rattle.std.specs.Prelude.{drop}
+use Rattle.std.specs.Fmt.{digits}
 use Rattle.gc_theorems.specs.Drifting.{IsAnsweredByDrifting, acts, answer, null_replies, commands, drifting, moves, plan, program, scope, turns}
-use Rattle.gc_texts.specs.Nears.{is_off_target}
-use Rattle.gc_station.proofs.Going.{runs-append}
-use Rattle.gc_station.specs.Model.{opening}
-use Rattle.gc_theorems.specs.Field.{seen}
-use Rattle.gc_theorems.specs.Shown.{AreShownAs, shown}
-use Rattle.gc_station.specs.Parts as part
 use Rattle.gc_theorems.proofs.Witness.{asked_each, one_part, units}
 use Rattle.gc_theorems.proofs.Instruments.{keeps_none}
-use Rattle.gc_station.specs.Links.{parts}
-use Rattle.gc_station.specs.Runs.{state_after}
+use Rattle.gc_station.specs.Parts as part
 
 -- `drifting` is an instrument
 drifting_is : IsAnInstrument drifting AnyState never_kept

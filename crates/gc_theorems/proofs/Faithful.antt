@@ -1,26 +1,9 @@
 -- The law on answers, `IsFaithfulFrom`, put together from its parts, and that of a client that doesn't synchronize.
-use Rattle.std.specs.Prelude.{slice_get}
-use Rattle.gc_catalogue.specs.Asked.{is_of_table}
-use Rattle.std.proofs.Common.{◌≡◌, ℕ, ◌<◌, ◌≤◌, Some, false, List, [], Option, sym, ◌∙◌, ap, subst, arith, map, ◌++◌}
-use Rattle.gc_catalogue.specs.declared.asked.Asked.{Asked}
-use Rattle.gc_client.specs.OneForOne.{begun, course, of_settled, of_pending}
-use Rattle.gc_client.specs.Rule.{ById, Settlement}
-use Rattle.gc_client.proofs.OneForOne.{accounts_for_sends}
-use Rattle.gc_world.specs.Clients.{ByNumber, by_ids, by_numbers, ids_open, numbers_open}
-use Rattle.gc_instrument.specs.State.{KeptReply}
-use Rattle.gc_world.specs.Record.{IsReplyTo}
-use Rattle.gc_theorems.specs.World.{Ends, Wire, World}
-use Rattle.gc_world.proofs.Booked.{has_at}
-use Rattle.gc_world.proofs.Settled as settled
-use Rattle.gc_theorems.specs.Field.{Move, moved, ArePossible, AsksTheTable, IsFirstAlone, seen}
-use Rattle.gc_theorems.specs.Laws.{IsFaithfulFrom, IsFaithfulUnsynchronized}
-use Rattle.gc_theorems.specs.Made.{WasMadeFrom}
-use Rattle.gc_theorems.specs.Once.{ExecutesOnce, IsInOrder}
-use Rattle.gc_theorems.specs.Instrument.{IsAnInstrument}
+use Rattle.gc_theorems.proofs.Common.{slice_get, is_of_table, ◌≡◌, ℕ, ◌<◌, ◌≤◌, Some, false, List, [], Option, sym, ◌∙◌, ap, subst, arith, map, ◌++◌, Asked, begun, course, of_settled, of_pending, ById, Settlement, accounts_for_sends, ByNumber, by_ids, by_numbers, ids_open, numbers_open, IsReplyTo, KeptReply, Ends, Wire, World, has_at, Move, moved, ArePossible, AsksTheTable, IsFirstAlone, seen, IsFaithfulFrom, IsFaithfulUnsynchronized, WasMadeFrom, ExecutesOnce, IsInOrder, IsAnInstrument, AccountForSent}
 use Rattle.gc_theorems.proofs.Moving.{Both, both_all, both_open, first_reply, IsOwnSettlement, IsVouchedFor, vouched_at, made_here}
 use Rattle.gc_theorems.proofs.Instruments.{exchange_of}
 use Rattle.gc_theorems.proofs.Seen.{same_all, same_open}
-use Rattle.gc_world.proofs.Settled.{AccountForSent}
+use Rattle.gc_world.proofs.Settled as settled
 
 module _ {State : Type 0} (ends : Ends State) (Good : State → Type 0) (kept : State → Option KeptReply) (keeper : IsAnInstrument ends Good kept) (width : ℕ) (narrow : width ≤ 7) where
   -- where two worlds go together (`Both`), possible moves from there on are faithful for the requests that are sure: if they settle and

@@ -1,20 +1,8 @@
 -- No more records are of requests that were settled by lines that come damaged than such lines come: two records are of two requests, as
 -- before these so many commands were sent as the records before them are of.
-use Rattle.std.proofs.Common.{◌≡◌, ◌⊎◌, inl, inr, ℕ, zero, suc, ◌+◌, ◌<◌, ◌≤◌, Bool, true, false, List, [], ◌∷◌, length, map, take, Option, Some, None, refl, sym, ◌∙◌, ap, subst, arith, if◌then◌else◌}
-use Rattle.std.specs.Prelude.{slice_get}
-use Rattle.std.specs.List.{AllByRecursion}
+use Rattle.gc_theorems.proofs.Common.{◌≡◌, ◌⊎◌, inl, inr, ℕ, zero, suc, ◌+◌, ◌<◌, ◌≤◌, Bool, true, false, List, [], ◌∷◌, length, map, Option, Some, None, refl, sym, ◌∙◌, ap, subst, arith, if◌then◌else◌, slice_get, AllByRecursion, length-map, none-some, same_Some, Task, commands_in, Part, sent_of, went_out, Record, Ends, Damages, AreRising, damaged_lines, AreFewRecordsByDamagedLines, IsByDamagedLine, WasSettledByDamage, damaged_lines_in, sent_before, sent_until, HarmedStretch, once_synchronized, WasStruck}
+use Rattle.std.proofs.Common.{take}
 use Rattle.std.proofs.lemmas.Bool.Decides.{leb_tells}
-use Rattle.std.proofs.lemmas.List.{length-map}
-use Rattle.std.proofs.lemmas.Option.{none-some, same_Some}
-use Rattle.gc_texts.specs.declared.tasks.Task.{Task}
-use Rattle.gc_station.specs.Marks.{commands_in}
-use Rattle.gc_station.specs.Parts.{Part, sent_of, went_out}
-use Rattle.gc_station.specs.Records.{Record}
-use Rattle.gc_theorems.specs.World.{Ends}
-use Rattle.gc_theorems.specs.Harm.{Damages, AreRising, damaged_lines}
-use Rattle.gc_theorems.specs.DamagedRuns.{AreFewRecordsByDamagedLines, IsByDamagedLine, WasSettledByDamage, damaged_lines_in, sent_before, sent_until}
-use Rattle.gc_theorems.specs.Stretches.{HarmedStretch, once_synchronized}
-use Rattle.gc_theorems.specs.DamagedSynchronizing.{WasStruck}
 use Rattle.gc_theorems.proofs.DamagedCounting.{few_by_damage}
 use Rattle.gc_theorems.proofs.Recorded.{Mark}
 

@@ -1,17 +1,6 @@
 -- What holds of one request, m, from the moment at which it is sent after the table: it is near the last call of the table that
 -- the instrument was handed, so the line that answers it was made for it. Of what was sent before nothing need be known.
-use Rattle.std.proofs.Common.{◌≡◌, ℕ, ◌+◌, ◌<◌, ◌≤◌, ◌⊎◌, inl, inr, Bool, true, false, List, [], ◌∷◌, length, Option, refl, subst, arith, ltb}
-use Rattle.std.proofs.lemmas.Bool.{ltb-true, ltb-false}
-use Rattle.gc_catalogue.specs.Asked.{is_of_table}
-use Rattle.gc_catalogue.specs.declared.asked.Asked.{Asked}
-use Rattle.gc_client.specs.Rule.{Outcome, Answered, Late, Lost}
-use Rattle.gc_instrument.specs.State.{KeptReply}
-use Rattle.gc_world.specs.Clients.{ByNumber}
-use Rattle.gc_theorems.specs.World.{Ends, Numbered, World}
-use Rattle.gc_world.proofs.Sound.{Sound}
-use Rattle.gc_theorems.specs.Begun.{IsBehindTheTable, IsByReply}
-use Rattle.gc_theorems.specs.Field.{Move, Sends, AsksOnly}
-use Rattle.gc_theorems.specs.Instrument.{IsAnInstrument, all_known}
+use Rattle.gc_theorems.proofs.Common.{◌≡◌, ℕ, ◌+◌, ◌<◌, ◌≤◌, ◌⊎◌, inl, inr, Bool, true, false, List, [], ◌∷◌, length, Option, refl, subst, arith, ltb, ltb-true, ltb-false, is_of_table, Asked, Outcome, Answered, Late, Lost, KeptReply, ByNumber, Ends, Numbered, World, Sound, IsBehindTheTable, IsByReply, Move, Sends, AsksOnly, IsAnInstrument, all_known}
 use Rattle.gc_theorems.proofs.Answered.{HoldsOfOutcome, holds_get, holds_below}
 use Rattle.gc_theorems.proofs.BeginLists.{each_both}
 use Rattle.gc_theorems.proofs.Once.{known_not_unknown}

@@ -1,47 +1,22 @@
 -- What is left of a request that was cut is no request: each request begins with `%` (37, called the sign here), and all of its
 -- other bytes before the CR LF at its end are above 37.
-use Rattle.std.proofs.Common.{◌≡◌, ◌≢◌, ℕ, zero, suc, ◌-◌, ◌/◌, ◌%◌, ◌^◌, ◌<◌, Bool, true, false, ◌&&◌, ltb, eqb, ℤ, pos, negsuc, unsigned_abs, List, [], ◌∷◌, ◌++◌, length, take, drop, map, Option, Some, None, cond, refl, sym, ◌∙◌, ap, subst, arith, lit<, append_assoc}
-use Rattle.std.specs.Prelude.{slice_index}
-use Rattle.std.specs.Fmt.{decimal}
-use Rattle.std.specs.List.{AllByRecursion}
+use Rattle.gc_theorems.proofs.Common.{◌≡◌, ◌≢◌, ℕ, zero, suc, ◌-◌, ◌/◌, ◌%◌, ◌^◌, ◌<◌, Bool, true, false, ◌&&◌, ltb, eqb, ℤ, pos, negsuc, unsigned_abs, List, [], ◌∷◌, ◌++◌, length, drop, map, Option, Some, None, cond, refl, sym, ◌∙◌, ap, subst, arith, lit<, append_assoc, slice_index, decimal, AllByRecursion, ne_eqb, is_line_feed, ends_in_return, frame_of, pieces_behind, line_in, lines, id_text, IsNoRequest, frames_behind, boolean_text, byte_text, AreDigits, IsValue, text, AreValues, signed_text, minus_text, whole_text, places_text, every_drop, every_take, every_weaker as all_on, hex_digit_above_comma, call_fields, IsFitting, behind_commas, params_of, request_line, Call, HasNoRequest, request_bytes, CutRequestsAreWholeOrNothing, all_append, and-false, take-append-le, Lacks}
+use Rattle.std.proofs.Common.{take}
 use Rattle.std.specs.Str.Parse.{AllDigits}
-use Rattle.std.proofs.lemmas.Bool.{ne_eqb}
 use Rattle.std.proofs.lemmas.Fmt.{decimal_is_IsNumeral}
 use Rattle.std.proofs.lemmas.List.Elements.{All-from_recursion}
 use Rattle.std.proofs.lemmas.Str.Parse.{digit_at}
 use Rattle.hex.specs.Hex.{lower_digits}
 use Rattle.gc_lines.specs.declared.frame.Frame.{Frame}
 use Rattle.gc_lines.specs.declared.frame.Frame.TheVariants.{Line, Cleared, Overlong, More}
-use Rattle.gc_lines.specs.Frames.{is_line_feed, ends_in_return, frame_of, pieces_behind, line_in, lines}
-use Rattle.gc_lines.specs.Headers.{id_text}
-use Rattle.gc_lines.specs.Requests.{IsNoRequest}
-use Rattle.gc_values.specs.Boolean.{boolean_text}
-use Rattle.gc_values.specs.Byte.{byte_text}
-use Rattle.gc_values.specs.Digits.{AreDigits}
-use Rattle.gc_values.specs.Item.{IsValue, text}
-use Rattle.gc_values.specs.Lists.{AreValues}
-use Rattle.gc_values.specs.Whole.{signed_text}
-use Rattle.gc_values.specs.Written.{minus_text, whole_text, places_text, written}
+use Rattle.gc_values.specs.Prelude.{written}
 use Rattle.gc_values.specs.declared.value.Value.{Value}
-use Rattle.gc_values.specs.declared.value.Value.TheVariants as value
-use Rattle.gc_values.proofs.Every.{every_drop, every_take, every_weaker as all_on}
-use Rattle.gc_values.proofs.TextShape.{hex_digit_above_comma}
 use Rattle.gc_values.proofs.WrittenSpells.{writes_whole, is_fraction_text}
-use Rattle.gc_catalogue.specs.Calls.{call_fields, IsFitting}
-use Rattle.gc_catalogue.specs.Lists.{behind_commas, params_of}
-use Rattle.gc_catalogue.specs.declared.call.Call.{Call}
-use Rattle.gc_catalogue.specs.Texts.{request_line}
 use Rattle.gc_catalogue.proofs.Joining.{params_of-cons}
 use Rattle.gc_catalogue.proofs.Table.{IsNoText, no_text, number_fits}
-use Rattle.gc_instrument.specs.Laws.{HasNoRequest}
 use Rattle.gc_instrument.proofs.HeardFrames.{lines_of}
-use Rattle.gc_theorems.specs.Fronts.{request_bytes, CutRequestsAreWholeOrNothing}
-use Rattle.gc_lines.proofs.Lists.{all_append}
-use Rattle.std.proofs.Math.Bool.{and-false}
-use Rattle.std.proofs.lemmas.List.{take-append-le}
 use Rattle.std.proofs.Math.Seq.{take-append-add}
-use Rattle.gc_lines.specs.Passing.{frames_behind}
-use Rattle.gc_texts.specs.Cuts.{Lacks}
+use Rattle.gc_values.specs.declared.value.Value.TheVariants as value
 
 -- Bytes above the sign that begins a request.
 

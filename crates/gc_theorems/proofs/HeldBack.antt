@@ -1,13 +1,7 @@
 -- If the client holds back, damage is local as long as no two lines in a row that settle something are damaged.
-use Rattle.std.proofs.Common.{◌≡◌, ℕ, ◌+◌, ◌-◌, ◌<◌, ◌≤◌, ◌⊎◌, inl, inr, Bool, true, false, List, [], ◌∷◌, length, Option, refl, sym, subst, arith, ltb, eqb}
+use Rattle.gc_theorems.proofs.Common.{◌≡◌, ℕ, ◌+◌, ◌-◌, ◌<◌, ◌≤◌, ◌⊎◌, inl, inr, Bool, true, false, List, [], ◌∷◌, length, Option, refl, sym, subst, arith, ltb, eqb, AllByRecursion, every_append, ltb-true, ltb-false, true≢false, WINDOW, send_unless_full, IsFresh, Of, Damaged, account_heard, InFlight, OneQueue, Deliver, Damage, Lose, Repeat, IsOfFront, next_line, queue_after, queue_delivered, queue_sent}
 use Rattle.std.specs.Prelude.{if◌then◌else◌}
-use Rattle.std.specs.List.{AllByRecursion}
-use Rattle.std.proofs.Permutation.{every_append}
-use Rattle.std.proofs.lemmas.Bool.{ltb-true, ltb-false, true≢false}
-use Rattle.gc_client.specs.declared.window.TheConstants.{WINDOW}
-use Rattle.gc_client.specs.Rule.{send_unless_full}
-use Rattle.gc_theorems.specs.Damage.{IsFresh, Of, Damaged, account_heard}
-use Rattle.gc_theorems.specs.OneQueue.{InFlight, OneQueue, Step, Send, Expire, Deliver, Damage, Lose, Repeat, IsOfFront, IsPossible, next_line, queue_after, queue_delivered, queue_sent}
+use Rattle.gc_theorems.specs.OneQueue.{Step, Send, Expire, IsPossible}
 use Rattle.gc_theorems.specs.ClientHoldingBack.{Holding, AreApart, IsApart, IsHeldBack, after_line, holding, holding_after, holding_nothing, outstanding, settles, with_line, with_queue}
 use Rattle.gc_theorems.proofs.ClientLocal.{Sound, local_if_sound, sound_damaged, sound_expired, sound_fresh, sound_opened, sound_sent}
 use Rattle.gc_theorems.proofs.Orders.{Ordered, each_both, each_doubled, each_weaker, each_without, ordered_doubled, ordered_each, ordered_lower, ordered_push, ordered_without}

@@ -1,27 +1,6 @@
 -- Holding back in the field: each send is fresh, if no two lines in a row that settle something are damaged.
-use Rattle.std.proofs.Common.{◌≡◌, ℕ, ◌+◌, ◌-◌, ◌%◌, ◌<◌, ◌≤◌, ◌⊎◌, inl, inr, Bool, true, false, List, [], ◌∷◌, ◌++◌, length, Option, Some, refl, sym, ◌∙◌, ap, subst, arith, eqb, ltb}
-use Rattle.std.specs.List.{AllByRecursion}
-use Rattle.std.proofs.lemmas.List.{length_push}
-use Rattle.std.proofs.lemmas.Bool.{ltb-true, ltb-false, true≢false}
-use Rattle.std.proofs.lemmas.Option.{same_Some}
-use Rattle.gc_lines.proofs.Lists.{all_append}
-use Rattle.gc_values.proofs.Every.{every_weaker as all_on}
-use Rattle.gc_catalogue.specs.declared.asked.Asked.{Asked}
-use Rattle.gc_catalogue.specs.Asked.{asked_line}
-use Rattle.gc_client.specs.Rule.{hears, place, send_unless_full}
-use Rattle.gc_instrument.specs.State.{KeptReply}
-use Rattle.gc_world.specs.Clients.{by_ids}
-use Rattle.gc_world.specs.Order.{Rising, numbers}
-use Rattle.gc_theorems.specs.World.{Numbered, Request, Sent, Ends, Step, Send, Up_deliver, Up_lose, Up_repeat, Down_deliver, Down_lose, Down_repeat, Expire, Restart_client, Restart_instrument, Nothing, without, doubled, up_delivered, with_up, with_down, on_wire, requested, down_delivered}
-use Rattle.gc_world.proofs.Rows.{each_number, each_without, each_doubled, rising_each, rising_lower, rising_tail, rising_without, rising_doubled, rising_without_behind, rising_doubled_behind, rising_moved, rising_push}
-use Rattle.gc_theorems.specs.Field.{Move, Sends, Tells, Comes, Foreign, OnLine, Anew, Changes, Joins, IsLineStep}
-use Rattle.gc_theorems.specs.Begin.{UnderWay}
-use Rattle.gc_theorems.specs.Begun.{IsClean}
-use Rattle.gc_theorems.specs.Instrument.{IsAnInstrument}
+use Rattle.gc_theorems.proofs.Common.{◌≡◌, ℕ, ◌+◌, ◌-◌, ◌%◌, ◌<◌, ◌≤◌, ◌⊎◌, inl, inr, Bool, true, false, List, [], ◌∷◌, ◌++◌, length, Option, Some, refl, sym, ◌∙◌, ap, subst, arith, eqb, ltb, AllByRecursion, length_push, ltb-true, ltb-false, true≢false, same_Some, all_append, every_weaker as all_on, Asked, asked_line, hears, place, send_unless_full, KeptReply, by_ids, Rising, numbers, Numbered, Request, Sent, Ends, Step, Send, Up_deliver, Up_lose, Up_repeat, Down_deliver, Down_lose, Down_repeat, Expire, Restart_client, Restart_instrument, Nothing, without, doubled, up_delivered, with_up, with_down, on_wire, requested, down_delivered, each_number, each_without, each_doubled, rising_each, rising_lower, rising_tail, rising_without, rising_doubled, rising_without_behind, rising_doubled_behind, rising_moved, rising_push, Move, Sends, Tells, Comes, Foreign, OnLine, Anew, Changes, Joins, IsLineStep, UnderWay, IsClean, IsAnInstrument, Harm, Does, Damages, Strikes, Harmed, last_by_step, harms, harmed, harm_begun, AllowsSend, IsCleanBut, IsFreshIfSent, MayDo, MayHarm, AllMayHarm, no_line, IsFreshAndOwn, Holding, ended, last_if, undamaged_if, holding_moves, holding_harms, holding_begun, HasRoomIfSent, MayDoApart, MayHarmApart, AllMayHarmApart}
 use Rattle.gc_theorems.proofs.BegunFaithful.{each_of_eighth}
-use Rattle.gc_theorems.specs.Harm.{Harm, Does, Damages, Strikes, Harmed, last_by_step, harms, harmed, harm_begun, AllowsSend, IsCleanBut, IsFreshIfSent, MayDo, MayHarm, AllMayHarm, no_line}
-use Rattle.gc_theorems.specs.Rarely.{IsFreshAndOwn}
-use Rattle.gc_theorems.specs.DamagedHoldingBack.{Holding, ended, last_if, undamaged_if, holding_moves, holding_harms, holding_begun, HasRoomIfSent, MayDoApart, MayHarmApart, AllMayHarmApart}
 use Rattle.gc_theorems.proofs.Well.{IsUp, IsDown, Well, KnownOf, fresh_place, well_begun, well_harm}
 use Rattle.gc_theorems.proofs.Own.{own_or_damaged}
 use Rattle.gc_theorems.proofs.WithoutDamage.{any_line, any_made, any_row, count_by, rising_eighth, rising_front}

@@ -1,17 +1,9 @@
 -- Stations one after the other: no synchronization finds the word in flight, as long as few runs in a row are killed while they
 -- synchronize. The *word* is the list of the ids of a synchronization's null procedures; `IsShortOfTheWord` says that what is in
 -- flight doesn't contain a certain front of it, which is one id longer for each run in a row that was killed after an answer.
-use Rattle.std.proofs.Common.{◌≡◌, ℕ, true, List, [], ◌∷◌, map, map-id, Option, ◌∙◌, arith}
-use mathlib.Core.List.{map-map}
-use Rattle.gc_client.specs.declared.window.TheConstants.{WINDOW}
-use Rattle.gc_instrument.specs.State.{KeptReply}
-use Rattle.gc_theorems.specs.World.{Ends}
-use Rattle.gc_theorems.specs.Begin.{InFlight, SyncTurn, UnderWay}
-use Rattle.gc_theorems.specs.Beginnings.{Run, killed_over, left_by_runs}
-use Rattle.gc_theorems.specs.Field.{Move}
-use Rattle.gc_theorems.specs.Runs.{Program}
+use Rattle.gc_theorems.proofs.Common.{◌≡◌, ℕ, true, List, [], ◌∷◌, map, map-id, Option, ◌∙◌, arith, map-map, WINDOW, KeptReply, Ends, SyncTurn, UnderWay, Run, killed_over, left_by_runs, Move, Program, IsAnInstrument}
+use Rattle.gc_theorems.specs.Begin.{InFlight}
 use Rattle.gc_theorems.specs.InARow.{AreFaithful, AreInARow, ProgramsInARowAreFaithful}
-use Rattle.gc_theorems.specs.Instrument.{IsAnInstrument}
 use Rattle.gc_theorems.proofs.BegunRuns.{IsShortOfTheWord, after_runs, possible_runs, short_if_rising, short_lacks_the_word}
 use Rattle.gc_theorems.proofs.Joining.{run_faithful}
 

@@ -1,19 +1,7 @@
 -- Requests are executed in the order of sending, whatever is damaged: the numbers of those in flight never fall from front to back, and no
 -- later one is below one that has reached the instrument.
-use Rattle.std.proofs.Common.{◌≡◌, inl, inr, ℕ, ◌+◌, ◌<◌, ◌≤◌, Bool, true, false, List, [], ◌∷◌, ◌++◌, length, Option, Some, None, refl, sym, ◌∙◌, ap, subst, arith, append-nil, ltb}
-use Rattle.std.proofs.lemmas.List.{length-append, length_push}
-use Rattle.gc_catalogue.specs.declared.asked.Asked.{Asked}
-use Rattle.gc_catalogue.specs.Asked.{asked_line}
-use Rattle.gc_client.specs.Rule.{ById, Sending, sends}
-use Rattle.gc_world.specs.Clients.{by_ids}
-use Rattle.gc_world.specs.Order.{Rising, numbers}
-use Rattle.gc_world.proofs.Rows.{rising_lower, rising_without, rising_doubled, rising_moved}
-use Rattle.gc_station.proofs.Lists.{cons_head, cuts_on, one_front_begins_other}
-use Rattle.gc_theorems.specs.World.{Numbered, Request, Sent, Ends, World, Wire, Step, Send, Up_deliver, Up_lose, Up_repeat, Down_deliver, Down_lose, Down_repeat, Expire, Restart_client, Restart_instrument, Nothing, without, doubled, with_up, with_down, started, up_delivered, down_delivered, requested, client_restarted, instrument_restarted, happens}
-use Rattle.gc_theorems.specs.Begin.{UnderWay}
-use Rattle.gc_theorems.specs.Begun.{of_eighth}
-use Rattle.gc_theorems.specs.Field.{Move, Sends, Tells, Comes, Foreign, OnLine, Anew, Changes, Joins, moves, wire_joined}
-use Rattle.gc_theorems.specs.Harm.{Harm, Does, Damages, Strikes, Harmed, harms, harmed, harm_begun, WasMadeAmid}
+use Rattle.gc_theorems.proofs.Common.{◌≡◌, inl, inr, ℕ, ◌+◌, ◌<◌, ◌≤◌, Bool, true, false, List, [], ◌∷◌, ◌++◌, length, Option, Some, None, refl, sym, ◌∙◌, ap, subst, arith, append-nil, ltb, length_push, Asked, asked_line, ById, Sending, sends, by_ids, Rising, numbers, rising_lower, rising_without, rising_doubled, rising_moved, cons_head, cuts_on, one_front_begins_other, Numbered, Request, Sent, Ends, World, Wire, Step, Send, Up_deliver, Up_lose, Up_repeat, Down_deliver, Down_lose, Down_repeat, Expire, Restart_client, Restart_instrument, Nothing, without, doubled, with_up, with_down, started, up_delivered, down_delivered, requested, client_restarted, instrument_restarted, happens, UnderWay, of_eighth, Move, Sends, Tells, Comes, Foreign, OnLine, Anew, Changes, Joins, moves, wire_joined, Harm, Does, Damages, Strikes, Harmed, harms, harmed, harm_begun, WasMadeAmid}
+use Rattle.std.proofs.lemmas.List.{length-append}
 
 -- where ns and then n never fall, they still don't with a number k behind that isn't below n
 rising_behind : (low n k : ℕ) (ns : List ℕ) → n ≤ k → Rising low (ns ++ n ∷ []) → Rising low (ns ++ n ∷ k ∷ [])

@@ -1,21 +1,9 @@
 -- When what a client sends is safe, by its events: if a request that is no call of the table is to the instrument as all others, or if the
 -- events ask for nothing but calls of the table. A run is the turns of a synchronization and then the moves of the field, and a placed
 -- run is a run with what was in flight when it began.
-use Rattle.std.proofs.Common.{ℕ, List, [], ◌∷◌, ◌++◌, map, Option, inl, inr}
-use Rattle.std.specs.List.{AllByRecursion}
+use Rattle.gc_theorems.proofs.Common.{ℕ, List, [], ◌∷◌, ◌++◌, map, Option, inl, inr, AllByRecursion, KeptReply, Stepped, AreInTable, IsInTable, every_behind as all_behind, every_front as all_front, UnderWay, begins, Run, left_by_run, PlacedRun, events_of, events_over, placed_runs, Move, Sends, Tells, AsksTheTable, seen, TreatsRawsAlike, IsSafeRun, Ends}
 use Rattle.gc_client.specs.OneForOne as one
-use Rattle.gc_instrument.specs.State.{KeptReply}
-use Rattle.gc_session.specs.Events.{Stepped}
-use Rattle.gc_session.proofs.InTable.{AreInTable, IsInTable}
-use Rattle.gc_values.proofs.Every.{every_behind as all_behind, every_front as all_front}
-use Rattle.gc_theorems.specs.Begin.{UnderWay, begins}
-use Rattle.gc_theorems.specs.Beginnings.{Run, left_by_run}
-use Rattle.gc_theorems.specs.ClientRuns.{PlacedRun, events_of, events_over, placed_runs}
-use Rattle.gc_theorems.specs.Field.{Move, Sends, Tells, AsksTheTable, seen}
 use Rattle.gc_theorems.specs.Field as field
-use Rattle.gc_theorems.specs.Instrument.{TreatsRawsAlike}
-use Rattle.gc_theorems.specs.Owned.{IsSafeRun}
-use Rattle.gc_theorems.specs.World.{Ends}
 
 -- moves of the field whose events ask for calls of the table send nothing else
 table_moves : {State : Type 0} (ms : List (Move State)) → AreInTable (map Stepped (seen ms)) → AsksTheTable ms

@@ -1,37 +1,15 @@
 -- The first reply to a request that comes while the request isn't settled settles it. A *stretch* is a run once it has
 -- synchronized: what is in flight then, and its moves.
-use Rattle.std.proofs.Common.{◌≡◌, ◌⊎◌, inl, inr, ℕ, zero, suc, ◌+◌, ◌-◌, ◌<◌, ◌≤◌, Bool, true, false, List, [], ◌∷◌, ◌++◌, length, map, nat_eq, Option, Some, refl, sym, ◌∙◌, ap, subst, arith, append_assoc, length-drop}
-use Rattle.std.specs.List.{AllByRecursion}
-use Rattle.std.specs.Prelude.{slice_get}
-use Rattle.std.proofs.lemmas.Bool.{ne_eqb}
-use Rattle.std.proofs.lemmas.List.{length-append, length-map}
-use Rattle.gc_catalogue.specs.declared.asked.Asked.{Asked}
-use Rattle.gc_client.specs.OneForOne as step
-use Rattle.gc_client.specs.OneForOne.{of_pending, of_settled, begun, course}
-use Rattle.gc_client.specs.declared.pending.Pending.{Pending}
-use Rattle.gc_client.specs.Rule.{ById, Settlement, send_unless_full, settled_by_line, pending_of, settle}
-use Rattle.gc_instrument.specs.State.{KeptReply}
-use Rattle.gc_session.specs.Courses.{client_after}
-use Rattle.gc_station.proofs.Booking.{settled_by, settled_append, course_settled}
-use Rattle.gc_world.specs.Clients.{by_ids, by_numbers}
-use Rattle.gc_theorems.specs.World.{Ends, Numbered, Wire, World, requested}
-use Rattle.gc_world.proofs.Sound.{IsComing}
-use Rattle.gc_theorems.specs.Begin.{UnderWay}
-use Rattle.gc_theorems.specs.Begun.{IsClean, IsFaithful, world_once_begun, ids_begun, nulls_settled, numbers_begun, ArePossibleOnceBegun}
-use Rattle.gc_theorems.specs.Field.{Move, Sends, Tells, Comes, Foreign, moves, moved, seen}
-use Rattle.gc_theorems.specs.Instrument.{IsAnInstrument}
-use Rattle.gc_theorems.specs.Laws.{asked}
-use Rattle.gc_theorems.specs.Runs.{IsFaithfulThroughout, SettlesByFirstReply, times_out, world}
-use Rattle.gc_theorems.specs.Shown.{Stretch}
+use Rattle.gc_theorems.proofs.Common.{◌≡◌, ◌⊎◌, inl, inr, ℕ, zero, suc, ◌+◌, ◌-◌, ◌<◌, ◌≤◌, Bool, true, false, List, [], ◌∷◌, ◌++◌, length, map, nat_eq, Option, Some, refl, sym, ◌∙◌, ap, subst, arith, append_assoc, length-drop, AllByRecursion, slice_get, ne_eqb, length-map, Asked, of_pending, of_settled, begun, course, ById, Settlement, send_unless_full, settled_by_line, pending_of, settle, Pending, KeptReply, client_after, settled_by, settled_append, course_settled, by_ids, by_numbers, Ends, Numbered, Wire, World, requested, IsComing, UnderWay, IsClean, IsFaithful, world_once_begun, ids_begun, nulls_settled, numbers_begun, ArePossibleOnceBegun, Move, Sends, Tells, Comes, Foreign, moves, moved, seen, IsAnInstrument, asked, IsFaithfulThroughout, SettlesByFirstReply, times_out, world, Stretch, get_more, get_behind, same_Some}
+use Rattle.std.proofs.lemmas.List.{length-append}
 use Rattle.gc_theorems.proofs.Instruments.{exchange_of}
 use Rattle.gc_theorems.proofs.Possible.{front_possible, later_possible, moved_append}
 use Rattle.gc_theorems.proofs.Waits.{WaitsAs, pending_is, pending_after, waits_all}
 use Rattle.gc_theorems.proofs.Moving.{both_all}
 use Rattle.gc_theorems.proofs.BegunFaithful.{both_begun, faithful}
 use Rattle.gc_theorems.proofs.Unbegun.{faithful_none}
-use Rattle.gc_station.proofs.Lists.{get_more, get_behind}
-use Rattle.std.proofs.lemmas.Option.{same_Some}
 use Rattle.gc_theorems.proofs.BeginWords.{cons_not_nil}
+use Rattle.gc_client.specs.OneForOne as step
 
 -- the client's steps among two lists of moves are those of the first and then those of the second
 pub seen_append : {State : Type 0} (front later : List (Move State)) → seen (front ++ later) ≡ seen front ++ seen later

@@ -1,26 +1,7 @@
 -- Instruments: each meets what the proofs of the world ask of an instrument; the simulator is one; and so is any that keeps
 -- no reply.
-use Rattle.std.proofs.Common.{◌≡◌, ℕ, ◌<◌, inl, inr, true, false, List, [], Option, Some, None, cond, refl, sym, ◌∙◌, ap, subst, lit<}
-use Rattle.std.proofs.lemmas.Bool.{eq-eqb, true≢false}
-use Rattle.gc_lines.proofs.Requests.{request_found}
-use Rattle.gc_catalogue.proofs.AskedRules.{asked_again}
-use Rattle.gc_catalogue.specs.Asked.{asked_line, asked_request, is_of_table}
-use Rattle.gc_catalogue.specs.declared.fault.CallFault.TheVariants.{Unknown}
-use Rattle.gc_catalogue.specs.declared.raw.RawCall.{RawCall}
-use Rattle.gc_catalogue.specs.declared.asked.Asked.{Asked}
-use Rattle.gc_catalogue.specs.declared.asked.Asked.TheVariants.{Table, Raw}
-use Rattle.gc_catalogue.specs.declared.call.Call.{Call}
-use Rattle.gc_client.specs.Rule.{heard}
+use Rattle.gc_theorems.proofs.Common.{◌≡◌, ℕ, ◌<◌, inl, inr, true, false, List, [], Option, Some, None, cond, refl, sym, ◌∙◌, ap, subst, lit<, eq-eqb, true≢false, request_found, asked_again, asked_line, asked_request, is_of_table, Unknown, RawCall, Asked, Table, Raw, Call, heard, Handed, IsReplied, answers, kept_line, refusal_line, refuses, State, KeptReply, IsFittingState, handed_again, handed_new, simulator_handed, IsExchange, Ends, exchange, kept_line_is_kept, reply_heard, IsAnInstrument, IsAnInstrumentFor, KeepingNothingSuffices, MayBeKept, TreatsRawsAlike, all_known, own_reply, SimulatorIsAnInstrument}
 use Rattle.gc_instrument.specs.Replying as calls
-use Rattle.gc_instrument.specs.Replying.{Handed, IsReplied, answers, kept_line, refusal_line, refuses}
-use Rattle.gc_instrument.specs.State.{State, KeptReply, IsFittingState}
-use Rattle.gc_instrument.proofs.Answering.{handed_again, handed_new}
-use Rattle.gc_theorems.specs.Simulator.{simulator_handed}
-use Rattle.gc_world.specs.Exchange.{IsExchange}
-use Rattle.gc_theorems.specs.World.{Ends}
-use Rattle.gc_world.proofs.Handing.{exchange, kept_line_is_kept, reply_heard}
-use Rattle.gc_theorems.specs.Instrument.{IsAnInstrument, IsAnInstrumentFor, KeepingNothingSuffices, MayBeKept, TreatsRawsAlike, all_known, own_reply}
-use Rattle.gc_theorems.specs.Laws.{SimulatorIsAnInstrument}
 
 -- an instrument meets what the proofs of the world ask of one, `IsExchange`
 pub exchange_of : {State : Type 0} (ends : Ends State) (Good : State → Type 0) (kept : State → Option KeptReply) → IsAnInstrument ends Good kept → IsExchange ends Good

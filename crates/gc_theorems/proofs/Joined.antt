@@ -1,14 +1,8 @@
 -- The front of a request and the next one, as one line.
-use Rattle.std.proofs.Common.{◌≡◌, ℕ, zero, suc, ◌<◌, List, [], ◌∷◌, ◌++◌, take, drop, Some, refl, sym, ◌∙◌, ap, arith, append_assoc, lit<}
-use Rattle.gc_lines.specs.Headers.{id_text}
-use Rattle.gc_lines.specs.Requests.{RequestFields, IsRequest}
-use Rattle.gc_values.proofs.Every.{every_take}
-use Rattle.gc_catalogue.specs.Texts.{request_line}
-use Rattle.gc_instrument.proofs.Answering.{only_own_request}
-use Rattle.gc_theorems.specs.Fronts.{JoinedRequestsHaveTheFrontsId}
+use Rattle.gc_theorems.proofs.Common.{◌≡◌, ℕ, zero, suc, ◌<◌, List, [], ◌∷◌, ◌++◌, drop, Some, refl, sym, ◌∙◌, ap, arith, append_assoc, lit<, id_text, RequestFields, IsRequest, every_take, request_line, only_own_request, JoinedRequestsHaveTheFrontsId, cons_head, take-append-drop}
+use Rattle.std.proofs.Common.{take}
 use Rattle.gc_theorems.proofs.Fronts.{AreAbove, above_decimal_digits, above_id, request_body, above_body}
-use Rattle.gc_station.proofs.Lists.{all_append, cons_head, cons_tail}
-use Rattle.std.proofs.lemmas.List.{take-append-drop}
+use Rattle.gc_station.proofs.Lists.{all_append, cons_tail}
 
 -- where `xs`, and after it the sign `%`, begins with `ys`, and all bytes of both are above the sign, `xs` begins with `ys`
 begins_before_sign : (xs ys more p : List ℕ) → AreAbove xs → AreAbove ys → xs ++ 37 ∷ more ≡ ys ++ p → (rest : List ℕ) × (xs ≡ ys ++ rest)

@@ -1,51 +1,10 @@
 -- A run of a station and what happens on its line, joined: each part of the run, from one synchronization to the next, goes
 -- with a stretch of the line, and each answer that is recorded was made in one of the stretches. The *marks* of a part say for
 -- which command each of its requests is, in order, and with which id it is sent.
-use Rattle.std.proofs.Common.{◌≡◌, inl, inr, ℕ, suc, ◌<◌, ◌+◌, ◌≤◌, Bool, true, false, List, [], ◌∷◌, ◌++◌, map, length, Option, Some, refl, sym, ◌∙◌, ap, subst, arith, append_assoc, append-nil, drop, if◌then◌else◌}
-use Rattle.std.specs.Prelude.{slice_get}
-use Rattle.std.specs.List.{AllByRecursion, AllZip}
-use Rattle.gc_catalogue.specs.Asked.{asked_line}
-use Rattle.gc_catalogue.specs.declared.asked.Asked.{Asked}
-use Rattle.gc_client.specs.Beginning.{the_word}
-use Rattle.gc_client.specs.OneForOne.{Wanted, Restart, Send, Step, begun, course}
-use Rattle.gc_client.specs.declared.pending.Pending.{Pending}
-use Rattle.gc_client.specs.Rule.{ById, Outcome, Answered, Late, Lost, Settlement, fresh, lost}
-use Rattle.gc_instrument.specs.State.{KeptReply}
-use Rattle.gc_texts.specs.Tasks.{call_at}
-use Rattle.gc_texts.specs.declared.tasks.Task.{Task}
-use Rattle.gc_texts.specs.Endings.{End, line_of}
-use Rattle.gc_texts.specs.Endings as end
-use Rattle.gc_session.specs.Laws.{IsNearTheTable}
-use Rattle.gc_session.specs.Courses.{client_after}
-use Rattle.gc_session.proofs.Courses.{course_client}
-use Rattle.gc_station.specs.Beginnings.{unanswered_after}
-use Rattle.gc_station.specs.Begun.{AreBegun, heard_in}
-use Rattle.gc_station.specs.Marks.{occasion_of, record_of, records_of}
-use Rattle.gc_station.specs.Parts.{Part, parts_joined, MarksAsk, went_out, sent_of, timeless}
-use Rattle.gc_station.specs.Records.{Record}
-use Rattle.gc_station.specs.Runs.{state_after}
-use Rattle.gc_station.specs.Model.{Model, opening}
-use Rattle.gc_station.proofs.Asked.{parts_begun}
+use Rattle.gc_theorems.proofs.Common.{◌≡◌, inl, inr, ℕ, suc, ◌<◌, ◌+◌, ◌≤◌, Bool, true, false, List, [], ◌∷◌, ◌++◌, map, length, Option, Some, refl, sym, ◌∙◌, ap, subst, arith, append_assoc, append-nil, drop, if◌then◌else◌, slice_get, AllByRecursion, AllZip, asked_line, Asked, the_word, Wanted, Restart, begun, course, ById, Outcome, Answered, Late, Lost, Settlement, fresh, lost, Pending, KeptReply, call_at, End, line_of, Task, IsNearTheTable, client_after, course_client, unanswered_after, AreBegun, heard_in, occasion_of, record_of, records_of, Part, parts_joined, MarksAsk, went_out, sent_of, timeless, Record, state_after, Model, opening, Reads, parts_begun, Books, settled_by, sent_by, settled_append, sent_append, course_settled, course_sent, marks_ask_at, all_records, restarting, CountUp, counted_at, ids_count, invariant_opening, each_once, BooksInParts, follows, is_record_of, was_answered, was_late, all_on, IsReplyTo, slice_get_within, Ends, IsOwnRun, SyncModel, UnderWay, begins, leaves, AreOwn, ArePossibleIfBegun, AreRuns, IsOwnIfBegun, Run, after_turns, left_by_run, IsFaithful, IsSafe, WasMadeOn, placed_runs, Move, seen, IsAnInstrument, asked, HasRequest, IsInField, IsOwnAnswer, Program, program_parts, program_records, LateHasExecution, RunsInFieldAreFaithful, IsFaithfulThroughout, SettlesByFirstReply, RaisesNoDoubt, own_sent, own_settled, world, written_over, AreShownAs, Stretch, stretches, get_seen, drop-map, true≢false}
+use Rattle.gc_client.specs.Prelude.{Send, Step}
 use Rattle.gc_station.proofs.SentWell.{behind_the_table}
-use Rattle.gc_station.proofs.Booking.{Books, settled_by, sent_by, settled_append, sent_append, course_settled, course_sent, marks_ask_at, all_records, restarting}
-use Rattle.gc_station.proofs.CountedIds.{CountUp, counted_at, ids_count}
-use Rattle.gc_station.proofs.EachRun.{invariant_opening, each_once}
-use Rattle.gc_station.proofs.Following.{BooksInParts, follows}
-use Rattle.gc_station.proofs.Meets.{is_record_of, was_answered, was_late}
-use Rattle.gc_station.proofs.Lists.{all_append, all_on}
-use Rattle.gc_world.specs.Record.{IsReplyTo}
-use Rattle.std.proofs.lemmas.Option.{slice_get_within}
-use Rattle.gc_theorems.specs.World.{Ends}
-use Rattle.gc_theorems.specs.Owned.{IsOwnRun}
-use Rattle.gc_theorems.specs.Begin.{SyncModel, UnderWay, begins, leaves}
-use Rattle.gc_theorems.specs.Beginnings.{AreOwn, ArePossibleIfBegun, AreRuns, IsOwnIfBegun, Run, after_turns, left_by_run}
-use Rattle.gc_theorems.specs.Begun.{IsFaithful, IsSafe, WasMadeOn}
-use Rattle.gc_theorems.specs.ClientRuns.{placed_runs}
-use Rattle.gc_theorems.specs.Field.{Move, seen}
-use Rattle.gc_theorems.specs.Instrument.{IsAnInstrument}
-use Rattle.gc_theorems.specs.Laws.{asked}
-use Rattle.gc_theorems.specs.Runs.{HasRequest, IsInField, IsOwnAnswer, Program, program_parts, program_records, LateHasExecution, RunsInFieldAreFaithful, IsFaithfulThroughout, SettlesByFirstReply, RaisesNoDoubt, own_sent, own_settled, world, written_over}
-use Rattle.gc_theorems.specs.Shown.{AreShownAs, Stretch, stretches}
+use Rattle.gc_station.proofs.Lists.{all_append}
 use Rattle.gc_theorems.proofs.BegunRuns.{AreBegunButLast, are_own, own_runs, possible_if_begun, possible_runs}
 use Rattle.gc_theorems.proofs.BegunFaithful.{sent_is}
 use Rattle.gc_theorems.proofs.ById.{made_by_id}
@@ -57,11 +16,8 @@ use Rattle.gc_theorems.proofs.Safe.{goes_out}
 use Rattle.gc_theorems.proofs.Shown.{left_is}
 use Rattle.gc_theorems.proofs.Unbegun.{faithful_none}
 use Rattle.gc_theorems.proofs.Timeless.{IsOwnRecord, own_later, own_timeless}
-use Rattle.gc_world.proofs.Places.{get_seen}
 use Rattle.gc_theorems.proofs.Among.{among_first, get_drop, zip_each, zip_on}
-use Rattle.std.proofs.lemmas.List.{drop-map}
-use Rattle.std.proofs.lemmas.Bool.{true≢false}
-use Rattle.gc_station.specs.Scopes.{Reads}
+use Rattle.gc_texts.specs.Endings as end
 
 module _ {State : Type 0} (ends : Ends State) (Good : State → Type 0) (kept : State → Option KeptReply) (is : IsAnInstrument ends Good kept) where
   -- A stretch with its part.

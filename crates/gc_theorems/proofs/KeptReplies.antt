@@ -1,18 +1,7 @@
 -- The request to which an instrument's kept reply is: the last one that it was handed and knows (`last`), or a later one.
 -- And what it means that a line is vouched for: it was made for its request, as that request's call was executed. The id of
 -- request n is the difference of n and `since`, modulo 8.
-use Rattle.std.proofs.Common.{◌≡◌, ℕ, ◌+◌, ◌-◌, ◌%◌, ◌<◌, ◌≤◌, ◌⊎◌, inl, inr, Bool, true, false, List, Option, Some, None, refl, sym, ◌∙◌, ap, subst, arith}
-use Rattle.std.specs.Prelude.{slice_get}
-use Rattle.gc_catalogue.specs.declared.asked.Asked.{Asked}
-use Rattle.gc_client.specs.Rule.{Settlement}
-use Rattle.gc_instrument.specs.Replying.{Handed}
-use Rattle.gc_instrument.specs.State.{KeptReply}
-use Rattle.gc_world.specs.Clients.{ByNumber}
-use Rattle.gc_world.specs.Record.{IsReplyTo}
-use Rattle.gc_theorems.specs.World.{Request, Sent, Numbered, Ends, World, written}
-use Rattle.gc_world.proofs.Booked.{Has}
-use Rattle.gc_world.proofs.Replay.{IsAsSent}
-use Rattle.gc_theorems.specs.Instrument.{IsOwnOrNone, KeepsItsReply, MayBeKept, MayForget}
+use Rattle.gc_theorems.proofs.Common.{◌≡◌, ℕ, ◌+◌, ◌-◌, ◌%◌, ◌<◌, ◌≤◌, ◌⊎◌, inl, inr, Bool, true, false, List, Option, Some, None, refl, sym, ◌∙◌, ap, subst, arith, slice_get, Asked, Settlement, Handed, KeptReply, ByNumber, IsReplyTo, Request, Sent, Numbered, Ends, World, written, Has, IsAsSent, IsOwnOrNone, KeepsItsReply, MayBeKept, MayForget}
 use Rattle.gc_theorems.proofs.Once.{IsUnknown, IsUnknownOrRetained, Log}
 
 -- The newest known request.

@@ -1,21 +1,7 @@
 -- A stretch in which damage is apart, and whose station holds back, doesn't leave the word in flight: the ids in flight are those of the last
 -- eight requests, which rise.
-use Rattle.std.proofs.Common.{◌≡◌, ℕ, ◌+◌, ◌-◌, ◌%◌, ◌<◌, ◌≤◌, List, [], ◌∷◌, ◌++◌, length, map, Option, refl, sym, ◌∙◌, arith}
-use mathlib.Core.Path.{ap₂}
-use Rattle.std.specs.List.{filter_map, cons_option, AllByRecursion}
-use Rattle.std.proofs.lemmas.List.{map-append}
-use Rattle.gc_lines.proofs.Lists.{all_append}
-use Rattle.gc_values.proofs.Every.{every_weaker as all_on}
-use Rattle.gc_client.specs.Rule.{heard}
-use Rattle.gc_instrument.specs.State.{KeptReply}
-use Rattle.gc_world.specs.Order.{Rising, numbers}
-use Rattle.gc_world.proofs.Rows.{each_number}
-use Rattle.gc_theorems.specs.World.{Ends, Numbered, Request, Sent}
-use Rattle.gc_theorems.specs.Begin.{LacksTheWord}
-use Rattle.gc_theorems.specs.Beginnings.{HasRisingIds, under_way_on}
-use Rattle.gc_theorems.specs.Instrument.{IsAnInstrument}
+use Rattle.gc_theorems.proofs.Common.{◌≡◌, ℕ, ◌+◌, ◌-◌, ◌%◌, ◌<◌, ◌≤◌, List, [], ◌∷◌, ◌++◌, length, map, Option, refl, sym, ◌∙◌, arith, ap₂, filter_map, cons_option, AllByRecursion, map-append, all_append, every_weaker as all_on, heard, KeptReply, Rising, numbers, each_number, Ends, Numbered, Request, Sent, LacksTheWord, HasRisingIds, under_way_on, IsAnInstrument, Harmed}
 use Rattle.gc_theorems.proofs.BegunRising.{rising_lack_the_word}
-use Rattle.gc_theorems.specs.Harm.{Harmed}
 use Rattle.gc_theorems.proofs.HoldingBack.{HasOrder}
 use Rattle.gc_theorems.proofs.Well.{IsDown, IsUp}
 use Rattle.gc_theorems.proofs.WithoutDamage.{any_line, any_made, any_row}

@@ -1,26 +1,11 @@
 -- A run with a late record, in the field, computed.
-use Rattle.std.proofs.Common.{◌≡◌, [], ◌∷◌, refl, sym, subst}
-use Rattle.std.specs.Prelude.{take, drop}
+use Rattle.gc_theorems.proofs.Common.{◌≡◌, [], ◌∷◌, refl, sym, subst, take, header_at, reply_at, Table, InstrumentNo, WINDOW, exec, handed, simulator_ends, WasMadeOn, is_off_target, runs-append, opening, parts, seen, AreShownAs, plan, replies, scope}
+use Rattle.std.specs.Prelude.{drop}
 use Rattle.std.specs.Fmt.{digits}
-use Rattle.gc_lines.specs.Readers.{header_at, reply_at}
-use Rattle.gc_catalogue.specs.declared.asked.Asked.TheVariants.{Table}
-use Rattle.gc_catalogue.specs.declared.call.Call.TheVariants.{InstrumentNo}
-use Rattle.gc_client.specs.declared.window.TheConstants.{WINDOW}
-use Rattle.gc_instrument.specs.Execution.{exec}
-use Rattle.gc_instrument.specs.Replying.{handed}
-use Rattle.gc_theorems.specs.Simulator.{simulator_ends}
 use Rattle.gc_theorems.specs.ChainWitness.{at_start}
 use Rattle.gc_theorems.specs.LateAnswer.{IsLateInField, acts, answer, commands, from, late, moves, program}
-use Rattle.gc_theorems.specs.Begun.{WasMadeOn}
 use Rattle.gc_theorems.proofs.ChainWitness.{shown_are}
 use Rattle.gc_theorems.proofs.Witness.{asked_each, opening_fits, one_part, opens_simulator, units}
-use Rattle.gc_texts.specs.Nears.{is_off_target}
-use Rattle.gc_station.proofs.Going.{runs-append}
-use Rattle.gc_station.specs.Model.{opening}
-use Rattle.gc_theorems.specs.Field.{seen}
-use Rattle.gc_theorems.specs.Shown.{AreShownAs}
-use Rattle.gc_theorems.specs.Witness.{plan, replies, scope}
-use Rattle.gc_station.specs.Links.{parts}
 
 -- the late reply was made on executing the first command's request
 late_made : WasMadeOn WINDOW simulator_ends from moves 9 (Table InstrumentNo) late

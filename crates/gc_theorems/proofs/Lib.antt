@@ -1,3 +1,4 @@
+mod Common
 pub mod Agreed
 pub mod Alone
 pub mod Among

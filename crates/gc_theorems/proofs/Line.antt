@@ -1,12 +1,8 @@
 -- Over both queues damage is local if the lines have slack at each send: the whole lines are one queue.
-use Rattle.std.proofs.Common.{◌≡◌, ℕ, zero, suc, ◌≤◌, Bool, true, false, List, [], ◌∷◌, ◌++◌, length, Option, Some, None, refl, sym, ◌∙◌, ap, subst, arith, append_assoc, eqb}
-use Rattle.std.specs.Prelude.{IfSome, if◌then◌else◌}
-use Rattle.std.specs.List.{AllByRecursion}
-use Rattle.gc_client.specs.declared.window.TheConstants.{WINDOW}
-use Rattle.gc_client.specs.Rule.{send_unless_full}
+use Rattle.gc_theorems.proofs.Common.{◌≡◌, ℕ, zero, suc, ◌≤◌, Bool, true, false, List, [], ◌∷◌, ◌++◌, length, Option, Some, None, refl, sym, ◌∙◌, ap, subst, arith, append_assoc, eqb, IfSome, AllByRecursion, WINDOW, send_unless_full, InFlight, OneQueue, next_line, queue_sent, HasSlack}
+use Rattle.std.specs.Prelude.{if◌then◌else◌}
 use Rattle.gc_theorems.specs.Damage.{IsLocal}
-use Rattle.gc_theorems.specs.OneQueue.{InFlight, OneQueue, without, doubled, next_line, queue_sent}
-use Rattle.gc_theorems.specs.Slack.{HasSlack}
+use Rattle.gc_theorems.specs.OneQueue.{without, doubled}
 use Rattle.gc_theorems.specs.TwoQueues.{Mark, Whole, Noise, TwoQueues, Act, Send, Expire, Deliver, Execute, Answer_again, Restart, Up_lose, Up_repeat, Up_noise, Down_lose, Down_repeat, Down_noise, IsPossibleWithSlack, ArePossibleWithSlack, IsOfFrontReply, acted, as_one, as_queue, empty_line, line_after, line_answered, line_delivered, line_executed, line_sent, whole_in, with_noise}
 use Rattle.gc_theorems.proofs.ClientLocal.{local_if_sound, sound_expired}
 use Rattle.gc_theorems.proofs.Orders.{Ordered, ordered_lower}

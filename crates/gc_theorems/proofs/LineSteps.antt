@@ -1,7 +1,5 @@
 -- A step of the line alone leaves the client, and the lists of what was sent and settled, as they were.
-use Rattle.std.proofs.Common.{◌≡◌, ℕ, Bool, true, false, List, [], ◌∷◌, length, ltb, refl}
-use Rattle.gc_theorems.specs.World.{Request, Numbered, Ends, Rule, Step, Up_deliver, Up_lose, Up_repeat, Down_lose, Down_repeat, Nothing, World, without, doubled, up_delivered, with_up, with_down, on_wire, happens}
-use Rattle.gc_theorems.specs.Field.{IsLineStep}
+use Rattle.gc_theorems.proofs.Common.{◌≡◌, ℕ, Bool, true, false, List, [], ◌∷◌, length, ltb, refl, Request, Numbered, Ends, Rule, Step, Up_deliver, Up_lose, Up_repeat, Down_lose, Down_repeat, Nothing, World, without, doubled, up_delivered, with_up, with_down, on_wire, happens, IsLineStep}
 
 module _ {Client State : Type 0} where
   -- the worlds w and v have the same client, and the same requests were sent and settled in both

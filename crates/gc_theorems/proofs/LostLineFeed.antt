@@ -1,18 +1,8 @@
 -- A line feed that is lost, computed.
-use Rattle.std.proofs.Common.{ℕ, List, [], ◌∷◌, Some, refl, arith, lit<}
-use Rattle.std.specs.Prelude.{codes}
+use Rattle.gc_theorems.proofs.Common.{ℕ, List, [], ◌∷◌, Some, refl, arith, lit<, codes, header_at, request_at, reply_at, RequestFields, IsRequest, IsListFault, faulty_items, wrong_count, IsBare, bare_above, bare_param, InstrumentNo, Parameters, exec, IsReplied, answers, refuses, handed, State}
 use Rattle.std.specs.Fmt.{digits}
-use Rattle.gc_lines.specs.Readers.{header_at, request_at, reply_at}
-use Rattle.gc_lines.specs.Requests.{RequestFields, IsRequest}
-use Rattle.gc_values.specs.Lists.{IsListFault, faulty_items, wrong_count}
 use Rattle.gc_values.specs.declared.fault.ValueFault.TheVariants.{Count}
 use Rattle.gc_values.proofs.ParamLists.{joined_params}
-use Rattle.gc_values.proofs.TextShape.{IsBare, bare_above, bare_param}
-use Rattle.gc_catalogue.specs.declared.call.Call.TheVariants.{InstrumentNo}
-use Rattle.gc_catalogue.specs.declared.fault.CallFault.TheVariants.{Parameters}
-use Rattle.gc_instrument.specs.Execution.{exec}
-use Rattle.gc_instrument.specs.Replying.{IsReplied, answers, refuses, handed}
-use Rattle.gc_instrument.specs.State.{State}
 use Rattle.gc_theorems.specs.LostLineFeed.{IsBookedJoined, joint_line, joint_refusal}
 
 -- the joint line as a request: it has three parameters, and its procedure takes none

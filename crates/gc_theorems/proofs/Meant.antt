@@ -1,25 +1,14 @@
 -- Each act of a run means what its part says: steps of the synchronization until the station has synchronized, and then steps of
 -- the client.
-use Rattle.std.proofs.Common.{◌≡◌, inl, inr, ℕ, Bool, true, false, if◌then◌else◌, List, [], ◌∷◌, map, refl, sym, ◌∙◌, ap, subst}
-use Rattle.gc_catalogue.specs.declared.asked.Asked.{Asked}
-use Rattle.gc_client.specs.Rule.{ById}
-use Rattle.gc_texts.specs.declared.tasks.Task.{Task}
-use Rattle.gc_client.specs.OneForOne.{Expire}
+use Rattle.gc_theorems.proofs.Common.{◌≡◌, inl, inr, ℕ, Bool, true, false, if◌then◌else◌, List, [], ◌∷◌, map, refl, sym, ◌∙◌, ap, subst, Asked, ById, Task, Plan, Act, Put, Cut, Gave, Closed, has_begun, Part, sync_part, client_part, heard_steps, put_part, Model, action_at, is_heard, lines_completed, Performs, after, Runs, client_part_no_sync_steps, steps_none, sync_steps_gave, sync_steps_none, word_after_sync_steps, sending_of, sends_with_room, invariant_after, AreMeant, IsMeant}
+use Rattle.gc_client.specs.Prelude.{Expire}
 use Rattle.gc_links.specs.declared.link.Moment.{Moment}
-use Rattle.gc_station.specs.declared.plan.Plan.{Plan}
-use Rattle.gc_links.specs.Acts.{Act, Put, Cut, Gave, Closed}
-use Rattle.gc_station.specs.Deciding.{has_begun}
-use Rattle.gc_station.specs.Parts.{Part, Hears, sync_part, client_part, heard_steps, put_part}
-use Rattle.gc_station.specs.Model.{Model, action_at, is_heard, lines_completed, Performs, after, Runs}
-use Rattle.gc_station.proofs.Asked.{client_part_no_sync_steps, steps_none, sync_steps_gave, sync_steps_none, word_after_sync_steps}
-use Rattle.gc_station.proofs.Booking.{sending_of, sends_with_room}
-use Rattle.gc_station.proofs.EachRun.{invariant_after}
+use Rattle.gc_station.specs.Prelude.{Hears}
 use Rattle.gc_station.proofs.Givens.{after_rest, rest_with}
 use Rattle.gc_station.proofs.Invariant.{Invariant}
 use Rattle.gc_station.proofs.Meant.{IsPutByClient, IsPutBySync, put_by_sync, put_by_client}
 use Rattle.gc_theorems.specs.Asking.{IsNullOrLineFeed, IsHeardOrDiscarded, MeansSyncSteps}
 use Rattle.gc_theorems.specs.Meaning.{IsPut, Means}
-use Rattle.gc_theorems.specs.Runs.{AreMeant, IsMeant}
 
 -- where bytes that are sent mean the part p to the station, they mean the part's steps to its client
 put_means : (s : Model) (bytes : List ℕ) (p : Part) → IsPutByClient s bytes p → IsPut s.client bytes p.steps

@@ -1,37 +1,14 @@
 -- Over any moves, the client that knows ids does what the client does that is given the number of each reply's request; and
 -- each reply is its own request's. The world with the latter client is called the world of numbers here, that with the former
 -- the world of ids.
-use Rattle.std.proofs.Common.{◌≡◌, ℕ, ◌+◌, ◌-◌, ◌%◌, ◌<◌, ◌≤◌, ◌⊎◌, inl, inr, Bool, true, false, List, [], ◌∷◌, ◌++◌, length, drop, Option, Some, refl, sym, ◌∙◌, ap, subst, arith, ltb, eqb}
-use Rattle.std.specs.List.{AllByRecursion}
-use Rattle.std.specs.Prelude.{slice_get}
-use Rattle.std.proofs.lemmas.List.{length_push}
-use Rattle.std.proofs.lemmas.Bool.{le-ltb, true≢false}
-use Rattle.gc_lines.proofs.Lists.{all_append}
-use Rattle.gc_values.proofs.Every.{every_weaker as all_on}
-use Rattle.gc_catalogue.specs.declared.asked.Asked.{Asked}
-use Rattle.gc_catalogue.specs.Asked.{asked_line}
-use Rattle.gc_client.specs.Rule.{ById, Settlement, Answered, Late, settle}
-use Rattle.gc_instrument.specs.State.{KeptReply}
-use Rattle.gc_world.specs.Clients.{ByNumber, by_ids, by_numbers, ids_open, numbers_open, number_send, number_reply}
-use Rattle.gc_world.specs.Exchange.{IsExchange}
-use Rattle.gc_theorems.specs.World.{Request, Sent, Numbered, Ends, Step, Send, Up_deliver, Up_lose, Up_repeat, Down_deliver, Down_lose, Down_repeat, Expire, Nothing, World, Wire, without, doubled, replied, up_delivered, with_up, with_down, started, on_wire, requested, down_delivered, happens, written}
+use Rattle.gc_theorems.proofs.Common.{◌≡◌, ℕ, ◌+◌, ◌-◌, ◌%◌, ◌<◌, ◌≤◌, ◌⊎◌, inl, inr, Bool, true, false, List, [], ◌∷◌, ◌++◌, length, drop, Option, Some, refl, sym, ◌∙◌, ap, subst, arith, ltb, eqb, AllByRecursion, slice_get, length_push, le-ltb, true≢false, all_append, every_weaker as all_on, Asked, asked_line, ById, Settlement, Answered, Late, settle, KeptReply, ByNumber, by_ids, by_numbers, ids_open, numbers_open, number_send, number_reply, IsExchange, Request, Sent, Numbered, Ends, Step, Send, Up_deliver, Up_lose, Up_repeat, Down_deliver, Down_lose, Down_repeat, Expire, Nothing, World, Wire, without, doubled, replied, up_delivered, with_up, with_down, started, on_wire, requested, down_delivered, happens, written, none-some, all_at, get_push, IsAsSent, as_sent_more, each_without, each_doubled, IsGoing, Sound, sound_step, sound_open, Move, Sends, Tells, Comes, Foreign, OnLine, Anew, Changes, Joins, IsLineStep, moves, moved, IsPossible, ArePossible, AsksOnly, IsFirstAlone, IsAnInstrumentFor, KeepsItsOwn, KeepsItsReply, MayBeKept, own_reply, ExecutesOnce, IsInOrder, WasMadeFrom, number_of}
 use Rattle.gc_world.proofs.Agree.{Agree, agrees}
-use Rattle.std.proofs.lemmas.Option.{none-some}
-use Rattle.gc_world.proofs.Places.{all_at, get_push}
-use Rattle.gc_world.proofs.Replay.{IsAsSent, as_sent_more}
-use Rattle.gc_world.proofs.Rows.{each_without, each_doubled}
-use Rattle.gc_world.proofs.Sound.{IsGoing, Sound, sound_step, sound_open}
-use Rattle.gc_theorems.specs.Field.{Move, Sends, Tells, Comes, Foreign, OnLine, Anew, Changes, Joins, IsLineStep, moves, moved, IsPossible, ArePossible, AsksOnly, IsFirstAlone}
-use Rattle.gc_theorems.specs.Instrument.{IsAnInstrumentFor, KeepsItsOwn, KeepsItsReply, MayBeKept, own_reply}
 use Rattle.gc_theorems.proofs.Answered.{HoldsOfAll, HoldsOfOutcome, holds_get}
-use Rattle.gc_theorems.specs.Once.{ExecutesOnce, IsInOrder}
 use Rattle.gc_theorems.proofs.Once.{executes_once_if_rising, few_rise, climbing_first, few_in_order, ordered_first}
 use Rattle.gc_theorems.proofs.KeptReplies.{IsVouched, fields_of, kept_one, log_of, unknown_or_retained, ReplyHas}
 use Rattle.gc_theorems.proofs.Vouched.{Vouched, AllVouched, vouched_requested, vouched_down, vouched_line, vouched_started, vouched_changed}
-use Rattle.gc_theorems.specs.Made.{WasMadeFrom}
 use Rattle.gc_theorems.proofs.BeginLists.{each_all}
 use Rattle.gc_theorems.proofs.Possible.{front_possible}
-use Rattle.gc_values.specs.Boolean.{number_of}
 
 module _ {State : Type 0} (width : ℕ) (narrow : width ≤ 7) (ends : Ends State) (Good : State → Type 0) (ex : IsExchange ends Good) (kept : State → Option KeptReply) where
   -- the world of ids and the world of numbers agree, and the latter is sound: its line keeps order, with ids that belong to its

@@ -1,10 +1,6 @@
 -- Requests near the last call of the table that the instrument was handed: `last` is the number of that call, the newest request
 -- that `knows` names; requests that `E` names are excepted, and where `MustKnow` holds, all requests that are sent are known.
-use Rattle.std.proofs.Common.{◌≡◌, ℕ, ◌+◌, ◌-◌, ◌%◌, ◌<◌, ◌≤◌, ◌⊎◌, inl, inr, Bool, true, List, sym, ap, subst, arith}
-use Rattle.std.specs.List.{AllByRecursion}
-use Rattle.gc_catalogue.specs.declared.asked.Asked.{Asked}
-use Rattle.gc_instrument.specs.State.{KeptReply}
-use Rattle.gc_theorems.specs.World.{Sent}
+use Rattle.gc_theorems.proofs.Common.{◌≡◌, ℕ, ◌+◌, ◌-◌, ◌%◌, ◌<◌, ◌≤◌, ◌⊎◌, inl, inr, Bool, true, List, sym, ap, subst, arith, AllByRecursion, Asked, KeptReply, Sent}
 use Rattle.gc_theorems.proofs.KeptReplies.{IsKept, newest, newest_not_before}
 
 module _ (knows : Asked → Bool) (E : ℕ → Type 0) (MustKnow : Type 0) where

@@ -1,25 +1,8 @@
 -- Each clause on instruments is needed: the instruments and runs of `specs/Needed.antt`, computed.
-use Rattle.std.proofs.Common.{◌≡◌, ◌⊎◌, ℕ, ◌<◌, inl, inr, Bool, true, false, cond, List, [], ◌∷◌, Option, Some, None, refl, sym, ◌∙◌, ap, arith, lit<}
-use Rattle.std.specs.List.{AllByRecursion}
-use Rattle.std.proofs.lemmas.Bool.{eqb-true, true≢false}
-use Rattle.std.specs.Prelude.{nat_eq, slice_get}
-use Rattle.std.specs.Fmt.{decimal, digits}
-use Rattle.gc_lines.specs.Readers.{header_at, reply_at}
-use Rattle.gc_catalogue.specs.Asked.{asked_line, procedure_of, is_of_table}
-use Rattle.gc_catalogue.specs.declared.asked.Asked.TheVariants.{Table}
-use Rattle.gc_catalogue.specs.declared.call.Call.TheVariants.{InstrumentNo}
-use Rattle.gc_client.specs.Rule.{heard}
-use Rattle.gc_instrument.specs.State.{KeptReply}
-use Rattle.std.proofs.lemmas.Option.{none-some, same_Some}
-use Rattle.gc_world.proofs.Handing.{reply_heard}
-use Rattle.gc_world.proofs.Places.{all_at}
-use Rattle.gc_theorems.specs.Begin.{none_under_way}
-use Rattle.gc_theorems.specs.Begun.{IsClean, wire_over_empty_line}
-use Rattle.gc_theorems.specs.Instrument.{IsAnInstrument, ReadsByGrammar, RepliesWithItsId, RepeatsWhatIsKept, StaysGoodOverRequests, StaysGoodOverStarts, MayBeKept, AnyState, never_kept, own_reply}
-use Rattle.gc_theorems.specs.Laws.{WasExecuted}
-use Rattle.gc_theorems.specs.Needed.{Clause, Hears, Replies, Repeats, StaysGood, StartsGood, IsAllBut, KeptNumber, IsAllNeeded, misheard, mistaken, pretends, wears_out, starts_broken, IsUnbroken, giving, refusal, keeper_kept, keeper, held, repeats_or_executes, keeper_handed, handed_if_known, breakable_handed, executes_again, refuses_raws, sound, forgets, repeated_request}
-use Rattle.gc_theorems.specs.Once.{ExecutesOnce}
-use Rattle.gc_theorems.specs.World.{Ends, Sent}
+use Rattle.gc_theorems.proofs.Common.{◌≡◌, ◌⊎◌, ℕ, ◌<◌, inl, inr, Bool, true, false, cond, List, [], ◌∷◌, Option, Some, None, refl, sym, ◌∙◌, ap, arith, lit<, AllByRecursion, eqb-true, true≢false, slice_get, decimal, header_at, reply_at, asked_line, procedure_of, is_of_table, Table, InstrumentNo, heard, KeptReply, none-some, same_Some, reply_heard, all_at, none_under_way, IsClean, wire_over_empty_line, IsAnInstrument, ReadsByGrammar, RepliesWithItsId, RepeatsWhatIsKept, StaysGoodOverRequests, StaysGoodOverStarts, MayBeKept, AnyState, never_kept, own_reply, WasExecuted, Clause, Replies, Repeats, StaysGood, StartsGood, IsAllBut, KeptNumber, IsAllNeeded, misheard, mistaken, pretends, wears_out, starts_broken, IsUnbroken, giving, refusal, keeper_kept, keeper, held, repeats_or_executes, keeper_handed, handed_if_known, breakable_handed, executes_again, refuses_raws, sound, forgets, repeated_request, ExecutesOnce, Ends, Sent}
+use Rattle.std.specs.Prelude.{nat_eq}
+use Rattle.std.specs.Fmt.{digits}
+use Rattle.gc_theorems.specs.Needed.{Hears}
 use Rattle.gc_theorems.proofs.Instruments.{keeps_none}
 
 -- where n is held for an id, the reply with that id and n is kept

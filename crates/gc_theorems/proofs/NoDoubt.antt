@@ -1,30 +1,12 @@
 -- No line raises a doubt over a line that damages nothing: a reply that no request is outstanding for is to the request that was settled
 -- last. A *stretch* is a run once it has synchronized: what is in flight then, and its moves.
-use Rattle.std.proofs.Common.{◌≡◌, inl, inr, ℕ, ◌+◌, ◌-◌, ◌%◌, ◌<◌, ◌≤◌, ◌&&◌, Bool, true, false, not, List, ◌∷◌, ◌++◌, length, nat_lt, nat_eq, Option, Some, refl, sym, ◌∙◌, ap, subst, arith, length-drop}
-use Rattle.std.specs.List.{AllByRecursion}
-use Rattle.std.proofs.lemmas.Bool.{ltb-true, ltb-false, lt-ltb, and_right}
-use Rattle.gc_catalogue.specs.declared.asked.Asked.{Asked}
-use Rattle.gc_client.specs.declared.pending.Pending.{Pending}
-use Rattle.gc_client.specs.Rule.{heard}
-use Rattle.gc_instrument.specs.State.{KeptReply}
-use Rattle.gc_texts.specs.Strays.{is_impossible}
-use Rattle.gc_world.specs.Clients.{by_numbers}
-use Rattle.gc_world.specs.Order.{Rising, numbers}
+use Rattle.gc_theorems.proofs.Common.{◌≡◌, inl, inr, ℕ, ◌+◌, ◌-◌, ◌%◌, ◌<◌, ◌≤◌, ◌&&◌, Bool, true, false, not, List, ◌∷◌, ◌++◌, length, nat_lt, nat_eq, Option, Some, refl, sym, ◌∙◌, ap, subst, arith, length-drop, AllByRecursion, ltb-true, ltb-false, lt-ltb, and_right, Asked, Pending, heard, KeptReply, is_impossible, by_numbers, Rising, numbers, IsComing, Ends, Numbered, Wire, UnderWay, IsClean, world_once_begun, ids_begun, numbers_begun, ArePossibleOnceBegun, Move, Comes, Foreign, moved, IsAnInstrument, RaisesNoDoubt, Stretch, raises_doubt}
 use Rattle.gc_world.proofs.Ids.{place_within, place_before}
-use Rattle.gc_world.proofs.Sound.{IsComing}
-use Rattle.gc_theorems.specs.World.{Ends, Numbered, Wire}
-use Rattle.gc_theorems.specs.Begin.{UnderWay}
-use Rattle.gc_theorems.specs.Begun.{IsClean, world_once_begun, ids_begun, numbers_begun, ArePossibleOnceBegun}
-use Rattle.gc_theorems.specs.Field.{Move, Comes, Foreign, moved}
-use Rattle.gc_theorems.specs.Instrument.{IsAnInstrument}
-use Rattle.gc_theorems.specs.Runs.{RaisesNoDoubt}
-use Rattle.gc_theorems.specs.Shown.{Stretch}
 use Rattle.gc_theorems.proofs.Instruments.{exchange_of}
 use Rattle.gc_theorems.proofs.InTime.{IsSoundStretch, clean_of}
 use Rattle.gc_theorems.proofs.Moving.{both_all}
 use Rattle.gc_theorems.proofs.BegunFaithful.{both_begun}
 use Rattle.gc_theorems.proofs.Possible.{front_possible, later_possible}
-use Rattle.gc_session.specs.Lines.{raises_doubt}
 
 -- where `total` requests were sent, `since` of them before the client's last start, `count` of them are settled, and at most seven aren't:
 -- a reply to request `number`, which isn't one of those settled before the last, can be

@@ -1,21 +1,8 @@
 -- The numbers of the requests that an instrument executes never fall (`IsOrdered`), and between two of its starts they rise for
 -- the requests to which it keeps its reply (`IsClimbing`): it is handed the last request again, which it doesn't execute
 -- then, or a later one.
-use Rattle.std.proofs.Common.{◌≡◌, ℕ, zero, suc, ◌+◌, ◌-◌, ◌%◌, ◌<◌, ◌≤◌, ◌⊎◌, inl, inr, Bool, true, false, List, [], ◌∷◌, ◌++◌, length, Option, Some, None, cond, refl, sym, ◌∙◌, ap, subst, arith, ltb}
-use Rattle.std.specs.List.{AllByRecursion}
-use Rattle.std.proofs.lemmas.Bool.{ltb-true, ltb-false, true≢false}
-use Rattle.std.proofs.lemmas.List.{length_push}
-use Rattle.std.specs.Prelude.{slice_get}
-use Rattle.gc_catalogue.specs.declared.asked.Asked.{Asked}
-use Rattle.gc_instrument.specs.State.{KeptReply}
-use Rattle.std.proofs.lemmas.Option.{same_Some, none-some, slice_get_within}
-use Rattle.gc_theorems.specs.World.{Sent}
-use Rattle.gc_world.proofs.Places.{all_at, get_more}
-use Rattle.gc_theorems.specs.Once.{HasNoStart, ExecutesOnce, IsInOrder}
-use Rattle.gc_theorems.specs.Instrument.{MayForget}
-use Rattle.gc_lines.proofs.Lists.{all_append}
-use Rattle.gc_values.proofs.Every.{every_front as all_front, every_behind as all_behind, every_weaker as all_on}
-use Rattle.gc_station.proofs.SentAt.{get_split}
+use Rattle.gc_theorems.proofs.Common.{◌≡◌, ℕ, zero, suc, ◌+◌, ◌-◌, ◌%◌, ◌<◌, ◌≤◌, ◌⊎◌, inl, inr, Bool, true, false, List, [], ◌∷◌, ◌++◌, length, Option, Some, None, cond, refl, sym, ◌∙◌, ap, subst, arith, ltb, AllByRecursion, ltb-true, ltb-false, true≢false, length_push, slice_get, Asked, KeptReply, same_Some, none-some, slice_get_within, Sent, all_at, HasNoStart, ExecutesOnce, IsInOrder, MayForget, all_append, every_front as all_front, every_behind as all_behind, every_weaker as all_on, get_split}
+use Rattle.gc_world.proofs.Places.{get_more}
 
 -- Lists.
 

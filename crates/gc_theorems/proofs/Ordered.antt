@@ -1,30 +1,12 @@
 -- What is sent after an answer is executed after the request that was answered. A *stretch* is a run once it has synchronized:
 -- what is in flight then, and its moves.
-use Rattle.std.proofs.Common.{◌≡◌, ◌⊎◌, inl, inr, ℕ, suc, ◌+◌, ◌<◌, ◌≤◌, List, [], ◌∷◌, ◌++◌, length, Option, Some, refl, sym, ◌∙◌, ap, subst, arith, append_assoc, Bool, true, false, ltb, append-nil}
-use Rattle.std.specs.List.{AllByRecursion}
-use Rattle.std.proofs.lemmas.Bool.{ltb-true, ltb-false}
-use Rattle.std.specs.Prelude.{slice_get}
+use Rattle.gc_theorems.proofs.Common.{◌≡◌, ◌⊎◌, inl, inr, ℕ, suc, ◌+◌, ◌<◌, ◌≤◌, List, [], ◌∷◌, ◌++◌, length, Option, Some, refl, sym, ◌∙◌, ap, subst, arith, append_assoc, Bool, true, false, ltb, append-nil, AllByRecursion, ltb-true, ltb-false, slice_get, slice_get_within, every_weaker as all_on, Asked, ById, Settlement, Answered, KeptReply, by_ids, Ends, Numbered, Request, Sent, Up_deliver, World, IsClean, IsSafe, WasMadeOn, world_once_begun, ids_begun, ArePossibleOnceBegun, AreCalls, IsExecutedBefore, Move, OnLine, moves, moved, ArePossible, IsAnInstrument, ExecutesOnce, HasNoStart, IsInOrder, Stretch, one_front_begins_other, get_behind, get_more, get_split}
 use Rattle.std.proofs.lemmas.List.{length-append}
-use Rattle.std.proofs.lemmas.Option.{slice_get_within}
-use Rattle.gc_values.proofs.Every.{every_weaker as all_on}
-use Rattle.gc_catalogue.specs.declared.asked.Asked.{Asked}
-use Rattle.gc_client.specs.Rule.{ById, Settlement, Answered}
-use Rattle.gc_instrument.specs.State.{KeptReply}
-use Rattle.gc_world.specs.Clients.{by_ids}
-use Rattle.gc_theorems.specs.World.{Ends, Numbered, Request, Sent, Up_deliver, World}
-use Rattle.gc_theorems.specs.Begun.{IsClean, IsSafe, WasMadeOn, world_once_begun, ids_begun, ArePossibleOnceBegun}
-use Rattle.gc_theorems.specs.Chains.{AreCalls, IsExecutedBefore}
-use Rattle.gc_theorems.specs.Field.{Move, OnLine, moves, moved, ArePossible}
-use Rattle.gc_theorems.specs.Instrument.{IsAnInstrument}
-use Rattle.gc_theorems.specs.Once.{ExecutesOnce, HasNoStart, IsInOrder}
-use Rattle.gc_theorems.specs.Shown.{Stretch}
 use Rattle.gc_theorems.proofs.Among.{each_at}
 use Rattle.gc_theorems.proofs.BeginLists.{each_both}
 use Rattle.gc_theorems.proofs.Between.{IsConsistent, acted, calls_more, did_all, made_both, consistent_all}
 use Rattle.gc_theorems.proofs.InTime.{clean_faithful}
 use Rattle.gc_theorems.proofs.Possible.{front_possible, later_possible, moved_append}
-use Rattle.gc_station.proofs.Lists.{one_front_begins_other, get_behind, get_more}
-use Rattle.gc_station.proofs.SentAt.{get_split}
 
 -- Lists.
 

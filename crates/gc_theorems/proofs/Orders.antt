@@ -1,8 +1,6 @@
 -- What holds of each line in flight, and their order, if one is lost, one is repeated, or one more is sent.
-use Rattle.std.proofs.Common.{ℕ, zero, suc, ◌<◌, ◌≤◌, List, [], ◌∷◌, ◌++◌, arith}
-use Rattle.std.specs.Prelude.{⊤}
-use Rattle.std.specs.List.{AllByRecursion}
-use Rattle.gc_theorems.specs.OneQueue.{InFlight, without, doubled}
+use Rattle.gc_theorems.proofs.Common.{ℕ, zero, suc, ◌<◌, ◌≤◌, List, [], ◌∷◌, ◌++◌, arith, ⊤, AllByRecursion, InFlight}
+use Rattle.gc_theorems.specs.OneQueue.{without, doubled}
 
 -- what holds of each element holds of each of a list without one of them
 pub each_without : {A : Type 0} (P : A → Type 0) (k : ℕ) (xs : List A) → AllByRecursion P xs → AllByRecursion P (without k xs)

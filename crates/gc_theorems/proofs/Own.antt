@@ -1,19 +1,8 @@
 -- In the field with damage each answer is own or damaged: what `Well` says, of steps from a start on.
-use Rattle.std.proofs.Common.{◌≡◌, ℕ, ◌+◌, ◌≤◌, ◌⊎◌, inl, inr, List, [], ◌∷◌, ◌++◌, length, Option, Some, refl, sym, ◌∙◌, ap, subst, arith, append_assoc, append-nil}
-use Rattle.std.specs.Prelude.{slice_get}
-use Rattle.gc_lines.proofs.Lists.{cons_tail}
-use Rattle.gc_catalogue.specs.declared.asked.Asked.{Asked}
-use Rattle.gc_client.specs.Rule.{Outcome}
-use Rattle.gc_instrument.specs.State.{KeptReply}
-use Rattle.gc_theorems.specs.World.{Ends}
-use Rattle.gc_theorems.specs.Field.{Move, Comes}
-use Rattle.gc_theorems.specs.Begin.{UnderWay}
-use Rattle.gc_theorems.specs.Begun.{IsClean}
-use Rattle.gc_theorems.specs.Instrument.{IsAnInstrument}
+use Rattle.gc_theorems.proofs.Common.{◌≡◌, ℕ, ◌+◌, ◌≤◌, ◌⊎◌, inl, inr, List, [], ◌∷◌, ◌++◌, length, Option, Some, refl, sym, ◌∙◌, ap, subst, arith, append_assoc, append-nil, slice_get, cons_tail, Asked, Outcome, KeptReply, Ends, Move, Comes, UnderWay, IsClean, IsAnInstrument, Harm, Does, Strikes, Harmed, harms, harmed, harm_begun, AllMayHarm, WasMadeAmid, WasMadeOfDamage, IsByDamage, IsOwn, IsCleanBut, AreOwnOr, no_line}
 use Rattle.gc_theorems.proofs.Answered.{HoldsOfOutcome, holds_get}
 use Rattle.gc_theorems.proofs.DamagedCounting.{few_by_damage}
 use Rattle.gc_theorems.proofs.Well.{Booked, KnownOf, Well, well_begun, well_harm, well_more}
-use Rattle.gc_theorems.specs.Harm.{Harm, Does, Strikes, Harmed, harms, harmed, harm_begun, AllMayHarm, WasMadeAmid, WasMadeOfDamage, IsByDamage, IsOwn, IsCleanBut, AreOwnOr, no_line}
 
 module _ {State : Type 0} (width : ℕ) (narrow : width ≤ 7) (ends : Ends State) (Good : State → Type 0) (kept : State → Option KeptReply) (is : IsAnInstrument ends Good kept) where
   -- one step more

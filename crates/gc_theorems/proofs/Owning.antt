@@ -1,22 +1,10 @@
 -- Each settlement of a run is its own, if its request is safe: the instrument made the answer on executing that request. A placed run is a
 -- run with what was in flight when it began; `ends` is the instrument, `Good` the states that it may be in, and `kept` the reply that it
 -- retains.
-use Rattle.std.proofs.Common.{◌≡◌, ℕ, suc, ◌+◌, ◌<◌, ◌≤◌, List, [], ◌∷◌, map, length, drop, refl, sym, arith}
-use Rattle.std.specs.Prelude.{Option, Some, slice_get}
-use Rattle.std.specs.List.{AllByRecursion}
-use Rattle.std.proofs.lemmas.Option.{slice_get_within}
-use Rattle.gc_catalogue.specs.declared.asked.Asked.{Asked}
-use Rattle.gc_client.specs.OneForOne.{of_settled}
-use Rattle.gc_client.specs.Rule.{Settlement, Answered, Late, Lost, lost}
-use Rattle.gc_client.specs.declared.pending.Pending.{Pending}
-use Rattle.gc_instrument.specs.State.{KeptReply}
-use Rattle.gc_world.proofs.Places.{all_at, element_at}
-use Rattle.gc_theorems.specs.World.{Ends, Sent}
-use Rattle.gc_theorems.specs.Begin.{leaves}
-use Rattle.gc_theorems.specs.Begun.{IsFaithful}
-use Rattle.gc_theorems.specs.ClientRuns.{PlacedRun, begun_at, world}
-use Rattle.gc_theorems.specs.Laws.{asked}
-use Rattle.gc_theorems.specs.Owned.{IsOfRequest, IsOwn, IsOwnUnlessLost, IsSafeRequest, IsSafeRun}
+use Rattle.gc_theorems.proofs.Common.{◌≡◌, ℕ, suc, ◌+◌, ◌<◌, ◌≤◌, List, [], ◌∷◌, map, length, drop, refl, sym, arith, slice_get, AllByRecursion, slice_get_within, Asked, of_settled, Settlement, Answered, Late, Lost, lost, Pending, KeptReply, all_at, element_at, Ends, Sent, leaves, IsFaithful, PlacedRun, begun_at, asked, IsOfRequest, IsOwnUnlessLost, IsSafeRequest, IsSafeRun}
+use Rattle.std.specs.Prelude.{Option, Some}
+use Rattle.gc_theorems.specs.ClientRuns.{world}
+use Rattle.gc_theorems.specs.Owned.{IsOwn}
 use Rattle.gc_theorems.proofs.Among.{each_at, get_drop}
 
 -- a request and a settlement with the same target and call ask the same

@@ -1,16 +1,6 @@
 -- If a request was sent in the last part of a front of parts (`IsFront`), the station had synchronized by then, and no turn came
 -- after that. A part is what happens in a run from one synchronization to the next, as the station sees it.
-use Rattle.std.proofs.Common.{◌≡◌, ◌⊎◌, inl, inr, ℕ, zero, suc, ◌&&◌, Bool, true, false, if◌then◌else◌, List, [], ◌∷◌, ◌++◌, length, Some, refl, sym, ◌∙◌, ap, subst, arith}
-use Rattle.std.specs.Prelude.{slice_get}
-use Rattle.gc_texts.specs.declared.tasks.Task.{Task}
-use Rattle.gc_station.specs.declared.plan.Plan.{Plan}
-use Rattle.gc_links.specs.Acts.{Act}
-use Rattle.gc_station.specs.Deciding.{has_begun}
-use Rattle.gc_station.specs.Parts.{Part, parts_joined, idle_part, in_front, part_of_act, sync_part, client_part, ends_part, parts_of}
-use Rattle.gc_station.specs.Progressing.{loses_all}
-use Rattle.gc_station.specs.Model.{Model, action_at, after}
-use Rattle.gc_station.proofs.Asked.{FirstHasNoSyncSteps, begun_if_nothing_lost, marks_none, nil_both, first_part_no_sync_steps}
-use Rattle.std.proofs.lemmas.Option.{same_Some, none-some}
+use Rattle.gc_theorems.proofs.Common.{◌≡◌, ◌⊎◌, inl, inr, ℕ, zero, suc, ◌&&◌, Bool, true, false, if◌then◌else◌, List, [], ◌∷◌, ◌++◌, length, Some, refl, sym, ◌∙◌, ap, subst, arith, slice_get, Task, Plan, Act, has_begun, Part, parts_joined, idle_part, in_front, part_of_act, sync_part, client_part, ends_part, parts_of, loses_all, Model, action_at, after, FirstHasNoSyncSteps, begun_if_nothing_lost, marks_none, nil_both, first_part_no_sync_steps, same_Some, none-some}
 
 -- the first list has at least one part, and the second one at least as many; and if the last part of the first list has requests,
 -- its steps of a synchronization are those of the part at its place in the second

@@ -3,31 +3,19 @@
 -- synchronization's eight null procedures, and `left` those of them that aren't answered. `ends` is the instrument, `Good` the states that
 -- it may be in, and `kept` the reply that it retains. `Turned` says which events a synchronization's turns are, and `Holds` what the
 -- law promises of runs.
-use Rattle.std.proofs.Common.{◌≡◌, ℕ, List, [], ◌∷◌, ◌++◌, map, drop, Option, refl, sym, ◌∙◌, ap, subst, append_assoc}
+use Rattle.gc_theorems.proofs.Common.{◌≡◌, ℕ, List, [], ◌∷◌, ◌++◌, map, drop, Option, refl, sym, ◌∙◌, ap, subst, append_assoc, AllByRecursion, Asked, the_word, Restart, Course, begun, settled_on, course, ById, Settlement, restarts, lost, KeptReply, ClientEvent, Stepped, AreInTurn, left_among, steps_among, Null, Came, steps_since, course_append, all_on, Ends, Asks, Reaches, SyncModel, SyncTurn, UnderWay, asks, begins, comes, turned, turns, IsOwnIfBegun, Run, left_by_run, PlacedRun, ask_events, begun_at, client_if, client_over, event_of, events_of, events_over, came_of, left_over, lost_if, placed_runs, settled_if, settled_over, Move, Sends, Tells, seen, IsAnInstrument, EachIsOwnIfSafe, IsOwnRun, IsOwnUnlessLost}
 use Rattle.std.proofs.lemmas.List.{append-nil}
-use Rattle.std.specs.List.{AllByRecursion}
-use Rattle.gc_catalogue.specs.declared.asked.Asked.{Asked}
-use Rattle.gc_client.specs.Beginning.{the_word, asks as line_asked}
-use Rattle.gc_client.specs.OneForOne as one
-use Rattle.gc_client.specs.OneForOne.{Step, Restart, Course, begun, settled_on, course}
-use Rattle.gc_client.specs.Rule.{ById, Settlement, restarts, lost}
-use Rattle.gc_instrument.specs.State.{KeptReply}
-use Rattle.gc_session.specs.Events.{ClientEvent, Stepped, AreInTurn, left_among, steps_among, Null, Came, steps_since}
-use Rattle.gc_session.proofs.Courses.{course_append}
-use Rattle.gc_station.proofs.Lists.{all_append, all_on}
-use Rattle.gc_theorems.specs.World.{Ends}
-use Rattle.gc_theorems.specs.Begin.{InFlight, Asks, Comes, Foreign, Reaches, SyncModel, SyncTurn, UnderWay, asks, begins, comes, turned, turns}
-use Rattle.gc_theorems.specs.Beginnings.{IsOwnIfBegun, Run, left_by_run}
-use Rattle.gc_theorems.specs.ClientRuns.{PlacedRun, ask_events, begun_at, client_if, client_over, event_of, events_of, events_over, came_of, left_over, lost_if, placed_runs, settled_if, settled_over, world}
-use Rattle.gc_theorems.specs.Field.{Move, Sends, Tells, seen}
-use Rattle.gc_theorems.specs.Field as field
-use Rattle.gc_theorems.specs.Instrument.{IsAnInstrument}
-use Rattle.gc_theorems.specs.Owned.{EachIsOwnIfSafe, IsOwnRun, IsOwnUnlessLost}
+use Rattle.gc_client.specs.Prelude.{asks as line_asked, Step}
+use Rattle.gc_station.proofs.Lists.{all_append}
+use Rattle.gc_theorems.specs.Begin.{InFlight, Comes, Foreign}
+use Rattle.gc_theorems.specs.ClientRuns.{world}
 use Rattle.gc_theorems.proofs.BeginWords.{cons_not_nil}
 use Rattle.gc_theorems.proofs.BegunFaithful.{prefixed_all}
 use Rattle.gc_theorems.proofs.BegunRuns.{AreBegunButLast, own_runs}
 use Rattle.gc_theorems.proofs.Owning.{later_own, none_replied, own_here}
 use Rattle.gc_theorems.proofs.Shown.{left_reaches}
+use Rattle.gc_client.specs.OneForOne as one
+use Rattle.gc_theorems.specs.Field as field
 
 -- Steps among events.
 

@@ -1,49 +1,15 @@
 -- Where the telescope pointed when a command of a chain was executed.
-use Rattle.std.proofs.Common.{◌≡◌, ℕ, ◌+◌, ◌-◌, ℤ, pos, ◌<◌, Bool, true, false, List, [], ◌∷◌, length, map, Option, Some, None, refl, sym, ◌∙◌, ap, subst, arith}
-use Rattle.std.specs.Prelude.{fold, slice_get, unsigned_abs}
-use Rattle.std.specs.List.{AllByRecursion}
+use Rattle.gc_theorems.proofs.Common.{◌≡◌, ℕ, ◌+◌, ◌-◌, ℤ, pos, ◌<◌, Bool, true, false, List, [], ◌∷◌, length, map, Option, Some, None, refl, sym, ◌∙◌, ap, subst, arith, fold, slice_get, AllByRecursion, Answer, is_of_table, Asked, Table, Raw, Call, Wanted, Executed, exec, set_if, distance_outcome, commanded, measured, is_precision, is_date, is_prism, Handed, kept_line, without_kept, State, IsFittingState, handed_again, handed_new, call_at, Occasion, Task, at_any_moment, ChainsStay, MarksGoOn, RecordsStay, occasion_of, MarkAsks, Record, marks_ask_at, simulator_ends, simulator_handed, Sent, without_kept_after, same_Some, slice_get_within, get_map, element_at, UnderWay, AreCalls, HasNoStartAmong, IsUndisturbed, IsChainedTo, IsExecutedInChain, stretch_wire, Move, Anew, Changes, Joins, asked, kept_of, AreStill, IsPointedInChain, PointsAsLeft, SimulatorHasItsEffect, state_after_call, turns_telescope, PointsAs, IsInField, Program, own_sent, program_parts, program_records, world, Stretch, stretches, all_on, get_dropped, true≢false}
+use Rattle.std.specs.Prelude.{unsigned_abs}
 use Rattle.std.specs.Ordering.{int_eq}
 use Rattle.gc_values.specs.declared.decimal.Decimal.{Decimal}
-use Rattle.gc_catalogue.specs.declared.answer.Answer.{Answer}
-use Rattle.gc_catalogue.specs.Asked.{is_of_table}
-use Rattle.gc_catalogue.specs.declared.asked.Asked.{Asked}
-use Rattle.gc_catalogue.specs.declared.asked.Asked.TheVariants.{Table, Raw}
-use Rattle.gc_catalogue.specs.declared.call.Call.{Call}
-use Rattle.gc_catalogue.specs.declared.call.Call.TheVariants as call
-use Rattle.gc_client.specs.OneForOne.{Wanted}
-use Rattle.gc_instrument.specs.Execution.{Executed, exec, set_if, distance_outcome, commanded, measured, is_precision, is_date, is_prism}
-use Rattle.gc_instrument.specs.Replying as calls
-use Rattle.gc_instrument.specs.Replying.{Handed, kept_line, without_kept}
-use Rattle.gc_instrument.specs.State.{State, IsFittingState}
-use Rattle.gc_instrument.proofs.Answering.{handed_again, handed_new}
 use Rattle.gc_instrument.proofs.Keeping.{commanded_by_tests, executes_apart}
-use Rattle.gc_texts.specs.Tasks.{call_at}
-use Rattle.gc_texts.specs.declared.occasion.Occasion.{Occasion}
-use Rattle.gc_texts.specs.declared.tasks.Task.{Task}
-use Rattle.gc_texts.proofs.TaskMoments.{at_any_moment}
-use Rattle.gc_station.specs.Links.{ChainsStay, MarksGoOn, RecordsStay}
-use Rattle.gc_station.specs.Marks.{occasion_of}
-use Rattle.gc_station.specs.Parts.{MarkAsks}
-use Rattle.gc_station.specs.Records.{Record}
-use Rattle.gc_station.proofs.Booking.{marks_ask_at}
-use Rattle.gc_theorems.specs.Simulator.{simulator_ends, simulator_handed}
-use Rattle.gc_theorems.specs.World.{Sent}
-use Rattle.gc_world.proofs.Handing.{without_kept_after}
-use Rattle.std.proofs.lemmas.Option.{same_Some, slice_get_within}
-use Rattle.gc_world.proofs.Places.{get_map, element_at}
-use Rattle.gc_theorems.specs.Begin.{UnderWay}
-use Rattle.gc_theorems.specs.Chains.{AreCalls, HasNoStartAmong, IsUndisturbed, IsChainedTo, IsExecutedInChain, stretch_wire}
-use Rattle.gc_theorems.specs.Field.{Move, Anew, Changes, Joins}
-use Rattle.gc_theorems.specs.Laws.{asked, kept_of}
-use Rattle.gc_theorems.specs.Pointing.{AreStill, IsPointedInChain, PointsAsLeft, SimulatorHasItsEffect, state_after_call, turns_telescope, PointsAs}
-use Rattle.gc_theorems.specs.Runs.{IsInField, Program, own_sent, program_parts, program_records, world}
-use Rattle.gc_theorems.specs.Shown.{Stretch, stretches}
 use Rattle.gc_theorems.proofs.Among.{zip_at}
 use Rattle.gc_theorems.proofs.Chained.{chains_executed}
 use Rattle.gc_theorems.proofs.Instruments.{simulator_is_an_instrument}
 use Rattle.gc_theorems.proofs.Joining.{run_faithful}
-use Rattle.gc_station.proofs.Lists.{all_on, get_dropped}
-use Rattle.std.proofs.lemmas.Bool.{true≢false}
+use Rattle.gc_catalogue.specs.declared.call.Call.TheVariants as call
+use Rattle.gc_instrument.specs.Replying as calls
 
 -- What executing a call makes of the simulator.
 

@@ -1,11 +1,5 @@
 -- Moves that are possible, cut in two: the front is possible, and so are the later moves, in the world that the front leaves.
-use Rattle.std.proofs.Common.{◌≡◌, ℕ, List, [], ◌∷◌, ◌++◌, Option, refl, subst}
-use Rattle.gc_catalogue.specs.declared.asked.Asked.{Asked}
-use Rattle.gc_client.specs.Rule.{ById}
-use Rattle.gc_instrument.specs.State.{KeptReply}
-use Rattle.gc_world.specs.Clients.{by_ids}
-use Rattle.gc_theorems.specs.World.{Ends, Rule, World}
-use Rattle.gc_theorems.specs.Field.{Move, moves, moved, ArePossible}
+use Rattle.gc_theorems.proofs.Common.{◌≡◌, ℕ, List, [], ◌∷◌, ◌++◌, Option, refl, subst, Asked, ById, KeptReply, by_ids, Ends, Rule, World, Move, moves, moved, ArePossible}
 
 module _ {Client State : Type 0} (ends : Ends State) (rule : Rule Client) where
   -- two lists of moves, one after the other, leave the world that the second makes of what the first leaves

@@ -1,15 +1,8 @@
 -- Rare damage is local: if at most k damaged lines come while a line of any one request is in flight, and the window is at most
 -- 7 / (k + 1) wide, the lines have slack at each send.
-use Rattle.std.proofs.Common.{◌≡◌, ℕ, suc, ◌+◌, ◌-◌, ◌*◌, ◌≤◌, List, [], ◌∷◌, length, Option, Some, None, refl, ◌∙◌, ap, subst, arith}
-use Rattle.std.specs.Prelude.{IfSome}
-use Rattle.std.specs.List.{AllByRecursion}
-use Rattle.std.proofs.Permutation.{every_append}
-use Rattle.std.proofs.Math.Nat.{mul-le-mul_right, suc-mul}
-use Rattle.gc_client.specs.declared.window.TheConstants.{WINDOW}
-use Rattle.gc_client.specs.Rule.{ById, Sending}
-use Rattle.gc_theorems.specs.Damage.{IsLocal, Damaged, account_heard}
-use Rattle.gc_theorems.specs.OneQueue.{InFlight, OneQueue, Step, Send, Expire, Deliver, Damage, Lose, Repeat, Throughout, IsPossible, ArePossible, account_at_end, next_line, nothing_in_flight, queue_after, queue_damaged, queue_delivered, queue_sent}
-use Rattle.gc_theorems.specs.Slack.{HasSlack, HasSeenFew, IfSent, AreRare}
+use Rattle.gc_theorems.proofs.Common.{◌≡◌, ℕ, suc, ◌+◌, ◌-◌, ◌*◌, ◌≤◌, List, [], ◌∷◌, length, Option, Some, None, refl, ◌∙◌, ap, subst, arith, IfSome, AllByRecursion, every_append, mul-le-mul_right, suc-mul, WINDOW, ById, Sending, Damaged, account_heard, InFlight, OneQueue, Deliver, Damage, Lose, Repeat, Throughout, account_at_end, next_line, nothing_in_flight, queue_after, queue_damaged, queue_delivered, queue_sent, HasSlack, HasSeenFew, IfSent, AreRare}
+use Rattle.gc_theorems.specs.Damage.{IsLocal}
+use Rattle.gc_theorems.specs.OneQueue.{Step, Send, Expire, IsPossible, ArePossible}
 use Rattle.gc_theorems.proofs.Orders.{each_doubled, each_weaker, each_without}
 use Rattle.gc_theorems.proofs.ClientCounting.{count_grows}
 use Rattle.gc_theorems.proofs.Slack.{QueueSound, local_with_slack, queue_sound_after, queue_sound_start}

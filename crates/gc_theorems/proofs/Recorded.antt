@@ -1,26 +1,8 @@
 -- What a station records, by the parts of its run: each record of a command that was sent is of a settlement of one part, or of a
 -- request that was outstanding at the part's end.
-use Rattle.std.proofs.Common.{◌≡◌, ◌⊎◌, inl, inr, ℕ, zero, suc, ◌+◌, Bool, true, false, List, [], ◌∷◌, ◌++◌, length, map, take, drop, Option, Some, None, refl, sym, ◌∙◌, ap, subst, arith, append_assoc, append-nil, if◌then◌else◌}
-use Rattle.std.specs.Prelude.{slice_get}
-use Rattle.std.specs.List.{AllByRecursion}
+use Rattle.gc_theorems.proofs.Common.{◌≡◌, ◌⊎◌, inl, inr, ℕ, zero, suc, ◌+◌, Bool, true, false, List, [], ◌∷◌, ◌++◌, length, map, drop, Option, Some, None, refl, sym, ◌∙◌, ap, subst, arith, append_assoc, append-nil, if◌then◌else◌, slice_get, AllByRecursion, none-some, same_Some, Asked, Restart, Settlement, fresh, lost, Pending, Task, client_after, commands_in, record_of, records_of, Model, Part, MarksAsk, mark_of, sent_of, timeless, went_out, Record, Reads, Expected, sent_append, sent_by, settled_append, settled_by, BooksInParts, IsRecordOf, is_record_of, sent_before, sent_until}
+use Rattle.std.proofs.Common.{take}
 use Rattle.std.proofs.lemmas.List.{length-drop}
-use Rattle.std.proofs.lemmas.Option.{none-some, same_Some}
-use Rattle.gc_catalogue.specs.declared.asked.Asked.{Asked}
-use Rattle.gc_client.specs.OneForOne.{Restart}
-use Rattle.gc_client.specs.declared.pending.Pending.{Pending}
-use Rattle.gc_client.specs.Rule.{Settlement, fresh, lost}
-use Rattle.gc_texts.specs.declared.tasks.Task.{Task}
-use Rattle.gc_session.specs.Courses.{client_after}
-use Rattle.gc_station.specs.Marks.{commands_in, record_of, records_of}
-use Rattle.gc_station.specs.Model.{Model}
-use Rattle.gc_texts.specs.declared.near.Expected.{Expected}
-use Rattle.gc_station.specs.Parts.{Part, MarksAsk, mark_of, sent_of, timeless, went_out}
-use Rattle.gc_station.specs.Records.{Record}
-use Rattle.gc_station.specs.Scopes.{Reads}
-use Rattle.gc_station.proofs.Booking.{sent_append, sent_by, settled_append, settled_by}
-use Rattle.gc_station.proofs.Following.{BooksInParts}
-use Rattle.gc_station.proofs.Meets.{IsRecordOf, is_record_of}
-use Rattle.gc_theorems.specs.DamagedRuns.{sent_before, sent_until}
 
 -- the type of what this function gives
 abbrev given_by : {A : Type 0} → (Expected → Record → A) → Type 0

@@ -1,24 +1,7 @@
 -- A station that holds back has room at each send: its count of what the last line ended is no less
 -- than the world's (`Holding`).
-use Rattle.std.proofs.Common.{◌≡◌, ℕ, ◌+◌, ◌-◌, ◌<◌, ◌≤◌, Bool, true, false, List, [], ◌∷◌, ◌++◌, length, Option, None, nat_lt, refl, sym, ◌∙◌, ap, subst, arith, length-append, eqb, if◌then◌else◌}
-use Rattle.std.specs.List.{AllByRecursion}
-use Rattle.gc_values.proofs.Every.{every_behind as all_behind}
-use Rattle.gc_catalogue.specs.declared.asked.Asked.{Asked}
-use Rattle.gc_client.specs.OneForOne.{Course, Step, Send, Wanted, course_after, sent_on, course_at}
-use Rattle.gc_client.specs.Rule.{ById, Settlement, heard, hears, send_unless_full}
-use Rattle.gc_client.specs.declared.window.TheConstants.{WINDOW}
-use Rattle.gc_instrument.specs.State.{KeptReply}
-use Rattle.gc_session.specs.Exchange.{ended_last}
-use Rattle.gc_session.specs.Laws.{last_ended, last_ended_at}
-use Rattle.gc_session.specs.Courses.{client_after, client_stepped}
-use Rattle.gc_station.proofs.Booking.{sent_by}
-use Rattle.gc_world.specs.Clients.{by_ids}
-use Rattle.gc_theorems.specs.World.{Numbered, Ends, down_delivered}
-use Rattle.gc_theorems.specs.Field.{Move, Sends, Tells, Comes, Foreign, OnLine, Anew, Changes, Joins, IsPossible}
-use Rattle.gc_theorems.specs.Instrument.{IsAnInstrument}
-use Rattle.gc_theorems.specs.Harm.{KeepsItsOwnAfter, Harm, Does, Damages, Strikes, Harmed}
-use Rattle.gc_theorems.specs.DamagedHoldingBack.{Holding, last_if, holding_harms, HasRoomIfSent, MayDoApart, MayHarmApart, AllMayHarmApart}
-use Rattle.gc_theorems.specs.Stretches.{ArePossibleHarms, AreApart, IsApart, IsPossibleHarm, seen_at, seen_harms}
+use Rattle.gc_theorems.proofs.Common.{◌≡◌, ℕ, ◌+◌, ◌-◌, ◌<◌, ◌≤◌, Bool, true, false, List, [], ◌∷◌, ◌++◌, length, Option, None, nat_lt, refl, sym, ◌∙◌, ap, subst, arith, length-append, eqb, if◌then◌else◌, AllByRecursion, every_behind as all_behind, Asked, Course, Wanted, course_after, sent_on, course_at, ById, Settlement, heard, hears, send_unless_full, WINDOW, KeptReply, ended_last, last_ended, last_ended_at, client_after, client_stepped, sent_by, by_ids, Numbered, Ends, down_delivered, Move, Sends, Tells, Comes, Foreign, OnLine, Anew, Changes, Joins, IsPossible, IsAnInstrument, KeepsItsOwnAfter, Harm, Does, Damages, Strikes, Harmed, Holding, last_if, holding_harms, HasRoomIfSent, MayDoApart, MayHarmApart, AllMayHarmApart, ArePossibleHarms, AreApart, IsApart, IsPossibleHarm, seen_at, seen_harms}
+use Rattle.gc_client.specs.Prelude.{Step, Send}
 use Rattle.gc_theorems.proofs.HoldingBack.{harmed_same}
 use Rattle.gc_theorems.proofs.SeenHarms.{client_stays_seen}
 

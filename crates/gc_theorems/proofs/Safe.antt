@@ -1,28 +1,12 @@
 -- Each command of a station is safe in its stretch: it is sent after the table, as the station's rule says.
-use Rattle.std.proofs.Common.{◌≡◌, inr, ℕ, ◌+◌, ◌<◌, ◌≤◌, Bool, true, false, List, [], ◌∷◌, ◌++◌, length, map, Option, Some, None, refl, sym, ◌∙◌, ap, subst, append_assoc, append-nil, arith, ltb}
-use Rattle.std.proofs.lemmas.Bool.{ltb-true, ltb-false}
-use Rattle.std.specs.Prelude.{slice_get}
-use Rattle.std.proofs.lemmas.List.{length-append, length-map, length_push}
-use Rattle.std.proofs.lemmas.Option.{slice_get_within}
-use Rattle.gc_catalogue.specs.Asked.{is_of_table}
-use Rattle.gc_catalogue.specs.declared.asked.Asked.{Asked}
-use Rattle.gc_client.specs.OneForOne as step
-use Rattle.gc_client.specs.OneForOne.{Course, Step, begun, course, course_after, sent_on}
-use Rattle.gc_client.specs.Rule.{ById, Outcome, Answered, Late, Lost, Sending, sends}
-use Rattle.gc_instrument.specs.State.{KeptReply}
-use Rattle.gc_session.specs.Laws.{IsNearTheTable}
-use Rattle.gc_theorems.specs.World.{Ends}
-use Rattle.gc_world.proofs.Places.{element_at}
-use Rattle.gc_world.specs.Worlds.{of_sent}
-use Rattle.gc_theorems.specs.Begun.{IsBehindTheTable, IsByReply, WentOutBehindTheTable, world_once_begun, ids_begun, nulls, nulls_settled}
-use Rattle.gc_theorems.specs.Field.{Move, Sends, Tells, Comes, Foreign, seen}
-use Rattle.gc_theorems.specs.Instrument.{IsAnInstrument}
-use Rattle.gc_theorems.specs.Shown.{Stretch}
+use Rattle.gc_theorems.proofs.Common.{◌≡◌, inr, ℕ, ◌+◌, ◌<◌, ◌≤◌, Bool, true, false, List, [], ◌∷◌, ◌++◌, length, map, Option, Some, None, refl, sym, ◌∙◌, ap, subst, append_assoc, append-nil, arith, ltb, ltb-true, ltb-false, slice_get, length-map, length_push, slice_get_within, is_of_table, Asked, Course, begun, course, course_after, sent_on, ById, Outcome, Answered, Late, Lost, Sending, sends, KeptReply, IsNearTheTable, Ends, element_at, of_sent, IsBehindTheTable, IsByReply, WentOutBehindTheTable, world_once_begun, ids_begun, nulls, nulls_settled, Move, Sends, Tells, Comes, Foreign, seen, IsAnInstrument, Stretch, course_sent, sent_by, cons_head, get_behind, get_more}
+use Rattle.std.proofs.lemmas.List.{length-append}
+use Rattle.gc_client.specs.Prelude.{Step}
 use Rattle.gc_theorems.proofs.BegunFaithful.{sent_is}
 use Rattle.gc_theorems.proofs.InTime.{IsSoundStretch, faithful_throughout, seen_append}
 use Rattle.gc_theorems.proofs.Possible.{front_possible}
-use Rattle.gc_station.proofs.Booking.{course_sent, sent_by}
-use Rattle.gc_station.proofs.Lists.{cons_head, cons_tail, get_behind, get_more}
+use Rattle.gc_station.proofs.Lists.{cons_tail}
+use Rattle.gc_client.specs.OneForOne as step
 
 -- The step at which a request is sent.
 

@@ -1,32 +1,11 @@
 -- The instrument of a scene is an instrument (`IsAnInstrument`).
-use Rattle.std.proofs.Common.{◌≡◌, ℕ, ◌<◌, inl, inr, Bool, true, false, List, [], Option, Some, None, cond, refl, subst, lit<}
+use Rattle.gc_theorems.proofs.Common.{◌≡◌, ℕ, ◌<◌, inl, inr, Bool, true, false, List, [], Option, Some, None, cond, refl, subst, lit<, request_found, asked_again, asked_line, asked_request, is_of_table, call_fields, IsFitting, request_line, request_of, Asked, Table, Raw, Call, RawCall, heard, Handed, kept_after, KeptReply, IsOwnOrNone, MayBeKept, own_reply, ReadsWithItsId, again_kept, kept_reads, reply_heard, same_Some, true≢false}
 use Rattle.std.specs.Option.{option_map}
-use Rattle.gc_lines.proofs.Requests.{request_found}
-use Rattle.gc_catalogue.proofs.AskedRules.{asked_again}
 use Rattle.gc_catalogue.proofs.LineLaws.{call_again}
-use Rattle.gc_catalogue.specs.Asked.{asked_line, asked_request, is_of_table}
-use Rattle.gc_catalogue.specs.Calls.{call_fields, IsFitting}
-use Rattle.gc_catalogue.specs.Texts.{request_line, request_of}
-use Rattle.gc_catalogue.specs.declared.asked.Asked.{Asked}
-use Rattle.gc_catalogue.specs.declared.asked.Asked.TheVariants.{Table, Raw}
-use Rattle.gc_catalogue.specs.declared.call.Call.{Call}
-use Rattle.gc_catalogue.specs.declared.raw.RawCall.{RawCall}
-use Rattle.gc_client.specs.Rule.{heard}
-use Rattle.gc_instrument.specs.Replying.{Handed, kept_after}
-use Rattle.gc_instrument.specs.State.{KeptReply}
 use Rattle.gc_scenes.proofs.Codes.{fault_bound, call_bound}
-use Rattle.gc_scenes.specs.Rules.{fault_of, scripted_reply}
-use Rattle.gc_scenes.specs.Params.{scripted_params}
-use Rattle.gc_scenes.specs.SceneExecution.{Played, played_call, played_raw, unless_faulted_raw, scripted_played, counting}
-use Rattle.gc_scenes.specs.SceneReplying.{IsPlayed, answers, names_call, names_none, resent_line, again_or_played, handed_call, handed_raw, played_or_refused, played_line}
-use Rattle.gc_scenes.specs.SceneState.{SceneState}
+use Rattle.gc_scenes.specs.Prelude.{fault_of, scripted_reply, scripted_params, Played, played_call, played_raw, unless_faulted_raw, scripted_played, counting, IsPlayed, answers, names_call, names_none, resent_line, again_or_played, handed_call, handed_raw, played_or_refused, played_line, SceneState}
 use Rattle.gc_scenes.specs.declared.rules.Scripted.{Scripted}
-use Rattle.gc_theorems.specs.Instrument.{IsOwnOrNone, MayBeKept, own_reply}
 use Rattle.gc_theorems.specs.SceneField.{scene_handed, SceneIsAnInstrument, KeptReplyReads}
-use Rattle.gc_world.specs.Exchange.{ReadsWithItsId}
-use Rattle.gc_world.proofs.Handing.{again_kept, kept_reads, reply_heard}
-use Rattle.std.proofs.lemmas.Option.{same_Some}
-use Rattle.std.proofs.lemmas.Bool.{true≢false}
 
 -- what the instrument does with a request, of which `known` says whether it is a call of the table, meets the clauses of
 -- `IsAnInstrument`

@@ -1,9 +1,6 @@
 -- A request that is executed again after a start, computed.
-use Rattle.std.proofs.Common.{[], refl}
+use Rattle.gc_theorems.proofs.Common.{[], refl, header_at, reply_at, exec, handed}
 use Rattle.std.specs.Fmt.{digits}
-use Rattle.gc_lines.specs.Readers.{header_at, reply_at}
-use Rattle.gc_instrument.specs.Execution.{exec}
-use Rattle.gc_instrument.specs.Replying.{handed}
 use Rattle.gc_theorems.specs.SecondExecution.{IsExecutedAgain}
 
 -- the third request is executed twice, and the second execution's reply is its answer

@@ -1,18 +1,8 @@
 -- What a station's client settles is what the world's client settles: over any moves, its course has the requests, the
 -- settlements and the client of the world (`SameAs`).
-use Rattle.std.proofs.Common.{◌≡◌, ℕ, List, [], ◌∷◌, ◌++◌, map, Option, Some, None, refl, sym, ◌∙◌, ap, subst}
-use Rattle.std.proofs.lemmas.List.{map-append, append-nil}
-use Rattle.gc_catalogue.specs.declared.asked.Asked.{Asked}
-use Rattle.gc_catalogue.specs.Asked.{asked_line}
-use Rattle.gc_client.specs.OneForOne.{Course, course, sent_on, settled_on, begun}
-use Rattle.gc_client.specs.Rule.{ById, Sending, sends, hears, heard, hears_line}
-use Rattle.gc_instrument.specs.State.{KeptReply}
-use Rattle.gc_world.specs.Clients.{by_ids, ids_open}
-use Rattle.gc_theorems.specs.World.{Numbered, Ends, Step, World, requested, with_settled, down_delivered, happens}
-use Rattle.gc_world.specs.Worlds.{of_sent}
-use Rattle.gc_theorems.specs.Instrument.{ReadsByGrammar}
+use Rattle.gc_theorems.proofs.Common.{◌≡◌, ℕ, List, [], ◌∷◌, ◌++◌, map, Option, Some, None, refl, sym, ◌∙◌, ap, subst, map-append, Asked, asked_line, Course, course, sent_on, settled_on, begun, ById, Sending, sends, hears, heard, hears_line, KeptReply, by_ids, ids_open, of_sent, Numbered, Ends, Step, World, requested, with_settled, down_delivered, happens, ReadsByGrammar, Move, Sends, Tells, Comes, Foreign, OnLine, Joins, IsLineStep, moved, ArePossible, seen}
+use Rattle.std.proofs.lemmas.List.{append-nil}
 use Rattle.gc_theorems.proofs.LineSteps.{same_over_line}
-use Rattle.gc_theorems.specs.Field.{Move, Sends, Tells, Comes, Foreign, OnLine, Joins, IsLineStep, moved, ArePossible, seen}
 
 module _ {State : Type 0} (width : ℕ) (ends : Ends State) (same_heard : ReadsByGrammar ends) (Good : State → Type 0) (kept : State → Option KeptReply) where
   -- the course of a client and the world have the same requests, settlements and client

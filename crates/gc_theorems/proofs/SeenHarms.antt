@@ -1,19 +1,7 @@
 -- What the client of a stretch with damage sent and settled is what a station's client does by the steps that it sees.
-use Rattle.std.proofs.Common.{◌≡◌, ℕ, List, [], ◌∷◌, ◌++◌, map, Option, refl, sym, ◌∙◌, ap, subst}
-use Rattle.gc_catalogue.specs.declared.asked.Asked.{Asked}
-use Rattle.gc_client.specs.OneForOne.{Course, Step, course, course_after, settled_on}
-use Rattle.gc_client.specs.Rule.{ById, fresh, hears, hears_line}
-use Rattle.gc_instrument.specs.State.{KeptReply}
-use Rattle.gc_session.proofs.Courses.{course_client}
-use Rattle.gc_session.specs.Courses.{client_after}
-use Rattle.gc_station.proofs.Booking.{course_sent, course_settled, sent_by, settled_by}
-use Rattle.gc_world.specs.Worlds.{of_sent}
-use Rattle.gc_theorems.specs.World.{Ends, World, with_settled}
-use Rattle.gc_theorems.specs.Begun.{nulls, nulls_settled}
-use Rattle.gc_theorems.specs.Instrument.{IsAnInstrument}
+use Rattle.gc_theorems.proofs.Common.{◌≡◌, ℕ, List, [], ◌∷◌, ◌++◌, map, Option, refl, sym, ◌∙◌, ap, subst, Asked, Course, course, course_after, settled_on, ById, fresh, hears, hears_line, KeptReply, course_client, client_after, course_sent, course_settled, sent_by, settled_by, of_sent, Ends, World, with_settled, nulls, nulls_settled, IsAnInstrument, Harm, Does, Damages, Strikes, Harmed, harmed, harms, HarmedStretch, ArePossibleHarms, IsPossibleHarm, at_its_end, once_synchronized, seen_at, seen_harms}
+use Rattle.gc_client.specs.Prelude.{Step}
 use Rattle.gc_theorems.proofs.Seen.{SameAs, same_all}
-use Rattle.gc_theorems.specs.Harm.{Harm, Does, Damages, Strikes, Harmed, harmed, harms}
-use Rattle.gc_theorems.specs.Stretches.{HarmedStretch, ArePossibleHarms, IsPossibleHarm, at_its_end, once_synchronized, seen_at, seen_harms}
 
 -- a course over two lists of steps is the one over the second, from the one over the first on
 pub course_append : (width : ℕ) (x : Course Asked) (first later : List (Step Asked)) → course width x (first ++ later) ≡ course width (course width x first) later

@@ -1,35 +1,13 @@
 -- What a client sends near the table, by its events, is safe in its runs. A run is the turns of a synchronization and then the moves of the
 -- field, and a placed run is a run with what was in flight when it began.
-use Rattle.std.proofs.Common.{◌≡◌, ◌≢◌, ℕ, ◌+◌, ◌-◌, ◌≤◌, List, [], ◌∷◌, ◌++◌, map, Option, Some, inl, inr, refl, sym, ◌∙◌, ap, subst, append_assoc, append-nil, arith}
-use Rattle.std.specs.Prelude.{slice_get}
-use Rattle.std.specs.List.{AllByRecursion}
-use Rattle.std.proofs.lemmas.List.{map-append}
-use Rattle.std.proofs.lemmas.Option.{same_Some, slice_get_within}
-use Rattle.gc_catalogue.specs.declared.asked.Asked.{Asked}
-use Rattle.gc_client.specs.OneForOne as one
-use Rattle.gc_client.specs.OneForOne.{Step, Wanted, begun, course}
-use Rattle.gc_client.specs.declared.window.TheConstants.{WINDOW}
-use Rattle.gc_instrument.specs.State.{KeptReply}
-use Rattle.gc_session.specs.Events.{ClientEvent, Stepped, steps_since}
-use Rattle.gc_session.specs.Laws.{IsNearTheTable}
-use Rattle.gc_station.proofs.Lists.{get_behind}
-use Rattle.gc_values.proofs.Every.{every_front as all_front}
-use Rattle.gc_world.proofs.Places.{get_map}
-use Rattle.gc_world.specs.Clients.{by_ids}
-use Rattle.gc_world.specs.Worlds.{of_sent}
-use Rattle.gc_theorems.specs.World.{Ends, Sent}
-use Rattle.gc_theorems.specs.Begin.{UnderWay, begins, leaves}
-use Rattle.gc_theorems.specs.Beginnings.{IsOwnIfBegun, Run, left_by_run}
-use Rattle.gc_theorems.specs.Begun.{WentOutBehindTheTable, ids_begun, nulls}
-use Rattle.gc_theorems.specs.ClientRuns.{PlacedRun, ArePossibleRuns, begun_at, events_of, events_over, placed_runs, world}
-use Rattle.gc_theorems.specs.Field.{ArePossible, seen}
-use Rattle.gc_theorems.specs.Instrument.{IsAnInstrument}
-use Rattle.gc_theorems.specs.Owned.{IsOwnRun, IsSafeRequest}
-use Rattle.gc_theorems.specs.Shown.{Stretch}
+use Rattle.gc_theorems.proofs.Common.{◌≡◌, ◌≢◌, ℕ, ◌+◌, ◌-◌, ◌≤◌, List, [], ◌∷◌, ◌++◌, map, Option, Some, inl, inr, refl, sym, ◌∙◌, ap, subst, append_assoc, append-nil, arith, slice_get, AllByRecursion, map-append, same_Some, slice_get_within, Asked, Wanted, begun, course, WINDOW, KeptReply, ClientEvent, Stepped, steps_since, IsNearTheTable, get_behind, every_front as all_front, get_map, by_ids, of_sent, Ends, Sent, UnderWay, begins, leaves, IsOwnIfBegun, Run, left_by_run, WentOutBehindTheTable, ids_begun, nulls, PlacedRun, ArePossibleRuns, begun_at, events_of, events_over, placed_runs, ArePossible, seen, IsAnInstrument, IsOwnRun, IsSafeRequest, Stretch}
+use Rattle.gc_client.specs.Prelude.{Step}
+use Rattle.gc_theorems.specs.ClientRuns.{world}
 use Rattle.gc_theorems.proofs.BegunFaithful.{sent_is}
 use Rattle.gc_theorems.proofs.InTime.{IsSoundStretch}
 use Rattle.gc_theorems.proofs.Parting.{IsNoRestart, no_restart_seen, since_both, turned_all}
 use Rattle.gc_theorems.proofs.Safe.{goes_out}
+use Rattle.gc_client.specs.OneForOne as one
 
 -- `Holds` is true of each send among these events, by its target, its call, and the steps since the last restart before it; `since` are
 -- those before these events

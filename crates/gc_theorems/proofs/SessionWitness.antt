@@ -1,34 +1,15 @@
 -- Calls on a session that meet each premise of `EachSessionIsOwn`, computed: so the laws that say it aren't about nothing.
-use Rattle.std.proofs.Common.{◌≡◌, ◌⊎◌, ℕ, Bool, true, false, List, [], ◌∷◌, ◌++◌, map, None, inl, inr, refl, sym, ap, ◌∙◌, arith}
-use Rattle.std.specs.Prelude.{codes, take, drop}
+use Rattle.gc_theorems.proofs.Common.{◌≡◌, ◌⊎◌, ℕ, Bool, true, false, List, [], ◌∷◌, ◌++◌, map, None, inl, inr, refl, sym, ap, ◌∙◌, arith, codes, take, header_at, reply_at, Asked, Table, Raw, RawCall, InstrumentNo, NullProc, the_word, ById, Settlement, fresh, pending_of, WINDOW, exec, handed, IsFittingState, simulator_opening, Steps, Hears, Opens, Restarts, events_all, settled_all, settles, ClientEvent, Session, OWN, events_over, simulator_ends, counting, kept_by, AnyState, kept_of}
+use Rattle.std.specs.Prelude.{drop}
 use Rattle.std.specs.Fmt.{digits}
-use Rattle.gc_lines.specs.Readers.{header_at, reply_at}
-use Rattle.gc_catalogue.specs.declared.asked.Asked.{Asked}
-use Rattle.gc_catalogue.specs.declared.asked.Asked.TheVariants.{Table, Raw}
-use Rattle.gc_catalogue.specs.declared.raw.RawCall.{RawCall}
-use Rattle.gc_catalogue.specs.declared.call.Call.TheVariants.{InstrumentNo, NullProc}
-use Rattle.gc_client.specs.Beginning.{the_word}
-use Rattle.gc_client.specs.Rule.{ById, Settlement, fresh, pending_of}
-use Rattle.gc_client.specs.declared.window.TheConstants.{WINDOW}
-use Rattle.gc_instrument.specs.Execution.{exec}
-use Rattle.gc_instrument.specs.Replying.{handed}
-use Rattle.gc_instrument.specs.State.{IsFittingState, simulator_opening}
-use Rattle.gc_session.specs.Calls.{Call, Steps, Asks, Hears, Opens, Restarts, after, events_all, events_of, settled_all, settles}
-use Rattle.gc_session.specs.Events.{ClientEvent}
-use Rattle.gc_session.specs.Sessions.{Session, opening}
-use Rattle.gc_session.specs.declared.session.TheConstants.{OWN}
+use Rattle.gc_session.specs.Prelude.{Call, Asks, after, events_of, opening}
 use Rattle.gc_session.specs.declared.settings.Want.TheVariants.{Send}
 use Rattle.gc_session.specs.declared.standing.Phase.{Phase}
-use Rattle.gc_session.specs.declared.standing.Phase.TheVariants as phase
-use Rattle.gc_theorems.specs.ClientRuns.{events_over}
-use Rattle.gc_theorems.specs.Simulator.{simulator_ends}
-use Rattle.gc_theorems.specs.CountingChain.{counting, kept_by}
-use Rattle.gc_theorems.specs.Instrument.{AnyState}
-use Rattle.gc_theorems.specs.Laws.{kept_of}
 use Rattle.gc_theorems.specs.SessionWitness.{Exchange, IsSessionInField, SomeSessionIsInField, counting_exchange, events, moves, old_reply, old_reply_alone, runs, settings, simulator_exchange}
 use Rattle.gc_theorems.proofs.CountingChain.{counted_in_field}
 use Rattle.gc_theorems.proofs.Instruments.{simulator_is_an_instrument}
 use Rattle.gc_theorems.proofs.Witness.{opening_fits, units}
+use Rattle.gc_session.specs.declared.standing.Phase.TheVariants as phase
 
 -- the word, whose first id is 6, isn't in flight where nothing is but one reply with id 1
 one_reply_isnt_the_word : {A : Type 0} → (◌≡◌ {A = ℕ} 6 1 × A) ⊎ ⊥ → ⊥

@@ -1,26 +1,8 @@
 -- A session in the field: each settlement of a request of its caller's is its own, because the session sends such a request only near the
 -- table. Sessions one after the other: no synchronization finds the word in flight, as long as few runs in a row are killed while they
 -- synchronize.
-use Rattle.std.proofs.Common.{◌≡◌, ℕ, List, [], ◌∷◌, Option, sym, ◌∙◌, ap, subst, arith}
-use Rattle.std.specs.List.{AllByRecursion}
-use Rattle.gc_catalogue.specs.declared.asked.Asked.{Asked}
-use Rattle.gc_client.specs.Beginning.{the_word}
-use Rattle.gc_client.specs.OneForOne.{Wanted, begun, course}
-use Rattle.gc_client.specs.declared.window.TheConstants.{WINDOW}
-use Rattle.gc_instrument.specs.State.{KeptReply}
-use Rattle.gc_session.specs.declared.session.TheConstants.{OWN}
-use Rattle.gc_session.specs.Calls.{settled_all}
-use Rattle.gc_session.specs.Events.{AreInTurn, left_among, steps_among}
-use Rattle.gc_session.specs.Laws.{RequestsAreSentNearTheTable, SessionsAreTheirClients}
-use Rattle.gc_session.specs.Sessions.{opening}
-use Rattle.gc_station.proofs.Lists.{all_on}
-use Rattle.gc_world.proofs.Places.{all_at}
-use Rattle.gc_theorems.specs.World.{Ends}
-use Rattle.gc_theorems.specs.Begin.{UnderWay}
-use Rattle.gc_theorems.specs.Beginnings.{killed_over, left_by_runs}
-use Rattle.gc_theorems.specs.ClientRuns.{events_over, placed_runs}
-use Rattle.gc_theorems.specs.Instrument.{IsAnInstrument}
-use Rattle.gc_theorems.specs.Owned.{IsOwnUnlessLost}
+use Rattle.gc_theorems.proofs.Common.{◌≡◌, ℕ, List, [], ◌∷◌, Option, sym, ◌∙◌, ap, subst, arith, AllByRecursion, Asked, the_word, Wanted, begun, course, WINDOW, KeptReply, OWN, settled_all, AreInTurn, left_among, steps_among, RequestsAreSentNearTheTable, SessionsAreTheirClients, all_on, all_at, Ends, UnderWay, killed_over, left_by_runs, events_over, placed_runs, IsAnInstrument, IsOwnUnlessLost}
+use Rattle.gc_session.specs.Prelude.{opening}
 use Rattle.gc_theorems.specs.Sessions.{AreSessionsInARow, AreSessionsOwn, EachInARowIsOwn, EachSessionIsOwn, IsOwnIfCallers, SessionRun}
 use Rattle.gc_theorems.proofs.BegunRuns.{IsShortOfTheWord, after_runs, short_if_rising, short_lacks_the_word}
 use Rattle.gc_theorems.proofs.Owning.{own_if_safe}

@@ -1,12 +1,7 @@
 -- The turns of a synchronization leave of the word the same ids as the lines that these turns show to the station. The *word*
 -- is the list of the ids of a synchronization's null procedures; a reply that answers one takes its id off.
-use Rattle.std.proofs.Common.{◌≡◌, ℕ, List, [], ◌∷◌, refl, sym, ◌∙◌, ap}
-use Rattle.gc_station.specs.Beginnings.{unanswered_after}
-use Rattle.gc_station.specs.Begun.{heard_in}
-use Rattle.gc_station.proofs.Asked.{heard_append, left_append}
-use Rattle.gc_theorems.specs.World.{Ends}
-use Rattle.gc_theorems.specs.Begin.{InFlight, SyncModel, SyncTurn, Asks, Comes, Reaches, comes, reaches, asks, turned, turns}
-use Rattle.gc_theorems.specs.Shown.{first_heard, shown, shows}
+use Rattle.gc_theorems.proofs.Common.{◌≡◌, ℕ, List, [], ◌∷◌, refl, sym, ◌∙◌, ap, unanswered_after, heard_in, heard_append, left_append, Ends, SyncModel, SyncTurn, Asks, Reaches, comes, reaches, asks, turned, turns, first_heard, shown, shows}
+use Rattle.gc_theorems.specs.Begin.{InFlight, Comes}
 
 module _ {State : Type 0} (ends : Ends State) where
   -- a null procedure that is sent changes nothing in what is left of the word

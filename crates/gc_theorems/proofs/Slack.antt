@@ -1,14 +1,7 @@
 -- Damage is local if the lines in flight have slack at each send: then each line that comes is fresh.
-use Rattle.std.proofs.Common.{◌≡◌, ℕ, ◌+◌, ◌<◌, ◌≤◌, inl, inr, Bool, true, false, List, [], ◌∷◌, length, Option, refl, subst, arith, eqb}
-use Rattle.std.specs.Prelude.{IfSome}
-use Rattle.std.specs.List.{AllByRecursion}
-use Rattle.std.proofs.Permutation.{every_append}
-use Rattle.std.proofs.lemmas.Bool.{eqb-false}
-use Rattle.gc_client.specs.declared.window.TheConstants.{WINDOW}
-use Rattle.gc_client.specs.Rule.{send_unless_full}
-use Rattle.gc_theorems.specs.Damage.{IsFresh, IsLocal, Of, Damaged, account_heard}
-use Rattle.gc_theorems.specs.OneQueue.{InFlight, OneQueue, Step, Send, Expire, Deliver, Damage, Lose, Repeat, Throughout, IsOfFront, IsPossible, ArePossible, account_at_end, next_line, nothing_in_flight, queue, queue_after, queue_damaged, queue_delivered, queue_sent}
-use Rattle.gc_theorems.specs.Slack.{HasSlack, IfSent, HaveSlack}
+use Rattle.gc_theorems.proofs.Common.{◌≡◌, ℕ, ◌+◌, ◌<◌, ◌≤◌, inl, inr, Bool, true, false, List, [], ◌∷◌, length, Option, refl, subst, arith, eqb, IfSome, AllByRecursion, every_append, eqb-false, WINDOW, send_unless_full, IsFresh, Of, Damaged, account_heard, InFlight, OneQueue, Deliver, Damage, Lose, Repeat, Throughout, IsOfFront, account_at_end, next_line, nothing_in_flight, queue, queue_after, queue_damaged, queue_delivered, queue_sent, HasSlack, IfSent, HaveSlack}
+use Rattle.gc_theorems.specs.Damage.{IsLocal}
+use Rattle.gc_theorems.specs.OneQueue.{Step, Send, Expire, IsPossible, ArePossible}
 use Rattle.gc_theorems.proofs.ClientLocal.{Sound, local_if_sound, sound_damaged, sound_expired, sound_fresh, sound_opened, sound_sent}
 use Rattle.gc_theorems.proofs.Orders.{Ordered, each_both, each_doubled, each_weaker, each_without, ordered_doubled, ordered_each, ordered_lower, ordered_push, ordered_without}
 use Rattle.gc_theorems.proofs.ClientCounting.{count_fresh, count_grows}

@@ -1,13 +1,6 @@
 -- Without damage a stray is of the request that was settled last.
-use Rattle.std.proofs.Common.{◌≡◌, ℕ, ◌+◌, ◌%◌, ◌<◌, ◌≤◌, Bool, true, false, List, ◌∷◌, length, Option, Some, refl, sym, subst, arith, length-append, ltb}
-use Rattle.std.specs.List.{AllByRecursion}
-use Rattle.std.proofs.lemmas.List.{length-map}
-use Rattle.std.proofs.lemmas.Bool.{lt-ltb, ltb-true, ltb-false}
-use Rattle.gc_client.specs.declared.window.TheConstants.{WINDOW, IDS}
-use Rattle.gc_client.specs.Rule.{hears, place, settle, settles_at}
-use Rattle.gc_theorems.specs.Damage.{Account, Of, Origin, account_heard, account_settled, ended_by}
-use Rattle.gc_theorems.specs.OneQueue.{InFlight, OneQueue, Step, ArePossible, account_at_end, newly_settled, nothing_in_flight, queue}
-use Rattle.gc_theorems.specs.Slack.{HasNoDamage}
+use Rattle.gc_theorems.proofs.Common.{◌≡◌, ℕ, ◌+◌, ◌%◌, ◌<◌, ◌≤◌, Bool, true, false, List, ◌∷◌, length, Option, Some, refl, sym, subst, arith, length-append, ltb, AllByRecursion, length-map, lt-ltb, ltb-true, ltb-false, WINDOW, IDS, hears, place, settle, settles_at, Account, Of, Origin, account_heard, account_settled, ended_by, InFlight, OneQueue, account_at_end, newly_settled, nothing_in_flight, queue, HasNoDamage}
+use Rattle.gc_theorems.specs.OneQueue.{Step, ArePossible}
 use Rattle.gc_theorems.specs.Strays.{IsOfTheLast}
 use Rattle.gc_theorems.proofs.ClientLocal.{Sound, ends_of, length-settle}
 use Rattle.gc_theorems.proofs.Slack.{IsNear, QueueSound, queue_sound_start, queue_sound_steps}

@@ -1,15 +1,6 @@
 -- A stretch with damage: a synchronization whose eighth null procedure is answered by its own reply, and what follows.
-use Rattle.std.proofs.Common.{◌≡◌, ℕ, ◌≤◌, false, List, [], ◌∷◌, map, Option, Some}
-use Rattle.std.specs.List.{AllByRecursion}
-use Rattle.gc_client.specs.Rule.{heard}
-use Rattle.gc_instrument.specs.State.{KeptReply}
-use Rattle.gc_theorems.specs.World.{Ends, Request}
-use Rattle.gc_theorems.specs.Begin.{InFlight, IsWellFormed, UnderWay, begins}
-use Rattle.gc_theorems.specs.Begun.{eighth_null}
-use Rattle.gc_theorems.specs.Instrument.{IsAnInstrument}
-use Rattle.gc_theorems.specs.Harm.{Harm, AllMayHarm, AreOwnOr, IsCleanBut, harm_begun}
-use Rattle.gc_theorems.specs.DamagedSynchronizing.{SyncHarm, AllMaySyncHarm, OwnEighthComes, WasStruck, sync_harmed}
-use Rattle.gc_theorems.specs.Stretch.{left_by_sync}
+use Rattle.gc_theorems.proofs.Common.{◌≡◌, ℕ, ◌≤◌, false, List, [], ◌∷◌, map, Option, Some, AllByRecursion, heard, KeptReply, Ends, Request, IsWellFormed, UnderWay, begins, eighth_null, IsAnInstrument, Harm, AllMayHarm, AreOwnOr, IsCleanBut, harm_begun, SyncHarm, AllMaySyncHarm, OwnEighthComes, WasStruck, sync_harmed, left_by_sync}
+use Rattle.gc_theorems.specs.Begin.{InFlight}
 use Rattle.gc_theorems.proofs.Own.{own_or_broken}
 use Rattle.gc_theorems.proofs.Synchronizing.{own_eighth_is_clean}
 

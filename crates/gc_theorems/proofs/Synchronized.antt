@@ -1,14 +1,9 @@
 -- After a synchronization with at most five damaged answers no old line is left: once a null procedure is answered by its own reply, no old
 -- line is in flight; and of the word's ids at most two are answered by old lines.
-use Rattle.std.proofs.Common.{◌≡◌, ℕ, zero, suc, ◌+◌, ◌%◌, ◌≤◌, ◌⊎◌, inl, inr, Bool, true, false, List, [], ◌∷◌, ◌++◌, Some, None, refl, sym, ◌∙◌, subst, arith, nat_eq}
-use Rattle.std.specs.Prelude.{if◌then◌else◌, ⊤}
-use Rattle.std.specs.List.{AllByRecursion}
-use Rattle.std.proofs.Permutation.{every_append}
-use Rattle.std.proofs.lemmas.Bool.{eqb-true}
-use Rattle.gc_client.specs.declared.window.TheConstants.{WINDOW, IDS}
-use Rattle.gc_client.specs.Beginning.{is_answered, left_by, left_when, the_word}
+use Rattle.gc_theorems.proofs.Common.{◌≡◌, ℕ, zero, suc, ◌+◌, ◌%◌, ◌≤◌, ◌⊎◌, inl, inr, Bool, true, false, List, [], ◌∷◌, ◌++◌, Some, None, refl, sym, ◌∙◌, subst, arith, nat_eq, ⊤, AllByRecursion, every_append, eqb-true, WINDOW, IDS, is_answered, left_by, left_when, the_word, AreOld, NoneIsOld, Sync, SyncLine, SyncStep, Ask, null_line, sync, sync_after, sync_asked, sync_delivered, sync_over}
+use Rattle.std.specs.Prelude.{if◌then◌else◌}
 use Rattle.gc_theorems.specs.OneQueue.{without, doubled}
-use Rattle.gc_theorems.specs.ClientSynchronizing.{AreOld, NoneIsOld, Sync, SyncLine, SyncStep, Ask, Deliver, Damage, Lose, Repeat, null_line, sync, sync_after, sync_asked, sync_delivered, sync_over, synchronized}
+use Rattle.gc_theorems.specs.ClientSynchronizing.{Deliver, Damage, Lose, Repeat, synchronized}
 use Rattle.gc_theorems.proofs.Orders.{each_doubled, each_without}
 use Rattle.gc_theorems.proofs.Word.{AreAnsweredFalsely, six_at_least}
 

@@ -1,24 +1,8 @@
 -- If the eighth null procedure is answered by its own reply, a synchronization with damage is clean, but for a kept reply that is
 -- damaged. An own line with the id 7 has only such lines behind it, since the client asks for nothing else once it asked for that.
-use Rattle.std.proofs.Common.{◌≡◌, ℕ, zero, suc, ◌<◌, ◌⊎◌, inl, inr, Bool, true, false, List, [], ◌∷◌, ◌++◌, map, Option, Some, refl, sym, ◌∙◌, ap, subst, arith, append_assoc}
-use Rattle.std.specs.List.{AllByRecursion}
-use Rattle.std.proofs.lemmas.Bool.{true≢false}
-use Rattle.std.proofs.lemmas.Option.{same_Some, none-some}
-use Rattle.gc_lines.proofs.Lists.{all_append}
-use Rattle.gc_values.proofs.Every.{every_weaker as all_on}
-use Rattle.gc_catalogue.specs.declared.asked.Asked.{Asked}
-use Rattle.gc_catalogue.specs.declared.asked.Asked.TheVariants.{Table}
-use Rattle.gc_catalogue.specs.declared.call.Call.TheVariants.{NullProc}
-use Rattle.gc_catalogue.specs.Asked.{is_of_table}
-use Rattle.gc_client.specs.Beginning.{left_by, left_when, is_answered, the_word}
-use Rattle.gc_client.specs.Rule.{heard}
-use Rattle.gc_instrument.specs.State.{KeptReply}
-use Rattle.gc_theorems.specs.World.{Ends, Request, without, doubled}
-use Rattle.gc_world.proofs.Rows.{each_without, each_doubled}
-use Rattle.gc_theorems.specs.Begin.{InFlight, IsTurn, IsWellFormed, SyncModel, SyncTurn, Asks, Comes, Foreign, Reaches, Up_lose, Up_repeat, Down_lose, Down_repeat, Anew, Changes, UnderWay, asks, begins, comes, reaches, turns}
-use Rattle.gc_theorems.specs.Begun.{eighth_null}
-use Rattle.gc_theorems.specs.Instrument.{IsAnInstrument, MayBeKept, MayForget, own_reply}
-use Rattle.gc_theorems.specs.DamagedSynchronizing.{SyncHarm, Does, Damages, Strikes, sync_harms, sync_harmed, MaySyncHarm, AllMaySyncHarm, OwnEighthComes, WasStruck, IsCleanButStruck}
+use Rattle.gc_theorems.proofs.Common.{◌≡◌, ℕ, zero, suc, ◌<◌, ◌⊎◌, inl, inr, Bool, true, false, List, [], ◌∷◌, ◌++◌, map, Option, Some, refl, sym, ◌∙◌, ap, subst, arith, append_assoc, AllByRecursion, true≢false, same_Some, none-some, all_append, every_weaker as all_on, Asked, Table, NullProc, is_of_table, left_by, left_when, is_answered, the_word, heard, KeptReply, Ends, Request, without, doubled, each_without, each_doubled, IsTurn, IsWellFormed, SyncModel, SyncTurn, Asks, Reaches, UnderWay, asks, begins, comes, reaches, turns, eighth_null, IsAnInstrument, MayBeKept, MayForget, own_reply, SyncHarm, sync_harms, sync_harmed, MaySyncHarm, AllMaySyncHarm, OwnEighthComes, WasStruck, IsCleanButStruck}
+use Rattle.gc_theorems.specs.Begin.{InFlight, Comes, Foreign, Up_lose, Up_repeat, Down_lose, Down_repeat, Anew, Changes}
+use Rattle.gc_theorems.specs.DamagedSynchronizing.{Does, Damages, Strikes}
 
 -- an own request with the id 7
 abbrev OwnUp : InFlight Request → Type 0

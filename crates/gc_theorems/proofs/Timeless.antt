@@ -1,16 +1,7 @@
 -- What a record says of the stretches of a run stays so with one more stretch before them, and doesn't depend on the moment at
 -- which it was recorded: whose reply its answer is, and that a late record's command was executed. A *stretch* is a run once it
 -- has synchronized: what is in flight then, and its moves.
-use Rattle.std.proofs.Common.{◌≡◌, ℕ, suc, List, [], ◌∷◌, map, Option, Some}
-use Rattle.std.specs.Prelude.{slice_get}
-use Rattle.std.specs.List.{AllByRecursion}
-use Rattle.gc_instrument.specs.State.{KeptReply}
-use Rattle.gc_texts.specs.declared.tasks.Task.{Task}
-use Rattle.gc_station.specs.Parts.{Part, timeless}
-use Rattle.gc_station.specs.Records.{Record}
-use Rattle.gc_theorems.specs.World.{Ends}
-use Rattle.gc_theorems.specs.Runs.{HasRequest, IsOwnAnswer, LateHasExecution}
-use Rattle.gc_theorems.specs.Shown.{Stretch}
+use Rattle.gc_theorems.proofs.Common.{◌≡◌, ℕ, suc, List, [], ◌∷◌, map, Option, Some, slice_get, AllByRecursion, KeptReply, Task, Part, timeless, Record, Ends, HasRequest, IsOwnAnswer, LateHasExecution, Stretch}
 
 -- the request of a record in a run with the parts `ps` and the stretches `ss` is its request in a run with the parts `qs` and the
 -- stretches `ts` where its part and its stretch are at place k, whatever the moment (`utc`) at which the record was recorded

@@ -1,15 +1,6 @@
 -- Right after a synchronization, before any move, `IsFaithful` holds, whatever is in flight.
-use Rattle.std.proofs.Common.{◌≡◌, ℕ, ◌<◌, ◌≤◌, List, [], ◌∷◌, Option, Some, refl, ap, arith}
-use Rattle.std.specs.Prelude.{slice_get}
-use Rattle.std.proofs.lemmas.Option.{none-some, slice_get_within}
-use Rattle.gc_catalogue.specs.declared.asked.Asked.{Asked}
-use Rattle.gc_client.specs.Rule.{Settlement}
-use Rattle.gc_instrument.specs.State.{KeptReply}
-use Rattle.gc_station.proofs.Lists.{cons_head}
-use Rattle.gc_theorems.specs.World.{Ends, Numbered}
+use Rattle.gc_theorems.proofs.Common.{◌≡◌, ℕ, ◌<◌, ◌≤◌, List, [], ◌∷◌, Option, Some, refl, ap, arith, slice_get, none-some, slice_get_within, Asked, Settlement, KeptReply, cons_head, Ends, Numbered, UnderWay, IsFaithful, nulls, nulls_settled, of_eighth}
 use Rattle.gc_world.proofs.Settled as settled
-use Rattle.gc_theorems.specs.Begin.{UnderWay}
-use Rattle.gc_theorems.specs.Begun.{IsFaithful, nulls, nulls_settled, of_eighth}
 
 -- right after a synchronization no settlement has a number from 8 on
 none_settled_from_8 : (m : ℕ) (s : Settlement Asked) → 8 ≤ m → slice_get nulls_settled m ≡ Some s → ⊥

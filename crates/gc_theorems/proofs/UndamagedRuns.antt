@@ -1,28 +1,10 @@
 -- Runs of the field are runs with damage, in which there is none.
-use Rattle.std.proofs.Common.{◌≡◌, ◌⊎◌, ℕ, List, [], ◌∷◌, ◌++◌, map, Option, refl, sym, ◌∙◌, ap, subst}
-use Rattle.std.specs.List.{AllByRecursion, AllZip}
-use Rattle.gc_instrument.specs.State.{KeptReply}
-use Rattle.gc_station.specs.Parts.{Part}
-use Rattle.gc_world.specs.Clients.{by_ids}
-use Rattle.gc_theorems.specs.World.{Ends}
-use Rattle.gc_theorems.specs.Begin.{AreTurns, SyncModel, SyncTurn, UnderWay, begins, leaves, turns}
-use Rattle.gc_theorems.specs.Beginnings.{ArePossibleIfBegun, AreRuns, Run, after_turns, left_by_run, left_if_begun, under_way_on}
-use Rattle.gc_theorems.specs.Begun.{ids_begun, world_once_begun}
-use Rattle.gc_theorems.specs.Field.{ArePossible, Move, moved, seen}
-use Rattle.gc_theorems.specs.Instrument.{IsAnInstrument, TreatsRawsAlike}
-use Rattle.gc_theorems.specs.Runs.{IsInField, Program, program_parts}
-use Rattle.gc_theorems.specs.Shown.{AreShownAs, shown, shows}
+use Rattle.gc_theorems.proofs.Common.{◌≡◌, ◌⊎◌, ℕ, List, [], ◌∷◌, ◌++◌, map, Option, refl, sym, ◌∙◌, ap, subst, AllByRecursion, AllZip, KeptReply, Part, by_ids, Ends, AreTurns, SyncModel, SyncTurn, UnderWay, begins, leaves, turns, ArePossibleIfBegun, AreRuns, Run, after_turns, left_by_run, left_if_begun, under_way_on, ids_begun, world_once_begun, ArePossible, Move, moved, seen, IsAnInstrument, TreatsRawsAlike, IsInField, Program, program_parts, AreShownAs, shown, shows, Harmed, Does, harm_begun, harmed, harms, Holding, holding_begun, holding_harms, AreOfTable, IsInHarmedField, left_by_sync, AreApart, AreInARow, ArePossibleHarms, ArePossibleIfSynchronized, HarmedStretch, IsDamagedOnceSynchronized, IsPossibleStretch, IsSeenAs, left_by_stretch, left_if_synchronized, once_synchronized, seen_harms, shown_harms, synchronized, AllMaySyncHarm, sync_harmed}
 use Rattle.gc_theorems.proofs.InTime.{seen_append}
-use Rattle.gc_theorems.specs.Harm.{Harmed, Does, harm_begun, harmed, harms}
-use Rattle.gc_theorems.specs.DamagedHoldingBack.{Holding, holding_begun, holding_harms}
-use Rattle.gc_theorems.specs.DamagedRuns.{AreOfTable, IsInHarmedField}
-use Rattle.gc_theorems.specs.Stretch.{left_by_sync}
-use Rattle.gc_theorems.specs.Stretches.{AreApart, AreInARow, ArePossibleHarms, ArePossibleIfSynchronized, HarmedStretch, IsDamagedOnceSynchronized, IsPossibleStretch, IsSeenAs, left_by_stretch, left_if_synchronized, once_synchronized, seen_harms, shown_harms, synchronized}
-use Rattle.gc_theorems.specs.DamagedSynchronizing as sync
-use Rattle.gc_theorems.specs.DamagedSynchronizing.{AllMaySyncHarm, sync_harmed}
 use Rattle.gc_theorems.specs.UndamagedRuns.{IsInstance, undamaged_program, undamaged_stretches}
 use Rattle.gc_theorems.proofs.DamagedRuns.{run_apart}
 use Rattle.gc_theorems.proofs.DamagedUndamaged.{same_turns}
+use Rattle.gc_theorems.specs.DamagedSynchronizing as sync
 
 -- moves show the client what they do as steps without damage
 same_seen : {State : Type 0} (ms : List (Move State)) → seen_harms (map Does ms) ≡ seen ms

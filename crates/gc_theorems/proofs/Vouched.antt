@@ -3,28 +3,8 @@
 -- request has. The client is given the number of each reply's request: `count` of its requests are settled, and request n has the
 -- id n - `since` modulo 8. What the instrument keeps is a reply to `last`, the last request that it was handed and that
 -- `knows` names, or to a later one; `low` is at most `last` + 1. Where `MustKnow` holds, each request that is sent is known.
-use Rattle.std.proofs.Common.{◌≡◌, ℕ, ◌+◌, ◌-◌, ◌%◌, ◌<◌, ◌≤◌, ◌⊎◌, inl, inr, Bool, true, false, List, [], ◌∷◌, ◌++◌, length, drop, Option, Some, None, refl, sym, ◌∙◌, ap, subst, arith, ltb, eqb}
-use Rattle.std.specs.List.{AllByRecursion}
-use Rattle.std.proofs.lemmas.List.{length_push}
-use Rattle.std.proofs.lemmas.Bool.{ltb-false, true≢false}
-use Rattle.gc_lines.proofs.Lists.{all_append}
-use Rattle.gc_values.proofs.Every.{every_weaker as all_on}
-use Rattle.gc_catalogue.specs.declared.asked.Asked.{Asked}
-use Rattle.gc_catalogue.specs.Asked.{asked_line}
-use Rattle.gc_client.specs.Rule.{Settlement, Sending, pending_of}
-use Rattle.gc_instrument.specs.Replying.{Handed}
-use Rattle.gc_instrument.specs.State.{KeptReply}
-use Rattle.gc_world.specs.Clients.{ByNumber, number_send, number_reply, by_numbers}
-use Rattle.gc_world.specs.Order.{Rising, numbers}
-use Rattle.gc_theorems.specs.World.{Request, Sent, Numbered, Ends, Step, Up_deliver, Up_lose, Up_repeat, Down_lose, Down_repeat, Nothing, World, without, doubled, replied, up_delivered, with_up, with_down, started, on_wire, requested, with_settled, down_delivered, happens, written}
-use Rattle.gc_world.proofs.Booked.{Has, has_more, has_push}
-use Rattle.std.proofs.lemmas.Option.{same_Some, none-some}
-use Rattle.gc_world.proofs.Places.{get_more, get_push, all_at}
-use Rattle.gc_world.proofs.Replay.{IsAsSent, as_sent_more}
-use Rattle.gc_world.proofs.Rows.{each_without, each_doubled, rising_each, rising_tail}
-use Rattle.gc_world.proofs.Sound.{IsGoing, Sound}
-use Rattle.gc_theorems.specs.Field.{IsLineStep}
-use Rattle.gc_theorems.specs.Instrument.{IsAnInstrumentFor, KeepsItsReply, MayBeKept, MayForget, own_reply}
+use Rattle.gc_theorems.proofs.Common.{◌≡◌, ℕ, ◌+◌, ◌-◌, ◌%◌, ◌<◌, ◌≤◌, ◌⊎◌, inl, inr, Bool, true, false, List, [], ◌∷◌, ◌++◌, length, drop, Option, Some, None, refl, sym, ◌∙◌, ap, subst, arith, ltb, eqb, AllByRecursion, length_push, ltb-false, true≢false, all_append, every_weaker as all_on, Asked, asked_line, Settlement, Sending, pending_of, Handed, KeptReply, ByNumber, number_send, number_reply, by_numbers, Rising, numbers, Request, Sent, Numbered, Ends, Step, Up_deliver, Up_lose, Up_repeat, Down_lose, Down_repeat, Nothing, World, without, doubled, replied, up_delivered, with_up, with_down, started, on_wire, requested, with_settled, down_delivered, happens, written, Has, has_more, has_push, same_Some, none-some, get_push, all_at, IsAsSent, as_sent_more, each_without, each_doubled, rising_each, rising_tail, IsGoing, Sound, IsLineStep, IsAnInstrumentFor, KeepsItsReply, MayBeKept, MayForget, own_reply}
+use Rattle.gc_world.proofs.Places.{get_more}
 use Rattle.gc_theorems.proofs.Answered.{HoldsOfAll, holds_more, holds_append, holds_settled}
 use Rattle.gc_theorems.proofs.Once.{IsClimbing, IsIdle, IsOrdered, IsUnknown, climbing_started, climbing_acted, climbing_handed, climbing_sent, known_not_unknown, ordered_acted, ordered_handed, unknown_more, idle_or_latest_if_executed}
 use Rattle.gc_theorems.proofs.KeptReplies.{VouchedFields, fields_of, log_of, unknown_or_retained, KeptIs, kept_more, kept_still, newest, newest_not_before, newest_not_later, IsNoNewerKnown, newest_no_newer, kept_handed, IsVouched, ReplyHas}

@@ -1,20 +1,6 @@
 -- An outstanding request times out at a moment at or past its deadline, and by nothing else.
-use Rattle.std.proofs.Common.{◌≡◌, ℕ, ◌+◌, ◌-◌, ◌≤◌, Bool, true, false, ◌||◌, List, [], ◌∷◌, ◌++◌, length, Option, Some, None, nat_le, nat_lt, nat_eq, refl, ◌∙◌, ap, subst, arith, length-append, append-nil, sym}
-use Rattle.std.specs.Prelude.{slice_get}
-use Rattle.std.proofs.lemmas.Bool.{ltb-true}
-use Rattle.gc_catalogue.specs.declared.asked.Asked.{Asked}
-use Rattle.gc_client.specs.declared.pending.Pending.{Pending}
-use Rattle.gc_client.specs.Rule.{ById, Settlement, expired, hears, send_unless_full, settles_at, pending_of, place_in, settle}
-use Rattle.gc_instrument.specs.State.{KeptReply}
-use Rattle.gc_world.specs.Clients.{by_ids}
-use Rattle.gc_theorems.specs.World.{Ends, Numbered, Step, World, requested, down_delivered}
-use Rattle.gc_client.proofs.OneForOne.{length-settle}
-use Rattle.gc_theorems.specs.Field.{Move, Sends, Tells, Comes, Foreign, OnLine, Anew, Changes, Joins, IsLineStep, moves, moved, ArePossible}
-use Rattle.gc_theorems.specs.Runs.{times_out}
+use Rattle.gc_theorems.proofs.Common.{◌≡◌, ℕ, ◌+◌, ◌-◌, ◌≤◌, Bool, true, false, ◌||◌, List, [], ◌∷◌, ◌++◌, length, Option, Some, None, nat_le, nat_lt, nat_eq, refl, ◌∙◌, ap, subst, arith, length-append, append-nil, sym, slice_get, ltb-true, Asked, Pending, ById, Settlement, expired, hears, send_unless_full, settles_at, pending_of, place_in, settle, KeptReply, by_ids, Ends, Numbered, Step, World, requested, down_delivered, length-settle, Move, Sends, Tells, Comes, Foreign, OnLine, Anew, Changes, Joins, IsLineStep, moves, moved, ArePossible, times_out, get_more, get_dropped, or_assoc, or-false, get_map}
 use Rattle.gc_theorems.proofs.LineSteps.{same_over_line}
-use Rattle.gc_station.proofs.Lists.{get_more, get_dropped}
-use Rattle.std.proofs.Math.Bool.{or_assoc, or-false}
-use Rattle.gc_world.proofs.Places.{get_map}
 
 -- what these moves make of an outstanding request: a moment at or past its deadline times it out, and nothing else changes it
 abbrev pub pending_after : {State : Type 0} → Pending Asked → List (Move State) → Pending Asked

@@ -1,31 +1,9 @@
 -- The invariant of the field with damage. The lines in flight, and what the instrument keeps, are of the last eight requests, so that ids
 -- of one digit tell them apart. No order is used.
-use Rattle.std.proofs.Common.{◌≡◌, ℕ, ◌+◌, ◌%◌, ◌<◌, ◌≤◌, ◌⊎◌, inl, inr, Bool, true, false, List, [], ◌∷◌, ◌++◌, length, Option, Some, None, refl, sym, ◌∙◌, ap, subst, arith, length-append, length-drop, ltb, eqb}
-use Rattle.std.specs.List.{AllByRecursion}
-use Rattle.std.specs.Prelude.{slice_get}
-use Rattle.std.proofs.lemmas.List.{length-map, length_push}
-use Rattle.std.proofs.lemmas.Bool.{ltb-true, eqb-false, true≢false}
-use Rattle.std.proofs.lemmas.Option.{same_Some, none-some}
-use Rattle.gc_lines.proofs.Lists.{all_append}
-use Rattle.gc_values.proofs.Every.{every_weaker as all_on}
-use Rattle.gc_catalogue.specs.declared.asked.Asked.{Asked}
-use Rattle.gc_catalogue.specs.Asked.{asked_line, is_of_table}
-use Rattle.gc_client.specs.declared.pending.Pending.{Pending}
-use Rattle.gc_client.specs.Rule.{expired, expires, heard, hears, pending_of, place, send_unless_full, settle, settles_at}
-use Rattle.gc_client.proofs.OneForOne.{length-settle}
-use Rattle.gc_instrument.specs.Replying.{Handed}
-use Rattle.gc_instrument.specs.State.{KeptReply}
-use Rattle.gc_world.specs.Clients.{by_ids}
-use Rattle.gc_theorems.specs.World.{Numbered, Request, Sent, Ends, Wire, Step, Send, Up_deliver, Up_lose, Up_repeat, Down_deliver, Down_lose, Down_repeat, Expire, Restart_client, Restart_instrument, Nothing, without, doubled, up_delivered, with_up, with_down, started, on_wire, with_settled, requested, down_delivered}
-use Rattle.gc_world.proofs.Places.{get_more, get_push}
-use Rattle.gc_world.proofs.Rows.{each_without, each_doubled}
-use Rattle.gc_theorems.specs.Field.{Move, Sends, Tells, Comes, Foreign, OnLine, Anew, Changes, Joins, IsLineStep}
-use Rattle.gc_theorems.specs.Begin.{UnderWay}
-use Rattle.gc_theorems.specs.Begun.{eighth_null, nulls}
-use Rattle.gc_theorems.specs.Instrument.{IsAnInstrument, IsOwnOrNone, MayBeKept, MayForget, own_reply}
+use Rattle.gc_theorems.proofs.Common.{◌≡◌, ℕ, ◌+◌, ◌%◌, ◌<◌, ◌≤◌, ◌⊎◌, inl, inr, Bool, true, false, List, [], ◌∷◌, ◌++◌, length, Option, Some, None, refl, sym, ◌∙◌, ap, subst, arith, length-append, length-drop, ltb, eqb, AllByRecursion, slice_get, length-map, length_push, ltb-true, eqb-false, true≢false, same_Some, none-some, all_append, every_weaker as all_on, Asked, asked_line, is_of_table, Pending, expired, expires, heard, hears, pending_of, place, send_unless_full, settle, settles_at, length-settle, Handed, KeptReply, by_ids, Numbered, Request, Sent, Ends, Wire, Step, Send, Up_deliver, Up_lose, Up_repeat, Down_deliver, Down_lose, Down_repeat, Expire, Restart_client, Restart_instrument, Nothing, without, doubled, up_delivered, with_up, with_down, started, on_wire, with_settled, requested, down_delivered, get_push, each_without, each_doubled, Move, Sends, Tells, Comes, Foreign, OnLine, Anew, Changes, Joins, IsLineStep, UnderWay, eighth_null, nulls, IsAnInstrument, IsOwnOrNone, MayBeKept, MayForget, own_reply, Harm, KeepsItsOwnAfter, Does, Damages, Strikes, Harmed, last_by_step, harms, harm_begun, AllowsSend, IsFreshIfSent, MayDo, MayHarm, IsCleanBut}
+use Rattle.gc_world.proofs.Places.{get_more}
 use Rattle.gc_theorems.proofs.Answered.{HoldsOfAll, holds_append, holds_more, holds_settled}
 use Rattle.gc_theorems.proofs.BegunFaithful.{each_of_eighth}
-use Rattle.gc_theorems.specs.Harm.{Harm, KeepsItsOwnAfter, Does, Damages, Strikes, Harmed, last_by_step, harms, harm_begun, AllowsSend, IsFreshIfSent, MayDo, MayHarm, IsCleanBut}
 
 -- the place of a fresh line's request: if a request waits with the line's id, it is the one that the line was made for
 pub fresh_place : (next waiting count sent number k : ℕ) → next ≡ sent % 8 → count + waiting ≡ sent → waiting ≤ 7 → number < sent → sent ≤ number + 8

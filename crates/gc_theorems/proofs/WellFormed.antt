@@ -1,28 +1,11 @@
 -- What a stretch leaves in flight is well formed, whatever was damaged: requests with ids from 0 to 7, and an instrument in a good state. So
 -- the next stretch may begin over it.
-use Rattle.std.proofs.Common.{◌≡◌, ℕ, ◌<◌, Bool, true, false, List, [], ◌∷◌, length, Option, Some, None, refl, sym, subst, arith, ltb, eqb}
-use Rattle.std.specs.List.{AllByRecursion}
-use Rattle.gc_lines.proofs.Lists.{all_append}
-use Rattle.gc_catalogue.specs.declared.asked.Asked.{Asked}
-use Rattle.gc_catalogue.specs.declared.asked.Asked.TheVariants.{Table}
-use Rattle.gc_catalogue.specs.declared.call.Call.TheVariants.{NullProc}
-use Rattle.gc_client.specs.Beginning.{left_by, left_when, is_answered}
-use Rattle.gc_client.specs.Rule.{ById, heard, hears, place_in, send_unless_full, settles_at}
-use Rattle.gc_instrument.specs.State.{KeptReply}
-use Rattle.gc_world.specs.Clients.{by_ids}
-use Rattle.gc_world.proofs.Rows.{each_without, each_doubled}
-use Rattle.gc_theorems.specs.World.{Numbered, Request, Ends, Step, Send, Up_deliver, Up_lose, Up_repeat, Down_deliver, Down_lose, Down_repeat, Expire, Restart_client, Restart_instrument, Nothing, without, doubled, up_delivered, with_up, with_down, on_wire, requested, down_delivered}
-use Rattle.gc_theorems.specs.Begin as turn
-use Rattle.gc_theorems.specs.Begin.{InFlight, IsTurn, IsWellFormed, SyncModel, SyncTurn, UnderWay, asks, begins, comes, leaves, reaches, turns}
-use Rattle.gc_theorems.specs.Field.{Move, Sends, Tells, Comes, Foreign, OnLine, Anew, Changes, Joins, IsLineStep, IsPossible}
-use Rattle.gc_theorems.specs.Instrument.{IsAnInstrument}
+use Rattle.gc_theorems.proofs.Common.{◌≡◌, ℕ, ◌<◌, Bool, true, false, List, [], ◌∷◌, length, Option, Some, None, refl, sym, subst, arith, ltb, eqb, AllByRecursion, all_append, Asked, Table, NullProc, left_by, left_when, is_answered, ById, heard, hears, place_in, send_unless_full, settles_at, KeptReply, by_ids, each_without, each_doubled, Numbered, Request, Ends, Step, Send, Up_deliver, Up_lose, Up_repeat, Down_deliver, Down_lose, Down_repeat, Expire, Restart_client, Restart_instrument, Nothing, without, doubled, up_delivered, with_up, with_down, on_wire, requested, down_delivered, IsTurn, IsWellFormed, SyncModel, SyncTurn, UnderWay, asks, begins, comes, leaves, reaches, turns, Move, Sends, Tells, Comes, Foreign, OnLine, Anew, Changes, Joins, IsLineStep, IsPossible, IsAnInstrument, Harm, Does, Damages, Strikes, Harmed, harmed, harms, left_by_sync, HarmedStretch, ArePossibleHarms, ArePossibleIfSynchronized, IsPossibleHarm, IsPossibleStretch, at_its_end, left_by_stretch, left_if_synchronized, once_synchronized, synchronized, SyncHarm, AllMaySyncHarm, MaySyncHarm, sync_harmed, sync_harms}
+use Rattle.gc_theorems.specs.Begin.{InFlight}
 use Rattle.gc_theorems.proofs.BeginLists.{each_map}
 use Rattle.gc_theorems.proofs.BegunFaithful.{each_of_eighth}
-use Rattle.gc_theorems.specs.Harm.{Harm, Does, Damages, Strikes, Harmed, harmed, harms}
-use Rattle.gc_theorems.specs.Stretch.{left_by_sync}
-use Rattle.gc_theorems.specs.Stretches.{HarmedStretch, ArePossibleHarms, ArePossibleIfSynchronized, IsPossibleHarm, IsPossibleStretch, at_its_end, left_by_stretch, left_if_synchronized, once_synchronized, synchronized}
+use Rattle.gc_theorems.specs.Begin as turn
 use Rattle.gc_theorems.specs.DamagedSynchronizing as sync
-use Rattle.gc_theorems.specs.DamagedSynchronizing.{SyncHarm, AllMaySyncHarm, MaySyncHarm, sync_harmed, sync_harms}
 
 -- these ids are from 0 to 7
 abbrev AreDigits : List ℕ → Type 0

@@ -1,26 +1,6 @@
 -- Without damage each send is fresh: the line keeps order, and what was handed to the instrument is not before what is settled.
-use Rattle.std.proofs.Common.{◌≡◌, ℕ, ◌+◌, ◌%◌, ◌<◌, ◌≤◌, ◌⊎◌, inl, inr, Bool, true, false, List, [], ◌∷◌, ◌++◌, length, map, Option, Some, None, refl, sym, ◌∙◌, ap, subst, arith, length-append, ltb, eqb, append_assoc}
-use Rattle.std.specs.List.{AllByRecursion}
-use Rattle.std.proofs.lemmas.List.{length_push}
-use Rattle.std.proofs.lemmas.Bool.{ltb-true, eqb-false}
-use Rattle.std.proofs.lemmas.Option.{same_Some}
-use Rattle.gc_lines.proofs.Lists.{all_append, cons_tail}
-use Rattle.gc_values.proofs.Every.{every_weaker as all_on}
-use Rattle.gc_catalogue.specs.declared.asked.Asked.{Asked}
-use Rattle.gc_catalogue.specs.Asked.{asked_line, is_of_table}
-use Rattle.gc_client.specs.Rule.{hears, place, send_unless_full, settle, settles_at}
-use Rattle.gc_client.proofs.OneForOne.{length-settle}
-use Rattle.gc_instrument.specs.State.{KeptReply}
-use Rattle.gc_world.specs.Clients.{by_ids}
-use Rattle.gc_world.specs.Order.{Rising, numbers}
-use Rattle.gc_theorems.specs.World.{Numbered, Request, Sent, Ends, Step, Send, Up_deliver, Up_lose, Up_repeat, Down_deliver, Down_lose, Down_repeat, Expire, Restart_client, Restart_instrument, Nothing, without, doubled, up_delivered, with_up, with_down, on_wire, requested, down_delivered}
-use Rattle.gc_world.proofs.Rows.{each_number, each_without, each_doubled, rising_each, rising_lower, rising_tail, rising_without, rising_doubled, rising_without_behind, rising_doubled_behind, rising_moved, rising_push}
-use Rattle.gc_theorems.specs.Field.{Move, Sends, Tells, Comes, Foreign, OnLine, Anew, Changes, Joins, IsLineStep, IsPossible, ArePossible, AsksTheTable}
-use Rattle.gc_theorems.specs.Begin.{UnderWay}
-use Rattle.gc_theorems.specs.Begun.{IsClean, ArePossibleOnceBegun, of_eighth}
-use Rattle.gc_theorems.specs.Instrument.{IsAnInstrument}
+use Rattle.gc_theorems.proofs.Common.{◌≡◌, ℕ, ◌+◌, ◌%◌, ◌<◌, ◌≤◌, ◌⊎◌, inl, inr, Bool, true, false, List, [], ◌∷◌, ◌++◌, length, map, Option, Some, None, refl, sym, ◌∙◌, ap, subst, arith, length-append, ltb, eqb, append_assoc, AllByRecursion, length_push, ltb-true, eqb-false, same_Some, all_append, cons_tail, every_weaker as all_on, Asked, asked_line, is_of_table, hears, place, send_unless_full, settle, settles_at, length-settle, KeptReply, by_ids, Rising, numbers, Numbered, Request, Sent, Ends, Step, Send, Up_deliver, Up_lose, Up_repeat, Down_deliver, Down_lose, Down_repeat, Expire, Restart_client, Restart_instrument, Nothing, without, doubled, up_delivered, with_up, with_down, on_wire, requested, down_delivered, each_number, each_without, each_doubled, rising_each, rising_lower, rising_tail, rising_without, rising_doubled, rising_without_behind, rising_doubled_behind, rising_moved, rising_push, Move, Sends, Tells, Comes, Foreign, OnLine, Anew, Changes, Joins, IsLineStep, IsPossible, ArePossible, AsksTheTable, UnderWay, IsClean, ArePossibleOnceBegun, of_eighth, IsAnInstrument, Harm, Does, Damages, Strikes, Harmed, last_by_step, harms, harm_begun, AllowsSend, IsFreshIfSent, MayDo, AllMayHarm}
 use Rattle.gc_theorems.proofs.BegunFaithful.{each_of_eighth}
-use Rattle.gc_theorems.specs.Harm.{Harm, Does, Damages, Strikes, Harmed, last_by_step, harms, harm_begun, AllowsSend, IsFreshIfSent, MayDo, AllMayHarm}
 use Rattle.gc_theorems.specs.WithoutDamage.{IsOwnWithoutDamage}
 use Rattle.gc_theorems.proofs.Well.{IsUp, IsDown, Well, KnownOf, fresh_place, well_begun, well_move}
 use Rattle.gc_theorems.proofs.Own.{own_or_damaged}

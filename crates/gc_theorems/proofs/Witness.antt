@@ -1,34 +1,11 @@
 -- The run of one command of `specs/Witness.antt` is in the field, by computation.
-use Rattle.std.proofs.Common.{◌≡◌, inl, inr, ℕ, zero, suc, ◌<◌, List, [], ◌∷◌, Some, None, refl, sym, subst, arith, lit<}
+use Rattle.gc_theorems.proofs.Common.{◌≡◌, inl, inr, ℕ, zero, suc, ◌<◌, List, [], ◌∷◌, Some, None, refl, sym, subst, arith, lit<, codes, take, header_at, reply_at, IsStringByte, IsText, Asked, Table, InstrumentNo, IsSubsequence, the_word, WINDOW, exec, handed, IsFittingState, simulator_opening, is_off_target, Task, Part, idle_part, Runs, opening, expected_first, Reads, scoped, parts, runs-append, simulator_ends, begins, left_by_turns, WasMadeOn, seen, AreShownAs, shown, SomeRunIsInField, answer, begun_with, plan, plan_of_width, replies, scope}
 use Rattle.std.proofs.lemmas.Int.{ints}
-use Rattle.std.specs.Prelude.{codes, map, take, drop}
+use Rattle.std.specs.Prelude.{map, drop}
 use Rattle.std.specs.Fmt.{digits}
-use Rattle.gc_lines.specs.Readers.{header_at, reply_at}
-use Rattle.gc_values.specs.Text.{IsStringByte, IsText}
-use Rattle.gc_catalogue.specs.declared.asked.Asked.{Asked}
-use Rattle.gc_catalogue.specs.declared.asked.Asked.TheVariants.{Table}
-use Rattle.gc_catalogue.specs.declared.call.Call.TheVariants.{InstrumentNo}
-use Rattle.gc_client.specs.Beginning.{IsSubsequence, the_word}
-use Rattle.gc_client.specs.declared.window.TheConstants.{WINDOW}
-use Rattle.gc_client.specs.OneForOne.{Step}
-use Rattle.gc_instrument.specs.Execution.{exec}
-use Rattle.gc_instrument.specs.Replying.{handed}
-use Rattle.gc_instrument.specs.State.{IsFittingState, simulator_opening}
-use Rattle.gc_texts.specs.Nears.{is_off_target}
-use Rattle.gc_texts.specs.declared.tasks.Task.{Task}
+use Rattle.gc_client.specs.Prelude.{Step}
+use Rattle.gc_theorems.specs.Witness.{acts, at_start, commands, moves, program, turns}
 use Rattle.gc_station.specs.Parts as part
-use Rattle.gc_station.specs.Parts.{Part, idle_part}
-use Rattle.gc_station.proofs.Going.{runs-append}
-use Rattle.gc_station.specs.Model.{Runs, opening}
-use Rattle.gc_station.specs.NextCommand.{expected_first}
-use Rattle.gc_theorems.specs.Simulator.{simulator_ends}
-use Rattle.gc_theorems.specs.Begin.{begins, left_by_turns}
-use Rattle.gc_theorems.specs.Begun.{WasMadeOn}
-use Rattle.gc_theorems.specs.Field.{seen}
-use Rattle.gc_theorems.specs.Shown.{AreShownAs, shown}
-use Rattle.gc_theorems.specs.Witness.{SomeRunIsInField, acts, answer, at_start, begun_with, commands, moves, plan, plan_of_width, replies, program, scope, turns}
-use Rattle.gc_station.specs.Scopes.{Reads, scoped}
-use Rattle.gc_station.specs.Links.{parts}
 
 -- What the runs share.
 

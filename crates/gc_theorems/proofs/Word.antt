@@ -1,9 +1,6 @@
 -- Null procedures that are answered, one after the other, none of them by its own reply: of the word's ids at most two are answered by old
 -- lines.
-use Rattle.std.proofs.Common.{◌≡◌, ◌⊎◌, ℕ, zero, suc, ◌+◌, ◌%◌, ◌<◌, ◌≤◌, inl, inr, List, [], ◌∷◌, arith}
-use Rattle.std.specs.Prelude.{⊤}
-use Rattle.gc_client.specs.declared.window.TheConstants.{WINDOW, IDS}
-use Rattle.gc_client.specs.Beginning.{the_word}
+use Rattle.gc_theorems.proofs.Common.{◌≡◌, ◌⊎◌, ℕ, zero, suc, ◌+◌, ◌%◌, ◌<◌, ◌≤◌, inl, inr, List, [], ◌∷◌, arith, ⊤, WINDOW, IDS, the_word}
 
 -- null procedures with these ids are answered falsely: each by an old line with its id, whose number is at least that of the one that
 -- answered last (`low`), and at most `high`; or by one of so many damaged lines (`damaged`)

@@ -1,15 +1,10 @@
 -- Chains that are sent twice over a line that damages, this project's own: the lines of an answer of a second sending, and of that of the
 -- first with which it agrees.
+use Rattle.gc_theorems.specs.Common.{Answer, is_good, Second, Task, AgreesWithFirst, Record}
 use Rattle.std.specs.Prelude.{◌≡◌, ◌⊎◌, ℕ, ◌+◌, true, List, ◌∷◌, ◌++◌, length, Option, Some, slice_get}
-use Rattle.gc_catalogue.specs.declared.answer.Answer.{Answer}
-use Rattle.gc_texts.specs.Endings.{Answered}
-use Rattle.gc_texts.specs.Qualities.{is_good}
+use Rattle.gc_texts.specs.Prelude.{Answered}
 use Rattle.gc_texts.specs.declared.agree.Agree.{Agree}
-use Rattle.gc_texts.specs.declared.agree.Twice.TheVariants.{Second}
 use Rattle.gc_texts.specs.declared.quality.Quality.{Quality}
-use Rattle.gc_texts.specs.declared.tasks.Task.{Task}
-use Rattle.gc_station.specs.Agreeing.{AgreesWithFirst}
-use Rattle.gc_station.specs.Records.{Record}
 use Rattle.gc_theorems.specs.World.{Ends}
 use Rattle.gc_theorems.specs.Begin.{UnderWay}
 use Rattle.gc_theorems.specs.Instrument.{OfAnyInstrument}

@@ -1,13 +1,7 @@
 -- Why the first request is sent alone, this project's own: an instrument that keeps an older reply takes a second request
 -- with that reply's id for a repeat of the older request.
+use Rattle.gc_theorems.specs.Common.{Table, NullProc, WINDOW, Lost, Answered, kept_line, State, IsFittingState, by_ids, ids_open}
 use Rattle.std.specs.Prelude.{◌≡◌, ℕ, List, [], ◌∷◌, Some}
-use Rattle.gc_catalogue.specs.declared.asked.Asked.TheVariants.{Table}
-use Rattle.gc_catalogue.specs.declared.call.Call.TheVariants.{NullProc}
-use Rattle.gc_client.specs.declared.window.TheConstants.{WINDOW}
-use Rattle.gc_client.specs.Rule.{Lost, Answered}
-use Rattle.gc_instrument.specs.Replying.{kept_line}
-use Rattle.gc_instrument.specs.State.{State, IsFittingState}
-use Rattle.gc_world.specs.Clients.{by_ids, ids_open}
 use Rattle.gc_theorems.specs.Simulator.{simulator_ends}
 use Rattle.gc_theorems.specs.World.{Up_lose, Up_deliver}
 use Rattle.gc_theorems.specs.Field.{Move, Sends, OnLine, Comes, ArePossible}

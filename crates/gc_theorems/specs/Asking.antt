@@ -1,11 +1,8 @@
 -- What the acts of a link mean to a station while it synchronizes, this project's own: steps of its synchronization. Such a step
 -- is a null procedure that is sent, or a line that is heard. The word is the list of the ids of the null procedures that aren't
 -- answered.
+use Rattle.gc_theorems.specs.Common.{rest_behind, Act, Put, Cut, Gave, Closed, SyncStep, Asks, Hears, lines_completed, null_text}
 use Rattle.std.specs.Prelude.{◌≡◌, ◌⊎◌, ℕ, List, [], ◌∷◌, map}
-use Rattle.gc_lines.specs.Frames.{rest_behind}
-use Rattle.gc_links.specs.Acts.{Act, Put, Cut, Gave, Closed}
-use Rattle.gc_station.specs.Parts.{SyncStep, Asks, Hears}
-use Rattle.gc_station.specs.Model.{lines_completed, null_text}
 
 -- what bytes that are put mean to a synchronizing station: a line feed clears the receiver, and is no step; and the line of the
 -- null procedure of the first id that isn't answered (no bytes if all are answered) is the step `Asks`

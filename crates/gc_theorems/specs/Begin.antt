@@ -3,14 +3,8 @@
 -- 7, the word, each until it is answered. What is in flight from before may be anything. Connections aren't spoken of, because a
 -- close is a loss of lines. A request that is cut arrives whole or is lost, because a line feed arrives after its front. The
 -- instrument may start again at any moment.
+use Rattle.gc_theorems.specs.Common.{filter_map, AllByRecursion, Table, NullProc, IsSubsequence, the_word, left_by, heard, IDS, KeptReply}
 use Rattle.std.specs.Prelude.{◌≡◌, ℕ, ◌<◌, Bool, true, false, List, [], ◌∷◌, ◌++◌, map, Option, None}
-use Rattle.std.specs.List.{filter_map, AllByRecursion}
-use Rattle.gc_catalogue.specs.declared.asked.Asked.TheVariants.{Table}
-use Rattle.gc_catalogue.specs.declared.call.Call.TheVariants.{NullProc}
-use Rattle.gc_client.specs.Beginning.{IsSubsequence, the_word, left_by}
-use Rattle.gc_client.specs.Rule.{heard}
-use Rattle.gc_client.specs.declared.window.TheConstants.{IDS}
-use Rattle.gc_instrument.specs.State.{KeptReply}
 use Rattle.gc_theorems.specs.World.{Ends, Request, without, doubled}
 use Rattle.gc_theorems.specs.Instrument.{MayBecome}
 

@@ -1,19 +1,15 @@
 -- Some runs meet the premises of the law on runs one after the other, and the premise on the word is needed: this project's own.
+use Rattle.gc_theorems.specs.Common.{Table, InstrumentNo, WINDOW, Answered, State, IsFittingState, simulator_opening}
 use Rattle.std.specs.Prelude.{◌≡◌, List, [], ◌∷◌, ◌++◌, codes}
-use Rattle.gc_catalogue.specs.declared.asked.Asked.TheVariants.{Table}
-use Rattle.gc_catalogue.specs.declared.call.Call.TheVariants.{InstrumentNo}
-use Rattle.gc_client.specs.declared.window.TheConstants.{WINDOW}
-use Rattle.gc_client.specs.Rule.{Answered}
-use Rattle.gc_instrument.specs.State.{State, IsFittingState, simulator_opening}
 use Rattle.gc_theorems.specs.Simulator.{simulator_ends}
 use Rattle.gc_theorems.specs.World.{Up_deliver}
 use Rattle.gc_theorems.specs.Begin.{IsWellFormed, SyncTurn, Asks, Comes, Reaches, Up_lose, Up_repeat, Anew, UnderWay, begins, left_by_turns, turned}
 use Rattle.gc_theorems.specs.Beginnings.{AreFewKilled, AreRuns, HasRisingIds, Run, left_by_run}
 use Rattle.gc_theorems.specs.Begun.{WasMadeOn, world_once_begun, nulls_settled, ArePossibleOnceBegun}
-use Rattle.gc_theorems.specs.Field as field
 use Rattle.gc_theorems.specs.Field.{Move, Sends, OnLine}
 use Rattle.gc_theorems.specs.Laws.{kept_of}
 use Rattle.gc_theorems.specs.Witness.{replies}
+use Rattle.gc_theorems.specs.Field as field
 
 -- Some runs.
 

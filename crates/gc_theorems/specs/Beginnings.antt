@@ -2,12 +2,9 @@
 -- commands, and is killed at any moment, also while it synchronizes; and one may resynchronize within itself. Nothing here
 -- depends on a clock. The word of a synchronization has the ids of its null procedures, 6 5 4 3 2 1 0 7; what is left of it are
 -- those that aren't answered.
+use Rattle.gc_theorems.specs.Common.{AllByRecursion, WINDOW, KeptReply, IsFittingState, Rising}
 use Rattle.std.specs.Prelude.{◌≡◌, ℕ, ◌+◌, ◌%◌, ◌<◌, ◌≤◌, if◌then◌else◌, List, [], ◌∷◌, map, nat_eq, Option}
-use Rattle.std.specs.List.{AllByRecursion}
-use Rattle.gc_client.specs.declared.window.TheConstants.{WINDOW}
-use Rattle.gc_instrument.specs.State.{KeptReply, IsFittingState}
 use Rattle.gc_theorems.specs.Simulator.{simulator_ends}
-use Rattle.gc_world.specs.Order.{Rising}
 use Rattle.gc_theorems.specs.World.{Ends, Wire}
 use Rattle.gc_theorems.specs.Begin.{IsWellFormed, LacksTheWord, AreTurns, SyncModel, SyncTurn, UnderWay, begins, ids_under_way, leaves, turned}
 use Rattle.gc_theorems.specs.Begun.{HasSynchronizedCleanly, IsFaithful, OfMovesOnceBegun, world_once_begun, ArePossibleOnceBegun}

@@ -1,23 +1,10 @@
 -- Some run resynchronizes within itself, this project's own. Six commands are sent at once, and have timed out. The reply to the
 -- first is in flight then, and the sixth request: both come while the station synchronizes again, on the same connection. The
 -- seventh command is sent after that, with the first one's id, and has the answer that was made for it.
+use Rattle.gc_theorems.specs.Common.{with_end, Long, Table, InstrumentNo, WINDOW, Task, Fine, Plan, Act, Told, Put, Gave, Silent, Closed, SynchronizesAnew, Record, Scope}
 use Rattle.std.specs.Prelude.{◌≡◌, ℕ, false, List, [], ◌∷◌, ◌++◌, codes, drop, map, pos, Some}
-use Rattle.gc_lines.specs.Lines.{with_end}
-use Rattle.gc_catalogue.specs.declared.answer.Answer.TheVariants.{Long}
-use Rattle.gc_catalogue.specs.declared.asked.Asked.TheVariants.{Table}
-use Rattle.gc_catalogue.specs.declared.call.Call.TheVariants.{InstrumentNo}
-use Rattle.gc_client.specs.declared.window.TheConstants.{WINDOW}
-use Rattle.gc_texts.specs.declared.tasks.Task.{Task}
-use Rattle.gc_texts.specs.Endings as end
-use Rattle.gc_texts.specs.declared.quality.Quality.TheVariants.{Fine}
-use Rattle.gc_station.specs.declared.plan.Plan.{Plan}
-use Rattle.gc_links.specs.Acts.{Act, Told, Put, Gave, Silent, Closed}
-use Rattle.gc_station.specs.Beginnings.{SynchronizesAnew}
-use Rattle.gc_station.specs.Records.{Record}
-use Rattle.gc_station.specs.Scopes.{Scope}
 use Rattle.gc_theorems.specs.Plain.{plain_record, plain_task}
 use Rattle.gc_theorems.specs.World.{Up_deliver, Up_lose}
-use Rattle.gc_theorems.specs.Begin as turn
 use Rattle.gc_theorems.specs.Begin.{SyncTurn, Asks, Reaches, UnderWay, left_by_turns}
 use Rattle.gc_theorems.specs.Beginnings.{Run, left_by_run}
 use Rattle.gc_theorems.specs.Begun.{WasMadeOn}
@@ -26,6 +13,8 @@ use Rattle.gc_theorems.specs.Field.{Move, Sends, Tells, Comes, OnLine}
 use Rattle.gc_theorems.specs.Instrument.{IsAnInstrument, AnyState}
 use Rattle.gc_theorems.specs.Runs.{IsInField, NoActFollows, Program, program_records}
 use Rattle.gc_theorems.specs.Witness.{null_lines, at, begun_with, cycle_begun, null_answered, null_exchanged, eight_answered, exchanged, plan_of_width, run_and_end, scope_saying}
+use Rattle.gc_texts.specs.Endings as end
+use Rattle.gc_theorems.specs.Begin as turn
 
 -- the plan of this run: seven requests at a time, of which the station holds the seventh back
 abbrev pub plan : Plan

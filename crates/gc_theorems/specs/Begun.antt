@@ -1,18 +1,9 @@
 -- What holds once a station has synchronized, this project's own: nothing from before is in flight; and each answer of the
 -- client that sends then is its own, from its first request on. The word of a synchronization has the ids of its null
 -- procedures: 6 5 4 3 2 1 0 7.
+use Rattle.gc_theorems.specs.Common.{AllByRecursion, Asked, Table, NullProc, asked_line, is_of_table, the_word, ById, Outcome, Settlement, Answered, Late, Lost, fresh, heard, WINDOW, KeptReply, IsFittingState, ByNumber, by_ids}
 use Rattle.std.specs.Prelude.{◌≡◌, ℕ, ◌+◌, ◌<◌, ◌≤◌, ◌⊎◌, true, false, List, [], ◌∷◌, ◌++◌, length, map, Option, Some, slice_get}
-use Rattle.std.specs.List.{AllByRecursion}
-use Rattle.gc_catalogue.specs.declared.asked.Asked.{Asked}
-use Rattle.gc_catalogue.specs.declared.asked.Asked.TheVariants.{Table}
-use Rattle.gc_catalogue.specs.declared.call.Call.TheVariants.{NullProc}
-use Rattle.gc_catalogue.specs.Asked.{asked_line, is_of_table}
-use Rattle.gc_client.specs.Beginning.{the_word}
 use Rattle.gc_client.specs.declared.pending.Pending.{Pending}
-use Rattle.gc_client.specs.declared.window.TheConstants.{WINDOW}
-use Rattle.gc_client.specs.Rule.{ById, Outcome, Settlement, Answered, Late, Lost, fresh, heard}
-use Rattle.gc_instrument.specs.State.{KeptReply, IsFittingState}
-use Rattle.gc_world.specs.Clients.{ByNumber, by_ids}
 use Rattle.gc_theorems.specs.Simulator.{simulator_ends}
 use Rattle.gc_theorems.specs.World.{Ends, Numbered, Request, Sent, Wire, World}
 use Rattle.gc_theorems.specs.Begin.{InFlight, IsWellFormed, LacksTheWord, AreTurns, SyncModel, SyncTurn, UnderWay, begins, leaves, none_under_way, turned}

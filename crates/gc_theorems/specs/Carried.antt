@@ -1,10 +1,6 @@
 -- A station in the field, this project's own: its acts once it has synchronized, and what happens to its lines.
+use Rattle.gc_theorems.specs.Common.{WINDOW, fresh, KeptReply, IsFittingState, Act, client_after}
 use Rattle.std.specs.Prelude.{◌≡◌, ℕ, List, Option}
-use Rattle.gc_client.specs.declared.window.TheConstants.{WINDOW}
-use Rattle.gc_client.specs.Rule.{fresh}
-use Rattle.gc_instrument.specs.State.{KeptReply, IsFittingState}
-use Rattle.gc_links.specs.Acts.{Act}
-use Rattle.gc_session.specs.Courses.{client_after}
 use Rattle.gc_theorems.specs.Simulator.{simulator_ends}
 use Rattle.gc_theorems.specs.World.{Ends}
 use Rattle.gc_theorems.specs.Begin.{UnderWay}

@@ -1,21 +1,8 @@
 -- Some run of a chain is one in the field, this project's own: it points the telescope at a target, measures the distance, and
 -- reads angles and distance there.
+use Rattle.gc_theorems.specs.Common.{with_end, Decimal, Long, Asked, Table, Position, DoMeasure, SimpleMea, State, IsFittingState, simulator_opening, Task, Fine, Act, Told, Put, Gave, Closed, AreChained, Record, Scope}
 use Rattle.std.specs.Prelude.{◌≡◌, ℕ, true, false, List, [], ◌∷◌, take, codes, pos, Some, refl}
-use Rattle.gc_lines.specs.Lines.{with_end}
-use Rattle.gc_values.specs.Decimals.{decimal}
-use Rattle.gc_values.specs.declared.decimal.Decimal.{Decimal}
-use Rattle.gc_catalogue.specs.declared.answer.Answer.TheVariants.{Long}
-use Rattle.gc_catalogue.specs.declared.asked.Asked.{Asked}
-use Rattle.gc_catalogue.specs.declared.asked.Asked.TheVariants.{Table}
-use Rattle.gc_catalogue.specs.declared.call.Call.TheVariants.{Position, DoMeasure, SimpleMea}
-use Rattle.gc_instrument.specs.State.{State, IsFittingState, simulator_opening}
-use Rattle.gc_texts.specs.declared.tasks.Task.{Task}
-use Rattle.gc_texts.specs.Endings as end
-use Rattle.gc_texts.specs.declared.quality.Quality.TheVariants.{Fine}
-use Rattle.gc_links.specs.Acts.{Act, Told, Put, Gave, Closed}
-use Rattle.gc_station.specs.Links.{AreChained}
-use Rattle.gc_station.specs.Records.{Record}
-use Rattle.gc_station.specs.Scopes.{Scope}
+use Rattle.gc_values.specs.Prelude.{decimal}
 use Rattle.gc_theorems.specs.Plain.{plain_record, plain_task}
 use Rattle.gc_theorems.specs.Simulator.{simulator_ends}
 use Rattle.gc_theorems.specs.World.{Up_deliver}
@@ -27,6 +14,7 @@ use Rattle.gc_theorems.specs.Pointing.{AreStill}
 use Rattle.gc_theorems.specs.Runs.{IsInField, Program, program_records}
 use Rattle.gc_theorems.specs.Shown.{Stretch}
 use Rattle.gc_theorems.specs.Witness.{plan, scope_saying, at, begun_with, cycle_begun, null_answered, null_reply, eight_answered, replies, run_and_end}
+use Rattle.gc_texts.specs.Endings as end
 
 -- the horizontal direction of a target, in radians
 abbrev pub hz : Decimal

@@ -3,16 +3,8 @@
 -- between them was executed; and the instrument's state was what these executions had made of it, apart from what it keeps. A
 -- part is what a station sees of its run from one synchronization to the next, and a stretch what happens on the line meanwhile,
 -- once it has synchronized.
+use Rattle.gc_theorems.specs.Common.{AllByRecursion, AllZip, Asked, WINDOW, KeptReply, line_of, Expected, AreChained, WasAnsweredWell, Part, mark_of, Record}
 use Rattle.std.specs.Prelude.{◌≡◌, ℕ, Bool, ◌+◌, ◌<◌, ◌≤◌, true, false, List, [], ◌∷◌, ◌++◌, Option, Some, fold, slice_get}
-use Rattle.std.specs.List.{AllByRecursion, AllZip}
-use Rattle.gc_catalogue.specs.declared.asked.Asked.{Asked}
-use Rattle.gc_client.specs.declared.window.TheConstants.{WINDOW}
-use Rattle.gc_instrument.specs.State.{KeptReply}
-use Rattle.gc_texts.specs.Endings.{line_of}
-use Rattle.gc_texts.specs.declared.near.Expected.{Expected}
-use Rattle.gc_station.specs.Links.{AreChained, WasAnsweredWell}
-use Rattle.gc_station.specs.Parts.{Part, mark_of}
-use Rattle.gc_station.specs.Records.{Record}
 use Rattle.gc_theorems.specs.World.{Ends, Sent, Up_deliver, Wire}
 use Rattle.gc_theorems.specs.Begin.{UnderWay}
 use Rattle.gc_theorems.specs.Begun.{WasMadeOn}

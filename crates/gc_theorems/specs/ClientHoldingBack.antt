@@ -3,8 +3,8 @@
 -- sends only while these and the outstanding ones are together fewer than seven. An undamaged line that settles something shows that no
 -- line of an older request is in flight; so the count of settled requests from before the last such line is right if that line was
 -- damaged and the one before it wasn't.
+use Rattle.gc_theorems.specs.Common.{WINDOW}
 use Rattle.std.specs.Prelude.{◌≡◌, ◌⊎◌, ℕ, ◌+◌, ◌<◌, ◌≤◌, Bool, true, false, List, [], ◌∷◌, length, Option, if◌then◌else◌, nat_lt, ⊤}
-use Rattle.gc_client.specs.declared.window.TheConstants.{WINDOW}
 use Rattle.gc_theorems.specs.Damage.{IsLocal}
 use Rattle.gc_theorems.specs.OneQueue.{OneQueue, Step, Send, Expire, Deliver, Damage, Lose, Repeat, IsPossible, newly_settled, nothing_in_flight, queue_after}
 

@@ -1,19 +1,14 @@
 -- What a client does over a line, this project's own, with its synchronizations as events: run after run, each from one
 -- synchronization to the next. A run synchronizes by its null procedures, among whatever is in flight by then, and then sends. After a
 -- restart the next run begins among what the run before it left.
+use Rattle.gc_theorems.specs.Common.{Asked, the_word, asks, ById, Settlement, fresh, lost, KeptReply, ClientEvent, Null, Came, Stepped, by_ids}
 use Rattle.std.specs.Prelude.{ℕ, List, [], ◌∷◌, ◌++◌, map, drop, Option, Some, None}
-use Rattle.gc_catalogue.specs.declared.asked.Asked.{Asked}
-use Rattle.gc_client.specs.Beginning.{the_word, asks}
-use Rattle.gc_client.specs.OneForOne as one
-use Rattle.gc_client.specs.Rule.{ById, Settlement, fresh, lost}
-use Rattle.gc_instrument.specs.State.{KeptReply}
-use Rattle.gc_session.specs.Events.{ClientEvent, Null, Came, Stepped}
-use Rattle.gc_world.specs.Clients.{by_ids}
 use Rattle.gc_theorems.specs.World.{Ends, World}
 use Rattle.gc_theorems.specs.Begin.{InFlight, AreTurns, Asks, Comes, Foreign, SyncModel, SyncTurn, UnderWay, begins, leaves, turns}
 use Rattle.gc_theorems.specs.Beginnings.{Run, left_by_run, after_turns}
 use Rattle.gc_theorems.specs.Begun.{world_once_begun, ids_begun}
 use Rattle.gc_theorems.specs.Field.{ArePossible, seen}
+use Rattle.gc_client.specs.OneForOne as one
 
 -- What a run is to the client.
 

@@ -7,10 +7,8 @@
 -- left only if each of the eight was answered by an old line or by a damaged one. Of replies to these null procedures nothing is said: if a
 -- damaged line answers the eighth, a reply to the one with the id of the first command (0) may be in flight or kept. `OwnEighthIsClean` of
 -- gc_theorems excludes that.
+use Rattle.gc_theorems.specs.Common.{AllByRecursion, WINDOW, IDS, is_answered, left_by, the_word}
 use Rattle.std.specs.Prelude.{◌≡◌, ℕ, ◌+◌, ◌%◌, ◌≤◌, List, [], ◌∷◌, ◌++◌, map, Option, Some, None, if◌then◌else◌, ⊤}
-use Rattle.std.specs.List.{AllByRecursion}
-use Rattle.gc_client.specs.declared.window.TheConstants.{WINDOW, IDS}
-use Rattle.gc_client.specs.Beginning.{is_answered, left_by, the_word}
 use Rattle.gc_theorems.specs.OneQueue.{without, doubled}
 
 -- an undamaged line in flight: its id; and if it is old, the number of its request

@@ -1,12 +1,7 @@
 -- A run of a chain over an instrument that isn't the simulator, this project's own: it counts what it executes, answers to each
 -- request with the count, and keeps its reply. Each of its states is a good one, as the law of chains asks.
+use Rattle.gc_theorems.specs.Common.{Asked, WINDOW, Handed, KeptReply, Act, AreChained}
 use Rattle.std.specs.Prelude.{◌≡◌, ℕ, suc, List, [], ◌∷◌, codes, Option, Some, None}
-use Rattle.gc_catalogue.specs.declared.asked.Asked.{Asked}
-use Rattle.gc_client.specs.declared.window.TheConstants.{WINDOW}
-use Rattle.gc_instrument.specs.Replying.{Handed}
-use Rattle.gc_instrument.specs.State.{KeptReply}
-use Rattle.gc_links.specs.Acts.{Act}
-use Rattle.gc_station.specs.Links.{AreChained}
 use Rattle.gc_theorems.specs.World.{Ends, ends_of}
 use Rattle.gc_theorems.specs.ChainWitness.{points, reads_all, commands, scope, acts_with, moves_with, until_first, until_third, records_with}
 use Rattle.gc_theorems.specs.Begin.{UnderWay, left_by_turns, none_under_way}

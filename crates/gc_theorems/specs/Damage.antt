@@ -2,9 +2,8 @@
 -- on, in the order of sending, and request n has the id n modulo 8. A line is undamaged if the instrument made it on executing an
 -- undamaged request, and it arrived as it was made. Any other line that comes is damaged: one that was altered; one that the
 -- instrument made on executing an altered request, or kept of such a request and sent again; an echo; noise.
+use Rattle.gc_theorems.specs.Common.{WINDOW, IDS, ById, Outcome, Answered, Late, Lost, Settled, Sending, fresh, sends, hears, expires}
 use Rattle.std.specs.Prelude.{◌≡◌, ℕ, ◌+◌, ◌%◌, ◌<◌, ◌≤◌, List, [], ◌∷◌, ◌++◌, length, map, Option, Some, None, slice_get, ⊤}
-use Rattle.gc_client.specs.declared.window.TheConstants.{WINDOW, IDS}
-use Rattle.gc_client.specs.Rule.{ById, Outcome, Answered, Late, Lost, Settled, Sending, fresh, sends, hears, expires}
 
 -- where a line that comes is from: it is undamaged, and was made for the request of this number; or it is damaged
 pub data Origin : Type 0 where

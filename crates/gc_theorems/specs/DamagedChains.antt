@@ -1,9 +1,7 @@
 -- Chains over a line that damages, this project's own: in which order the instrument executed the commands of a chain whose answers are its
 -- own lines.
+use Rattle.gc_theorems.specs.Common.{line_of, AreChained, WasAnsweredWell, Record}
 use Rattle.std.specs.Prelude.{◌≡◌, ℕ, ◌<◌, ◌≤◌, List, ◌∷◌, ◌++◌, Some, slice_get}
-use Rattle.gc_texts.specs.Endings.{line_of}
-use Rattle.gc_station.specs.Links.{AreChained, WasAnsweredWell}
-use Rattle.gc_station.specs.Records.{Record}
 use Rattle.gc_theorems.specs.World.{Ends, Up_deliver}
 use Rattle.gc_theorems.specs.Begin.{UnderWay}
 use Rattle.gc_theorems.specs.Field.{OnLine}

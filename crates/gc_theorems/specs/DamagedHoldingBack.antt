@@ -2,11 +2,8 @@
 -- many requests the last line settled that settled any (`last`), and sends only while these and the outstanding ones are together fewer
 -- than seven; and no two lines in a row that settle something are damaged. A reply to a request that damage made, if it is kept and sent
 -- again (`ComesAgain`), counts as undamaged here: it settles the very request for which it was sent again.
+use Rattle.gc_theorems.specs.Common.{Asked, WINDOW, ById, Sending, sends, KeptReply}
 use Rattle.std.specs.Prelude.{◌≡◌, ◌⊎◌, ℕ, ◌+◌, ◌-◌, ◌<◌, ◌≤◌, Bool, true, false, List, [], ◌∷◌, length, Option, Some, None, nat_lt}
-use Rattle.gc_catalogue.specs.declared.asked.Asked.{Asked}
-use Rattle.gc_client.specs.declared.window.TheConstants.{WINDOW}
-use Rattle.gc_client.specs.Rule.{ById, Sending, sends}
-use Rattle.gc_instrument.specs.State.{KeptReply}
 use Rattle.gc_theorems.specs.World.{Ends}
 use Rattle.gc_theorems.specs.Field.{Move, Sends, Comes, IsPossible}
 use Rattle.gc_theorems.specs.Begin.{UnderWay}

@@ -1,12 +1,8 @@
 -- Runs with damage that meet the premises of the laws, this project's own, over the simulator. They are computed.
+use Rattle.gc_theorems.specs.Common.{Table, InstrumentNo, Answered, Lost, State, IsFittingState, simulator_opening}
 use Rattle.std.specs.Prelude.{◌≡◌, ℕ, List, [], ◌∷◌, ◌++◌, codes, replicate}
-use Rattle.gc_catalogue.specs.declared.asked.Asked.TheVariants.{Table}
-use Rattle.gc_catalogue.specs.declared.call.Call.TheVariants.{InstrumentNo}
-use Rattle.gc_client.specs.Rule.{Answered, Lost}
-use Rattle.gc_instrument.specs.State.{State, IsFittingState, simulator_opening}
 use Rattle.gc_theorems.specs.Simulator.{simulator_ends}
 use Rattle.gc_theorems.specs.World.{Up_deliver, Down_lose, Down_repeat}
-use Rattle.gc_theorems.specs.Begin as turn
 use Rattle.gc_theorems.specs.Begin.{IsWellFormed, SyncTurn, Asks, Reaches, Up_lose, UnderWay, begins, none_under_way}
 use Rattle.gc_theorems.specs.BeginWitness.{at_start}
 use Rattle.gc_theorems.specs.Begun.{IsClean, nulls_settled}
@@ -16,8 +12,9 @@ use Rattle.gc_theorems.specs.Harm.{Harm, Does, Damages, Strikes, AllMayHarm, har
 use Rattle.gc_theorems.specs.DamagedHoldingBack.{AllMayHarmApart, holding_begun}
 use Rattle.gc_theorems.specs.Rarely.{AllMayHarmRarely, tally_begun}
 use Rattle.gc_theorems.specs.Stretch.{left_by_sync}
-use Rattle.gc_theorems.specs.DamagedSynchronizing as sync
 use Rattle.gc_theorems.specs.DamagedSynchronizing.{SyncHarm, AllMaySyncHarm, OwnEighthComes}
+use Rattle.gc_theorems.specs.Begin as turn
+use Rattle.gc_theorems.specs.DamagedSynchronizing as sync
 
 -- the simulator, with nothing in flight
 abbrev pub nothing : UnderWay State

@@ -4,29 +4,8 @@
 -- command is a call of the table, or the instrument keeps after each request, also a raw one, its own reply or none. For raw requests to
 -- other instruments nothing is claimed: one may keep its reply to a call of the table over these, and send it again for a later request with
 -- that reply's id, if a damaged line was taken for the reply to a call in between.
+use Rattle.gc_theorems.specs.Common.{AllByRecursion, AllZip, is_of_table, IDS, WINDOW, the_word, Answered, Late, lost, KeptReply, IsFittingState, Act, line_of, call_at, Expected, Task, AreBegun, EachOnce, parts, Runs, opening, commands_in, records_of, Part, MarksAsk, mark_of, occasion_in, sent_of, timeless, went_out, Record, state_after, Reads, Scope, Plan}
 use Rattle.std.specs.Prelude.{◌≡◌, ◌⊎◌, ℕ, zero, suc, ◌+◌, ◌%◌, true, List, [], ◌∷◌, ◌++◌, length, map, take, ◌≤◌, Option, Some, slice_get}
-use Rattle.std.specs.List.{AllByRecursion, AllZip}
-use Rattle.gc_catalogue.specs.Asked.{is_of_table}
-use Rattle.gc_client.specs.declared.window.TheConstants.{IDS, WINDOW}
-use Rattle.gc_client.specs.Beginning.{the_word}
-use Rattle.gc_client.specs.Rule.{Answered, Late, lost}
-use Rattle.gc_instrument.specs.State.{KeptReply, IsFittingState}
-use Rattle.gc_links.specs.Acts.{Act}
-use Rattle.gc_texts.specs.Endings as end
-use Rattle.gc_texts.specs.Endings.{line_of}
-use Rattle.gc_texts.specs.Tasks.{call_at}
-use Rattle.gc_texts.specs.declared.near.Expected.{Expected}
-use Rattle.gc_texts.specs.declared.tasks.Task.{Task}
-use Rattle.gc_station.specs.Begun.{AreBegun}
-use Rattle.gc_station.specs.EachOnce.{EachOnce}
-use Rattle.gc_station.specs.Links.{parts}
-use Rattle.gc_station.specs.Model.{Runs, opening}
-use Rattle.gc_station.specs.Marks.{commands_in, records_of}
-use Rattle.gc_station.specs.Parts.{Part, MarksAsk, mark_of, occasion_in, sent_of, timeless, went_out}
-use Rattle.gc_station.specs.Records.{Record}
-use Rattle.gc_station.specs.Runs.{state_after}
-use Rattle.gc_station.specs.Scopes.{Reads, Scope}
-use Rattle.gc_station.specs.declared.plan.Plan.{Plan}
 use Rattle.gc_theorems.specs.World.{Ends}
 use Rattle.gc_theorems.specs.Begin.{IsWellFormed, LacksTheWord, UnderWay}
 use Rattle.gc_theorems.specs.Instrument.{OfAnyInstrument, TreatsRawsAlike}
@@ -36,6 +15,7 @@ use Rattle.gc_theorems.specs.Simulator.{simulator_ends}
 use Rattle.gc_theorems.specs.Harm.{Damages, AllMayHarm, AreOwnOr, AreRising, IsByDamage, WasMadeAmid, damaged_lines}
 use Rattle.gc_theorems.specs.Stretches.{HarmedStretch, HasDamageApart, IsDamagedOnceSynchronized, AreInARow, IsPossibleStretch, IsSeenAs, at_its_end, client_sent, client_settled, left_by_stretch, once_synchronized, synchronized}
 use Rattle.gc_theorems.specs.DamagedSynchronizing.{WasStruck}
+use Rattle.gc_texts.specs.Endings as end
 
 -- a station's run as a program: its plan, its commands, its scope and its acts; and its stretches, in order
 pub record HarmedProgram (State : Type 0) : Type 0 where

@@ -1,15 +1,8 @@
 -- A session over a line that damages, this project's own: any calls on it, and what happens on the line and to an instrument, stretch by
 -- stretch. In a stretch the session synchronizes, and then goes on until it resynchronizes, or ends.
+use Rattle.gc_theorems.specs.Common.{AllByRecursion, Asked, Restart, Settlement, lost, KeptReply, IsFittingState, Call, AsksTheTable, events_all, settled_all, ClientEvent, Came, Stepped, Settings}
 use Rattle.std.specs.Prelude.{◌≡◌, ◌⊎◌, List, [], ◌∷◌, ◌++◌, map, Option}
-use Rattle.std.specs.List.{AllByRecursion}
-use Rattle.gc_catalogue.specs.declared.asked.Asked.{Asked}
-use Rattle.gc_client.specs.OneForOne.{Restart}
-use Rattle.gc_client.specs.Rule.{Settlement, lost}
-use Rattle.gc_instrument.specs.State.{KeptReply, IsFittingState}
-use Rattle.gc_session.specs.Calls.{Call, AsksTheTable, events_all, settled_all}
-use Rattle.gc_session.specs.Events.{ClientEvent, Came, Stepped}
-use Rattle.gc_session.specs.Sessions.{opening}
-use Rattle.gc_session.specs.declared.settings.Settings.{Settings}
+use Rattle.gc_session.specs.Prelude.{opening}
 use Rattle.gc_theorems.specs.Simulator.{simulator_ends}
 use Rattle.gc_theorems.specs.World.{Ends}
 use Rattle.gc_theorems.specs.Begin.{IsWellFormed, SyncModel, UnderWay, begins}

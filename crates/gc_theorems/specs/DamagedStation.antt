@@ -1,23 +1,11 @@
 -- A station's run over a line that damages, this project's own, over the simulator: it synchronizes though a null procedure's reply is lost
 -- and a damaged line comes in its place; of its two commands the first is answered by a damaged line, and the second by its own reply,
 -- though a request that damage made reached the simulator before its request did. So what is said of all such runs is said of some.
+use Rattle.gc_theorems.specs.Common.{with_end, Long, Table, InstrumentNo, WINDOW, State, IsFittingState, simulator_opening, Task, Fine, Act, Told, Put, Gave, Closed, is_over, state_after}
 use Rattle.std.specs.Prelude.{◌≡◌, ℕ, true, false, List, [], ◌∷◌, ◌++◌, codes, map, pos, Some}
-use Rattle.gc_lines.specs.Lines.{with_end}
-use Rattle.gc_catalogue.specs.declared.answer.Answer.TheVariants.{Long}
-use Rattle.gc_catalogue.specs.declared.asked.Asked.TheVariants.{Table}
-use Rattle.gc_catalogue.specs.declared.call.Call.TheVariants.{InstrumentNo}
-use Rattle.gc_client.specs.declared.window.TheConstants.{WINDOW}
-use Rattle.gc_instrument.specs.State.{State, IsFittingState, simulator_opening}
-use Rattle.gc_texts.specs.declared.tasks.Task.{Task}
-use Rattle.gc_texts.specs.Endings as end
-use Rattle.gc_texts.specs.declared.quality.Quality.TheVariants.{Fine}
-use Rattle.gc_links.specs.Acts.{Act, Told, Put, Gave, Closed}
-use Rattle.gc_station.specs.Progressing.{is_over}
-use Rattle.gc_station.specs.Runs.{state_after}
 use Rattle.gc_theorems.specs.Plain.{plain_record, plain_task}
 use Rattle.gc_theorems.specs.Simulator.{simulator_ends}
 use Rattle.gc_theorems.specs.World.{Up_deliver, Down_lose}
-use Rattle.gc_theorems.specs.Begin as turn
 use Rattle.gc_theorems.specs.Begin.{UnderWay, none_under_way}
 use Rattle.gc_theorems.specs.Field.{Sends, Tells, Comes, OnLine}
 use Rattle.gc_theorems.specs.Laws.{kept_of}
@@ -25,8 +13,10 @@ use Rattle.gc_theorems.specs.Witness.{plan, scope, at, begun_with, cycle_begun, 
 use Rattle.gc_theorems.specs.Harm.{Harm, Does, Damages, Strikes, WasMadeAmid}
 use Rattle.gc_theorems.specs.DamagedRuns.{HarmedProgram, IsInHarmedField, WasSettledByDamage, records_of_program}
 use Rattle.gc_theorems.specs.Stretches.{HarmedStretch, HasDamageApart, left_by_stretch, once_synchronized}
-use Rattle.gc_theorems.specs.DamagedSynchronizing as sync
 use Rattle.gc_theorems.specs.DamagedSynchronizing.{SyncHarm}
+use Rattle.gc_texts.specs.Endings as end
+use Rattle.gc_theorems.specs.Begin as turn
+use Rattle.gc_theorems.specs.DamagedSynchronizing as sync
 
 -- nothing is in flight at the start
 abbrev pub at_start : UnderWay State

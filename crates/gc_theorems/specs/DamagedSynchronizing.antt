@@ -3,13 +3,8 @@
 -- instrument: any with an id from 0 to 7, at any time. If the eighth null procedure is answered by its own reply, the synchronization is
 -- clean but for what the instrument keeps of such a request, whatever was damaged, and whatever is in flight from before. A reply is own if
 -- it was sent for a null procedure of this synchronization; it comes after all that was in flight before.
+use Rattle.gc_theorems.specs.Common.{AllByRecursion, Asked, IDS, left_by, heard, KeptReply}
 use Rattle.std.specs.Prelude.{◌≡◌, ◌⊎◌, ℕ, ◌<◌, false, List, [], ◌∷◌, ◌++◌, Option, Some}
-use Rattle.std.specs.List.{AllByRecursion}
-use Rattle.gc_catalogue.specs.declared.asked.Asked.{Asked}
-use Rattle.gc_client.specs.declared.window.TheConstants.{IDS}
-use Rattle.gc_client.specs.Beginning.{left_by}
-use Rattle.gc_client.specs.Rule.{heard}
-use Rattle.gc_instrument.specs.State.{KeptReply}
 use Rattle.gc_theorems.specs.World.{Ends}
 use Rattle.gc_theorems.specs.Begin.{InFlight, IsTurn, IsWellFormed, SyncModel, SyncTurn, Comes, UnderWay, begins, turns}
 use Rattle.gc_theorems.specs.Begun.{eighth_null}

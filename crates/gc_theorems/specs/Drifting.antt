@@ -2,31 +2,18 @@
 -- itself. Its second command asks for a procedure that isn't in the table. The first null procedure is sent again, and the
 -- synchronization goes on over another connection; a reply is lost, and its request timed out; the instrument starts again, and
 -- its connection is made again.
+use Rattle.gc_theorems.specs.Common.{decimal, with_end, reply_text, asked_line, Nothing, Table, Raw, InstrumentNo, RawCall, WINDOW, Task, Fine, Plan, Act, Told, Put, Gave, Silent, Broke, Closed, Opened, Scope}
 use Rattle.std.specs.Prelude.{◌≡◌, ℕ, true, false, List, [], ◌∷◌, ◌++◌, codes, map, Some}
-use Rattle.std.specs.Fmt.{decimal}
-use Rattle.gc_lines.specs.Lines.{with_end}
-use Rattle.gc_lines.specs.Replies.{reply_text}
-use Rattle.gc_catalogue.specs.Asked.{asked_line}
-use Rattle.gc_catalogue.specs.declared.answer.Answer.TheVariants.{Nothing}
-use Rattle.gc_catalogue.specs.declared.asked.Asked.TheVariants.{Table, Raw}
-use Rattle.gc_catalogue.specs.declared.call.Call.TheVariants.{InstrumentNo}
-use Rattle.gc_catalogue.specs.declared.raw.RawCall.{RawCall}
-use Rattle.gc_client.specs.declared.window.TheConstants.{WINDOW}
-use Rattle.gc_texts.specs.declared.tasks.Task.{Task}
-use Rattle.gc_texts.specs.Endings as end
-use Rattle.gc_texts.specs.declared.quality.Quality.TheVariants.{Fine}
-use Rattle.gc_station.specs.declared.plan.Plan.{Plan}
-use Rattle.gc_links.specs.Acts.{Act, Told, Put, Gave, Silent, Broke, Closed, Opened}
-use Rattle.gc_station.specs.Scopes.{Scope}
 use Rattle.gc_theorems.specs.Plain.{plain_record, plain_task}
 use Rattle.gc_theorems.specs.World.{Ends, Up_deliver, Down_lose, ends_of}
 use Rattle.gc_theorems.specs.Begin.{SyncTurn, Asks, Reaches, left_by_turns, none_under_way}
-use Rattle.gc_theorems.specs.Begin as turn
 use Rattle.gc_theorems.specs.Begun.{WasMadeOn}
 use Rattle.gc_theorems.specs.Field.{Move, Sends, Tells, Comes, OnLine, Anew, Changes}
 use Rattle.gc_theorems.specs.Instrument.{IsAnInstrument, AnyState, never_kept}
 use Rattle.gc_theorems.specs.Runs.{IsInField, NoActFollows, Program, program_records}
 use Rattle.gc_theorems.specs.Witness.{plan_of_width, scope_saying, null_lines, at, cycle_begun, null_answered, eight_answered, exchanged, replies, run_and_end}
+use Rattle.gc_texts.specs.Endings as end
+use Rattle.gc_theorems.specs.Begin as turn
 
 -- an instrument that keeps no reply, and answers every request with its state: `text` gives the parameters of the reply in a
 -- state, and `new` is the state after a start

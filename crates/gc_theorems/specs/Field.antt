@@ -2,15 +2,11 @@
 -- happen to the lines meanwhile. Between the two is the world's line, which keeps order, loses lines whole and repeats a line
 -- directly after it. Connections aren't spoken of, because a close is a loss of lines. The instrument may start again at any
 -- moment.
+use Rattle.gc_theorems.specs.Common.{Asked, heard, KeptReply, by_ids, ids_open, is_of_table}
 use Rattle.std.specs.Prelude.{◌≡◌, ℕ, Bool, true, false, List, [], ◌∷◌, ◌++◌, Option, None}
-use Rattle.gc_catalogue.specs.declared.asked.Asked.{Asked}
-use Rattle.gc_client.specs.OneForOne as client
-use Rattle.gc_client.specs.Rule.{heard}
-use Rattle.gc_instrument.specs.State.{KeptReply}
-use Rattle.gc_world.specs.Clients.{by_ids, ids_open}
 use Rattle.gc_theorems.specs.World.{Numbered, Request, Wire, Ends, Rule, World, Step, Send, Up_deliver, Up_lose, Up_repeat, Down_deliver, Down_lose, Down_repeat, Expire, Restart_client, Restart_instrument, Nothing, started, on_wire, happens}
 use Rattle.gc_theorems.specs.Instrument.{MayBecome}
-use Rattle.gc_catalogue.specs.Asked.{is_of_table}
+use Rattle.gc_client.specs.OneForOne as client
 
 -- one step in the field
 pub data Move (State : Type 0) : Type 0 where

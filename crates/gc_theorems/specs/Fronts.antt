@@ -1,14 +1,9 @@
 -- Requests for calls of the table that are cut, this project's own. If only the front of one got through, with a line feed after
 -- it, or only its tail, as after a start of the instrument, no request got through. So a request that was cut reaches the
 -- instrument whole or not at all.
+use Rattle.gc_theorems.specs.Common.{lines, with_end, RequestFields, IsRequest, call_fields, IsFitting, request_line, HasNoRequest}
 use Rattle.std.specs.Prelude.{◌≡◌, ℕ, ◌+◌, ◌<◌, ◌≤◌, List, [], ◌∷◌, ◌++◌, length, take, drop, Some}
-use Rattle.gc_lines.specs.Frames.{lines}
-use Rattle.gc_lines.specs.Lines.{with_end}
-use Rattle.gc_lines.specs.Requests.{RequestFields, IsRequest}
-use Rattle.gc_catalogue.specs.Calls.{call_fields, IsFitting}
 use Rattle.gc_catalogue.specs.declared.call.Call.{Call}
-use Rattle.gc_catalogue.specs.Texts.{request_line}
-use Rattle.gc_instrument.specs.Laws.{HasNoRequest}
 
 -- the bytes of a request, with its CR LF
 abbrev pub request_bytes : ℕ → Call → List ℕ

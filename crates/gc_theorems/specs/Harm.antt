@@ -4,14 +4,8 @@
 -- request that damage made comes as a damaged line, if at all, at any time; so it isn't put into the queue. Other ids are left out, as
 -- `IsAnInstrument` doesn't speak of them: what an instrument does with another id, or with none, is covered only if it then keeps the same
 -- reply as before (`Changes`).
+use Rattle.gc_theorems.specs.Common.{AllByRecursion, Asked, is_of_table, IDS, WINDOW, ById, Answered, Late, Settlement, Sending, heard, sends, hears, KeptReply, by_ids}
 use Rattle.std.specs.Prelude.{◌≡◌, ◌⊎◌, ℕ, ◌+◌, ◌%◌, ◌<◌, ◌≤◌, true, List, [], ◌∷◌, ◌++◌, length, Option, Some, None, slice_get}
-use Rattle.std.specs.List.{AllByRecursion}
-use Rattle.gc_catalogue.specs.declared.asked.Asked.{Asked}
-use Rattle.gc_catalogue.specs.Asked.{is_of_table}
-use Rattle.gc_client.specs.declared.window.TheConstants.{IDS, WINDOW}
-use Rattle.gc_client.specs.Rule.{ById, Answered, Late, Settlement, Sending, heard, sends, hears}
-use Rattle.gc_instrument.specs.State.{KeptReply}
-use Rattle.gc_world.specs.Clients.{by_ids}
 use Rattle.gc_theorems.specs.World.{Numbered, Request, Sent, Ends, World, Step, Up_deliver, on_wire, with_settled}
 use Rattle.gc_theorems.specs.Field.{Move, Sends, Comes, OnLine, IsPossible, moves}
 use Rattle.gc_theorems.specs.Begin.{UnderWay}

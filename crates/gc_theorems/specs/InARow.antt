@@ -1,9 +1,7 @@
 -- Stations one after the other over a line that outlives them, this project's own: each is a run of a station, with its own
 -- plan and commands, and is killed at any moment, also while it synchronizes. Nothing here depends on a clock.
+use Rattle.gc_theorems.specs.Common.{WINDOW, KeptReply, IsFittingState, Runs, opening}
 use Rattle.std.specs.Prelude.{ℕ, List, [], ◌∷◌, Option}
-use Rattle.gc_client.specs.declared.window.TheConstants.{WINDOW}
-use Rattle.gc_instrument.specs.State.{KeptReply, IsFittingState}
-use Rattle.gc_station.specs.Model.{Runs, opening}
 use Rattle.gc_theorems.specs.Simulator.{simulator_ends}
 use Rattle.gc_theorems.specs.World.{Ends}
 use Rattle.gc_theorems.specs.Begin.{IsWellFormed, UnderWay}

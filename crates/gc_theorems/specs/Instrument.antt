@@ -5,14 +5,9 @@
 -- such as don't read. `executed` means that the line was made now, for this request, be it an answer or a refusal; if it isn't
 -- so, the line is an older one that is sent again. What is asked of it at a request or a start is asked only in good states
 -- (`Good`), and only for requests with an id from 0 to 7 (below `IDS`).
+use Rattle.gc_theorems.specs.Common.{Asked, IDS, heard, Handed, KeptReply, is_of_table}
 use Rattle.std.specs.Prelude.{◌≡◌, ℕ, ◌<◌, ◌⊎◌, Bool, true, false, List, Option, Some, None}
-use Rattle.gc_catalogue.specs.declared.asked.Asked.{Asked}
-use Rattle.gc_client.specs.declared.window.TheConstants.{IDS}
-use Rattle.gc_client.specs.Rule.{heard}
-use Rattle.gc_instrument.specs.Replying.{Handed}
-use Rattle.gc_instrument.specs.State.{KeptReply}
 use Rattle.gc_theorems.specs.World.{Ends}
-use Rattle.gc_catalogue.specs.Asked.{is_of_table}
 
 -- the reply to a request with this id, by what an instrument did with the request, as it is kept: with the id
 abbrev pub own_reply : {State : Type 0} → (id : ℕ) → Handed State → KeptReply

@@ -1,15 +1,6 @@
 -- Some run in the field has a late record, this project's own: a command has timed out, and its reply comes after that.
+use Rattle.gc_theorems.specs.Common.{with_end, Long, Table, InstrumentNo, WINDOW, State, IsFittingState, Task, Fine, Act, Told, Put, Gave, Silent, Closed}
 use Rattle.std.specs.Prelude.{◌≡◌, ℕ, false, List, [], ◌∷◌, codes, pos, Some}
-use Rattle.gc_lines.specs.Lines.{with_end}
-use Rattle.gc_catalogue.specs.declared.answer.Answer.TheVariants.{Long}
-use Rattle.gc_catalogue.specs.declared.asked.Asked.TheVariants.{Table}
-use Rattle.gc_catalogue.specs.declared.call.Call.TheVariants.{InstrumentNo}
-use Rattle.gc_client.specs.declared.window.TheConstants.{WINDOW}
-use Rattle.gc_instrument.specs.State.{State, IsFittingState}
-use Rattle.gc_texts.specs.declared.tasks.Task.{Task}
-use Rattle.gc_texts.specs.Endings as end
-use Rattle.gc_texts.specs.declared.quality.Quality.TheVariants.{Fine}
-use Rattle.gc_links.specs.Acts.{Act, Told, Put, Gave, Silent, Closed}
 use Rattle.gc_theorems.specs.Plain.{plain_record, plain_task}
 use Rattle.gc_theorems.specs.Simulator.{simulator_ends}
 use Rattle.gc_theorems.specs.World.{Up_deliver}
@@ -19,8 +10,9 @@ use Rattle.gc_theorems.specs.ChainWitness.{at_start}
 use Rattle.gc_theorems.specs.Field.{Move, Sends, Tells, Comes, OnLine}
 use Rattle.gc_theorems.specs.Laws.{kept_of}
 use Rattle.gc_theorems.specs.Runs.{IsInField, NoActFollows, Program, program_records}
-use Rattle.gc_theorems.specs.Witness as one
 use Rattle.gc_theorems.specs.Witness.{plan, scope, at, begun_with, cycle_begun, null_answered, null_reply, eight_answered, replies, run_and_end}
+use Rattle.gc_texts.specs.Endings as end
+use Rattle.gc_theorems.specs.Witness as one
 
 -- two requests for the instrument's number
 abbrev pub commands : List Task

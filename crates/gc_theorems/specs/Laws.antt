@@ -1,26 +1,16 @@
 -- What holds of a client in the field, this project's own, and in particular of one that doesn't synchronize; and the simulator
 -- as an instrument. Requests are numbered from 0 on, in the order of sending. The client that knows ids finds a reply's request
 -- by the reply's id; the one that is given numbers is given the request's number, and serves for comparison alone.
+use Rattle.gc_theorems.specs.Common.{Asked, Raw, RawCall, WINDOW, IDS, begun, course, of_settled, of_pending, ById, Settlement, Answered, Late, settle, IsReplied, KeptReply, State, IsFittingState, ByNumber, by_ids, by_numbers, ids_open, numbers_open, IsBooked, IsOneForOne, asked_line, is_of_table}
 use Rattle.std.specs.Prelude.{◌≡◌, ℕ, Bool, ◌-◌, ◌<◌, ◌≤◌, List, [], ◌∷◌, ◌++◌, length, map, Option, Some, slice_get}
-use Rattle.gc_catalogue.specs.declared.asked.Asked.{Asked}
-use Rattle.gc_catalogue.specs.declared.asked.Asked.TheVariants.{Raw}
-use Rattle.gc_catalogue.specs.declared.raw.RawCall.{RawCall}
-use Rattle.gc_client.specs.declared.window.TheConstants.{WINDOW, IDS}
-use Rattle.gc_client.specs.OneForOne.{begun, course, of_settled, of_pending}
-use Rattle.gc_client.specs.Rule.{ById, Settlement, Answered, Late, settle}
-use Rattle.gc_instrument.specs.Replying.{IsReplied}
-pub use Rattle.gc_instrument.specs.Replying.{kept_of}
-pub use Rattle.gc_world.specs.Worlds.{of_sent as asked}
-use Rattle.gc_instrument.specs.State.{KeptReply, State, IsFittingState}
-use Rattle.gc_world.specs.Clients.{ByNumber, by_ids, by_numbers, ids_open, numbers_open}
 use Rattle.gc_theorems.specs.Simulator.{simulator_ends, simulator_handed}
-use Rattle.gc_world.specs.Record.{IsBooked, IsOneForOne}
 use Rattle.gc_theorems.specs.World.{Ends, Numbered, World}
 use Rattle.gc_theorems.specs.Field.{Move, Comes, AreMovesInField, moved, moves, seen}
 use Rattle.gc_theorems.specs.Made.{WasMadeFrom}
 use Rattle.gc_theorems.specs.Instrument.{IsAnInstrument, KeepsItsReply, OfAnyInstrument}
 use Rattle.gc_theorems.specs.Once.{ExecutesOnce, IsInOrder}
-use Rattle.gc_catalogue.specs.Asked.{asked_line, is_of_table}
+pub use Rattle.gc_instrument.specs.Replying.{kept_of}
+pub use Rattle.gc_world.specs.Worlds.{of_sent as asked}
 
 -- the request with this number is among those that were executed
 abbrev pub WasExecuted : List ℕ → ℕ → Type 0

@@ -1,3 +1,5 @@
+mod Common
+pub mod Prelude
 pub mod Agreed
 pub mod Alone
 pub mod Asking

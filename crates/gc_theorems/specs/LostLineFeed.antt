@@ -1,15 +1,7 @@
 -- Why the line feed that clears the front of a request has to arrive, this project's own: if it is lost, that front and the next
 -- request are one line, whose reply has the id of the request that was cut.
+use Rattle.gc_theorems.specs.Common.{lines, with_end, request_at, Table, NullProc, InstrumentNo, WINDOW, Answered, IsReplied, State, IsFittingState, simulator_opening}
 use Rattle.std.specs.Prelude.{◌≡◌, ℕ, List, [], ◌∷◌, ◌++◌, take, codes, Some, Ok, slice_get}
-use Rattle.gc_lines.specs.Frames.{lines}
-use Rattle.gc_lines.specs.Lines.{with_end}
-use Rattle.gc_lines.specs.Readers.{request_at}
-use Rattle.gc_catalogue.specs.declared.asked.Asked.TheVariants.{Table}
-use Rattle.gc_catalogue.specs.declared.call.Call.TheVariants.{NullProc, InstrumentNo}
-use Rattle.gc_client.specs.declared.window.TheConstants.{WINDOW}
-use Rattle.gc_client.specs.Rule.{Answered}
-use Rattle.gc_instrument.specs.Replying.{IsReplied}
-use Rattle.gc_instrument.specs.State.{State, IsFittingState, simulator_opening}
 use Rattle.gc_theorems.specs.Simulator.{simulator_ends}
 use Rattle.gc_theorems.specs.World.{Up_deliver}
 use Rattle.gc_theorems.specs.Begin.{none_under_way}

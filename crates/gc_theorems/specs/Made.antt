@@ -1,8 +1,6 @@
 -- A line that was made on executing a request, this project's own.
+use Rattle.gc_theorems.specs.Common.{Asked, ById, by_ids}
 use Rattle.std.specs.Prelude.{◌≡◌, ℕ, true, List, ◌∷◌, ◌++◌}
-use Rattle.gc_catalogue.specs.declared.asked.Asked.{Asked}
-use Rattle.gc_client.specs.Rule.{ById}
-use Rattle.gc_world.specs.Clients.{by_ids}
 use Rattle.gc_theorems.specs.World.{Ends, Numbered, Request, Up_deliver, Wire, World}
 use Rattle.gc_theorems.specs.Field.{Move, OnLine, moved}
 

@@ -1,18 +1,9 @@
 -- What the acts of a link are to a station's client, this project's own. Nothing is said of when a station sends: only that it
 -- follows the client's rule, with the window of seven, and hears each line that comes or discards what came. Connections may be
 -- closed and made at any time, and that is nothing to the client.
+use Rattle.gc_theorems.specs.Common.{rest_behind, with_end, Asked, asked_line, WINDOW, Step, Send, Hear, Expire, ById, Sending, sends, Act, Told, Untold, Put, Cut, Gave, Silent, Ended, Broke, Closed, Opened, Unopened, client_after, lines_completed}
 use Rattle.std.specs.Prelude.{◌≡◌, ◌⊎◌, ℕ, List, [], ◌∷◌, ◌++◌, map, Some}
-use Rattle.gc_lines.specs.Frames.{rest_behind}
-use Rattle.gc_lines.specs.Lines.{with_end}
-use Rattle.gc_catalogue.specs.declared.asked.Asked.{Asked}
-use Rattle.gc_catalogue.specs.Asked.{asked_line}
-use Rattle.gc_client.specs.declared.window.TheConstants.{WINDOW}
-use Rattle.gc_client.specs.OneForOne.{Step, Send, Hear, Expire}
-use Rattle.gc_client.specs.Rule.{ById, Sending, sends}
 use Rattle.gc_links.specs.declared.link.Moment.{Moment}
-use Rattle.gc_links.specs.Acts.{Act, Told, Untold, Put, Cut, Gave, Silent, Ended, Broke, Closed, Opened, Unopened}
-use Rattle.gc_session.specs.Courses.{client_after}
-use Rattle.gc_station.specs.Model.{lines_completed}
 
 -- these bytes are the line of a request that the client sends by this step
 pub record IsSentRequest (client : ById Asked) (bytes : List ℕ) (steps : List (Step Asked)) : Type 0 where

@@ -1,19 +1,9 @@
 -- What is asked of an instrument is needed, this project's own: for each clause an instrument that lacks that one alone, and a
 -- run in which an answer is booked for a request that it never executed, or, for the clauses of `KeepsItsReply`, a request is
 -- executed twice.
+use Rattle.gc_theorems.specs.Common.{decimal, reply_text, Asked, Table, Raw, NullProc, InstrumentNo, Unknown, RawCall, WINDOW, Answered, heard, Handed, refusal_line, KeptReply, is_of_table, procedure_of}
 use Rattle.std.specs.Prelude.{◌≡◌, ℕ, zero, suc, ◌+◌, ◌≤◌, ◌⊎◌, Bool, true, false, List, [], ◌∷◌, Option, Some, None, slice_get, if◌then◌else◌, nat_eq}
-use Rattle.std.specs.Fmt.{decimal}
 use Rattle.std.specs.Option.{option_map}
-use Rattle.gc_lines.specs.Replies.{reply_text}
-use Rattle.gc_catalogue.specs.declared.asked.Asked.{Asked}
-use Rattle.gc_catalogue.specs.declared.asked.Asked.TheVariants.{Table, Raw}
-use Rattle.gc_catalogue.specs.declared.call.Call.TheVariants.{NullProc, InstrumentNo}
-use Rattle.gc_catalogue.specs.declared.fault.CallFault.TheVariants.{Unknown}
-use Rattle.gc_catalogue.specs.declared.raw.RawCall.{RawCall}
-use Rattle.gc_client.specs.declared.window.TheConstants.{WINDOW}
-use Rattle.gc_client.specs.Rule.{Answered, heard}
-use Rattle.gc_instrument.specs.Replying.{Handed, refusal_line}
-use Rattle.gc_instrument.specs.State.{KeptReply}
 use Rattle.gc_theorems.specs.World.{Ends, Up_deliver, Up_repeat, ends_of}
 use Rattle.gc_theorems.specs.Begin.{none_under_way}
 use Rattle.gc_theorems.specs.Begun.{IsClean, wire_over_empty_line, ArePossibleOnceBegun}
@@ -21,7 +11,6 @@ use Rattle.gc_theorems.specs.Field.{Move, Sends, Comes, OnLine, Anew, Changes}
 use Rattle.gc_theorems.specs.Instrument.{IsAnInstrument, AnyState, ReadsByGrammar, RepliesWithItsId, RepeatsWhatIsKept, KeepsItsOwnIfKnown, KeepsOverStarts, StaysGoodOverRequests, StaysGoodOverStarts, never_kept, own_reply}
 use Rattle.gc_theorems.specs.Laws.{WasExecuted}
 use Rattle.gc_theorems.specs.Once.{ExecutesOnce}
-use Rattle.gc_catalogue.specs.Asked.{is_of_table, procedure_of}
 
 -- the clauses of what is asked of an instrument (`IsAnInstrumentFor`), each with the name of its field there
 pub data Clause : Type 0 where

@@ -1,9 +1,8 @@
 -- Acts once, this project's own: between two of its starts an instrument executes each request at most once, in the order in
 -- which they were sent. `executed` has the numbers of the requests that were executed, in order; `starts` has, for each start,
 -- how many executions came before it; `sent` are all requests.
+use Rattle.gc_theorems.specs.Common.{AllByRecursion, Asked}
 use Rattle.std.specs.Prelude.{◌≡◌, ℕ, ◌<◌, ◌≤◌, ◌⊎◌, Bool, true, List, Some, slice_get}
-use Rattle.std.specs.List.{AllByRecursion}
-use Rattle.gc_catalogue.specs.declared.asked.Asked.{Asked}
 use Rattle.gc_theorems.specs.World.{Sent}
 
 -- the instrument didn't start between executions j and k: each start had at most j executions before it, or more than k

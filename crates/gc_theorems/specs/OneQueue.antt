@@ -4,9 +4,8 @@
 -- copy of what is kept, before that, in place of the request that is lost by it. So this is all that happens to undamaged lines: one
 -- is lost, one is repeated directly after itself, the front one comes. A line that is damaged is lost here, and what damage makes
 -- of it comes as a damaged line, whenever it likes. `TwoQueues` has both directions and the instrument.
+use Rattle.gc_theorems.specs.Common.{IDS, ById, Sending, sends}
 use Rattle.std.specs.Prelude.{◌≡◌, ℕ, suc, ◌+◌, ◌-◌, ◌%◌, List, [], ◌∷◌, ◌++◌, length, take, drop, Option, Some, None, ⊤}
-use Rattle.gc_client.specs.declared.window.TheConstants.{IDS}
-use Rattle.gc_client.specs.Rule.{ById, Sending, sends}
 use Rattle.gc_theorems.specs.Damage.{Account, Of, Damaged, account_sent, account_expired, account_heard, opened}
 
 -- an undamaged line in flight: the number of its request, and what damage had done before that was sent: how many requests damaged

@@ -1,16 +1,8 @@
 -- A client over any number of synchronizations, in the field, this project's own: where each of its answers comes from. What happens to
 -- the client is a list of events, those of runs one after the other (`ClientRuns`). What may be in flight when it first synchronizes is
 -- anything but the word of a synchronization. No clock has a part in it.
+use Rattle.gc_theorems.specs.Common.{AllByRecursion, Asked, the_word, begun, course, of_settled, ById, Settlement, Answered, Late, Lost, WINDOW, KeptReply, IsFittingState, AreInTurn, left_among, steps_among, IsReplyTo}
 use Rattle.std.specs.Prelude.{◌≡◌, ◌≢◌, ℕ, ◌<◌, ◌≤◌, List, [], length, Option, Some, slice_get}
-use Rattle.std.specs.List.{AllByRecursion}
-use Rattle.gc_catalogue.specs.declared.asked.Asked.{Asked}
-use Rattle.gc_client.specs.Beginning.{the_word}
-use Rattle.gc_client.specs.OneForOne.{begun, course, of_settled}
-use Rattle.gc_client.specs.Rule.{ById, Settlement, Answered, Late, Lost}
-use Rattle.gc_client.specs.declared.window.TheConstants.{WINDOW}
-use Rattle.gc_instrument.specs.State.{KeptReply, IsFittingState}
-use Rattle.gc_session.specs.Events.{AreInTurn, left_among, steps_among}
-use Rattle.gc_world.specs.Record.{IsReplyTo}
 use Rattle.gc_theorems.specs.Simulator.{simulator_ends}
 use Rattle.gc_theorems.specs.World.{Ends, Sent}
 use Rattle.gc_theorems.specs.Begin.{IsWellFormed, LacksTheWord, UnderWay, leaves}

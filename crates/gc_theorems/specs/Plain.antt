@@ -1,15 +1,7 @@
 -- Plain commands, this project's own: commands of which the station's text says what they ask, their deadline, and whether they
 -- are chained, and nothing else. Runs that are computed have them.
+use Rattle.gc_theorems.specs.Common.{Asked, no_again, no_codes, End, no_needs, Once, Task, no_turn, Record}
 use Rattle.std.specs.Prelude.{ℕ, Bool, None, Some, false}
-use Rattle.gc_catalogue.specs.declared.asked.Asked.{Asked}
-use Rattle.gc_texts.specs.Again.{no_again}
-use Rattle.gc_texts.specs.Codes.{no_codes}
-use Rattle.gc_texts.specs.Endings.{End}
-use Rattle.gc_texts.specs.ValueItems.{no_needs}
-use Rattle.gc_texts.specs.declared.agree.Twice.TheVariants.{Once}
-use Rattle.gc_texts.specs.declared.tasks.Task.{Task}
-use Rattle.gc_station.specs.NextCommand.{no_turn}
-use Rattle.gc_station.specs.Records.{Record}
 
 -- a plain command that asks this of this target, with this deadline in milliseconds, chained to the command before it or not; its
 -- turn is the one where there is no command (`no_turn`), and it isn't watched

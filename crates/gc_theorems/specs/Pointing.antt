@@ -1,17 +1,8 @@
 -- Where the telescope pointed when a command of a chain was executed, of the simulated instrument: this project's own. A part
 -- is what a station sees of its run from one synchronization to the next, and a stretch what happens on the line meanwhile,
 -- once it has synchronized.
+use Rattle.gc_theorems.specs.Common.{AllByRecursion, Decimal, Asked, Table, Raw, Position, ChangeFace, FineAdjust, exec, without_kept, State, IsFittingState, Task, Record}
 use Rattle.std.specs.Prelude.{◌≡◌, ℕ, ◌<◌, Bool, true, false, List, Some, slice_get}
-use Rattle.std.specs.List.{AllByRecursion}
-use Rattle.gc_values.specs.declared.decimal.Decimal.{Decimal}
-use Rattle.gc_catalogue.specs.declared.asked.Asked.{Asked}
-use Rattle.gc_catalogue.specs.declared.asked.Asked.TheVariants.{Table, Raw}
-use Rattle.gc_catalogue.specs.declared.call.Call.TheVariants.{Position, ChangeFace, FineAdjust}
-use Rattle.gc_instrument.specs.Execution.{exec}
-use Rattle.gc_instrument.specs.Replying.{without_kept}
-use Rattle.gc_instrument.specs.State.{State, IsFittingState}
-use Rattle.gc_texts.specs.declared.tasks.Task.{Task}
-use Rattle.gc_station.specs.Records.{Record}
 use Rattle.gc_theorems.specs.Simulator.{simulator_ends}
 use Rattle.gc_theorems.specs.Begin.{UnderWay}
 use Rattle.gc_theorems.specs.Chains.{HasEffect, IsChainedTo, IsUndisturbed, OfEachBeforeInChain, stretch_wire}

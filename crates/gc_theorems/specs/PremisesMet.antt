@@ -1,14 +1,14 @@
 -- Runs that meet the premises of the laws, this project's own. They are computed.
+use Rattle.gc_theorems.specs.Common.{WINDOW}
 use Rattle.std.specs.Prelude.{◌≡◌, ℕ, true, List, [], ◌∷◌, ◌++◌, length, replicate, Some, None}
-use Rattle.gc_client.specs.declared.window.TheConstants.{WINDOW}
 use Rattle.gc_theorems.specs.Damage.{Event, Of, Damaged, AllComeFresh, account, account_heard, opened}
-use Rattle.gc_theorems.specs.Damage as client
 use Rattle.gc_theorems.specs.OneQueue.{Step, Deliver, Damage, Lose, Repeat, ArePossible, account_at_end, newly_settled, nothing_in_flight, queue}
 use Rattle.gc_theorems.specs.Slack.{HaveSlack, AreRare, HasNoDamage}
 use Rattle.gc_theorems.specs.ClientHoldingBack.{AreApart, holding, holding_nothing}
 use Rattle.gc_theorems.specs.TwoQueues.{Act, ArePossibleWithSlack, Execute, Answer_again, Up_lose, Up_repeat, Up_noise, Down_lose, Down_repeat, Down_noise, acted, empty_line}
-use Rattle.gc_theorems.specs.TwoQueues as line
 use Rattle.gc_theorems.specs.Spreading.{a_send, first_byte, some_sends, with_id}
+use Rattle.gc_theorems.specs.Damage as client
+use Rattle.gc_theorems.specs.TwoQueues as line
 
 -- Three requests are sent. The reply to request 0 comes twice, and the first copy is damaged: its id becomes 1. One more request is sent
 -- while the second copy is in flight, and each true reply answers its own request, or is a stray. Then request 4 is answered by a damaged

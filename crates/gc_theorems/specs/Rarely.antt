@@ -1,11 +1,7 @@
 -- Rare damage in the field, this project's own: a bound on damaged lines by which each send is fresh. Those that come (`Damages`) are
 -- counted since the request of each line in flight, or kept, was sent.
+use Rattle.gc_theorems.specs.Common.{AllByRecursion, Asked, WINDOW, ById, Sending, sends, KeptReply}
 use Rattle.std.specs.Prelude.{◌≡◌, ℕ, ◌+◌, ◌*◌, ◌≤◌, List, [], ◌∷◌, length, Option, Some, None, if◌then◌else◌, nat_eq}
-use Rattle.std.specs.List.{AllByRecursion}
-use Rattle.gc_catalogue.specs.declared.asked.Asked.{Asked}
-use Rattle.gc_client.specs.declared.window.TheConstants.{WINDOW}
-use Rattle.gc_client.specs.Rule.{ById, Sending, sends}
-use Rattle.gc_instrument.specs.State.{KeptReply}
 use Rattle.gc_theorems.specs.World.{Ends}
 use Rattle.gc_theorems.specs.Field.{Move, Sends, IsPossible}
 use Rattle.gc_theorems.specs.Begin.{UnderWay}

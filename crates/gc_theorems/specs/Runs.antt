@@ -2,37 +2,9 @@
 -- that it records was made on executing the very request of that cycle and place. A part is what the station sees of its run
 -- from one synchronization to the next; a stretch is what happens on the line meanwhile, once it has synchronized. The word has
 -- the ids of a synchronization's null procedures.
+use Rattle.gc_theorems.specs.Common.{AllByRecursion, AllZip, asked_line, Asked, the_word, ById, Answered, Late, Settlement, lost, WINDOW, KeptReply, IsFittingState, Expected, call_at, line_of, Task, raises_doubt, Plan, Act, unanswered_after, AreBegun, heard_in, has_begun, EachOnce, parts, records_of, Part, MarksAsk, part_of_act, mark_of, occasion_in, sent_of, timeless, is_over, Record, asked_at, state_after, Model, opening, action_at, after, Runs, Scope, Reads, IsReplyTo}
 use Rattle.std.specs.Prelude.{◌≡◌, ◌⊎◌, ℕ, ◌+◌, ◌<◌, ◌≤◌, Bool, true, false, ◌||◌, if◌then◌else◌, nat_le, List, [], ◌∷◌, ◌++◌, drop, length, map, Option, Some, slice_get}
-use Rattle.std.specs.List.{AllByRecursion, AllZip}
-use Rattle.gc_catalogue.specs.Asked.{asked_line}
-use Rattle.gc_catalogue.specs.declared.asked.Asked.{Asked}
-use Rattle.gc_client.specs.Beginning.{the_word}
-use Rattle.gc_client.specs.declared.window.TheConstants.{WINDOW}
-use Rattle.gc_client.specs.Rule.{ById, Answered, Late, Settlement, lost}
-use Rattle.gc_instrument.specs.State.{KeptReply, IsFittingState}
-use Rattle.gc_texts.specs.declared.near.Expected.{Expected}
-use Rattle.gc_texts.specs.Tasks.{call_at}
-use Rattle.gc_texts.specs.declared.tasks.Task.{Task}
-use Rattle.gc_texts.specs.Endings as end
-use Rattle.gc_session.specs.Lines.{raises_doubt}
-use Rattle.gc_station.specs.declared.plan.Plan.{Plan}
-use Rattle.gc_links.specs.Acts.{Act}
-use Rattle.gc_texts.specs.Endings.{line_of}
-use Rattle.gc_station.specs.Beginnings.{unanswered_after}
-use Rattle.gc_station.specs.Begun.{AreBegun, heard_in}
-use Rattle.gc_station.specs.Deciding.{has_begun}
-use Rattle.gc_station.specs.EachOnce.{EachOnce}
-use Rattle.gc_station.specs.Links.{parts}
-use Rattle.gc_station.specs.Marks.{records_of}
-use Rattle.gc_station.specs.Parts.{Part, MarksAsk, part_of_act, mark_of, occasion_in, sent_of, timeless}
-use Rattle.gc_station.specs.Progressing.{is_over}
-use Rattle.gc_station.specs.Records.{Record}
-use Rattle.gc_station.specs.Requests.{asked_at}
-use Rattle.gc_station.specs.Runs.{state_after}
-use Rattle.gc_station.specs.Model.{Model, opening, action_at, after, Runs}
-use Rattle.gc_station.specs.Scopes.{Scope, Reads}
 use Rattle.gc_theorems.specs.Simulator.{simulator_ends}
-use Rattle.gc_world.specs.Record.{IsReplyTo}
 use Rattle.gc_theorems.specs.World.{Ends, Numbered, Sent, World}
 use Rattle.gc_theorems.specs.Asking.{MeansSyncSteps}
 use Rattle.gc_theorems.specs.Begin.{IsWellFormed, LacksTheWord, UnderWay}
@@ -43,6 +15,7 @@ use Rattle.gc_theorems.specs.Instrument.{OfAnyInstrument}
 use Rattle.gc_theorems.specs.Laws.{WasExecuted, asked, kept_of}
 use Rattle.gc_theorems.specs.Meaning.{Means}
 use Rattle.gc_theorems.specs.Shown.{AreShownAs, Stretch, stretches}
+use Rattle.gc_texts.specs.Endings as end
 
 -- a station's run as a program: its plan, its commands, its scope and its acts, and what happens on the line in each part of the
 -- run (`runs`)

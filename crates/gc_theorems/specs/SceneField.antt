@@ -1,19 +1,9 @@
 -- The instrument of a scene with rules, of which any procedure is asked, this project's own: what it does with each request, and
 -- what is claimed of it.
+use Rattle.gc_theorems.specs.Common.{asked_line, call_fields, IsFitting, request_line, Asked, Table, Raw, RawCall, IDS, Handed, KeptReply, ReadsWithItsId}
 use Rattle.std.specs.Prelude.{ℕ, ◌<◌, Option, Some}
-use Rattle.gc_catalogue.specs.Asked.{asked_line}
-use Rattle.gc_catalogue.specs.Calls.{call_fields, IsFitting}
-use Rattle.gc_catalogue.specs.Texts.{request_line}
-use Rattle.gc_catalogue.specs.declared.asked.Asked.{Asked}
-use Rattle.gc_catalogue.specs.declared.asked.Asked.TheVariants.{Table, Raw}
 use Rattle.gc_catalogue.specs.declared.call.Call.{Call}
-use Rattle.gc_catalogue.specs.declared.raw.RawCall.{RawCall}
-use Rattle.gc_client.specs.declared.window.TheConstants.{IDS}
-use Rattle.gc_instrument.specs.Replying.{Handed}
-use Rattle.gc_instrument.specs.State.{KeptReply}
-use Rattle.gc_scenes.specs.SceneReplying.{IsPlayed, handed_call, handed_raw}
-use Rattle.gc_scenes.specs.SceneState.{SceneState, scene_restarted, at_moment}
-use Rattle.gc_world.specs.Exchange.{ReadsWithItsId}
+use Rattle.gc_scenes.specs.Prelude.{IsPlayed, handed_call, handed_raw, SceneState, scene_restarted, at_moment}
 use Rattle.gc_theorems.specs.Instrument.{IsAnInstrument, MayBecome}
 use Rattle.gc_theorems.specs.World.{Ends, ends_of}
 

@@ -1,11 +1,7 @@
 -- A request whose answer was made on its second execution, after a start, this project's own. So between the executions of two
 -- commands of a chain either of the two may be executed once more, if the instrument starts between.
+use Rattle.gc_theorems.specs.Common.{Table, NullProc, SetPrism, GetPrism, WINDOW, Answered, State, IsFittingState, simulator_opening}
 use Rattle.std.specs.Prelude.{◌≡◌, List, [], ◌∷◌, codes, pos, Some, slice_get}
-use Rattle.gc_catalogue.specs.declared.asked.Asked.TheVariants.{Table}
-use Rattle.gc_catalogue.specs.declared.call.Call.TheVariants.{NullProc, SetPrism, GetPrism}
-use Rattle.gc_client.specs.declared.window.TheConstants.{WINDOW}
-use Rattle.gc_client.specs.Rule.{Answered}
-use Rattle.gc_instrument.specs.State.{State, IsFittingState, simulator_opening}
 use Rattle.gc_theorems.specs.Simulator.{simulator_ends}
 use Rattle.gc_theorems.specs.World.{Up_deliver, Up_repeat, Down_lose}
 use Rattle.gc_theorems.specs.Begin.{none_under_way}

@@ -2,34 +2,24 @@
 -- caller's first request has. It is discarded, the eight null procedures are answered, and then the session's own one; the caller's two
 -- requests are sent at once, and both are answered. Over the instrument that counts the second one is for a procedure that isn't in the
 -- table, whichever it is. Then the caller has the session begin anew.
+use Rattle.gc_theorems.specs.Common.{Asked, Table, Raw, RawCall, InstrumentNo, NullProc, Answered, WINDOW, KeptReply, IsFittingState, simulator_opening, Call, Steps, Opens, Restarts, settled_all, ClientEvent, Null, Came, Stepped, OWN, Settings}
 use Rattle.std.specs.Prelude.{◌≡◌, ℕ, List, [], ◌∷◌, codes, drop, Option, None}
-use Rattle.gc_catalogue.specs.declared.asked.Asked.{Asked}
-use Rattle.gc_catalogue.specs.declared.asked.Asked.TheVariants.{Table, Raw}
-use Rattle.gc_catalogue.specs.declared.raw.RawCall.{RawCall}
-use Rattle.gc_catalogue.specs.declared.call.Call.TheVariants.{InstrumentNo, NullProc}
-use Rattle.gc_client.specs.OneForOne as one
-use Rattle.gc_client.specs.Rule.{Answered}
-use Rattle.gc_client.specs.declared.window.TheConstants.{WINDOW}
-use Rattle.gc_instrument.specs.State.{KeptReply, IsFittingState, simulator_opening}
-use Rattle.gc_session.specs.Calls.{Call, Steps, Asks, Hears, Opens, Restarts, settled_all}
-use Rattle.gc_session.specs.Events.{ClientEvent, Null, Came, Stepped}
-use Rattle.gc_session.specs.Sessions.{opening}
-use Rattle.gc_session.specs.declared.session.TheConstants.{OWN}
-use Rattle.gc_session.specs.declared.settings.Settings.{Settings}
+use Rattle.gc_session.specs.Prelude.{Asks, Hears, opening}
 use Rattle.gc_session.specs.declared.settings.Want.TheVariants.{Send}
 use Rattle.gc_theorems.specs.Simulator.{simulator_ends}
 use Rattle.gc_theorems.specs.World.{Ends, Up_deliver}
-use Rattle.gc_theorems.specs.Begin as turn
 use Rattle.gc_theorems.specs.Begin.{IsWellFormed, LacksTheWord, SyncTurn, UnderWay, begins, leaves, turned}
 use Rattle.gc_theorems.specs.Beginnings.{Run}
 use Rattle.gc_theorems.specs.Begun.{WasMadeOn}
-use Rattle.gc_theorems.specs.CountingChain as chain
 use Rattle.gc_theorems.specs.CountingChain.{counting, kept_by}
 use Rattle.gc_theorems.specs.Field.{Move, Sends, Tells, Comes, OnLine}
 use Rattle.gc_theorems.specs.Instrument.{IsAnInstrument, AnyState}
 use Rattle.gc_theorems.specs.Laws.{kept_of}
 use Rattle.gc_theorems.specs.Sessions.{IsSessionOver, SessionRun}
 use Rattle.gc_theorems.specs.Witness.{eight_answered, null_reply, replies}
+use Rattle.gc_client.specs.OneForOne as one
+use Rattle.gc_theorems.specs.Begin as turn
+use Rattle.gc_theorems.specs.CountingChain as chain
 
 -- seven requests at most, a timeout of 100 ms, and a quiet time of 10 ms
 abbrev pub settings : Settings

@@ -1,14 +1,8 @@
 -- A session in the field, this project's own: any calls on it, the line over all of its connections, and an instrument. Each answer to a
 -- request of its caller's was made on executing that very request.
+use Rattle.gc_theorems.specs.Common.{Asked, Settlement, WINDOW, KeptReply, IsFittingState, Settings, OWN, Call, after_all, events_all, settled_all}
 use Rattle.std.specs.Prelude.{◌≡◌, ◌≢◌, ℕ, List, [], ◌∷◌, Option}
-use Rattle.gc_catalogue.specs.declared.asked.Asked.{Asked}
-use Rattle.gc_client.specs.Rule.{Settlement}
-use Rattle.gc_client.specs.declared.window.TheConstants.{WINDOW}
-use Rattle.gc_instrument.specs.State.{KeptReply, IsFittingState}
-use Rattle.gc_session.specs.declared.settings.Settings.{Settings}
-use Rattle.gc_session.specs.declared.session.TheConstants.{OWN}
-use Rattle.gc_session.specs.Calls.{Call, after_all, events_all, settled_all}
-use Rattle.gc_session.specs.Sessions.{opening}
+use Rattle.gc_session.specs.Prelude.{opening}
 use Rattle.gc_theorems.specs.Simulator.{simulator_ends}
 use Rattle.gc_theorems.specs.World.{Ends}
 use Rattle.gc_theorems.specs.Begin.{IsWellFormed, LacksTheWord, UnderWay}

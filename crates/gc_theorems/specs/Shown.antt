@@ -1,13 +1,12 @@
 -- What a line shows to a station, this project's own: the steps of its synchronization; and a stretch, what happens once it has
 -- synchronized, over what the synchronization left in flight.
+use Rattle.gc_theorems.specs.Common.{WINDOW, Part}
 use Rattle.std.specs.Prelude.{◌≡◌, ℕ, List, [], ◌∷◌, ◌++◌}
-use Rattle.gc_client.specs.declared.window.TheConstants.{WINDOW}
-use Rattle.gc_station.specs.Parts as part
-use Rattle.gc_station.specs.Parts.{Part}
 use Rattle.gc_theorems.specs.World.{Ends}
 use Rattle.gc_theorems.specs.Begin.{InFlight, SyncModel, SyncTurn, Asks, Comes, Foreign, Reaches, Up_lose, Up_repeat, Down_lose, Down_repeat, Anew, Changes, UnderWay, begins, left_by_turns, turns}
 use Rattle.gc_theorems.specs.Beginnings.{Run, left_by_run}
 use Rattle.gc_theorems.specs.Field.{Move, seen}
+use Rattle.gc_station.specs.Parts as part
 
 -- the step at which the front one of these replies is heard; no step if there is no reply
 abbrev pub first_heard : List (InFlight (List ℕ)) → List part.SyncStep

@@ -1,12 +1,8 @@
 -- The simulator as an instrument of which any procedure is asked, this project's own.
+use Rattle.gc_theorems.specs.Common.{Asked, Table, Raw, Unknown, Handed, refusal_line, State, restarted}
 use Rattle.std.specs.Prelude.{ℕ, true}
-use Rattle.gc_catalogue.specs.declared.asked.Asked.{Asked}
-use Rattle.gc_catalogue.specs.declared.asked.Asked.TheVariants.{Table, Raw}
-use Rattle.gc_catalogue.specs.declared.fault.CallFault.TheVariants.{Unknown}
-use Rattle.gc_instrument.specs.Replying as calls
-use Rattle.gc_instrument.specs.Replying.{Handed, refusal_line}
-use Rattle.gc_instrument.specs.State.{State, restarted}
 use Rattle.gc_theorems.specs.World.{Ends, ends_of}
+use Rattle.gc_instrument.specs.Replying as calls
 
 -- what the simulator does with a request: its state afterwards, its reply, and whether it executed the request. A request that is
 -- no call of the table is refused (communication code 3081), which counts as executed, and changes nothing

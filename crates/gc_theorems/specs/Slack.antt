@@ -1,9 +1,7 @@
 -- How much damage is too much, this project's own: two bounds by which damage is local over the line as one queue, on how many requests
 -- damaged lines settled, or on how many damaged lines came, while a line was in flight.
+use Rattle.gc_theorems.specs.Common.{AllByRecursion, WINDOW, sends}
 use Rattle.std.specs.Prelude.{◌≡◌, ℕ, ◌+◌, ◌*◌, ◌≤◌, List, [], ◌∷◌, Option, Some, slice_get, IfSome, ⊤}
-use Rattle.std.specs.List.{AllByRecursion}
-use Rattle.gc_client.specs.declared.window.TheConstants.{WINDOW}
-use Rattle.gc_client.specs.Rule.{sends}
 use Rattle.gc_theorems.specs.Damage.{IsLocal, Origin, Of}
 use Rattle.gc_theorems.specs.OneQueue.{InFlight, OneQueue, Step, Send, Damage, Throughout, nothing_in_flight, ArePossible, account_at_end}
 

@@ -1,7 +1,7 @@
 -- Runs in which damage spreads, this project's own: an undamaged line answers a request that it wasn't made for. And a run without damage
 -- in which a client that holds back stops. They are computed.
+use Rattle.gc_theorems.specs.Common.{WINDOW, IDS}
 use Rattle.std.specs.Prelude.{◌≡◌, ℕ, zero, suc, ◌+◌, ◌%◌, List, [], ◌∷◌, ◌++◌, Option, Some, None, replicate, slice_get}
-use Rattle.gc_client.specs.declared.window.TheConstants.{WINDOW, IDS}
 use Rattle.gc_theorems.specs.Damage.{Of, Damaged}
 use Rattle.gc_theorems.specs.OneQueue.{Step, Send, Deliver, Damage, Lose, Repeat, ArePossible, account_at_end}
 use Rattle.gc_theorems.specs.Slack.{HasNoDamage}

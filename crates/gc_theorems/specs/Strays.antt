@@ -1,9 +1,8 @@
 -- Strays, this project's own: which reply shows that a line was damaged. A stray is a reply for which no request is outstanding.
 -- Without damage it can only be a copy of the reply that settled something last, so its id is the one before that of the oldest outstanding
 -- request, or before the next id if none is outstanding. A stray with any other id shows that it, or a line that came before it, was damaged.
+use Rattle.gc_theorems.specs.Common.{WINDOW, IDS, place_in}
 use Rattle.std.specs.Prelude.{◌≡◌, ℕ, ◌+◌, ◌%◌, ◌≤◌, List, ◌∷◌, length, Option, Some}
-use Rattle.gc_client.specs.declared.window.TheConstants.{WINDOW, IDS}
-use Rattle.gc_client.specs.Rule.{place_in}
 use Rattle.gc_theorems.specs.Damage.{Account, Of, account_heard}
 use Rattle.gc_theorems.specs.OneQueue.{InFlight, Step, ArePossible, account_at_end, newly_settled, nothing_in_flight, queue}
 use Rattle.gc_theorems.specs.Slack.{HasNoDamage}

@@ -1,6 +1,6 @@
 -- A stretch with damage, this project's own: a synchronization, and the steps after it.
+use Rattle.gc_theorems.specs.Common.{WINDOW}
 use Rattle.std.specs.Prelude.{ℕ, ◌≤◌, List}
-use Rattle.gc_client.specs.declared.window.TheConstants.{WINDOW}
 use Rattle.gc_theorems.specs.World.{Ends}
 use Rattle.gc_theorems.specs.Begin.{IsWellFormed, UnderWay, begins, leaves}
 use Rattle.gc_theorems.specs.Instrument.{OfAnyInstrument}

@@ -1,14 +1,8 @@
 -- Stretches of a station's run over a line that damages, this project's own. In a stretch the station synchronizes, and then goes on until
 -- it resynchronizes, or ends. A part is what the station sees of a stretch: a damaged line is heard like any other, and a request that
 -- damage made is nothing to the station.
+use Rattle.gc_theorems.specs.Common.{Asked, IDS, WINDOW, Settlement, KeptReply, Part}
 use Rattle.std.specs.Prelude.{◌≡◌, ◌⊎◌, ℕ, ◌<◌, true, List, [], ◌∷◌, ◌++◌, drop, map, Option}
-use Rattle.gc_catalogue.specs.declared.asked.Asked.{Asked}
-use Rattle.gc_client.specs.declared.window.TheConstants.{IDS, WINDOW}
-use Rattle.gc_client.specs.OneForOne as client
-use Rattle.gc_client.specs.Rule.{Settlement}
-use Rattle.gc_instrument.specs.State.{KeptReply}
-use Rattle.gc_station.specs.Parts as part
-use Rattle.gc_station.specs.Parts.{Part}
 use Rattle.gc_theorems.specs.World.{Ends, Sent}
 use Rattle.gc_theorems.specs.Begin.{LacksTheWord, SyncModel, SyncTurn, UnderWay, begins, leaves}
 use Rattle.gc_theorems.specs.Beginnings.{under_way_on}
@@ -17,8 +11,10 @@ use Rattle.gc_theorems.specs.Shown.{shows}
 use Rattle.gc_theorems.specs.Harm.{Harm, Does, Damages, Strikes, Harmed, harm_begun, harmed, harms}
 use Rattle.gc_theorems.specs.DamagedHoldingBack.{Holding, ended, holding_begun, holding_harms}
 use Rattle.gc_theorems.specs.Stretch.{left_by_sync}
-use Rattle.gc_theorems.specs.DamagedSynchronizing as sync
 use Rattle.gc_theorems.specs.DamagedSynchronizing.{SyncHarm, AllMaySyncHarm, OwnEighthComes, sync_harmed, sync_harms}
+use Rattle.gc_client.specs.OneForOne as client
+use Rattle.gc_station.specs.Parts as part
+use Rattle.gc_theorems.specs.DamagedSynchronizing as sync
 
 -- What a station sees.
 

@@ -4,10 +4,8 @@
 -- executes a request, and keeps its reply or nothing; or it sends again what it keeps. It isn't asked that it does so only for a request
 -- with the kept id: more may happen here than can. One thing isn't expressible: that an instrument executes a raw request, and goes on
 -- keeping an older reply.
+use Rattle.gc_theorems.specs.Common.{AllByRecursion, WINDOW, IDS, ById, Sending, sends}
 use Rattle.std.specs.Prelude.{◌≡◌, ℕ, ◌+◌, ◌%◌, ◌≤◌, Bool, List, [], ◌∷◌, ◌++◌, take, drop, Option, Some, None, IfSome, if◌then◌else◌, ⊤}
-use Rattle.std.specs.List.{AllByRecursion}
-use Rattle.gc_client.specs.declared.window.TheConstants.{WINDOW, IDS}
-use Rattle.gc_client.specs.Rule.{ById, Sending, sends}
 use Rattle.gc_theorems.specs.Damage.{Account, IsLocal, Of, Damaged, account_sent, account_expired, account_heard, opened}
 use Rattle.gc_theorems.specs.OneQueue.{InFlight, OneQueue, without, doubled, newly_settled, next_line}
 use Rattle.gc_theorems.specs.Slack.{HasSlack}

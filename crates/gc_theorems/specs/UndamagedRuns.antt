@@ -1,16 +1,14 @@
 -- Runs without damage as instances of runs with it, this project's own: the runs of the field (`IsInField`), in which nothing is damaged.
+use Rattle.gc_theorems.specs.Common.{AllByRecursion, WINDOW, KeptReply}
 use Rattle.std.specs.Prelude.{◌⊎◌, List, [], ◌∷◌, map, Option}
-use Rattle.std.specs.List.{AllByRecursion}
-use Rattle.gc_client.specs.declared.window.TheConstants.{WINDOW}
-use Rattle.gc_instrument.specs.State.{KeptReply}
 use Rattle.gc_theorems.specs.World.{Ends}
 use Rattle.gc_theorems.specs.Begin.{UnderWay}
 use Rattle.gc_theorems.specs.Beginnings.{Run, left_by_run}
 use Rattle.gc_theorems.specs.Instrument.{OfAnyInstrument, TreatsRawsAlike}
 use Rattle.gc_theorems.specs.Runs.{IsInField, Program}
-use Rattle.gc_theorems.specs.Harm as harm
 use Rattle.gc_theorems.specs.DamagedRuns.{AreOfTable, HarmedProgram, IsInHarmedField}
 use Rattle.gc_theorems.specs.Stretches.{HarmedStretch, HasDamageApart}
+use Rattle.gc_theorems.specs.Harm as harm
 use Rattle.gc_theorems.specs.DamagedSynchronizing as sync
 
 module _ {State : Type 0} (ends : Ends State) where

@@ -1,10 +1,7 @@
 -- The field without damage as an instance of the field with it, this project's own: of moves of the field alone, in which the client asks
 -- only for calls of the table, each send is fresh, though that isn't asked, and each answer is own.
+use Rattle.gc_theorems.specs.Common.{WINDOW, Answered, Settlement, KeptReply, Asked}
 use Rattle.std.specs.Prelude.{◌≡◌, ℕ, ◌≤◌, List, Option, map, Some, slice_get}
-use Rattle.gc_client.specs.declared.window.TheConstants.{WINDOW}
-use Rattle.gc_client.specs.Rule.{Answered, Settlement}
-use Rattle.gc_instrument.specs.State.{KeptReply}
-use Rattle.gc_catalogue.specs.declared.asked.Asked.{Asked}
 use Rattle.gc_theorems.specs.World.{Ends}
 use Rattle.gc_theorems.specs.Field.{Move, AsksTheTable}
 use Rattle.gc_theorems.specs.Begin.{UnderWay}

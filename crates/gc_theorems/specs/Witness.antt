@@ -1,32 +1,21 @@
 -- There is a run in the field, this project's own: the station synchronizes over a line with an older request and an older
 -- reply in flight: eight null procedures are answered, and then that of the client. A command is asked and answered. So what is
 -- said of all such runs is said of some.
+use Rattle.gc_theorems.specs.Common.{with_end, Answer, Long, Table, InstrumentNo, NullProc, WINDOW, State, IsFittingState, simulator_opening, Task, Fine, Plan, Act, Told, Put, Gave, Closed, Opened, Scope, scoped}
 use Rattle.std.specs.Prelude.{◌≡◌, ℕ, ◌+◌, false, List, [], ◌∷◌, codes, drop, pos, Some, None}
-use Rattle.gc_lines.specs.Lines.{with_end}
-use Rattle.gc_catalogue.specs.declared.answer.Answer.{Answer}
-use Rattle.gc_catalogue.specs.declared.answer.Answer.TheVariants.{Long}
 use Rattle.gc_catalogue.specs.declared.answer.Reading.TheVariants.{Value}
-use Rattle.gc_catalogue.specs.declared.asked.Asked.TheVariants.{Table}
-use Rattle.gc_catalogue.specs.declared.call.Call.TheVariants.{InstrumentNo, NullProc}
-use Rattle.gc_client.specs.declared.window.TheConstants.{WINDOW}
-use Rattle.gc_instrument.specs.State.{State, IsFittingState, simulator_opening}
-use Rattle.gc_texts.specs.declared.tasks.Task.{Task}
-use Rattle.gc_texts.specs.Endings as end
-use Rattle.gc_texts.specs.declared.quality.Quality.TheVariants.{Fine}
-use Rattle.gc_station.specs.declared.plan.Plan.{Plan}
-use Rattle.gc_links.specs.Acts.{Act, Told, Put, Gave, Closed, Opened}
-pub use Rattle.gc_station.specs.BoundRuns.{at, null_lines, null_replies as replies}
-use Rattle.gc_station.specs.Scopes.{Scope, scoped}
 use Rattle.gc_theorems.specs.Plain.{plain_record, plain_task}
 use Rattle.gc_theorems.specs.Simulator.{simulator_ends}
 use Rattle.gc_theorems.specs.World.{Up_deliver}
-use Rattle.gc_theorems.specs.Begin as turn
 use Rattle.gc_theorems.specs.Begin.{SyncTurn, Asks, Reaches, UnderWay, left_by_turns}
 use Rattle.gc_theorems.specs.Beginnings.{Run}
 use Rattle.gc_theorems.specs.Begun.{WasMadeOn}
 use Rattle.gc_theorems.specs.Field.{Move, Sends, Tells, Comes, OnLine}
 use Rattle.gc_theorems.specs.Laws.{kept_of}
 use Rattle.gc_theorems.specs.Runs.{IsInField, NoActFollows, Program, program_records}
+use Rattle.gc_texts.specs.Endings as end
+pub use Rattle.gc_station.specs.BoundRuns.{at, null_lines, null_replies as replies}
+use Rattle.gc_theorems.specs.Begin as turn
 
 -- a plan with requests in flight up to this width, deadlines of 100 ms, one cycle, a quiet time of 10 ms, and one retry
 abbrev pub plan_of_width : ℕ → Plan

@@ -1,10 +1,7 @@
 -- The world, this project's own: a client and an instrument, the line between them, what may happen on it, and a run. A client of
 -- this world asks for calls of the table and for procedures that aren't in it.
+use Rattle.gc_theorems.specs.Common.{asked_line, Asked, Sending, heard, Handed}
 use Rattle.std.specs.Prelude.{ℕ, true, List, Option, Some}
-use Rattle.gc_catalogue.specs.Asked.{asked_line}
-use Rattle.gc_catalogue.specs.declared.asked.Asked.{Asked}
-use Rattle.gc_client.specs.Rule.{Sending, heard}
-use Rattle.gc_instrument.specs.Replying.{Handed}
 use Rattle.gc_world.specs.Worlds
 pub use Rattle.gc_world.specs.Worlds.{Numbered, Send, Up_deliver, Up_lose, Up_repeat, Down_deliver, Down_lose, Down_repeat, Expire, Restart_client, Restart_instrument, Nothing, opened, without, doubled, idle, replied, up_delivered, with_up, with_down, started, instrument_restarted, on_wire, with_settled, down_delivered, client_restarted}
 

@@ -1,11 +1,8 @@
 -- A written decimal is ASCII, and so it is UTF-8.
-use Rattle.std.proofs.Common.{ℕ, ◌/◌, ◌%◌, ◌^◌, ◌<◌, ℤ, pos, negsuc, unsigned_abs, List, [], ◌∷◌, ◌++◌, arith, lit<}
+use Rattle.gc_values.proofs.Common.{ℕ, ◌/◌, ◌%◌, ◌^◌, ◌<◌, ℤ, pos, negsuc, unsigned_abs, List, [], ◌∷◌, ◌++◌, arith, lit<, All-weaker, All-from_recursion, IsDigit, AreDigits, minus_text, whole_text, places_text, written}
 use Rattle.std.specs.Str.{IsAscii, IsUtf8}
 use Rattle.std.proofs.lemmas.Str.{IsAscii-append, IsUtf8-from_ascii}
 use Rattle.std.proofs.lemmas.Str.Ascii.{IsAscii-nil, IsAscii-cons, IsAscii-from_all}
-use Rattle.std.proofs.lemmas.List.Elements.{All-weaker, All-from_recursion}
-use Rattle.gc_values.specs.Digits.{IsDigit, AreDigits}
-use Rattle.gc_values.specs.Written.{minus_text, whole_text, places_text, written}
 use Rattle.gc_values.proofs.WrittenSpells.{writes_whole, is_fraction_text}
 
 -- digits are ASCII

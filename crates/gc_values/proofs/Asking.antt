@@ -1,14 +1,8 @@
 -- What the slow reader of parameters says of the whole list.
-use Rattle.std.specs.Prelude.{◌≡◌, ◌≤◌, ℕ, List, length, None, Result, Ok, Err, IfOk, IfErr}
-use Rattle.std.proofs.Common.{arith, ap, inl, inr}
+use Rattle.gc_values.proofs.Common.{IfOk, arith, ap, inl, inr, IsItemsFault, IsListFault, too_many, faulty_item, open_quote, faulty_items, AreTooMany, HasOpenQuote, IsParams, IsEither, ValueFault, OpenQuote, TooMany, Kind}
+use Rattle.std.specs.Prelude.{◌≡◌, ◌≤◌, ℕ, List, length, None, Result, Ok, Err, IfErr}
 use Rattle.gc_values.specs.Asked.{FailsFrom, IsFaultFrom, wrong_count, first_fault}
-use Rattle.gc_values.specs.Lists.{IsItemsFault, IsListFault, too_many, faulty_item, open_quote, faulty_items}
 use Rattle.gc_values.specs.Lists as lists
-use Rattle.gc_values.specs.Params.{AreTooMany, HasOpenQuote, IsParams}
-use Rattle.gc_values.specs.ValueFault.{IsEither}
-use Rattle.gc_values.specs.declared.fault.ValueFault.{ValueFault}
-use Rattle.gc_values.specs.declared.fault.ValueFault.TheVariants.{OpenQuote, TooMany}
-use Rattle.gc_values.specs.declared.value.Kind.{Kind}
 
 -- of at most 16 items, the fault that `IsFaultFrom` reports at place 0, where no fault was found so far, is the fault of all the
 -- items

@@ -1,10 +1,9 @@
 -- A byte parameter, which is two hexadecimal digits between single quotes: a text is the parameter of one byte at most, and a
 -- byte's text reads back.
-use Rattle.std.proofs.Common.{◌≡◌, ℕ, ◌+◌, ◌*◌, ◌/◌, ◌%◌, ◌<◌, List, [], ◌∷◌, Some, refl, sym, ap, ◌∙◌, arith}
-use Rattle.std.specs.Prelude.{Option, slice_index}
-use Rattle.hex.specs.Hex.{hex_digit_value, lower_digits, encode_with, encode_lower}
+use Rattle.gc_values.proofs.Common.{◌≡◌, ℕ, ◌+◌, ◌*◌, ◌/◌, ◌%◌, ◌<◌, List, [], ◌∷◌, Some, refl, sym, ap, ◌∙◌, arith, slice_index, hex_digit_value, lower_digits, encode_lower, IsByte, byte_text}
+use Rattle.std.specs.Prelude.{Option}
+use Rattle.hex.specs.Hex.{encode_with}
 use Rattle.hex.proofs.HexLemmas.{IsDigits-lower_digits}
-use Rattle.gc_values.specs.Byte.{IsByte, byte_text}
 
 -- if equal bytes are hexadecimal digits, these have the same value
 one_digit_value : (a b x y : ℕ) → a ≡ b → hex_digit_value a ≡ Some x → hex_digit_value b ≡ Some y → x ≡ y

@@ -1,12 +1,6 @@
 -- What the laws of decimals say: a text spells one decimal at most or has one fault, and decimals are equal exactly where their
 -- values, their texts or `==` say so.
-use Rattle.std.proofs.Common.{◌≡◌, ◌↔◌, ◌==◌, ◌&&◌, IsTrue, true, ℕ, List, refl, sym, ap, ◌∙◌, subst}
-use Rattle.std.specs.Cmp.{first_so, second_so, signed_Decides, unsigned_Decides}
-use Rattle.std.specs.Ordering.{int_eq}
-use Rattle.gc_values.specs.Decimals.{fraction, decimal_eq, SpellsDecimal, decimal_text}
-use Rattle.gc_values.specs.Fraction.{Fraction, IsRounded, SameValue}
-use Rattle.gc_values.specs.Spelling.{SpellsBeyond, SpellsNothing}
-use Rattle.gc_values.specs.declared.decimal.Decimal.{Decimal}
+use Rattle.gc_values.proofs.Common.{◌≡◌, ◌↔◌, ◌==◌, ◌&&◌, IsTrue, true, ℕ, List, refl, sym, ap, ◌∙◌, subst, first_so, second_so, signed_Decides, unsigned_Decides, int_eq, fraction, decimal_eq, SpellsDecimal, decimal_text, Fraction, IsRounded, SameValue, SpellsBeyond, SpellsNothing, Decimal}
 use Rattle.gc_values.proofs.DecimalLemmas.{same_decimal}
 use Rattle.gc_values.proofs.ReadLemmas.{in_range_only, spells_once}
 use Rattle.gc_values.proofs.Rounded.{exact_rounds, rounds_to_one}

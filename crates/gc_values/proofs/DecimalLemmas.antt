@@ -1,8 +1,6 @@
 -- Decimals of the same digits and scale are equal: the facts that a decimal carries have one proof each.
-use Rattle.std.proofs.Common.{◌≡◌, ℕ, ◌≤◌, ℤ, ap, ◌∙◌, subst}
+use Rattle.gc_values.proofs.Common.{◌≡◌, ℕ, ◌≤◌, ℤ, ap, ◌∙◌, subst, IsCanonical, IsInRange, Decimal}
 use Rattle.std.proofs.Props.{props}
-use Rattle.gc_values.specs.Fraction.{IsCanonical, IsInRange}
-use Rattle.gc_values.specs.declared.decimal.Decimal.{Decimal}
 
 -- the decimal of digits and a scale, with the proofs of its facts
 abbrev decimal_with : (m : ℤ) (s : ℕ) → s ≤ 24 → IsInRange m s → IsCanonical m s → Decimal

@@ -1,15 +1,6 @@
 -- Each text spells a decimal, or a number out of its range, or none. `IsDecided` says of something that it holds, or that it
 -- doesn't.
-use Rattle.std.proofs.Common.{◌≡◌, ℕ, ◌+◌, ◌*◌, ◌^◌, ◌<◌, Bool, true, false, List, [], ◌∷◌, ◌++◌, length, ℤ, unsigned_abs, Option, Some, None, refl, sym, ap, ◌∙◌, subst, ◌⊎◌, inl, inr, arith}
-use Rattle.std.proofs.lemmas.Bool.{cases_lt, cases_eq}
-use Rattle.gc_values.specs.Cut.{StartsNoDigit, StartsNoSign, CutsSign, CutsFraction}
-use Rattle.gc_values.specs.Decimals.{SpellsDecimal}
-use Rattle.gc_values.specs.Digits.{number}
-use Rattle.gc_values.specs.Fraction.{signed}
-use Rattle.gc_values.specs.Nearest.{half_up}
-use Rattle.gc_values.specs.RoundedFacts.{half_up_rounds}
-use Rattle.gc_values.specs.Spelling.{is_minus, Exponent, IsExponentDigits, IsExponent, exponent_text, mark, ups, downs, fraction_digits, Parts, IsNumeral, spelling, parts_value, Spells, SpellsBeyond, SpellsNothing}
-use Rattle.gc_values.specs.declared.decimal.Decimal.{Decimal}
+use Rattle.gc_values.proofs.Common.{◌≡◌, ℕ, ◌+◌, ◌*◌, ◌^◌, ◌<◌, Bool, true, false, List, [], ◌∷◌, ◌++◌, length, ℤ, unsigned_abs, Option, Some, None, refl, sym, ap, ◌∙◌, subst, ◌⊎◌, inl, inr, arith, cases_lt, cases_eq, StartsNoDigit, StartsNoSign, CutsSign, CutsFraction, SpellsDecimal, number, signed, half_up, half_up_rounds, is_minus, Exponent, IsExponentDigits, IsExponent, exponent_text, mark, ups, downs, fraction_digits, Parts, IsNumeral, spelling, parts_value, Spells, SpellsBeyond, SpellsNothing, Decimal}
 use Rattle.gc_values.proofs.EachWhole.{IsDecided, digits_or_not, digits_cut, sign_cut}
 use Rattle.gc_values.proofs.Powers.{ten_pow_pos}
 use Rattle.gc_values.proofs.Rounded.{has_form_without_zeros, rounded_from}

@@ -1,27 +1,13 @@
 -- Each item is read as a value of a kind, or has a fault; and so is each parameter list read as values, or has a fault.
 -- `IsDecided` says of something that it holds, or that it doesn't.
-use Rattle.std.proofs.Common.{◌≡◌, ◌≢◌, ℕ, zero, suc, ◌+◌, ◌*◌, ◌%◌, Bool, true, false, List, [], ◌∷◌, ◌++◌, length, replicate, ℤ, pos, negsuc, Option, Some, None, refl, sym, ap, ◌∙◌, subst, ◌⊎◌, inl, inr, arith}
-use Rattle.std.proofs.lemmas.Bool.{cases_lt, cases_eq}
-use Rattle.std.proofs.lemmas.Int.{ints}
-use Rattle.std.proofs.lemmas.List.{same_from_push}
-use Rattle.hex.specs.Hex.{hex_digit_value}
-use Rattle.gc_values.specs.Boolean.{number_of, NamesBoolean}
-use Rattle.gc_values.specs.Byte.{IsByte}
-use Rattle.gc_values.specs.Item.{kind_of, IsItem, IsItemFault}
-use Rattle.gc_values.specs.Lists.{kinds_of, AreItems, FirstFault, IsListReadOrFaulty, too_many, wrong_count, faulty_item, open_quote, faulty_items}
-use Rattle.gc_values.specs.Params.{quotes, AreSpaces, IsParams}
-use Rattle.gc_values.specs.Text.{IsStringByte, AreStringBytes, quoted, IsString}
-use Rattle.gc_values.specs.Whole.{NamesWhole, IsBetween}
-use Rattle.gc_values.specs.declared.fault.ValueFault.{ValueFault}
-use Rattle.gc_values.specs.declared.fault.ValueFault.TheVariants as fault
-use Rattle.gc_values.specs.declared.value.Kind.{Kind}
-use Rattle.gc_values.specs.declared.value.Kind.TheVariants as kind
-use Rattle.gc_values.specs.declared.value.Value.{Value}
-use Rattle.gc_values.specs.declared.value.Value.TheVariants as value
+use Rattle.gc_values.proofs.Common.{◌≡◌, ◌≢◌, ℕ, zero, suc, ◌+◌, ◌*◌, ◌%◌, Bool, true, false, List, [], ◌∷◌, ◌++◌, length, replicate, ℤ, pos, negsuc, Option, Some, None, refl, sym, ap, ◌∙◌, subst, ◌⊎◌, inl, inr, arith, cases_lt, cases_eq, ints, same_from_push, hex_digit_value, number_of, NamesBoolean, IsByte, kind_of, IsItem, IsItemFault, kinds_of, AreItems, FirstFault, IsListReadOrFaulty, too_many, wrong_count, faulty_item, open_quote, faulty_items, quotes, AreSpaces, IsParams, IsStringByte, AreStringBytes, quoted, IsString, NamesWhole, IsBetween, ValueFault, Kind, Value}
 use Rattle.gc_values.proofs.EachDecimal.{each_decimal}
 use Rattle.gc_values.proofs.EachWhole.{IsDecided, all_or_not, whole_between}
 use Rattle.gc_values.proofs.ParamLists.{has_pieces, not_even_is_odd}
 use Rattle.gc_values.proofs.TextLemmas.{one_quoted}
+use Rattle.gc_values.specs.declared.fault.ValueFault.TheVariants as fault
+use Rattle.gc_values.specs.declared.value.Kind.TheVariants as kind
+use Rattle.gc_values.specs.declared.value.Value.TheVariants as value
 
 -- an item is read as a value of the kind, or has a fault for the kind
 abbrev pub IsReadOrFaulty : Kind → List ℕ → Type 0

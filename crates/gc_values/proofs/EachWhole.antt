@@ -1,13 +1,5 @@
 -- Each text is cut at its sign and its digits, and writes a whole number or none.
-use Rattle.std.proofs.Common.{ℕ, suc, Bool, true, false, List, [], ◌∷◌, ℤ, pos, negsuc, refl, ap, ◌⊎◌, inl, inr, arith}
-use Rattle.std.specs.List.{AllByRecursion}
-use Rattle.std.proofs.lemmas.Bool.{cases_lt, cases_eq}
-use Rattle.std.proofs.lemmas.Int.{ints}
-use Rattle.gc_values.specs.Cut.{CutsSign, CutsDigits}
-use Rattle.gc_values.specs.Digits.{IsDigit, AreDigits, number}
-use Rattle.gc_values.specs.Fraction.{signed}
-use Rattle.gc_values.specs.Spelling.{Absent, Plus, Minus}
-use Rattle.gc_values.specs.Whole.{NamesNumber, NamesWhole, NamesNoWhole, NamesWholeBeyond, IsBetween}
+use Rattle.gc_values.proofs.Common.{ℕ, suc, Bool, true, false, List, [], ◌∷◌, ℤ, pos, negsuc, refl, ap, ◌⊎◌, inl, inr, arith, AllByRecursion, cases_lt, cases_eq, ints, CutsSign, CutsDigits, IsDigit, AreDigits, number, signed, Absent, Plus, Minus, NamesNumber, NamesWhole, NamesNoWhole, NamesWholeBeyond, IsBetween}
 use Rattle.gc_values.proofs.WholeLemmas.{text_names_from_rest, rest_names_from_text}
 
 -- something holds, or it doesn't

@@ -1,10 +1,8 @@
 -- What holds of each element of a list (`AllByRecursion`) holds of each element of its parts, and what follows from it holds,
 -- too. `every_append`: what holds of the elements of two lists holds of those of both, one after the other. `every_at`: what
 -- holds of each element holds of the one at a place.
-use Rattle.std.proofs.Common.{ℕ, ◌+◌, ◌<◌, List, [], ◌∷◌, ◌++◌, length, get_or, take, drop}
+use Rattle.gc_values.proofs.Common.{ℕ, ◌+◌, ◌<◌, List, [], ◌∷◌, ◌++◌, length, get_or, take, drop, All-from_recursion, recursion_from_All, AllByRecursion}
 use Rattle.std.proofs.lemmas.List.Elements as elements
-use Rattle.std.proofs.lemmas.List.Elements.{All-from_recursion, recursion_from_All}
-use Rattle.std.specs.List.{AllByRecursion}
 pub use Rattle.std.proofs.Permutation.{every_append, every_at}
 
 -- if P of an element implies Q of it, and P holds of each element, Q holds of each

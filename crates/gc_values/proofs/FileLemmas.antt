@@ -1,10 +1,5 @@
 -- Values of files: bytes before a zero, the path that is kept, and the line of a file.
-use Rattle.std.proofs.Common.{◌≡◌, ℕ, zero, suc, ◌+◌, ◌<◌, ◌≤◌, ◌||◌, Bool, true, false, length, get_or, take, drop, List, [], ◌∷◌, ◌++◌, replicate, refl, sym, ap, ◌∙◌, arith, append_assoc, drop-cons}
-use Rattle.std.proofs.lemmas.Bool.{ne_eqb}
-use Rattle.std.proofs.lemmas.List.{append-nil, same_from_push, take_all, take_more, drop_all, drop_more}
-use Rattle.std.proofs.lemmas.Grind.{common_steps}
-use Rattle.std.specs.List.{list_any}
-use Rattle.gc_values.specs.FileValues.{has_path, is_foreign, value_text, without_cr, IsLineOf}
+use Rattle.gc_values.proofs.Common.{◌≡◌, ℕ, zero, suc, ◌+◌, ◌<◌, ◌≤◌, ◌||◌, Bool, true, false, length, get_or, take, drop, List, [], ◌∷◌, ◌++◌, replicate, refl, sym, ap, ◌∙◌, arith, append_assoc, drop-cons, ne_eqb, append-nil, same_from_push, take_all, take_more, drop_all, drop_more, common_steps, list_any, has_path, is_foreign, value_text, without_cr, IsLineOf}
 
 -- what is before the first zero, after a byte that is none
 text_behind : (b : ℕ) (bs : List ℕ) → (b ≡ 0 → ⊥) → value_text (b ∷ bs) ≡ b ∷ value_text bs

@@ -1,15 +1,6 @@
 -- A number in the common spelling at the front of a list.
-use Rattle.std.proofs.Common.{◌≡◌, ℕ, ℤ, ◌+◌, ◌-◌, ◌*◌, ◌^◌, ◌<◌, ◌≤◌, false, List, [], ◌∷◌, ◌++◌, length, get_or, take, drop, Option, Some, None, refl, sym, ◌∙◌, ap, subst, arith, add-one, append-nil, append_assoc, length-append, lit≤}
-use Rattle.std.proofs.Math.Nat.{mul-le-mul_left, mul-le-mul_right, pow-suc}
-use Rattle.std.proofs.lemmas.Nat.{pow-add}
-use Rattle.std.proofs.lemmas.List.{drop_more, length-take-le, take-append-drop}
-use Rattle.gc_values.specs.Digits.{AreDigits, IsDigit, number}
-use Rattle.gc_values.specs.Nearest.{SignedWithoutZeros}
-use Rattle.gc_values.specs.Plainly.{CountsDigits, CutsPlain, CutsDecimal, CutsNumber, IsItemAndRest}
-use Rattle.gc_values.specs.RoundedFacts.{ten_pow_cut}
-use Rattle.gc_values.specs.Spelling.{Absent, Spells}
-use Rattle.gc_values.specs.declared.decimal.Decimal.{Decimal}
-use Rattle.gc_values.specs.declared.numeral.Numeral.{Numeral}
+use Rattle.gc_values.proofs.Common.{◌≡◌, ℕ, ℤ, ◌+◌, ◌-◌, ◌*◌, ◌^◌, ◌<◌, ◌≤◌, false, List, [], ◌∷◌, ◌++◌, length, get_or, take, drop, Option, Some, None, refl, sym, ◌∙◌, ap, subst, arith, add-one, append_assoc, length-append, lit≤, mul-le-mul_left, mul-le-mul_right, pow-suc, pow-add, drop_more, length-take-le, take-append-drop, AreDigits, IsDigit, number, SignedWithoutZeros, CountsDigits, CutsPlain, CutsDecimal, CutsNumber, IsItemAndRest, ten_pow_cut, Absent, Spells, Decimal, Numeral}
+use Rattle.std.proofs.Common.{append-nil}
 use Rattle.gc_values.proofs.Every.{every_append, every_more}
 use Rattle.gc_values.proofs.Kept.{followed_more, number-append, number-lt}
 use Rattle.gc_values.proofs.Powers.{ten_pow_le}

@@ -1,9 +1,7 @@
 -- A byte from two hexadecimal digits: what `hex_byte` returns, by what the library's decoding returns.
-use Rattle.std.proofs.Common.{◌≡◌, ℕ, ◌+◌, ◌*◌, List, [], ◌∷◌, Option, Some, None, Result, Ok, refl, sym, ap, ◌∙◌, MatchResult}
-use Rattle.std.specs.Prelude.{IsSomeAnd}
-use Rattle.hex.specs.Hex.{hex_digit_value, digit_or_error, decode_pairs, decode_sized, ◌>>=◌}
+use Rattle.gc_values.proofs.Common.{◌≡◌, ℕ, ◌+◌, ◌*◌, List, [], ◌∷◌, Option, Some, None, Result, Ok, refl, sym, ap, ◌∙◌, MatchResult, IsSomeAnd, hex_digit_value, digit_or_error, decode_sized, ◌>>=◌, IsByte}
+use Rattle.hex.specs.Hex.{decode_pairs}
 use Rattle.hex.specs.declared.error.FromHexError.{FromHexError}
-use Rattle.gc_values.specs.Byte.{IsByte}
 
 -- what decoding the bytes a and b as two hexadecimal digits returns, where x and y are their values (`None`: no such digit)
 abbrev pub decoded_pair : (a b : ℕ) (x y : Option ℕ) → Result (List ℕ) FromHexError

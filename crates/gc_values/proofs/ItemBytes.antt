@@ -1,7 +1,5 @@
 -- How many bytes texts have together (`total_length`): the first of them, and the items of a parameter list.
-use Rattle.std.proofs.Common.{◌≡◌, ℕ, zero, suc, ◌+◌, ◌<◌, ◌≤◌, List, [], ◌∷◌, ◌++◌, length, take, replicate, get_or, ap, arith, length-append}
-use Rattle.std.specs.List.{flat_map}
-use Rattle.gc_values.specs.Params.{IsParams, ArePieces, joined, total_length}
+use Rattle.gc_values.proofs.Common.{◌≡◌, ℕ, zero, suc, ◌+◌, ◌<◌, ◌≤◌, List, [], ◌∷◌, ◌++◌, length, take, replicate, get_or, ap, arith, length-append, flat_map, IsParams, ArePieces, joined, total_length}
 
 -- the first k + 1 texts have the bytes of the first k, and those of the next one
 pub total_length_next : (texts : List (List ℕ)) (k : ℕ) → k < length texts → total_length (take (suc k) texts) ≡ total_length (take k texts) + length (get_or texts k [])

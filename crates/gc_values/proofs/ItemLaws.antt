@@ -1,21 +1,6 @@
 -- What the laws of items say: an item is read as one value of a kind, or has one fault, and never both; and a value's text reads
 -- back.
-use Rattle.std.proofs.Common.{◌≡◌, ℕ, ◌<◌, Bool, true, false, List, length, ℤ, pos, refl, sym, ap, ◌∙◌, subst, inl, inr, arith, Result, Ok, Err, IfErr, Some}
-use Rattle.hex.specs.Hex.{hex_digit_value}
-use Rattle.gc_values.specs.Boolean.{number_of}
-use Rattle.gc_values.specs.Byte.{IsByte}
-use Rattle.gc_values.specs.Item.{kind_of, IsItem, HasNoForm, IsBeyond, IsItemFault, IsValue, text}
-use Rattle.gc_values.specs.Spelling.{SpellsBeyond, SpellsNothing}
-use Rattle.gc_values.specs.Text.{IsTextItem, IsLongString}
-use Rattle.gc_values.specs.ValueFault.{IsEither}
-use Rattle.gc_values.specs.Whole.{NamesWhole, NamesWholeBeyond, IsBetween}
-use Rattle.gc_values.specs.declared.decimal.Decimal.{Decimal}
-use Rattle.gc_values.specs.declared.fault.ValueFault.{ValueFault}
-use Rattle.gc_values.specs.declared.fault.ValueFault.TheVariants as fault
-use Rattle.gc_values.specs.declared.value.Kind.{Kind}
-use Rattle.gc_values.specs.declared.value.Kind.TheVariants as kind
-use Rattle.gc_values.specs.declared.value.Value.{Value}
-use Rattle.gc_values.specs.declared.value.Value.TheVariants as value
+use Rattle.gc_values.proofs.Common.{◌≡◌, ℕ, ◌<◌, Bool, true, false, List, length, ℤ, pos, refl, sym, ap, ◌∙◌, subst, inl, inr, arith, Result, Ok, Err, IfErr, Some, hex_digit_value, number_of, IsByte, kind_of, IsItem, HasNoForm, IsBeyond, IsItemFault, IsValue, text, SpellsBeyond, SpellsNothing, IsTextItem, IsLongString, IsEither, NamesWhole, NamesWholeBeyond, IsBetween, Decimal, ValueFault, Kind, Value}
 use Rattle.gc_values.proofs.ByteLemmas.{one_byte, byte_reads}
 use Rattle.gc_values.proofs.DecimalLemmas.{same_decimal}
 use Rattle.gc_values.proofs.ReadLemmas.{spells_once, in_range_only}
@@ -23,6 +8,9 @@ use Rattle.gc_values.proofs.TextLemmas.{one_string}
 use Rattle.gc_values.proofs.WholeLemmas.{one_whole}
 use Rattle.gc_values.proofs.WholeText.{signed_reads, boolean_between, boolean_reads}
 use Rattle.gc_values.proofs.WrittenSpells.{written_spells}
+use Rattle.gc_values.specs.declared.fault.ValueFault.TheVariants as fault
+use Rattle.gc_values.specs.declared.value.Kind.TheVariants as kind
+use Rattle.gc_values.specs.declared.value.Value.TheVariants as value
 
 -- the written text of a value in its kind's range reads as the value
 pub written_is_read : (v : Value) → IsValue v → IsItem (text v) v

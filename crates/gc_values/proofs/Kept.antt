@@ -1,15 +1,7 @@
 -- The number that the first i digits of a text write, `kept`, with zeros for those that are missing; that number with the next
 -- digit rounded in, `kept_and_rounded`; and numbers that are cut off at a cap, which is `min cap`.
-use Rattle.std.proofs.Common.{◌≡◌, ℕ, ◌+◌, ◌-◌, ◌*◌, ◌^◌, ◌<◌, ◌≤◌, List, [], ◌∷◌, ◌++◌, length, get_or, take, drop, refl, sym, ◌∙◌, ap, subst, inl, inr, arith, add-one, length-append, drop-cons, min, zero, suc, lit<}
-use Rattle.std.proofs.Math.Nat.{mul-le-mul_right, mul-le-mul_left, one-le-pow, pow-suc, mul_comm}
-use Rattle.std.proofs.Math.Seq.{take-suc, get_or-append_right}
+use Rattle.gc_values.proofs.Common.{◌≡◌, ℕ, ◌+◌, ◌-◌, ◌*◌, ◌^◌, ◌<◌, ◌≤◌, List, [], ◌∷◌, ◌++◌, length, get_or, take, drop, refl, sym, ◌∙◌, ap, subst, inl, inr, arith, add-one, length-append, drop-cons, min, zero, suc, lit<, mul-le-mul_right, mul-le-mul_left, one-le-pow, pow-suc, mul_comm, take-suc, get_or-append_right, pow-add, take_all, get_or_default, get_or_past, take-append-drop, length-take-le, nat_tests, cases_lt, IsDigit, AreDigits, number, digit_or_zero, kept, carry, kept_and_rounded}
 use Rattle.std.proofs.Math.ListN.{get_or-append}
-use Rattle.std.proofs.lemmas.Nat.{pow-add}
-use Rattle.std.proofs.lemmas.List.{take_all, get_or_default, get_or_past, take-append-drop, length-take-le}
-use Rattle.std.proofs.lemmas.Bool.Decides.{nat_tests}
-use Rattle.std.proofs.lemmas.Bool.{cases_lt}
-use Rattle.gc_values.specs.Digits.{IsDigit, AreDigits, number}
-use Rattle.gc_values.specs.KeptDigits.{digit_or_zero, kept, carry, kept_and_rounded}
 use Rattle.gc_values.proofs.Every.{every_at, every_take, every_drop}
 use Rattle.gc_values.proofs.Powers.{ten_pow_le}
 use Rattle.gc_values.proofs.Rounding.{RoundsHalfUp, rounds_same_value, rounds_whole, rounds_down, rounds_up}

@@ -1,3 +1,4 @@
+mod Common
 pub mod AsciiText
 pub mod Asking
 pub mod ByteLemmas

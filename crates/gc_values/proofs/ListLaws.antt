@@ -1,17 +1,10 @@
 -- One list of values for parameters and kinds, or one fault, and never both.
+use Rattle.gc_values.proofs.Common.{sym, ◌∙◌, subst, inl, inr, arith, length-map, kind_of, text, IsItem, IsItemFault, joined, quotes, ValueFault, Kind, Value, kinds_of, AreItems, AreParams, AreValues, FirstFault, IsItemsFault, IsListFault, too_many, wrong_count, faulty_item, open_quote, faulty_items}
 use Rattle.std.specs.Prelude.{◌≡◌, ◌≤◌, ℕ, List, [], ◌∷◌, map, length, refl}
-use Rattle.std.proofs.Common.{sym, ◌∙◌, subst, inl, inr, arith}
-use Rattle.std.proofs.lemmas.List.{length-map}
 use Rattle.std.proofs.lemmas.Slice.Zip.{AllZip-long}
-use Rattle.gc_values.specs.Item.{kind_of, text, IsItem, IsItemFault}
-use Rattle.gc_values.specs.Params.{joined, quotes}
-use Rattle.gc_values.specs.declared.fault.ValueFault.{ValueFault}
-use Rattle.gc_values.specs.declared.value.Kind.{Kind}
-use Rattle.gc_values.specs.declared.value.Value.{Value}
-use Rattle.gc_values.specs.Lists.{kinds_of, AreItems, AreParams, AreValues, FirstFault, IsItemsFault, IsListFault, too_many, wrong_count, faulty_item, open_quote, faulty_items}
 use Rattle.gc_values.proofs.ItemLaws.{item_has_no_fault, item_is_value, one_fault, one_value, written_is_read}
-use Rattle.gc_values.proofs.ParamLists as splitting
 use Rattle.gc_values.proofs.TextShape.{joined_splits}
+use Rattle.gc_values.proofs.ParamLists as splitting
 
 -- items are read as at most one list of values of given kinds
 pub one_values_of_items : (vs ws : List Value) (items : List (List ℕ)) → kinds_of vs ≡ kinds_of ws → AreItems items vs → AreItems items ws → vs ≡ ws

@@ -1,11 +1,5 @@
 -- What the code of directions computes, in whole numbers that 128 bits hold.
-use Rattle.std.proofs.Common.{◌≡◌, zero, suc, ◌*◌, ◌^◌, ◌≤◌, ◌&&◌, ◌||◌, ◌⊎◌, inl, inr, Bool, true, ℤ, pos, negsuc, ◌+ℤ◌, ◌-ℤ◌, ◌*ℤ◌, unsigned_abs, FitsSigned, to_z, of_z, refl, sym, ap, ◌∙◌, arith}
-use Rattle.std.proofs.lemmas.Bool.{and_parts, or_cases, or_left, or_right}
-use mir.Syntax.{w128}
-use Rattle.std.proofs.lemmas.Int.{ints, to_z-of_z, fits_signed_from_abs, unsigned_abs-mul}
-use Rattle.gc_values.specs.Decimals.{units}
-use Rattle.gc_values.specs.Directions.{turn, v_in_face_one, hz_in_face_one, is_close, is_close_turned, is_close_on_circle, is_near, NearIsWithinTheTolerance}
-use Rattle.gc_values.specs.declared.decimal.Decimal.{Decimal}
+use Rattle.gc_values.proofs.Common.{◌≡◌, zero, suc, ◌*◌, ◌^◌, ◌≤◌, ◌&&◌, ◌||◌, ◌⊎◌, inl, inr, Bool, true, ℤ, pos, negsuc, ◌+ℤ◌, ◌-ℤ◌, ◌*ℤ◌, unsigned_abs, FitsSigned, to_z, of_z, refl, sym, ap, ◌∙◌, arith, and_parts, or_cases, or_left, or_right, w128, ints, to_z-of_z, fits_signed_from_abs, unsigned_abs-mul, units, turn, v_in_face_one, hz_in_face_one, is_close, is_close_turned, is_close_on_circle, is_near, NearIsWithinTheTolerance, Decimal}
 use Rattle.gc_values.specs.declared.direction.Direction.{Direction}
 use Rattle.gc_values.proofs.WithinLemmas.{int_le_exactly}
 

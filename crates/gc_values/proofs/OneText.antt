@@ -1,22 +1,8 @@
 -- One text has the form of a written number and names it. A whole part is the digits before a point, or of a whole number; a
 -- fraction part is the digits after the point. `IsWrittenText` says of a text that it is what is written of some m / 10^s that
 -- needs all its places and has at most 24.
-use Rattle.std.proofs.Common.{◌≡◌, ◌≢◌, ◌↔◌, ℕ, zero, suc, ◌+◌, ◌-◌, ◌*◌, ◌/◌, ◌%◌, ◌^◌, ◌<◌, ◌≤◌, Bool, true, false, cond, get_or, ℤ, pos, negsuc, List, [], ◌∷◌, ◌++◌, length, map, refl, sym, ap, ◌∙◌, subst, inl, inr, arith, lit<, lit≤}
-use Rattle.std.proofs.Math.Nat.{pow-suc, pos_of_ne-zero, div-one, mul-pos}
-use Rattle.std.proofs.lemmas.Bool.{cases_order}
-use Rattle.std.proofs.lemmas.Bool.Decides.{eqb_tells}
-use Rattle.std.proofs.lemmas.List.{same_from_push}
-use Rattle.std.proofs.lemmas.Nat.{div-mul-add, mod-mul-add, same_from_place}
-use Rattle.std.specs.Int.Digits.{digits_of}
-use Rattle.std.proofs.lemmas.Int.Digits.{first_digits_of}
-use Rattle.gc_values.specs.Decimals.{SpellsDecimal, decimal_text}
-use Rattle.gc_values.specs.Digits.{IsDigit, AreDigits, number}
-use Rattle.gc_values.specs.Fraction.{signed, IsCanonical}
-use Rattle.gc_values.specs.Spelling.{Spells}
-use Rattle.gc_values.specs.Whole.{NamesWhole, signed_text}
-use Rattle.gc_values.specs.Written.{digits_text, whole_text, last_digits, places_text, written}
+use Rattle.gc_values.proofs.Common.{◌≡◌, ◌≢◌, ◌↔◌, ℕ, zero, suc, ◌+◌, ◌-◌, ◌*◌, ◌/◌, ◌%◌, ◌^◌, ◌<◌, ◌≤◌, Bool, true, false, cond, get_or, ℤ, pos, negsuc, List, [], ◌∷◌, ◌++◌, length, map, refl, sym, ap, ◌∙◌, subst, inl, inr, arith, lit<, lit≤, pow-suc, pos_of_ne-zero, div-one, mul-pos, cases_order, eqb_tells, same_from_push, div-mul-add, mod-mul-add, same_from_place, digits_of, first_digits_of, SpellsDecimal, decimal_text, IsDigit, AreDigits, number, signed, IsCanonical, Spells, NamesWhole, signed_text, digits_text, whole_text, last_digits, places_text, written, Decimal}
 use Rattle.gc_values.specs.WrittenForm.{IsWholePart, IsFractionPart, HasWholeForm, HasDecimalForm, minus_where}
-use Rattle.gc_values.specs.declared.decimal.Decimal.{Decimal}
 use Rattle.gc_values.proofs.Every.{every_behind}
 use Rattle.gc_values.proofs.Kept.{number-append, number-lt}
 use Rattle.gc_values.proofs.Powers.{ten_pow_pos, ten_pow_le}

@@ -1,15 +1,7 @@
 -- Decimals are in the order of their values. Signed numbers are given here as a sign, where `true` is a minus, and a magnitude.
-use Rattle.std.proofs.Common.{◌≡◌, ℕ, ◌+◌, ◌-◌, ◌*◌, ◌^◌, ◌<◌, Bool, true, false, ℤ, pos, ◌*ℤ◌, ◌<ℤ◌, sym, ap, subst, arith, mul-lt-mul_of_pos_right, lt_of_mul-lt-mul_right}
-use Rattle.std.proofs.lemmas.Int.{ints}
-use Rattle.std.specs.Cmp.{int_ranks}
-use Rattle.std.specs.Ordering.{MatchOrdering, int_cmp}
+use Rattle.gc_values.proofs.Common.{◌≡◌, ℕ, ◌+◌, ◌-◌, ◌*◌, ◌^◌, ◌<◌, Bool, true, false, ℤ, pos, ◌*ℤ◌, ◌<ℤ◌, sym, ap, subst, arith, mul-lt-mul_of_pos_right, lt_of_mul-lt-mul_right, ints, int_ranks, MatchOrdering, int_cmp, units_once, fraction, units, decimal_cmp, signed, IsBelow, ten_pow_cut, Decimal}
 use Rattle.std.specs.declared.cmp.Ordering.{Ordering}
 use Rattle.std.specs.declared.cmp.Ordering.TheVariants.{Less, Equal, Greater}
-use Rattle.gc_values.specs.DecimalOrder.{units_once}
-use Rattle.gc_values.specs.Decimals.{fraction, units, decimal_cmp}
-use Rattle.gc_values.specs.Fraction.{signed, IsBelow}
-use Rattle.gc_values.specs.RoundedFacts.{ten_pow_cut}
-use Rattle.gc_values.specs.declared.decimal.Decimal.{Decimal}
 use Rattle.gc_values.proofs.DecimalLemmas.{same_decimal}
 use Rattle.gc_values.proofs.Rounded.{has_sign}
 use Rattle.gc_values.proofs.Signs.{signed-mul}

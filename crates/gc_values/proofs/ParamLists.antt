@@ -1,12 +1,7 @@
 -- A parameter list is split at its commas in one way. A piece is what is between two commas, and an item is a piece without
 -- the spaces at its ends. `HasPieces` says of a text that it is pieces joined by commas, each of them a parameter with any
 -- spaces round it.
-use Rattle.std.proofs.Common.{◌≡◌, ℕ, ◌+◌, ◌%◌, ◌<◌, List, [], ◌∷◌, ◌++◌, length, Some, None, refl, sym, ap, ◌∙◌, subst, inl, inr, arith, length-append, append_assoc}
-use Rattle.std.proofs.lemmas.List.{append-nil}
-use Rattle.std.proofs.lemmas.Bool.{cases_eq}
-use Rattle.std.specs.List.{AllByRecursion}
-use Rattle.gc_values.specs.Params.{quotes, AreSpaces, HasCommasInQuotes, IsParam, IsPadded, ArePieces, joined, AreJoined, IsParams}
-use Rattle.gc_values.specs.Pieces.{CutsPiece, IsTrimmed, without_front_spaces, without_end_spaces}
+use Rattle.gc_values.proofs.Common.{◌≡◌, ℕ, ◌+◌, ◌%◌, ◌<◌, List, [], ◌∷◌, ◌++◌, length, Some, None, refl, sym, ap, ◌∙◌, subst, inl, inr, arith, length-append, append_assoc, append-nil, cases_eq, AllByRecursion, quotes, AreSpaces, HasCommasInQuotes, IsParam, IsPadded, ArePieces, joined, AreJoined, IsParams, CutsPiece, IsTrimmed, without_front_spaces, without_end_spaces}
 use Rattle.gc_values.proofs.Quotes.{IsPiece, quotes-append, quotes_same, quotes-spaces, HasCommasInQuotes-nil, HasCommasInQuotes-push, even_not_before_comma, one_comma_cut}
 use Rattle.gc_values.proofs.Trimming.{HasCommasInQuotes-padded, quotes-padded, trimmed_is_param, param_is_trimmed, one_trimmed, trimmed_exists, front_not_spaces}
 

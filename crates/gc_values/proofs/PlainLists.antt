@@ -1,13 +1,9 @@
 -- Parameters in the common spelling, whose bytes are bare: no space, double quote, comma, CR or LF.
-use Rattle.std.specs.Prelude.{◌≡◌, ◌+◌, ◌<◌, ◌≤◌, ℕ, List, [], ◌∷◌, ◌++◌, length, take, drop, Option, Some, None, Result, IfOk, refl}
-use Rattle.std.proofs.Common.{arith, sym, ap, ◌∙◌, subst, get_or, append-nil}
-use Rattle.std.proofs.lemmas.List.{take_all, take-append-drop, drop_more, length-take-le}
-use Rattle.gc_values.specs.Item.{IsItem}
-use Rattle.gc_values.specs.Lists.{AreParams}
-use Rattle.gc_values.specs.Plainly.{ArePlain, CutsPlain, LeftPlain}
+use Rattle.gc_values.proofs.Common.{IfOk, arith, sym, ap, ◌∙◌, subst, get_or, take_all, take-append-drop, drop_more, length-take-le, IsItem, AreParams, ArePlain, CutsPlain, LeftPlain, Value}
+use Rattle.std.specs.Prelude.{◌≡◌, ◌+◌, ◌<◌, ◌≤◌, ℕ, List, [], ◌∷◌, ◌++◌, length, take, drop, Option, Some, None, Result, refl}
+use Rattle.std.proofs.Common.{append-nil}
 use Rattle.gc_values.specs.Taken.{GivesRead, QuickReads, TakesItem, TakesPlainly}
 use Rattle.gc_values.specs.declared.quick.Quick.{Quick}
-use Rattle.gc_values.specs.declared.value.Value.{Value}
 use Rattle.gc_values.proofs.ParamLists.{joined_params}
 use Rattle.gc_values.proofs.TextShape.{AreBare, bare_param}
 

@@ -1,6 +1,5 @@
 -- Powers of ten, and the bounds of a decimal in them.
-use Rattle.std.proofs.Common.{ℕ, ◌*◌, ◌^◌, ◌≤◌, arith, lit<}
-use Rattle.std.proofs.Math.Nat.{pow-le-pow_right}
+use Rattle.gc_values.proofs.Common.{ℕ, ◌*◌, ◌^◌, ◌≤◌, arith, lit<, pow-le-pow_right}
 pub use Rattle.gc_values.specs.RoundedFacts.{ten_pow_pos}
 
 -- 10^k is at most 10^n where k is at most n

@@ -1,10 +1,7 @@
 -- Double quotes in a text are counted, and commas are kept within quotes: each comma has an odd number of double quotes before it
 -- (`HasCommasInQuotes`).
-use Rattle.std.proofs.Common.{◌≡◌, ◌≢◌, ℕ, zero, suc, ◌+◌, ◌%◌, ◌<◌, ◌⊎◌, false, cond, eqb, List, [], ◌∷◌, ◌++◌, length, get_or, take, replicate, refl, sym, ap, ◌∙◌, subst, inl, inr, arith, zero-add}
-use Rattle.std.proofs.lemmas.Bool.{ne_eqb}
+use Rattle.gc_values.proofs.Common.{◌≡◌, ◌≢◌, ℕ, zero, suc, ◌+◌, ◌%◌, ◌<◌, ◌⊎◌, false, cond, eqb, List, [], ◌∷◌, ◌++◌, length, get_or, take, replicate, refl, sym, ap, ◌∙◌, subst, inl, inr, arith, zero-add, ne_eqb, AllByRecursion, quotes, HasCommasInQuotes}
 use Rattle.std.proofs.lemmas.List.Sums.{sum_by-append, sum_by-cons, sum_by_more}
-use Rattle.std.specs.List.{AllByRecursion}
-use Rattle.gc_values.specs.Params.{quotes, HasCommasInQuotes}
 
 -- what a byte adds to the number of double quotes: 1 or 0
 abbrev quote_count : ℕ → ℕ

@@ -1,15 +1,5 @@
 -- What a text spells that reads as a numeral.
-use Rattle.std.proofs.Common.{◌≡◌, ℕ, ◌+◌, ◌-◌, ◌*◌, ◌^◌, ◌<◌, ◌≤◌, Bool, List, ◌++◌, length, ℤ, unsigned_abs, sym, ap, ◌∙◌, subst, arith}
-use Rattle.std.proofs.Math.Nat.{mul-lt-mul_of_pos_left, lt_of_mul-lt-mul_left}
-use Rattle.gc_values.specs.Cut.{ReadsNumeral}
-use Rattle.gc_values.specs.DecimalOrder.{zeros_at_24}
-use Rattle.gc_values.specs.Digits.{number}
-use Rattle.gc_values.specs.Fraction.{Fraction, signed, IsRounded, IsInRange}
-use Rattle.gc_values.specs.KeptDigits.{IsRoundedWithCap, all_digits}
-use Rattle.gc_values.specs.Nearest.{RoundsHalfUp, SignedWithoutZeros}
-use Rattle.gc_values.specs.Spelling.{parts_value, NamesFraction, Spells, SpellsBeyond, is_minus, fraction_digits, ups}
-use Rattle.gc_values.specs.Zeros.{WithoutZeros}
-use Rattle.gc_values.specs.declared.numeral.Numeral.{Numeral}
+use Rattle.gc_values.proofs.Common.{◌≡◌, ℕ, ◌+◌, ◌-◌, ◌*◌, ◌^◌, ◌<◌, ◌≤◌, Bool, List, ◌++◌, length, ℤ, unsigned_abs, sym, ap, ◌∙◌, subst, arith, mul-lt-mul_of_pos_left, lt_of_mul-lt-mul_left, ReadsNumeral, zeros_at_24, number, Fraction, signed, IsRounded, IsInRange, IsRoundedWithCap, all_digits, RoundsHalfUp, SignedWithoutZeros, parts_value, NamesFraction, Spells, SpellsBeyond, is_minus, fraction_digits, ups, WithoutZeros, Numeral}
 use Rattle.gc_values.proofs.Powers.{ten_pow_pos, bound_fits}
 use Rattle.gc_values.proofs.Rounded.{has_form_without_zeros, rounded_from, rounds_to_one}
 use Rattle.gc_values.proofs.Signs.{unsigned_abs-signed}

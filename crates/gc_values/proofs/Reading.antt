@@ -1,13 +1,6 @@
 -- What `Decimal::read` answers for a text, as `IsDecimalRead` has it.
-use Rattle.std.proofs.Common.{◌≡◌, ◌↔◌, inl, ℕ, ◌*◌, ◌^◌, ◌<◌, ◌≤◌, List, Result, Ok, Err, IfOk, IfErr, MatchResult, refl, ap}
-use Rattle.gc_values.specs.Decimals.{GivesSpelled, SpellsDecimal}
-use Rattle.gc_values.specs.Nearest.{SignedWithoutZeros}
-use Rattle.gc_values.specs.Spelling.{SpellsBeyond, SpellsNothing}
-use Rattle.gc_values.specs.ValueFault.{IsEither}
-use Rattle.gc_values.specs.declared.decimal.Decimal.{Decimal}
-use Rattle.gc_values.specs.declared.fault.ValueFault.{ValueFault}
-use Rattle.gc_values.specs.declared.fault.ValueFault.TheVariants.{Spelling, Range}
-use Rattle.gc_values.specs.declared.numeral.Numeral.{Numeral}
+use Rattle.gc_values.proofs.Common.{◌≡◌, ◌↔◌, inl, ℕ, ◌*◌, ◌^◌, ◌<◌, ◌≤◌, List, Result, Ok, Err, IfErr, MatchResult, refl, ap, GivesSpelled, SpellsDecimal, SignedWithoutZeros, SpellsBeyond, SpellsNothing, IsEither, Decimal, ValueFault, Spelling, Range, Numeral}
+use Rattle.std.proofs.Common.{IfOk}
 use Rattle.gc_values.proofs.DecimalLaws.{spells_unique, spelled_not_beyond}
 use Rattle.gc_values.proofs.ReadLemmas.{ReadsUnits, reads_value, reads_beyond}
 

@@ -1,17 +1,11 @@
 -- A fraction has one rounding to p places, and how it is found: by the nearest whole number of units of 10^-p, without the zeros
 -- at its end.
-use Rattle.std.proofs.Common.{◌≡◌, ℕ, zero, suc, ◌+◌, ◌-◌, ◌*◌, ◌%◌, ◌^◌, ◌<◌, ◌≤◌, Bool, true, false, ℤ, pos, negsuc, ◌*ℤ◌, ◌-ℤ◌, unsigned_abs, refl, sym, ap, ◌∙◌, subst, arith}
-use Rattle.std.proofs.Math.Nat.{mul-pos, mul-le-mul_right, le_of_mul-le-mul_right, lt_of_mul-lt-mul_left, eq_of_mul-eq-mul_left, mul-lt-mul_of_pos_left}
-use Rattle.std.proofs.lemmas.Int.{ints}
-use Rattle.gc_values.specs.Fraction.{Fraction, SameValue, signed, distance, IsCanonical, IsRounded}
-use Rattle.gc_values.specs.Nearest.{SignedWithoutZeros}
-use Rattle.gc_values.specs.Zeros.{WithoutZeros, stripped}
-pub use Rattle.gc_values.specs.RoundedFacts.{places_in_range, stripped_is}
-use Rattle.gc_values.specs.RoundedFacts.{ten_pow_cut}
-pub use Rattle.gc_values.specs.DecimalOrder.{zeros_once}
+use Rattle.gc_values.proofs.Common.{◌≡◌, ℕ, zero, suc, ◌+◌, ◌-◌, ◌*◌, ◌%◌, ◌^◌, ◌<◌, ◌≤◌, Bool, true, false, ℤ, pos, negsuc, ◌*ℤ◌, ◌-ℤ◌, unsigned_abs, refl, sym, ap, ◌∙◌, subst, arith, mul-pos, mul-le-mul_right, le_of_mul-le-mul_right, lt_of_mul-lt-mul_left, eq_of_mul-eq-mul_left, mul-lt-mul_of_pos_left, ints, Fraction, SameValue, signed, distance, IsCanonical, IsRounded, SignedWithoutZeros, WithoutZeros, stripped, ten_pow_cut}
 use Rattle.gc_values.proofs.Powers.{ten_pow_pos, ten_pow_le}
 use Rattle.gc_values.proofs.Rounding.{gap, gap_comm, gap-mul, RoundsHalfUp, rounds_once, rounds_same_value}
 use Rattle.gc_values.proofs.Signs.{scaled_distance_signed, unsigned_abs-signed}
+pub use Rattle.gc_values.specs.RoundedFacts.{places_in_range, stripped_is}
+pub use Rattle.gc_values.specs.DecimalOrder.{zeros_once}
 
 -- m / 10^s has a form without the zeros at its end
 pub has_form_without_zeros : (m s : ℕ) → (n : ℕ) × (t : ℕ) × WithoutZeros m s n t

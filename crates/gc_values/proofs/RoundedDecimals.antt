@@ -1,12 +1,5 @@
 -- `rounded` and `rounded_to` give the rounding of a decimal.
-use Rattle.std.proofs.Common.{◌≡◌, ℕ, ◌-◌, ◌*◌, ◌^◌, ◌<◌, ◌≤◌, Bool, min, ℤ, pos, negsuc, unsigned_abs, refl, sym, ap, ◌∙◌, subst, inl, inr, arith}
-use Rattle.std.proofs.lemmas.Bool.{cases_lt}
-use Rattle.gc_values.specs.Decimals.{fraction, rounded}
-use Rattle.gc_values.specs.Fraction.{signed, is_negative, IsRounded}
-use Rattle.gc_values.specs.Nearest.{half_up, rounded_to}
-use Rattle.gc_values.specs.RoundedFacts.{half_up_rounds, rounded_canonical, rounded_to_is, ten_pow_pos}
-use Rattle.gc_values.specs.Zeros.{WithoutZeros}
-use Rattle.gc_values.specs.declared.decimal.Decimal.{Decimal}
+use Rattle.gc_values.proofs.Common.{◌≡◌, ℕ, ◌-◌, ◌*◌, ◌^◌, ◌<◌, ◌≤◌, Bool, min, ℤ, pos, negsuc, unsigned_abs, refl, sym, ap, ◌∙◌, subst, inl, inr, arith, cases_lt, fraction, rounded, signed, is_negative, IsRounded, half_up, rounded_to, half_up_rounds, rounded_canonical, rounded_to_is, ten_pow_pos, WithoutZeros, Decimal}
 use Rattle.gc_values.proofs.DecimalLemmas.{same_decimal}
 use Rattle.gc_values.proofs.Rounded.{exact_rounds, rounded_from, rounds_places, rounds_to_one}
 use Rattle.gc_values.proofs.Signs.{signed-mul}

@@ -1,9 +1,7 @@
 -- A quotient a / b has one nearest whole number, of two that are equally near the greater one (`RoundsHalfUp`). A gap is how far
 -- two numbers are apart.
-use Rattle.std.proofs.Common.{◌≡◌, ℕ, ◌+◌, ◌-◌, ◌*◌, ◌<◌, ◌≤◌, sym, ◌∙◌, ap, subst, inl, inr, arith}
+use Rattle.gc_values.proofs.Common.{◌≡◌, ℕ, ◌+◌, ◌-◌, ◌*◌, ◌<◌, ◌≤◌, sym, ◌∙◌, ap, subst, inl, inr, arith, mul-le-mul_right, le_of_mul-le-mul_right, lt_of_mul-lt-mul_left, eq_of_mul-eq-mul_left, mul-lt-mul_of_pos_left, cases_lt, cases_order}
 pub use Rattle.gc_values.specs.Nearest.{gap, RoundsHalfUp}
-use Rattle.std.proofs.Math.Nat.{mul-le-mul_right, le_of_mul-le-mul_right, lt_of_mul-lt-mul_left, eq_of_mul-eq-mul_left, mul-lt-mul_of_pos_left}
-use Rattle.std.proofs.lemmas.Bool.{cases_lt, cases_order}
 
 -- the gap of multiples is the multiple of the gap, where the second is at least the first
 gap-mul_up : (a t c : ℕ) → gap (a * c) ((a + t) * c) ≡ gap a (a + t) * c

@@ -1,9 +1,6 @@
 -- A piece of a parameter list is scanned byte by byte up to its comma. `Scanned` says that the first i bytes of a text hold no
 -- comma outside quotes, and whether they end inside quotes.
-use Rattle.std.proofs.Common.{◌≡◌, ℕ, ◌+◌, ◌%◌, ◌<◌, ◌≤◌, Bool, true, false, not, cond, eqb, List, ◌∷◌, ◌++◌, length, get_or, take, drop, Some, refl, sym, ap, ◌∙◌, subst, arith}
-use Rattle.std.proofs.lemmas.List.{take_more, take_all, take-append-drop, drop_more}
-use Rattle.gc_values.specs.Params.{quotes, quoted_after, HasCommasInQuotes}
-use Rattle.gc_values.specs.Pieces.{CutsPiece}
+use Rattle.gc_values.proofs.Common.{◌≡◌, ℕ, ◌+◌, ◌%◌, ◌<◌, ◌≤◌, Bool, true, false, not, cond, eqb, List, ◌∷◌, ◌++◌, length, get_or, take, drop, Some, refl, sym, ap, ◌∙◌, subst, arith, take_more, take_all, take-append-drop, drop_more, quotes, quoted_after, HasCommasInQuotes, CutsPiece}
 use Rattle.gc_values.proofs.Quotes.{quotes_more, HasCommasInQuotes-nil, HasCommasInQuotes-push}
 
 -- the first i bytes hold no comma outside quotes, and `quoted` says whether they end inside quotes

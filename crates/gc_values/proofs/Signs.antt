@@ -1,10 +1,7 @@
 -- Numbers that are given as a sign, where `true` is a minus, and a magnitude, and how far they are apart.
-use Rattle.std.proofs.Common.{◌≡◌, ℕ, zero, suc, ◌+◌, ◌*◌, Bool, true, false, ℤ, pos, ◌*ℤ◌, ◌-ℤ◌, unsigned_abs, refl, ap, ◌∙◌, arith}
-use Rattle.std.proofs.Math.IntN.{pos-*ℤ-pos, negsuc-*ℤ-pos}
-use Rattle.std.proofs.lemmas.Int.{ints}
-use Rattle.gc_values.specs.Fraction.{signed}
-pub use Rattle.gc_values.specs.RoundedFacts.{unsigned_abs-signed}
+use Rattle.gc_values.proofs.Common.{◌≡◌, ℕ, zero, suc, ◌+◌, ◌*◌, Bool, true, false, ℤ, pos, ◌*ℤ◌, ◌-ℤ◌, unsigned_abs, refl, ap, ◌∙◌, arith, pos-*ℤ-pos, negsuc-*ℤ-pos, ints, signed}
 use Rattle.gc_values.proofs.Rounding.{gap, gap-mul}
+pub use Rattle.gc_values.specs.RoundedFacts.{unsigned_abs-signed}
 
 -- a multiple of a number with a sign has the sign
 pub signed-mul : (b : Bool) (m n : ℕ) → signed b m *ℤ pos n ≡ signed b (m * n)

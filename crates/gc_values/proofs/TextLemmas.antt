@@ -1,10 +1,7 @@
 -- Strings between double quotes, and the bytes that a text keeps of one: 64 in all, the unused ones zero.
-use Rattle.std.proofs.Common.{◌≡◌, ℕ, ◌-◌, ◌≤◌, List, [], ◌∷◌, ◌++◌, length, take, drop, replicate, sym, ap, ◌∙◌, subst, arith, length-append}
-use Rattle.std.proofs.lemmas.List.{append_cancel_right, length-replicate}
-use Rattle.std.proofs.Math.Seq.{take-append_seam, drop-append_seam}
+use Rattle.gc_values.proofs.Common.{◌≡◌, ℕ, ◌-◌, ◌≤◌, List, [], ◌∷◌, ◌++◌, length, take, drop, replicate, sym, ap, ◌∙◌, subst, arith, length-append, append_cancel_right, length-replicate, take-append_seam, drop-append_seam, AreStringBytes, quoted, IsString}
 use Rattle.gc_values.specs.Padding.{IsZeroPadded}
 use Rattle.gc_values.specs.declared.text.Text.TheInside.{Inside}
-use Rattle.gc_values.specs.Text.{AreStringBytes, quoted, IsString}
 
 -- two lists of bytes that are equal between double quotes are equal
 pub one_quoted : (xs ys : List ℕ) → quoted xs ≡ quoted ys → xs ≡ ys

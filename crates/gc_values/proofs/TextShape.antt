@@ -1,25 +1,6 @@
 -- The written texts of values are parameters, short and without CR and LF. A bare byte is no space, double quote, comma, CR or
 -- LF; the texts of numbers and byte parameters have bare bytes alone.
-use Rattle.std.proofs.Common.{◌≡◌, ◌≢◌, ℕ, ◌+◌, ◌/◌, ◌%◌, ◌<◌, ◌≤◌, ◌^◌, Bool, true, false, ltb, ℤ, pos, negsuc, unsigned_abs, List, [], ◌∷◌, ◌++◌, length, map, refl, sym, subst, ap, ◌∙◌, inl, inr, arith, lit<, lit≤, length-append}
-use Rattle.std.proofs.lemmas.Bool.{ltb-true, agree_below_at}
-use Rattle.std.proofs.lemmas.List.Elements.{All-from_recursion}
-use Rattle.std.proofs.lemmas.List.{same_from_push}
-use Rattle.std.proofs.lemmas.Nat.{div_below}
-use Rattle.std.specs.List.{All, AllByRecursion}
-use Rattle.std.specs.Prelude.{slice_index}
-use Rattle.hex.specs.Hex.{lower_digits}
-use Rattle.gc_values.specs.Digits.{IsDigit, AreDigits}
-use Rattle.gc_values.specs.Item.{IsValue, text}
-use Rattle.gc_values.specs.Lists.{AreValues}
-use Rattle.gc_values.specs.Params.{quotes, IsParam, joined, IsParams}
-use Rattle.gc_values.specs.Text.{IsStringByte, AreStringBytes, quoted}
-use Rattle.gc_values.specs.Whole.{signed_text}
-use Rattle.gc_values.specs.Boolean.{boolean_text}
-use Rattle.gc_values.specs.Byte.{byte_text}
-use Rattle.gc_values.specs.Fraction.{IsInRange}
-use Rattle.gc_values.specs.Written.{minus_text, whole_text, places_text, written}
-use Rattle.gc_values.specs.declared.value.Value.{Value}
-use Rattle.gc_values.specs.declared.value.Value.TheVariants as value
+use Rattle.gc_values.proofs.Common.{◌≡◌, ◌≢◌, ℕ, ◌+◌, ◌/◌, ◌%◌, ◌<◌, ◌≤◌, ◌^◌, Bool, true, false, ltb, ℤ, pos, negsuc, unsigned_abs, List, [], ◌∷◌, ◌++◌, length, map, refl, sym, subst, ap, ◌∙◌, inl, inr, arith, lit<, lit≤, length-append, ltb-true, agree_below_at, All-from_recursion, same_from_push, div_below, All, AllByRecursion, slice_index, lower_digits, IsDigit, AreDigits, IsValue, text, AreValues, quotes, IsParam, joined, IsParams, IsStringByte, AreStringBytes, quoted, signed_text, boolean_text, byte_text, IsInRange, minus_text, whole_text, places_text, written, Value}
 use Rattle.gc_values.proofs.Every.{every_weaker, every_append, every_behind}
 use Rattle.gc_values.proofs.Quotes.{quotes-append, quotes-cons, quotes-none, push_cut}
 use Rattle.gc_values.proofs.Powers.{ten_pow_pos}
@@ -27,6 +8,7 @@ use Rattle.gc_values.proofs.WholeText.{length-whole_text, length-minus_text, len
 use Rattle.gc_values.proofs.WrittenLemmas.{length-places_text}
 use Rattle.gc_values.proofs.ParamLists.{joined_params}
 use Rattle.gc_values.proofs.WrittenSpells.{writes_whole, is_fraction_text}
+use Rattle.gc_values.specs.declared.value.Value.TheVariants as value
 
 -- a byte that is no space, double quote, comma, CR or LF
 pub record IsBare (b : ℕ) : Type 0 where

@@ -1,9 +1,5 @@
 -- A piece of a parameter list without the spaces at its ends, which is its item.
-use Rattle.std.proofs.Common.{◌≡◌, ℕ, zero, suc, ◌+◌, ◌-◌, ◌<◌, ◌≤◌, ◌⊎◌, length, get_or, take, drop, cond, List, [], ◌∷◌, ◌++◌, replicate, refl, sym, ap, ◌∙◌, subst, inl, inr, arith, append_assoc}
-use Rattle.std.proofs.lemmas.List.{append-nil, same_from_push, take-append-drop, take_all, take_more, drop_more}
-use Rattle.std.proofs.lemmas.Bool.{cases_eq, eq-eqb, ne_eqb}
-use Rattle.gc_values.specs.Params.{quotes, HasCommasInQuotes, StartsNoSpace, EndsNoSpace, IsPadded, IsParam, AreSpaces}
-use Rattle.gc_values.specs.Pieces.{without_front_spaces, put_before, without_end_spaces, TrimsFront, TrimsBack, IsTrimmed}
+use Rattle.gc_values.proofs.Common.{◌≡◌, ℕ, zero, suc, ◌+◌, ◌-◌, ◌<◌, ◌≤◌, ◌⊎◌, length, get_or, take, drop, cond, List, [], ◌∷◌, ◌++◌, replicate, refl, sym, ap, ◌∙◌, subst, inl, inr, arith, append_assoc, append-nil, same_from_push, take-append-drop, take_all, take_more, drop_more, cases_eq, eq-eqb, ne_eqb, quotes, HasCommasInQuotes, StartsNoSpace, EndsNoSpace, IsPadded, IsParam, AreSpaces, without_front_spaces, put_before, without_end_spaces, TrimsFront, TrimsBack, IsTrimmed}
 use Rattle.gc_values.proofs.Quotes.{IsPiece, empty_has_none, quotes-append, quotes_same, quotes-spaces, HasCommasInQuotes-push}
 
 -- spaces before a text leave its commas within quotes

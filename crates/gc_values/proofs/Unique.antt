@@ -1,10 +1,5 @@
 -- A number's text is cut into its sign, digits, fraction and exponent in one way, and so names one fraction.
-use Rattle.std.proofs.Common.{◌≡◌, ◌≢◌, ℕ, ℤ, ◌+◌, ◌*◌, ◌^◌, ◌<◌, Bool, true, false, cond, List, [], ◌∷◌, ◌++◌, length, Option, None, Some, refl, sym, ap, ◌∙◌, subst, arith}
-use Rattle.gc_values.specs.Fraction.{Fraction, signed}
-use Rattle.gc_values.specs.Digits.{IsDigit, AreDigits, number}
-use Rattle.gc_values.specs.Cut.{StartsNoDigit, StartsNoSign, StartsNoPoint, CutsDigits, CutsSign, CutsFraction, ReadsExponent, ReadsNumeral}
-use Rattle.gc_values.specs.Spelling.{Sign, Absent, Plus, Minus, sign_text, is_minus, Exponent, IsExponent, exponent_text, mark, ups, downs, fraction_text, fraction_digits, Parts, IsNumeral, spelling, parts_value, NamesFraction}
-use Rattle.gc_values.specs.declared.numeral.Numeral.{Numeral}
+use Rattle.gc_values.proofs.Common.{◌≡◌, ◌≢◌, ℕ, ℤ, ◌+◌, ◌*◌, ◌^◌, ◌<◌, Bool, true, false, cond, List, [], ◌∷◌, ◌++◌, length, Option, None, Some, refl, sym, ap, ◌∙◌, subst, arith, Fraction, signed, IsDigit, AreDigits, number, StartsNoDigit, StartsNoSign, StartsNoPoint, CutsDigits, CutsSign, CutsFraction, ReadsExponent, ReadsNumeral, Sign, Absent, Plus, Minus, sign_text, is_minus, Exponent, IsExponent, exponent_text, mark, ups, downs, fraction_text, fraction_digits, Parts, IsNumeral, spelling, parts_value, NamesFraction, Numeral}
 
 -- a text is cut in at most one way into digits and a rest that doesn't begin with a digit
 pub run_once : (xs ys us vs : List ℕ) → (digits_xs : AreDigits xs) → (digits_ys : AreDigits ys) → (ends_xs : StartsNoDigit us)

@@ -1,12 +1,6 @@
 -- What `rounded_units` computes of a numeral n. Up to the last of 24 places it has k digits, with zeros for those that are missing,
 -- so that k + n.down is the count of the digits before its point, and n.up, and 24.
-use Rattle.std.proofs.Common.{◌≡◌, ℕ, ◌+◌, ◌-◌, ◌*◌, ◌^◌, ◌<◌, ◌≤◌, length, min, sym, ap, ◌∙◌, subst, arith, lit≤, length-append}
-use Rattle.std.proofs.Math.Nat.{mul-lt-mul_of_pos_left}
-use Rattle.std.proofs.lemmas.Nat.{pow-add}
-use Rattle.gc_values.specs.Digits.{IsDigit, AreDigits, number}
-use Rattle.gc_values.specs.KeptDigits.{IsRoundedWithCap, RoundsToUnits, all_digits, kept, kept_and_rounded}
-use Rattle.gc_values.specs.RoundedFacts.{ten_pow_cut}
-use Rattle.gc_values.specs.declared.numeral.Numeral.{Numeral}
+use Rattle.gc_values.proofs.Common.{◌≡◌, ℕ, ◌+◌, ◌-◌, ◌*◌, ◌^◌, ◌<◌, ◌≤◌, length, min, sym, ap, ◌∙◌, subst, arith, lit≤, length-append, mul-lt-mul_of_pos_left, pow-add, IsDigit, AreDigits, number, IsRoundedWithCap, RoundsToUnits, all_digits, kept, kept_and_rounded, ten_pow_cut, Numeral}
 use Rattle.gc_values.proofs.Every.{every_append}
 use Rattle.gc_values.proofs.Kept.{number-lt, rounds_digits, kept_and_rounded_past, min_mul}
 use Rattle.gc_values.proofs.Powers.{ten_pow_pos, ten_pow_le}

@@ -1,13 +1,6 @@
 -- Whole numbers that are read digit by digit. The number that is counted is cut off at a cap: it is `min cap` of the number
 -- itself.
-use Rattle.std.proofs.Common.{◌≡◌, ℕ, ◌+◌, ◌-◌, ◌*◌, ◌<◌, ◌≤◌, min, Bool, true, false, cond, ℤ, List, length, get_or, take, refl, sym, ap, ◌∙◌, subst, inl, inr, arith}
-use Rattle.std.proofs.lemmas.Int.{ints}
-use Rattle.gc_values.specs.Cut.{CutsSign}
-use Rattle.gc_values.specs.Digits.{IsDigit, AreDigits, number}
-use Rattle.gc_values.specs.Fraction.{signed}
-use Rattle.gc_values.specs.Spelling.{is_minus}
-use Rattle.gc_values.specs.Whole.{NamesNumber, IsNumberFault, NamesWhole, IsBetween, IsWholeFault}
-use Rattle.gc_values.specs.declared.fault.ValueFault.{ValueFault}
+use Rattle.gc_values.proofs.Common.{◌≡◌, ℕ, ◌+◌, ◌-◌, ◌*◌, ◌<◌, ◌≤◌, min, Bool, true, false, cond, ℤ, List, length, get_or, take, refl, sym, ap, ◌∙◌, subst, inl, inr, arith, ints, CutsSign, IsDigit, AreDigits, number, signed, is_minus, NamesNumber, IsNumberFault, NamesWhole, IsBetween, IsWholeFault, ValueFault}
 use Rattle.gc_values.proofs.Every.{every_at, every_more}
 use Rattle.gc_values.proofs.Kept.{number-take_more}
 use Rattle.gc_values.proofs.Unique.{sign_once, digits_no_sign}

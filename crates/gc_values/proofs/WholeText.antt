@@ -1,11 +1,5 @@
 -- The written texts of whole numbers and Booleans: how long they are, and that they read back.
-use Rattle.std.proofs.Common.{ℕ, suc, ◌+◌, ◌<◌, ◌≤◌, ◌^◌, Bool, true, false, eqb, ℤ, pos, negsuc, unsigned_abs, [], ◌∷◌, length, refl, arith, lit<, length-append}
-use Rattle.std.proofs.lemmas.Bool.{cond_both}
-use Rattle.std.proofs.lemmas.Int.{ints}
-use Rattle.gc_values.specs.Boolean.{number_of, NamesBoolean, boolean_text}
-use Rattle.gc_values.specs.Spelling.{Absent, Minus}
-use Rattle.gc_values.specs.Whole.{NamesWhole, IsBetween, FitsLong, FitsShort, signed_text}
-use Rattle.gc_values.specs.Written.{digits_text, whole_text, minus_text}
+use Rattle.gc_values.proofs.Common.{ℕ, suc, ◌+◌, ◌<◌, ◌≤◌, ◌^◌, Bool, true, false, eqb, ℤ, pos, negsuc, unsigned_abs, [], ◌∷◌, length, refl, arith, lit<, length-append, cond_both, ints, number_of, NamesBoolean, boolean_text, Absent, Minus, NamesWhole, IsBetween, FitsLong, FitsShort, signed_text, digits_text, whole_text, minus_text}
 use Rattle.gc_values.proofs.WrittenLemmas.{length-digits_text}
 use Rattle.gc_values.proofs.WrittenSpells.{writes_whole}
 

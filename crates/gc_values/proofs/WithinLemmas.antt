@@ -1,16 +1,7 @@
 -- Whether two values are at most an area apart, in two forms that say the same. In units of 1 / p, where p is 10^24, as the code
 -- compares them: a distance of x units and an area of n * c' units. And multiplied out, as the definition has it: a distance of y
 -- over ab and an area of n over c, where ab and c are powers of ten.
-use Rattle.std.proofs.Common.{◌≡◌, ℕ, ◌-◌, ◌*◌, ◌^◌, ◌<◌, ◌≤◌, ◌↔◌, IsTrue, Bool, ℤ, pos, negsuc, neg_ℤ, ◌*ℤ◌, ◌-ℤ◌, ◌≤ℤ◌, suc, int_le, unsigned_abs, sym, ap, ◌∙◌, subst, arith}
-use Rattle.std.proofs.Math.IntN.{pos-*ℤ-pos, negsuc-*ℤ-pos}
-use Rattle.std.proofs.Math.Nat.{mul-pos, mul-le-mul_right, le_of_mul-le-mul_right}
-use Rattle.std.proofs.lemmas.Bool.{true_from_ne_false}
-use Rattle.std.proofs.lemmas.Int.{ints}
-use Rattle.std.specs.Cmp.{both_ways}
-use Rattle.gc_values.specs.Decimals.{fraction, units, is_within}
-use Rattle.gc_values.specs.Fraction.{signed, distance, IsWithin}
-use Rattle.gc_values.specs.RoundedFacts.{ten_pow_cut}
-use Rattle.gc_values.specs.declared.decimal.Decimal.{Decimal}
+use Rattle.gc_values.proofs.Common.{◌≡◌, ℕ, ◌-◌, ◌*◌, ◌^◌, ◌<◌, ◌≤◌, ◌↔◌, IsTrue, Bool, ℤ, pos, negsuc, neg_ℤ, ◌*ℤ◌, ◌-ℤ◌, ◌≤ℤ◌, suc, int_le, unsigned_abs, sym, ap, ◌∙◌, subst, arith, pos-*ℤ-pos, negsuc-*ℤ-pos, mul-pos, mul-le-mul_right, le_of_mul-le-mul_right, true_from_ne_false, ints, both_ways, fraction, units, is_within, signed, distance, IsWithin, ten_pow_cut, Decimal}
 use Rattle.gc_values.proofs.Powers.{ten_pow_pos}
 use Rattle.gc_values.proofs.Rounded.{has_sign}
 use Rattle.gc_values.proofs.Signs.{signed_distance, signed_distance-mul, scaled_distance, scaled_distance_signed}

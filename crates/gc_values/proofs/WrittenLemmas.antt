@@ -1,12 +1,6 @@
 -- How the digits of a number are written, from the last on, and how many there are.
-use Rattle.std.proofs.Common.{◌≡◌, ℕ, zero, suc, ◌+◌, ◌-◌, ◌*◌, ◌/◌, ◌%◌, ◌^◌, ◌<◌, ◌≤◌, List, [], ◌∷◌, ◌++◌, length, map, refl, sym, ap, ◌∙◌, arith, lit<, lit≤, cond, eqb, length-append, append_assoc}
-use Rattle.std.proofs.Math.Nat.{pow-suc, div-div-eq-div-mul, div-one, mul_comm, mod-eq-sub-div-mul}
+use Rattle.gc_values.proofs.Common.{◌≡◌, ℕ, zero, suc, ◌+◌, ◌-◌, ◌*◌, ◌/◌, ◌%◌, ◌^◌, ◌<◌, ◌≤◌, List, [], ◌∷◌, ◌++◌, length, map, refl, sym, ap, ◌∙◌, arith, lit<, lit≤, cond, eqb, length-append, append_assoc, pow-suc, div-div-eq-div-mul, div-one, mul_comm, mod-eq-sub-div-mul, length-map, map-append, append-nil, digits_of, digits_of_step, length-digits_of-le, ne_eqb, cond_both, digits_text, last_digits, places_text}
 use Rattle.std.proofs.Math.Arith.{mod-mul}
-use Rattle.std.proofs.lemmas.List.{length-map, map-append, append-nil}
-use Rattle.std.specs.Int.Digits.{digits_of}
-use Rattle.std.proofs.lemmas.Int.Digits.{digits_of_step, length-digits_of-le}
-use Rattle.std.proofs.lemmas.Bool.{ne_eqb, cond_both}
-use Rattle.gc_values.specs.Written.{digits_text, last_digits, places_text}
 use Rattle.gc_values.proofs.Powers.{ten_pow_pos}
 
 -- the digits of a number above 0 are those of the number without its last digit, and then its last digit

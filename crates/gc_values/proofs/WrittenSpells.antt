@@ -1,16 +1,5 @@
 -- A decimal's written text spells the decimal.
-use Rattle.std.proofs.Common.{◌≡◌, ℕ, zero, suc, ◌+◌, ◌-◌, ◌*◌, ◌/◌, ◌%◌, ◌^◌, ◌<◌, ◌≤◌, cond, List, [], ◌∷◌, ◌++◌, length, map, None, Some, ℤ, pos, negsuc, ◌*ℤ◌, refl, sym, ap, ◌∙◌, subst, inl, inr, arith, lit<, lit≤, length-append}
-use Rattle.std.proofs.Math.Nat.{pow-suc, mod-lt, div-add-mod', div-one, pos_of_ne-zero}
-use Rattle.std.proofs.lemmas.List.{length-map, append-nil}
-use Rattle.std.proofs.lemmas.Nat.{div_below}
-use Rattle.std.proofs.lemmas.Bool.Decides.{eqb_tells}
-use Rattle.std.specs.Int.Digits.{digits_of, number_from_digits_after, AllBelowBase}
-use Rattle.std.proofs.lemmas.Int.Digits.{number_digits_of, all_below_base_digits_of}
-use Rattle.gc_values.specs.Digits.{IsDigit, AreDigits, number}
-use Rattle.gc_values.specs.Fraction.{signed, IsCanonical}
-use Rattle.gc_values.specs.Spelling.{Sign, Absent, Minus, sign_text, is_minus, Parts, parts_value, Spells}
-use Rattle.gc_values.specs.Whole.{NamesNumber}
-use Rattle.gc_values.specs.Written.{digits_text, whole_text, last_digits, places_text, written}
+use Rattle.gc_values.proofs.Common.{◌≡◌, ℕ, zero, suc, ◌+◌, ◌-◌, ◌*◌, ◌/◌, ◌%◌, ◌^◌, ◌<◌, ◌≤◌, cond, List, [], ◌∷◌, ◌++◌, length, map, None, Some, ℤ, pos, negsuc, ◌*ℤ◌, refl, sym, ap, ◌∙◌, subst, inl, inr, arith, lit<, lit≤, length-append, pow-suc, mod-lt, div-add-mod', div-one, pos_of_ne-zero, length-map, append-nil, div_below, eqb_tells, digits_of, number_from_digits_after, AllBelowBase, number_digits_of, all_below_base_digits_of, IsDigit, AreDigits, number, signed, IsCanonical, Sign, Absent, Minus, sign_text, is_minus, Parts, parts_value, Spells, NamesNumber, digits_text, whole_text, last_digits, places_text, written}
 use Rattle.gc_values.proofs.Every.{every_append}
 use Rattle.gc_values.proofs.Kept.{number-append}
 use Rattle.gc_values.proofs.Powers.{ten_pow_pos}

@@ -1,6 +1,5 @@
 -- A zero at the end of a decimal's digits is taken off, and the value stays.
-use Rattle.std.proofs.Common.{◌≡◌, ℕ, suc, ◌-◌, ◌*◌, ◌/◌, ◌%◌, ◌^◌, ◌<◌, sym, ap, ◌∙◌, arith, lit<}
-use Rattle.std.proofs.Math.Nat.{pow-suc, eq_of_mul-eq-mul_left}
+use Rattle.gc_values.proofs.Common.{◌≡◌, ℕ, suc, ◌-◌, ◌*◌, ◌/◌, ◌%◌, ◌^◌, ◌<◌, sym, ap, ◌∙◌, arith, lit<, pow-suc, eq_of_mul-eq-mul_left}
 pub use Rattle.gc_values.specs.RoundedFacts.{zeros_in_range}
 
 -- for t above 0: where n / 10^t is the value m / 10^s, and n ends in a zero, (n / 10) / 10^(t - 1) is that value, too

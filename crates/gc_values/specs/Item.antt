@@ -10,8 +10,8 @@ use Rattle.gc_values.specs.ValueFault.{IsSpellingOrRange}
 use Rattle.gc_values.specs.Whole.{NamesWhole, NamesNoWhole, NamesWholeBeyond, FitsLong, FitsShort, signed_text}
 use Rattle.gc_values.specs.declared.fault.ValueFault.{ValueFault}
 use Rattle.gc_values.specs.declared.value.Kind.{Kind}
-use Rattle.gc_values.specs.declared.value.Kind.TheVariants as kind
 use Rattle.gc_values.specs.declared.value.Value.{Value}
+use Rattle.gc_values.specs.declared.value.Kind.TheVariants as kind
 use Rattle.gc_values.specs.declared.value.Value.TheVariants as value
 
 -- the kind of a value

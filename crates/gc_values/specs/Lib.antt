@@ -1,3 +1,4 @@
+pub mod Prelude
 pub mod Asked
 pub mod Boolean
 pub mod Byte

@@ -1,10 +1,10 @@
 -- No part of a promise: how the rounding of `Fraction` is computed. `gap a b` is how far a and b are apart. `half_up a b` is the
 -- whole number nearest to a / b, for b above 0, and of two that are equally near the greater one, as `RoundsHalfUp` has it.
 use Rattle.std.specs.Prelude.{◌≡◌, ℕ, ◌-◌, ◌*◌, ◌^◌, ◌<◌, ◌≤◌, min, ℤ, Bool}
-pub use Rattle.std.specs.Float.{ratio_round_half_up as half_up}
-pub use Rattle.std.specs.Int.{abs_diff as gap}
 use Rattle.gc_values.specs.Fraction.{signed}
 use Rattle.gc_values.specs.Zeros.{WithoutZeros, Placed, stripped}
+pub use Rattle.std.specs.Float.{ratio_round_half_up as half_up}
+pub use Rattle.std.specs.Int.{abs_diff as gap}
 
 -- m is the whole number nearest to a / b, and of two that are equally near the greater one
 pub record RoundsHalfUp (a b m : ℕ) : Type 0 where

@@ -1,8 +1,8 @@
 -- The form of a written number. Of the texts that the GeoCOM manual's chapter on the ASCII protocol allows for a value
 -- one is written, and which one is this project's own. `minus_where negative` is a minus where `negative` is true, else nothing.
 use Rattle.std.specs.Prelude.{◌≡◌, ℕ, ◌<◌, ◌≤◌, Bool, true, List, [], ◌∷◌, ◌++◌, length}
-pub use Rattle.std.specs.Fmt.{sign_text as minus_where}
 use Rattle.gc_values.specs.Digits.{AreDigits, number}
+pub use Rattle.std.specs.Fmt.{sign_text as minus_where}
 
 -- these are one or more digits, and the first is no 0, unless it is the only one
 pub record IsWholePart (digits : List ℕ) : Type 0 where

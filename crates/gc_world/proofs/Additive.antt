@@ -1,16 +1,7 @@
 -- Delivering bytes in one event leaves the same streams as delivering them in two, in either direction, where a line is in flight
 -- between the two. The cut of lines at n bytes (`cut`) says how many lines these bytes complete, and how many bytes of the next
 -- line they reach.
-use Rattle.std.proofs.Common.{◌≡◌, ℕ, zero, suc, ◌+◌, ◌-◌, ◌<◌, ◌≤◌, Bool, true, false, cond, List, [], ◌∷◌, length, map, drop, refl, sym, ◌∙◌, ap, subst, arith, ltb}
-use mathlib.Core.Path.{ap₂}
-use Rattle.std.specs.Prelude.{replicate}
-use Rattle.std.proofs.lemmas.Bool.{ltb-false}
-use Rattle.std.proofs.lemmas.List.{drop-drop, drop-map, replicate-append-replicate}
-use Rattle.gc_lines.specs.Lines.{with_end}
-use Rattle.gc_world.specs.declared.direction.Direction.{Direction}
-use Rattle.gc_world.specs.Directions.{deliver, bytes, texts, lines, gone, with_front_gone, after_cut}
-use Rattle.gc_world.specs.Streams.{Streams, Cut, one_line_more, cut, flows}
-use Rattle.gc_world.specs.World.{Ends, Rule, World, idle, happens, run}
+use Rattle.gc_world.proofs.Common.{◌≡◌, ℕ, zero, suc, ◌+◌, ◌-◌, ◌<◌, ◌≤◌, Bool, true, false, cond, List, [], ◌∷◌, length, map, drop, refl, sym, ◌∙◌, ap, subst, arith, ltb, ap₂, replicate, ltb-false, drop-drop, drop-map, replicate-append-replicate, with_end, Direction, deliver, bytes, texts, lines, gone, with_front_gone, after_cut, Streams, Cut, one_line_more, cut, flows, Ends, Rule, World, idle, happens, run}
 use Rattle.gc_world.proofs.Directions.{gone_reached, reaches_again, passing, bytes_pass, one_less, idle_leaves_texts}
 use Rattle.gc_world.proofs.Flow.{run_append}
 use Rattle.gc_world.proofs.Handed.{cut_long}

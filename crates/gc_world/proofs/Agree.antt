@@ -1,21 +1,10 @@
 -- The client that knows ids does what the oracle client does. `Sound` is the invariant of the run by numbers: what always
 -- holds of its wire and its client.
-use Rattle.std.proofs.Common.{◌≡◌, ℕ, zero, suc, ◌+◌, ◌-◌, ◌%◌, ◌<◌, ◌≤◌, Bool, true, false, List, [], ◌∷◌, ◌++◌, length, map, drop, Option, Some, None, refl, sym, ◌∙◌, ap, subst, arith, length-drop, ltb, eqb}
-use Rattle.std.specs.List.{AllByRecursion}
-use mathlib.Core.Path.{ap₂}
-use Rattle.std.proofs.lemmas.List.{drop-drop, drop-append-le, length_push, drop_all}
-use Rattle.std.proofs.lemmas.Bool.{ltb-true, ltb-false, lt-ltb, le-ltb}
-use Rattle.gc_client.specs.declared.pending.Pending.{Pending}
-use Rattle.gc_client.specs.Rule.{Settled, ById, pending_of, expired, lost, settle, place, send_unless_full, settles_at, hears}
-use Rattle.gc_client.specs.Rule.{Sending}
-use Rattle.gc_world.specs.World as calls
-use Rattle.gc_world.specs.World.{call_line}
-use Rattle.gc_world.specs.Worlds.{Request, Numbered, Ends, Step, Send, Up_deliver, Up_lose, Up_repeat, Down_deliver, Down_lose, Down_repeat, Expire, Restart_client, Restart_instrument, Nothing, Wire, World, without, doubled, idle, up_delivered, with_up, with_down, started, instrument_restarted, on_wire, requested, with_settled, down_delivered, client_restarted, happens, run}
-use Rattle.gc_world.specs.Clients.{ByNumber, by_ids, ids_open, number_send, number_reply, expired_from, by_numbers, numbers_open, run_by_ids, run_by_numbers}
-use Rattle.gc_world.specs.Exchange.{IsExchange}
-use Rattle.gc_world.specs.Order.{Rising, numbers, numbers_in_flight, IsOrderly}
+use Rattle.gc_world.proofs.Common.{◌≡◌, ℕ, zero, suc, ◌+◌, ◌-◌, ◌%◌, ◌<◌, ◌≤◌, Bool, true, false, List, [], ◌∷◌, ◌++◌, length, map, drop, Option, Some, None, refl, sym, ◌∙◌, ap, subst, arith, length-drop, ltb, eqb, AllByRecursion, ap₂, drop-drop, drop-append-le, length_push, drop_all, ltb-true, ltb-false, lt-ltb, le-ltb, Pending, Settled, ById, pending_of, expired, lost, settle, place, send_unless_full, settles_at, hears, Sending, call_line, started, with_settled, ByNumber, by_ids, ids_open, number_send, number_reply, expired_from, by_numbers, numbers_open, run_by_ids, run_by_numbers, IsExchange, Rising, numbers, numbers_in_flight, IsOrderly}
+use Rattle.gc_world.specs.Worlds.{Request, Numbered, Ends, Step, Send, Up_deliver, Up_lose, Up_repeat, Down_deliver, Down_lose, Down_repeat, Expire, Restart_client, Restart_instrument, Nothing, Wire, World, without, doubled, idle, up_delivered, with_up, with_down, instrument_restarted, on_wire, requested, down_delivered, client_restarted, happens, run}
 use Rattle.gc_world.proofs.Ids.{place_within, place_before}
 use Rattle.gc_world.proofs.Sound.{IsComing, Sound, length_expired, all_sent, sound_step, sound_all, sound_open}
+use Rattle.gc_world.specs.World as calls
 
 -- the two clients are alike: they have the same next id, and the same requests wait
 pub record AreAlike {Q : Type 0} (a : ById Q) (b : ByNumber Q) : Type 0 where

@@ -1,9 +1,5 @@
 -- An entry that is appended blank, and then written in its place in the list: the list is the old one with that entry appended.
-use Rattle.std.proofs.Common.{◌≡◌, ℕ, List, [], ◌∷◌, ◌++◌, length, get_or, sym, ◌∙◌, ap}
-use Rattle.std.specs.Prelude.{slice_set}
-use Rattle.std.proofs.lemmas.List.{get_or_push}
-use Rattle.std.proofs.Math.Seq.{set-append_seam}
-use Rattle.arrayvec.specs.ArrayVec.{ArrayVec}
+use Rattle.gc_world.proofs.Common.{◌≡◌, ℕ, List, [], ◌∷◌, ◌++◌, length, get_or, sym, ◌∙◌, ap, slice_set, get_or_push, set-append_seam, ArrayVec}
 
 -- where `items` is xs with `blank` appended at place n, and `now` is the element at place n of `items`, `now` is `blank`
 pub last_is_blank : {A : Type 0} (xs items : List A) (n : ℕ) (blank now : A) → items ≡ xs ++ blank ∷ [] → n ≡ length xs → now ≡ get_or items n now → now ≡ blank

@@ -1,19 +1,8 @@
 -- An answer that is booked is a line that was made for the very request that it settles. Replies and answers are *backed* where
 -- each is among the replies made, with the number of its request. Settlements from number n on are those of the requests n, n + 1
 -- and so on.
-use Rattle.std.proofs.Common.{◌≡◌, ℕ, zero, suc, ◌+◌, ◌-◌, ◌≤◌, inl, inr, Bool, true, false, List, [], ◌∷◌, ◌++◌, length, map, drop, Some, refl, sym, ap, subst, arith, ltb, ◌⊎◌}
-use Rattle.std.specs.List.{AllByRecursion}
-use Rattle.std.specs.Prelude.{slice_get}
-use Rattle.std.proofs.lemmas.Bool.{ltb-false}
-use Rattle.std.proofs.lemmas.Option.{none-some, same_Some}
-use Rattle.gc_lines.proofs.Lists.{all_append}
-use Rattle.gc_values.proofs.Every.{every_weaker as all_on}
-use Rattle.gc_client.specs.declared.pending.Pending.{Pending}
-use Rattle.gc_client.specs.Rule.{Outcome, Answered, Late, Lost, Settlement, lost, settled_by_line, settle}
-use Rattle.gc_instrument.specs.Replying.{Handed}
-use Rattle.gc_world.specs.Worlds.{Request, Numbered, Ends, Step, World, Wire, replied, started, with_settled, run}
-use Rattle.gc_world.specs.Clients.{ByNumber, number_reply, by_numbers, numbers_open}
-use Rattle.gc_world.specs.Exchange.{IsExchange}
+use Rattle.gc_world.proofs.Common.{◌≡◌, ℕ, zero, suc, ◌+◌, ◌-◌, ◌≤◌, inl, inr, Bool, true, false, List, [], ◌∷◌, ◌++◌, length, map, drop, Some, refl, sym, ap, subst, arith, ltb, ◌⊎◌, AllByRecursion, slice_get, ltb-false, none-some, same_Some, all_append, every_weaker as all_on, Pending, Outcome, Answered, Late, Lost, Settlement, lost, settled_by_line, settle, Handed, started, with_settled, ByNumber, number_reply, by_numbers, numbers_open, IsExchange}
+use Rattle.gc_world.specs.Worlds.{Request, Numbered, Ends, Step, World, Wire, replied, run}
 use Rattle.gc_world.proofs.Rows.{each_without, each_doubled}
 use Rattle.gc_world.proofs.Sound.{Sound, keeps, sound_open}
 use Rattle.gc_world.proofs.Stable.{IsStable, stable_all}

@@ -1,17 +1,6 @@
 -- On which executions the instrument of a scene made the lines that are booked.
-use Rattle.std.proofs.Common.{◌≡◌, ℕ, false, cond, List, [], ◌∷◌, ◌++◌, map, Some, None, refl, sym, ◌∙◌, ap, subst}
-use Rattle.std.proofs.lemmas.List.{map-append}
-use Rattle.gc_catalogue.specs.declared.call.Call.{Call}
-use Rattle.gc_client.specs.Rule.{ById}
-use Rattle.gc_instrument.specs.Replying.{kept_line}
-use Rattle.gc_scenes.specs.SceneState.{SceneState, scene_restarted}
-use Rattle.gc_world.specs.SceneLaws.{BooksOnExecuting, ExecutesEachTime}
-use Rattle.gc_world.specs.SceneRuns.{scene_handed, scene_ends}
+use Rattle.gc_world.proofs.Common.{◌≡◌, ℕ, false, cond, List, [], ◌∷◌, ◌++◌, map, Some, None, refl, sym, ◌∙◌, ap, subst, map-append, Call, ById, kept_line, SceneState, scene_restarted, BooksOnExecuting, ExecutesEachTime, scene_handed, scene_ends, by_ids, ids_open, HasExecutions, untouched, Numbered, Request, Wire, World, call_line, replied}
 use Rattle.gc_world.proofs.Keeping.{executed_at, stores_after}
-use Rattle.gc_world.specs.Clients.{by_ids, ids_open}
-use Rattle.gc_world.specs.Record.{HasExecutions}
-use Rattle.gc_world.specs.Streams.{untouched}
-use Rattle.gc_world.specs.World.{Numbered, Request, Wire, World, call_line, replied}
 use Rattle.gc_world.proofs.Booked.{AllMade, answer_made, has_at}
 use Rattle.gc_world.proofs.Flow.{flow_run, taken}
 use Rattle.gc_world.proofs.Stable.{IsStable, stable_all}

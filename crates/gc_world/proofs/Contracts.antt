@@ -1,17 +1,6 @@
 -- What functions of the code leave, by their contracts: variables such as `executed` and `made` are the values that they left.
-use Rattle.std.proofs.Common.{◌≡◌, ℕ, Bool, cond, List, [], ◌∷◌, ◌++◌, length, Some}
-use Rattle.std.specs.Prelude.{slice_get}
-use Rattle.gc_catalogue.specs.declared.call.Call.{Call}
-use Rattle.gc_catalogue.specs.Calls.{IsFitting}
-use Rattle.gc_catalogue.specs.Texts.{request_line}
+use Rattle.gc_world.proofs.Common.{◌≡◌, ℕ, Bool, cond, List, [], ◌∷◌, ◌++◌, length, Some, slice_get, Call, IsFitting, request_line, Windowed, heard, hears, sends, restarts, AreSettlements, OfItsCall, Made, Report, Sent, Behaviour, IsHandedOver}
 use Rattle.gc_client.specs.declared.settlement.Settlement.{Settlement}
-use Rattle.gc_client.specs.Rule.{Windowed, heard, hears, sends, restarts}
-use Rattle.gc_client.specs.Settlements.{AreSettlements}
-use Rattle.gc_instrument.specs.Replying.{OfItsCall}
-use Rattle.gc_world.specs.declared.report.Made.{Made}
-use Rattle.gc_world.specs.declared.report.Report.{Report}
-use Rattle.gc_world.specs.declared.report.Sent.{Sent}
-use Rattle.gc_world.specs.Behaviours.{Behaviour, IsHandedOver}
 
 -- What a function did to a report r, the queues `up` and `down` of its stage, and a client c. The first fields of these records
 -- are the values that it left, and what these depend on; the others say how they come of what was there before.

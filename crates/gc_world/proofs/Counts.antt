@@ -1,20 +1,10 @@
 -- A bound n on the lists and the counts of a run (`IsWithin`): after each event they are within n + 1. Where a comment says that
 -- something raises the bound by at most one, what was within n is within n + 1 after it.
-use Rattle.std.proofs.Common.{ℕ, zero, suc, ◌+◌, ◌-◌, ◌<◌, ◌≤◌, Bool, true, false, List, [], ◌∷◌, ◌++◌, Option, Some, None, length, map, arith, subst, ltb, cond, refl, ap, ◌≡◌, ◌∙◌}
-use Rattle.std.specs.Prelude.{replicate}
-use Rattle.std.proofs.lemmas.List.{length-drop, length-map, length_push}
-use Rattle.gc_lines.specs.Lines.{with_end}
-use Rattle.gc_catalogue.specs.declared.call.Call.{Call}
-use Rattle.gc_client.specs.Rule.{Sending, Settlement}
-use Rattle.gc_instrument.specs.Replying.{Handed}
-use Rattle.gc_world.specs.declared.direction.Direction.{Direction}
-use Rattle.gc_world.specs.declared.direction.Direction.TheVariants.{Up, Down}
-use Rattle.gc_world.specs.declared.event.Event.{Event}
-use Rattle.gc_world.specs.declared.event.Event.TheVariants as event
-use Rattle.gc_world.specs.Directions.{deliver, texts}
-use Rattle.gc_world.specs.Streams.{Streams, Cut, one_line_more, cut, at_line, passed, up_texts, down_texts, up_lines, down_lines, flows, flow}
-use Rattle.gc_world.specs.World.{Request, Sent, Numbered, Ends, Rule, Step, Send, Up_deliver, Up_lose, Up_repeat, Down_deliver, Down_lose, Down_repeat, Expire, Restart_client, Restart_instrument, Nothing, Wire, World, bytes_of, call_line, without, doubled, idle, replied, up_delivered, with_up, with_down, started, instrument_restarted, requested, down_delivered, client_restarted, happens, run}
+use Rattle.gc_world.proofs.Common.{ℕ, zero, suc, ◌+◌, ◌-◌, ◌<◌, ◌≤◌, Bool, true, false, List, [], ◌∷◌, ◌++◌, Option, Some, None, length, map, arith, subst, ltb, cond, refl, ap, ◌≡◌, ◌∙◌, replicate, length-map, length_push, with_end, Call, Sending, Settlement, Handed, Direction, Up, Down, Event, deliver, texts, Streams, Cut, one_line_more, cut, at_line, passed, up_texts, down_texts, up_lines, down_lines, flows, flow, Request, Numbered, Ends, Rule, Step, Send, Up_deliver, Up_lose, Up_repeat, Down_deliver, Down_lose, Down_repeat, Expire, Restart_client, Restart_instrument, Nothing, Wire, World, bytes_of, call_line, without, doubled, idle, replied, up_delivered, with_up, with_down, instrument_restarted, requested, down_delivered, client_restarted, happens, run}
+use Rattle.std.proofs.lemmas.List.{length-drop}
+use Rattle.gc_world.specs.World.{Sent, started}
 use Rattle.gc_world.proofs.Directions.{one_less}
+use Rattle.gc_world.specs.declared.event.Event.TheVariants as event
 
 -- none of these lists and counts is above n; a request that is in flight counts as an execution and as a reply
 pub record IsWithin {State : Type 0} (n : ℕ) (w : Wire State) : Type 0 where

@@ -1,16 +1,5 @@
 -- Bytes that complete the front line, and no more, are its delivery.
-use Rattle.std.proofs.Common.{◌≡◌, ℕ, suc, ◌+◌, ◌-◌, cond, List, [], ◌∷◌, length, map, inl, inr, refl, sym, ◌∙◌, ap, arith}
-use Rattle.std.proofs.lemmas.Bool.{lt-ltb}
-use Rattle.gc_lines.specs.Lines.{with_end}
-use Rattle.gc_catalogue.specs.declared.call.Call.{Call}
-use Rattle.gc_client.specs.Rule.{ById}
-use Rattle.gc_world.specs.declared.direction.Direction.TheVariants.{Down}
-use Rattle.gc_world.specs.declared.event.Event.{Event}
-use Rattle.gc_world.specs.declared.event.Event.TheVariants.{DownDeliver, DownBytes}
-use Rattle.gc_world.specs.Directions.{after_cut}
-use Rattle.gc_world.specs.FirstReply.{IsDelivery}
-use Rattle.gc_world.specs.Streams.{Streams, Cut, one_line_more, cut, down_texts, down_lines, remaining, flows}
-use Rattle.gc_world.specs.World.{Ends, Rule}
+use Rattle.gc_world.proofs.Common.{◌≡◌, ℕ, suc, ◌+◌, ◌-◌, cond, List, [], ◌∷◌, length, map, inl, inr, refl, sym, ◌∙◌, ap, arith, lt-ltb, with_end, Call, ById, Down, Event, DownDeliver, DownBytes, after_cut, IsDelivery, Streams, Cut, one_line_more, cut, down_texts, down_lines, remaining, flows, Ends, Rule}
 use Rattle.gc_world.proofs.Directions.{passing}
 use Rattle.gc_world.proofs.Handed.{cut_long, in_front}
 use Rattle.gc_world.proofs.Pieces.{end_length}

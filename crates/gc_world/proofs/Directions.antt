@@ -1,12 +1,6 @@
 -- What holds in either direction of the line. The two directions are distinguished here, so that other files state each
 -- lemma once for both.
-use Rattle.std.proofs.Common.{◌≡◌, ◌⊎◌, ℕ, zero, suc, ◌<◌, List, [], ◌∷◌, length, map, drop, inl, inr, refl, ap, arith}
-use Rattle.gc_world.specs.declared.direction.Direction.{Direction}
-use Rattle.gc_world.specs.declared.direction.Direction.TheVariants.{Up, Down}
-use Rattle.gc_world.specs.Directions.{deliver, delivery, bytes, texts, lines, gone, with_front_gone}
-use Rattle.gc_world.specs.Sides.{IsPartOfFront}
-use Rattle.gc_world.specs.Streams.{Streams, passed, left_gone, remaining, flows}
-use Rattle.gc_world.specs.World.{Request, Numbered, Ends, Rule, Wire, World, bytes_of, idle, up_delivered, on_wire, down_delivered, happens, run}
+use Rattle.gc_world.proofs.Common.{◌≡◌, ◌⊎◌, ℕ, zero, suc, ◌<◌, List, [], ◌∷◌, length, map, drop, inl, inr, refl, ap, arith, Direction, Up, Down, deliver, delivery, bytes, texts, lines, gone, with_front_gone, IsPartOfFront, Streams, passed, left_gone, remaining, flows, Request, Numbered, Ends, Rule, Wire, World, bytes_of, idle, up_delivered, on_wire, down_delivered, happens, run}
 
 module _ {Client State : Type 0} where
   -- What has gone.

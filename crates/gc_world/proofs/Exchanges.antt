@@ -1,29 +1,12 @@
 -- What the instrument of a scene does with the request line of a call. Its reply has the request's id, whatever the scene's
 -- rules say.
-use Rattle.std.proofs.Common.{◌≡◌, ℕ, ◌<◌, Bool, true, false, cond, List, [], Option, Some, None, refl, sym, ◌∙◌, ap, subst, lit<}
-use Rattle.std.specs.Prelude.{IfSome}
-use Rattle.gc_lines.specs.Answering.{AppendsAnswer}
-use Rattle.gc_lines.specs.Lines.{IsPlain}
+use Rattle.gc_world.proofs.Common.{◌≡◌, ℕ, ◌<◌, Bool, true, false, cond, List, [], Option, Some, None, refl, sym, ◌∙◌, ap, subst, lit<, IfSome, AppendsAnswer, IsPlain, call_fields, IsFitting, request_line, request_of, Call, heard, Handed, kept_line, kept_after, kept_id, fault_of, Played, plays, played_call, unless_faulted, counting, IsHanded, IsPlayed, answers, names_call, resent_line, again_or_played, handed_call, played_line, SceneState, scene_handed, scene_ends, IsHandedOver, TellsExecution, IsExchange, ReadsWithItsId, same_Some, none-some}
 use Rattle.gc_lines.proofs.Requests.{request_found}
 use Rattle.gc_catalogue.proofs.LineLaws.{call_again}
-use Rattle.gc_catalogue.specs.Calls.{call_fields, IsFitting}
-use Rattle.gc_catalogue.specs.Texts.{request_line, request_of}
-use Rattle.gc_catalogue.specs.declared.call.Call.{Call}
-use Rattle.gc_client.specs.Rule.{heard}
-use Rattle.gc_instrument.specs.Replying.{Handed, kept_line, kept_after}
 use Rattle.gc_scenes.proofs.Codes.{fault_bound, call_bound}
 use Rattle.gc_scenes.proofs.Plain.{nothing_plain}
 use Rattle.gc_scenes.proofs.Turns.{one_reply}
-use Rattle.gc_scenes.specs.Rules.{fault_of}
-use Rattle.gc_scenes.specs.SceneExecution.{Played, plays, played_call, unless_faulted, counting}
-use Rattle.gc_scenes.specs.SceneReplying.{IsHanded, IsPlayed, answers, names_call, resent_line, again_or_played, handed_call, played_line}
-use Rattle.gc_scenes.specs.SceneState.{SceneState}
-use Rattle.gc_world.specs.SceneRuns.{scene_handed, scene_ends}
-use Rattle.gc_world.specs.Behaviours.{IsHandedOver, TellsExecution}
-use Rattle.gc_world.specs.Exchange.{IsExchange, ReadsWithItsId}
-use Rattle.gc_instrument.specs.State.{kept_id}
 use Rattle.gc_world.proofs.Handing.{again_kept, kept_reads, id_is_not_kept, reply_heard}
-use Rattle.std.proofs.lemmas.Option.{same_Some, none-some}
 
 -- The reply to a request line.
 

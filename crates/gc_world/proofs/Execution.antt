@@ -1,19 +1,12 @@
 -- The executions of a run are as `HasExecutions` has them, and each booked answer was made for its request. Both are drawn from a
 -- replay (`Replays`): the executions of requests ns, one after the other, with replies ms, from the state s to the state t; j
 -- executions came before.
-use Rattle.std.proofs.Common.{◌≡◌, ℕ, zero, suc, ◌+◌, Bool, true, false, List, [], ◌∷◌, length, Option, Some, refl, sym, ◌∙◌, ap, subst, arith}
-use Rattle.std.specs.List.{AllByRecursion}
-use Rattle.std.specs.Prelude.{slice_get}
-use Rattle.gc_client.specs.Rule.{Settlement}
-use Rattle.gc_world.specs.World.{Sent, Numbered, Ends, Wire}
-use Rattle.gc_world.specs.Worlds
-use Rattle.gc_world.specs.Exchange.{IsExchange}
-use Rattle.gc_world.specs.Faithful.{has_number, restarted_if}
-use Rattle.gc_world.specs.Record.{Increasing, IsOneForOne, IsReplyTo, IsBooked, IsExecutedIn, handed_in, IsExecuted, IsReplyAt, HasExecutions}
+use Rattle.gc_world.proofs.Common.{◌≡◌, ℕ, zero, suc, ◌+◌, Bool, true, false, List, [], ◌∷◌, length, Option, Some, refl, sym, ◌∙◌, ap, subst, arith, AllByRecursion, slice_get, Settlement, Numbered, Ends, Wire, IsExchange, has_number, restarted_if, Increasing, IsOneForOne, IsReplyTo, IsBooked, IsExecutedIn, handed_in, IsExecuted, IsReplyAt, HasExecutions, same_Some, none-some, slice_get_within}
+use Rattle.gc_world.specs.World.{Sent}
 use Rattle.gc_world.proofs.Booked.{Has, has_at, AllMade, answer_made}
 use Rattle.gc_world.proofs.Replay.{Executes, Replays}
-use Rattle.std.proofs.lemmas.Option.{same_Some, none-some, slice_get_within}
 use Rattle.gc_world.proofs.Places.{all_at, element_at}
+use Rattle.gc_world.specs.Worlds
 
 -- a property that each element of a list has holds of any element that is in the list
 pub each_has : {A : Type 0} (P : A → Type 0) (xs : List A) (x : A) → AllByRecursion P xs → Has x xs → P x

@@ -1,16 +1,6 @@
 -- The report of a list of events is faithful. Two runs are *level* where they take the same steps, and as many bytes have gone
 -- of each front line.
-use Rattle.std.proofs.Common.{ℕ, List, length, refl, ◌≤◌, subst}
-use Rattle.gc_catalogue.specs.declared.call.Call.{Call}
-use Rattle.gc_client.specs.Rule.{ById, Windowed}
-use Rattle.gc_instrument.specs.State.{State, IsFittingState, restarted}
-use Rattle.gc_world.specs.declared.event.Event.{Event}
-use Rattle.gc_world.specs.declared.report.Report.{Report}
-use Rattle.gc_world.specs.Faithful.{ActsOnce, Faithful}
-use Rattle.gc_world.specs.Reports.{IsReport, IsNoLongerThan}
-use Rattle.gc_world.specs.Clients.{ends, played, played_by_numbers, run_by_ids, streams_by_ids, streams_by_numbers}
-use Rattle.gc_world.specs.Stages.{AreOfWorld}
-use Rattle.gc_world.specs.World.{World}
+use Rattle.gc_world.proofs.Common.{ℕ, List, length, refl, ◌≤◌, subst, Call, ById, Windowed, State, IsFittingState, restarted, Event, Report, ActsOnce, Faithful, IsReport, IsNoLongerThan, ends, played, played_by_numbers, run_by_ids, streams_by_ids, streams_by_numbers, AreOfWorld, World}
 use Rattle.gc_world.proofs.Flow.{AreLevel, level_at, level_wire}
 use Rattle.gc_world.proofs.Handing.{KeptFits, kept_exchange, exchange, kept_of, keeper}
 use Rattle.gc_world.proofs.Reporting.{one_for_one, books_answers, records_execution, acts_once, agrees_with, no_longer}

@@ -1,27 +1,9 @@
 -- A reply to a request that isn't settled settles it: as answered, or as late where it had timed out. Two runs are *level*
 -- where they take the same steps, and as many bytes have gone of each front line.
-use Rattle.std.proofs.Common.{◌≡◌, ℕ, suc, ◌+◌, ◌-◌, ◌<◌, ◌≤◌, Bool, true, false, cond, List, [], ◌∷◌, ◌++◌, length, map, take, drop, Some, refl, sym, ◌∙◌, ap, subst, arith, append_assoc, eqb}
-use mathlib.Core.Path.{ap₂}
-use Rattle.std.specs.Prelude.{slice_get}
-use Rattle.std.proofs.lemmas.Bool.{le-ltb, lt-ltb}
-use Rattle.std.proofs.lemmas.List.{append-nil, length-map, take-map, drop-map}
-use Rattle.std.proofs.Math.Seq.{drop-append_seam}
-use Rattle.gc_catalogue.specs.declared.call.Call.{Call}
-use Rattle.gc_client.specs.declared.pending.Pending.{Pending}
-use Rattle.gc_client.specs.declared.window.TheConstants.{WINDOW}
-use Rattle.gc_client.specs.Rule.{ById, Settlement, Outcome, Answered, Late, Lost, pending_of, lost, settle}
-use Rattle.gc_client.specs.OneForOne.{Wanted, of_settled, of_pending}
+use Rattle.gc_world.proofs.Common.{◌≡◌, ℕ, suc, ◌+◌, ◌-◌, ◌<◌, ◌≤◌, Bool, true, false, cond, List, [], ◌∷◌, ◌++◌, length, map, take, drop, Some, refl, sym, ◌∙◌, ap, subst, arith, append_assoc, eqb, ap₂, slice_get, le-ltb, lt-ltb, append-nil, length-map, take-map, drop-map, drop-append_seam, Call, Pending, WINDOW, ById, Settlement, Outcome, Answered, Late, Lost, pending_of, lost, settle, Wanted, of_settled, of_pending, Event, DownDeliver, ByNumber, number_send, number_reply, by_ids, by_numbers, ids_open, numbers_open, run_by_ids, streams_by_ids, streams_by_numbers, left_between, IsDelivery, HasSend, IsInTime, IsTooLate, IsSettledAs, settled_as, between, DeliverySettles, Streams, untouched, flows, IsExchange, Ends, Numbered, Wire, World, Send, Down_deliver, requested, down_delivered, happens, run, call_line, of_sent}
 use Rattle.gc_client.proofs.Ends.{settle_is}
 use Rattle.gc_client.proofs.Lists.{drop_next}
-use Rattle.gc_world.specs.declared.event.Event.{Event}
-use Rattle.gc_world.specs.declared.event.Event.TheVariants.{DownDeliver}
-use Rattle.gc_world.specs.declared.event.Event.TheVariants as event
-use Rattle.gc_world.specs.Clients.{ByNumber, number_send, number_reply, by_ids, by_numbers, ids_open, numbers_open, run_by_ids, streams_by_ids, streams_by_numbers}
-use Rattle.gc_world.specs.FirstReply.{IsDelivery, HasSend, IsInTime, IsTooLate, IsSettledAs, settled_as, between, DeliverySettles}
-use Rattle.gc_world.specs.Streams.{Streams, untouched, flows}
-use Rattle.gc_world.specs.Clients.{left_between}
-use Rattle.gc_world.specs.Exchange.{IsExchange}
-use Rattle.gc_world.specs.World.{Ends, Sent, Numbered, Wire, World, Send, Down_deliver, requested, down_delivered, happens, run, call_line}
+use Rattle.gc_world.specs.World.{Sent}
 use Rattle.gc_world.proofs.Agree.{Agree, agree_at, sound_at}
 use Rattle.gc_world.proofs.Flow.{taken, flow_run, flow_append, AreLevel, level_at, level_wire}
 use Rattle.gc_world.proofs.Delivering.{delivery_is}
@@ -29,8 +11,8 @@ use Rattle.gc_world.proofs.Marks.{entry_all}
 use Rattle.gc_world.proofs.Moments.{marked_all, in_time, too_late}
 use Rattle.gc_world.proofs.Places.{get_map, get_push, get_seen, slice_drop}
 use Rattle.gc_world.proofs.Settled.{AccountForSent, whole_at}
-use Rattle.gc_world.specs.Worlds.{of_sent}
 use Rattle.gc_world.proofs.Sound.{Sound, sound_step}
+use Rattle.gc_world.specs.declared.event.Event.TheVariants as event
 
 -- Lists.
 

@@ -1,14 +1,5 @@
 -- What holds of the steps of a run holds of its events: each event is some steps.
-use Rattle.std.proofs.Common.{◌≡◌, ℕ, ◌+◌, ◌<◌, ◌≤◌, List, [], ◌∷◌, ◌++◌, length, take, get_or, refl, sym, ◌∙◌, ap, subst}
-use Rattle.std.proofs.lemmas.List.{take_more}
-use mathlib.Core.Path.{ap₂}
-use Rattle.gc_catalogue.specs.declared.call.Call.{Call}
-use Rattle.gc_client.specs.Rule.{ById}
-use Rattle.gc_world.specs.declared.event.Event.{Event}
-use Rattle.gc_world.specs.Clients.{ByNumber, by_ids, by_numbers, ids_open, numbers_open, run_by_ids, run_by_numbers, streams_by_ids, streams_by_numbers}
-use Rattle.gc_world.specs.Exchange.{IsExchange}
-use Rattle.gc_world.specs.Streams.{Streams, Effect, untouched, up_lines, down_lines, effect, effect_on, flows, flow}
-use Rattle.gc_world.specs.World.{Ends, Rule, Step, Wire, World, happens, run}
+use Rattle.gc_world.proofs.Common.{◌≡◌, ℕ, ◌+◌, ◌<◌, ◌≤◌, List, [], ◌∷◌, ◌++◌, length, take, get_or, refl, sym, ◌∙◌, ap, subst, take_more, ap₂, Call, ById, Event, ByNumber, by_ids, by_numbers, ids_open, numbers_open, run_by_ids, run_by_numbers, streams_by_ids, streams_by_numbers, IsExchange, Streams, Effect, untouched, up_lines, down_lines, effect, effect_on, flows, flow, Ends, Rule, Step, Wire, World, happens, run}
 use Rattle.gc_world.proofs.Agree.{same_wire}
 
 module _ {Client State : Type 0} (ends : Ends State) (rule : Rule Client) where

@@ -1,24 +1,7 @@
 -- For the loop that hands over n bytes of a direction, one completed line after the other: at each turn, handing over the bytes
 -- that are left leads to the same streams as handing over all n bytes at the start. An event *takes no memory* where
 -- `TakesNoMemory` holds of it: no list grows, as where bytes complete no line.
-use Rattle.std.proofs.Common.{◌≡◌, ℕ, zero, suc, ◌+◌, ◌-◌, ◌<◌, ◌≤◌, Bool, false, cond, List, [], ◌∷◌, length, map, drop, Option, Some, None, refl, sym, ◌∙◌, ap, subst, arith}
-use mathlib.Core.Path.{ap₂}
-use Rattle.std.specs.Prelude.{replicate, IsTrue, ◌↔◌}
-use Rattle.std.proofs.lemmas.Bool.{both_ways, le-ltb}
-use Rattle.gc_lines.specs.Lines.{with_end}
-use Rattle.gc_catalogue.specs.declared.call.Call.{Call}
-use Rattle.gc_client.specs.Rule.{ById, fits, heard, hears, place_in, settles_at}
-use Rattle.gc_world.specs.declared.direction.Direction.{Direction}
-use Rattle.gc_world.specs.declared.direction.Direction.TheVariants.{Up, Down}
-use Rattle.gc_world.specs.Behaviours.{Behaviour, ends_with}
-use Rattle.gc_world.specs.Clients.{by_ids}
-use Rattle.gc_world.specs.Directions.{deliver, delivery, bytes, texts, lines, gone, to_go, with_front_gone, after_cut, handed_over}
-use Rattle.gc_world.specs.Memory.{FrontIsStray, AreStrays, TakesNoMemory}
-use Rattle.gc_world.specs.Sides.{IsPartOfFront}
-use Rattle.gc_world.specs.Stages.{StageParts, after_step, AreStreamsOf}
-use Rattle.gc_world.specs.Staging.{after_event, after_bytes}
-use Rattle.gc_world.specs.Streams.{Streams, Cut, one_line_more, cut, down_lines, remaining, flows}
-use Rattle.gc_world.specs.World.{Numbered, Ends, Rule, Down_deliver, down_delivered, happens, run}
+use Rattle.gc_world.proofs.Common.{◌≡◌, ℕ, zero, suc, ◌+◌, ◌-◌, ◌<◌, ◌≤◌, Bool, false, cond, List, [], ◌∷◌, length, map, drop, Option, Some, None, refl, sym, ◌∙◌, ap, subst, arith, ap₂, replicate, IsTrue, ◌↔◌, both_ways, le-ltb, with_end, Call, ById, fits, heard, hears, place_in, settles_at, Direction, Up, Down, Behaviour, ends_with, by_ids, deliver, delivery, bytes, texts, lines, gone, to_go, with_front_gone, after_cut, handed_over, FrontIsStray, AreStrays, TakesNoMemory, IsPartOfFront, StageParts, after_step, AreStreamsOf, after_event, after_bytes, Streams, Cut, one_line_more, cut, down_lines, remaining, flows, Numbered, Ends, Rule, Down_deliver, down_delivered, happens, run}
 use Rattle.gc_world.proofs.Directions.{gone_reached, reaches_again, unmoved, delivered, passing, bytes_pass, one_less, not_idle}
 use Rattle.gc_world.proofs.Shown.{part}
 

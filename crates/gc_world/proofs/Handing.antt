@@ -1,32 +1,13 @@
 -- What the instrument does with a request that a client wrote, and how its reply reads.
-use Rattle.std.proofs.Common.{◌≡◌, ℕ, ◌<◌, Bool, true, false, cond, List, [], Option, Some, None, Ok, inl, inr, refl, sym, ap, ◌∙◌, subst, lit<, eqb}
-use Rattle.std.proofs.lemmas.Bool.{eqb-true, eq-eqb, cond_both}
-use Rattle.gc_lines.specs.Answering.{AppendsAnswer}
-use Rattle.gc_lines.specs.Lines.{IsPlain}
-use Rattle.gc_lines.specs.Readers.{reply_at}
-use Rattle.gc_lines.specs.Replies.{IsReply, reply_text}
+use Rattle.gc_world.proofs.Common.{◌≡◌, ℕ, ◌<◌, Bool, true, false, cond, List, [], Option, Some, None, Ok, inl, inr, refl, sym, ap, ◌∙◌, subst, lit<, eqb, eqb-true, eq-eqb, cond_both, AppendsAnswer, IsPlain, reply_at, IsReply, reply_text, Call, rounded_answer, IsReading, reply_of, id_in, heard, State, KeptReply, IsFittingState, IsFittingKept, IsFittingReply, kept_id, restarted, Executed, exec, Handed, handed, IsExchanged, kept_line, kept_after, without_kept, executed_line, reading_of, exec_outcome, restarted_fits, IsHandedOver, TellsExecution, IsExchange, IsKeeper, ReadsWithItsId, IsValueOrRefusal, restarted_if, ends, cond_some, none-some, same_Some}
 use Rattle.gc_lines.proofs.Replies.{one_reply, reply_again, reply_found}
 use Rattle.gc_lines.proofs.Written.{reply_back}
 use Rattle.gc_catalogue.specs.declared.answer.Reading.TheVariants.{Value, Refused}
-use Rattle.gc_catalogue.specs.declared.call.Call.{Call}
-use Rattle.gc_catalogue.specs.Answers.{rounded_answer}
-use Rattle.gc_catalogue.specs.Readings.{IsReading}
-use Rattle.gc_catalogue.specs.Texts.{reply_of}
 use Rattle.gc_catalogue.proofs.AnswerLaws.{one_reading}
-use Rattle.gc_client.specs.Rule.{id_in, heard}
-use Rattle.gc_instrument.specs.State.{State, KeptReply, IsFittingState, IsFittingKept, IsFittingReply, kept_id, restarted}
-use Rattle.gc_instrument.specs.Execution.{Executed, exec}
-use Rattle.gc_instrument.specs.Replying.{Handed, handed, IsExchanged, kept_line, kept_after, without_kept, executed_line, reading_of}
-pub use Rattle.gc_instrument.specs.Replying.{kept_of}
 use Rattle.gc_instrument.proofs.Answering.{handed_answered, handed_again, handed_new, some_line_or_none}
 use Rattle.gc_instrument.proofs.Keeping.{executes_apart, fits_kept}
-use Rattle.gc_instrument.proofs.Executions.{exec_outcome, restarted_fits}
-use Rattle.gc_world.specs.Behaviours.{IsHandedOver, TellsExecution}
-use Rattle.gc_world.specs.Exchange.{IsExchange, IsKeeper, ReadsWithItsId}
-use Rattle.gc_world.specs.Faithful.{IsValueOrRefusal, restarted_if}
 use Rattle.gc_world.specs.Laws.{RepliesAreFine}
-use Rattle.gc_world.specs.Clients.{ends}
-use Rattle.std.proofs.lemmas.Option.{cond_some, none-some, same_Some}
+pub use Rattle.gc_instrument.specs.Replying.{kept_of}
 
 -- where a reply is kept, its line is a reply line with the id that it is kept with
 abbrev pub KeptFits : State → Type 0

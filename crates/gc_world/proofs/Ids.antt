@@ -1,7 +1,6 @@
 -- From an id back to the request. `count` requests are settled, `total` were sent, `since` of them before the client's last
 -- start, and request `number` has the id (number - since) % 8.
-use Rattle.std.proofs.Common.{◌≡◌, ℕ, ◌+◌, ◌-◌, ◌%◌, ◌<◌, ◌≤◌, arith}
-use Rattle.gc_client.specs.Rule.{place}
+use Rattle.gc_world.proofs.Common.{◌≡◌, ℕ, ◌+◌, ◌-◌, ◌%◌, ◌<◌, ◌≤◌, arith, place}
 
 -- where all requests that were sent before the client's last start are settled, and at most seven of those that were sent aren't,
 -- the place (`place`) of the id of request `number`, which isn't settled, is number - count: how many of the requests that aren't

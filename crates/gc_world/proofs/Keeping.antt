@@ -1,16 +1,6 @@
 -- The instrument of a scene that stores its last reply keeps replies as `IsKeeper` of gc_world asks; one that stores none executes
 -- each request each time.
-use Rattle.std.proofs.Common.{◌≡◌, ℕ, true, false, cond, List, Option, Some, None, refl, ◌∙◌, ap}
-use Rattle.gc_catalogue.specs.Calls.{call_fields}
-use Rattle.gc_catalogue.specs.declared.call.Call.{Call}
-use Rattle.gc_instrument.specs.Replying.{kept_line}
-use Rattle.gc_instrument.specs.State.{KeptReply}
-use Rattle.gc_scenes.specs.Rules.{fault_of}
-use Rattle.gc_scenes.specs.SceneExecution.{Played, played_call}
-use Rattle.gc_scenes.specs.SceneReplying.{again_or_played, handed_call, resent_line}
-use Rattle.gc_scenes.specs.SceneState.{SceneState}
-use Rattle.gc_world.specs.SceneRuns.{scene_handed, scene_ends}
-use Rattle.gc_world.specs.Exchange.{IsExchange, IsKeeper}
+use Rattle.gc_world.proofs.Common.{◌≡◌, ℕ, true, false, cond, List, Option, Some, None, refl, ◌∙◌, ap, call_fields, Call, kept_line, KeptReply, fault_of, Played, played_call, again_or_played, handed_call, resent_line, SceneState, scene_handed, scene_ends, IsExchange, IsKeeper}
 use Rattle.gc_world.proofs.Exchanges.{StoredReads, exchange, same_repeats}
 
 -- the reply that the instrument of a scene stores, if any

@@ -1,3 +1,4 @@
+mod Common
 pub mod Once
 pub mod Places
 pub mod Ids

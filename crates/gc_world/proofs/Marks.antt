@@ -1,14 +1,5 @@
 -- What the oracle client remembers of one request, until it is settled: whether it had timed out.
-use Rattle.std.proofs.Common.{◌≡◌, ℕ, ◌-◌, ◌≤◌, Bool, true, false, List, [], ◌∷◌, length, zero, suc, Some, refl, sym, ◌∙◌, ap, arith, ltb, eqb}
-use Rattle.std.specs.Prelude.{slice_get}
-use Rattle.std.proofs.lemmas.Bool.{ltb-false}
-use Rattle.gc_catalogue.specs.declared.call.Call.{Call}
-use Rattle.gc_client.specs.declared.pending.Pending.{Pending}
-use Rattle.gc_client.specs.Rule.{pending_of, expired}
-use Rattle.gc_world.specs.World.{Request, Numbered, Ends, Step, Send, Up_deliver, Up_lose, Up_repeat, Down_deliver, Down_lose, Down_repeat, Expire, Restart_client, Restart_instrument, Nothing, World, requested, down_delivered, client_restarted, happens, run, call_line}
-use Rattle.gc_world.specs.Clients.{ByNumber, number_send, number_reply, expired_from, by_numbers}
-use Rattle.gc_world.specs.Exchange.{IsExchange}
-use Rattle.std.proofs.lemmas.Option.{none-some, slice_get_within}
+use Rattle.gc_world.proofs.Common.{◌≡◌, ℕ, ◌-◌, ◌≤◌, Bool, true, false, List, [], ◌∷◌, length, zero, suc, Some, refl, sym, ◌∙◌, ap, arith, ltb, eqb, slice_get, ltb-false, Call, Pending, pending_of, expired, Request, Numbered, Ends, Step, Send, Up_deliver, Up_lose, Up_repeat, Down_deliver, Down_lose, Down_repeat, Expire, Restart_client, Restart_instrument, Nothing, World, requested, down_delivered, client_restarted, happens, run, call_line, ByNumber, number_send, number_reply, expired_from, by_numbers, IsExchange, none-some, slice_get_within}
 use Rattle.gc_world.proofs.Places.{get_map, get_more}
 use Rattle.gc_world.proofs.Sound.{Sound, sound_step}
 

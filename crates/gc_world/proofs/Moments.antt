@@ -1,17 +1,9 @@
 -- A request that waits has timed out exactly if there was a moment at or past its deadline.
-use Rattle.std.proofs.Common.{◌≡◌, ℕ, zero, suc, ◌+◌, ◌<◌, ◌≤◌, Bool, true, false, cond, List, [], ◌∷◌, ◌++◌, ◌⊎◌, inl, inr, Contains, refl, sym, ◌∙◌, ap, subst, arith, leb}
-use Rattle.std.specs.Prelude.{replicate}
-use Rattle.std.proofs.lemmas.Bool.{le-leb, lt-leb, leb-true, leb-false, or_from, or_left, or_right}
-use Rattle.std.proofs.lemmas.List.Elements.{Contains-append_right}
-use Rattle.gc_catalogue.specs.declared.call.Call.{Call}
-use Rattle.gc_client.specs.declared.pending.Pending.{Pending}
-use Rattle.gc_world.specs.declared.event.Event.{Event}
-use Rattle.gc_world.specs.declared.event.Event.TheVariants.{Send, UpDeliver, UpBytes, UpLose, UpRepeat, DownDeliver, DownBytes, DownLose, DownRepeat, Expire, RestartClient, RestartInstrument}
-use Rattle.gc_world.specs.Streams.{Streams, passed, cut, is_begun, effect_on, flows}
-use Rattle.gc_world.specs.World
-use Rattle.gc_world.specs.World.{Ends, Rule, Step, Up_deliver, Up_lose, Up_repeat, Down_deliver, Down_lose, Down_repeat}
+use Rattle.gc_world.proofs.Common.{◌≡◌, ℕ, zero, suc, ◌+◌, ◌<◌, ◌≤◌, Bool, true, false, cond, List, [], ◌∷◌, ◌++◌, ◌⊎◌, inl, inr, Contains, refl, sym, ◌∙◌, ap, subst, arith, leb, replicate, le-leb, lt-leb, leb-true, leb-false, or_from, or_left, or_right, Contains-append_right, Call, Pending, Event, UpDeliver, UpBytes, UpLose, UpRepeat, DownDeliver, DownBytes, DownLose, DownRepeat, RestartClient, RestartInstrument, Streams, passed, cut, is_begun, effect_on, flows, Ends, Rule, Step, Up_deliver, Up_lose, Up_repeat, Down_deliver, Down_lose, Down_repeat}
+use Rattle.gc_world.specs.declared.event.Event.TheVariants.{Send, Expire}
 use Rattle.gc_world.proofs.Flow.{taken}
 use Rattle.gc_world.proofs.Marks.{touched, touched_all}
+use Rattle.gc_world.specs.World
 
 -- an event is no moment at or past the deadline
 abbrev IsEarly : ℕ → Event → Type 0

@@ -1,24 +1,10 @@
 -- The instrument that keeps its last reply executes each request at most once, in order. In this file `since`, `count` and
 -- `total` are how many requests had been sent at the client's last start, are settled, and were sent; `top` is one above the
 -- number executed last, or 0 if none was.
-use Rattle.std.proofs.Common.{◌≡◌, ℕ, ◌+◌, ◌-◌, ◌%◌, ◌<◌, ◌≤◌, inl, inr, Bool, true, false, List, [], ◌∷◌, ◌++◌, length, Option, Some, None, IfSome, cond, refl, sym, ◌∙◌, ap, subst, arith, ltb, eqb}
-use Rattle.std.specs.List.{AllByRecursion}
-use Rattle.std.proofs.lemmas.List.{length_push}
-use Rattle.std.proofs.lemmas.Bool.{eqb-true, eqb-false, cases_eq}
-use Rattle.gc_lines.proofs.Lists.{all_append}
-use Rattle.gc_values.proofs.Every.{every_weaker as all_on}
-use Rattle.gc_catalogue.specs.declared.call.Call.{Call}
-use Rattle.gc_catalogue.specs.Texts.{request_line}
-use Rattle.gc_client.specs.Rule.{Sending, pending_of}
-use Rattle.gc_instrument.specs.Replying.{Handed, kept_line}
-use Rattle.gc_instrument.specs.State.{KeptReply}
-use Rattle.gc_world.specs.Clients.{ByNumber, number_send, number_reply, by_numbers, numbers_open}
-use Rattle.gc_world.specs.Exchange.{IsExchange, IsKeeper}
-use Rattle.gc_world.specs.Order.{Rising, IsRecent, numbers}
-use Rattle.gc_world.specs.Record.{Increasing}
-use Rattle.gc_world.specs.World.{Request, Sent, Numbered, Ends, Step, World, Wire, without, doubled, replied, started, requested, with_settled, run, call_line}
+use Rattle.gc_world.proofs.Common.{◌≡◌, ℕ, ◌+◌, ◌-◌, ◌%◌, ◌<◌, ◌≤◌, inl, inr, Bool, true, false, List, [], ◌∷◌, ◌++◌, length, Option, Some, None, cond, refl, sym, ◌∙◌, ap, subst, arith, ltb, eqb, AllByRecursion, length_push, eqb-true, eqb-false, cases_eq, all_append, every_weaker as all_on, Call, request_line, Sending, pending_of, Handed, kept_line, KeptReply, ByNumber, number_send, number_reply, by_numbers, numbers_open, IsExchange, IsKeeper, Rising, IsRecent, numbers, Increasing, Request, Numbered, Ends, Step, World, Wire, without, doubled, replied, requested, run, call_line, cond_some, same_Some}
+use Rattle.std.proofs.Common.{IfSome}
+use Rattle.gc_world.specs.World.{Sent, started, with_settled}
 use Rattle.gc_world.proofs.Booked.{Has, has_more, has_push}
-use Rattle.std.proofs.lemmas.Option.{cond_some, same_Some}
 use Rattle.gc_world.proofs.Places.{get_push}
 use Rattle.gc_world.proofs.Replay.{IsAsSent, as_sent_more, Replays, replays_more, replays_push, replays_started, no_number}
 use Rattle.gc_world.proofs.Rows.{each_number, each_without, each_doubled, rising_each, rising_tail}

@@ -1,22 +1,10 @@
 -- The bytes of a line, and its CR LF, in pieces.
-use Rattle.std.proofs.Common.{◌≡◌, ℕ, ◌+◌, ◌-◌, ◌<◌, ◌≤◌, cond, not, List, [], ◌∷◌, ◌++◌, length, take, drop, Some, None, refl, sym, ap, ◌∙◌, subst, arith, length-append, append_assoc, take-add, ltb}
-use Rattle.std.specs.Prelude.{◌≢◌}
-use Rattle.std.specs.List.{AllByRecursion, position, prefix_len}
-use Rattle.std.proofs.lemmas.Bool.{le-ltb, lt-ltb, ne_eqb}
-use Rattle.std.proofs.lemmas.List.{take_at, take-append-le, drop-append-le, take-append-drop}
-use Rattle.std.proofs.lemmas.List.Elements.{All-take, All-drop, recursion_from_All, All-from_recursion}
-use Rattle.arrayvec.specs.ArrayVec.{ArrayVec}
+use Rattle.gc_world.proofs.Common.{◌≡◌, ℕ, ◌+◌, ◌-◌, ◌<◌, ◌≤◌, cond, not, List, [], ◌∷◌, ◌++◌, length, take, drop, Some, None, refl, sym, ap, ◌∙◌, subst, arith, length-append, append_assoc, take-add, ltb, ◌≢◌, AllByRecursion, position, prefix_len, le-ltb, lt-ltb, ne_eqb, take_at, take-append-le, drop-append-le, take-append-drop, All-take, All-drop, recursion_from_All, All-from_recursion, ArrayVec, lent_seen, IsLentLine, Kept, StandsFor, is_line_feed, frame_of, HasNoLineFeed, IsPlainByte, IsPlain, with_end, KeepsPiece, EndsFrame, StandsForPart}
 use Rattle.gc_lines.specs.declared.frame.Frame.{Frame}
 use Rattle.gc_lines.specs.declared.frame.Frame.TheVariants.{Line}
 use Rattle.gc_lines.specs.declared.frame.Lent.{Lent}
-use Rattle.gc_lines.specs.declared.frame.Lent.TheVariants as lent
-use Rattle.gc_lines.specs.Lent.{lent_seen, IsLentLine}
-use Rattle.gc_lines.specs.Assembler.{Kept, StandsFor}
-use Rattle.gc_lines.specs.Frames.{is_line_feed, frame_of, HasNoLineFeed}
-use Rattle.gc_lines.specs.Lines.{IsPlainByte, IsPlain, with_end}
-use Rattle.gc_lines.specs.Taking.{KeepsPiece, EndsFrame}
 use Rattle.gc_lines.proofs.Plain.{frame_is_line}
-use Rattle.gc_world.specs.Sides.{StandsForPart}
+use Rattle.gc_lines.specs.declared.frame.Lent.TheVariants as lent
 
 -- Plain bytes have no line feed.
 

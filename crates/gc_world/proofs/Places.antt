@@ -1,8 +1,5 @@
 -- The element at a place of a list, also of a list that was mapped, appended to or cut.
-use Rattle.std.proofs.Common.{◌≡◌, ℕ, zero, suc, ◌-◌, ◌<◌, ◌≤◌, List, [], ◌∷◌, length, map, drop, get_or, Some, refl, ◌∙◌, ap, arith}
-use Rattle.std.specs.Prelude.{slice_get}
-use Rattle.std.specs.Option.{option_map}
-use Rattle.std.proofs.lemmas.Option.{same_Some, none-some, slice_get-get_or, slice_get-map}
+use Rattle.gc_world.proofs.Common.{◌≡◌, ℕ, zero, suc, ◌-◌, ◌<◌, ◌≤◌, List, [], ◌∷◌, length, map, drop, get_or, Some, refl, ◌∙◌, ap, arith, slice_get, option_map, same_Some, none-some, slice_get-get_or, slice_get-map}
 pub use Rattle.gc_lines.proofs.Lists.{all_at, get_more, get_push}
 
 -- where xs has x at place n, map f xs has f x there

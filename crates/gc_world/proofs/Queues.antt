@@ -1,9 +1,6 @@
 -- What a loss (`without`) and a repeat (`doubled`) leave of a queue. It is what std's `remove` and `insert` leave, and it
 -- doesn't matter whether a function is mapped over the queue before or after.
-use Rattle.std.proofs.Common.{◌≡◌, ℕ, zero, suc, ◌<◌, ◌≤◌, true, false, List, [], ◌∷◌, length, map, get_or, Option, Some, None, refl, sym, ◌∙◌, ap, arith}
-use Rattle.std.specs.Prelude.{IsSome, OnSome, IfNone, ◌↔◌}
-use Rattle.std.specs.List.{remove, insert}
-use Rattle.gc_world.specs.World.{without, doubled}
+use Rattle.gc_world.proofs.Common.{◌≡◌, ℕ, zero, suc, ◌<◌, ◌≤◌, true, false, List, [], ◌∷◌, length, map, get_or, Option, Some, None, refl, sym, ◌∙◌, ap, arith, IsSome, OnSome, IfNone, ◌↔◌, remove, insert, without, doubled}
 
 -- where a list has an element k, std's `remove` of it leaves the list without it (`without`)
 pub without_is : {A : Type 0} (xs : List A) (k : ℕ) → k < length xs → remove xs k ≡ without k xs

@@ -1,13 +1,8 @@
 -- A replay: the executions of a run, one after the other, with the instrument's state before each and the reply to each.
-use Rattle.std.proofs.Common.{◌≡◌, ℕ, ◌+◌, ◌<◌, ◌||◌, Bool, true, false, List, [], ◌∷◌, ◌++◌, length, Some, refl, sym, ◌∙◌, ap, subst, arith, eqb}
-use Rattle.std.specs.List.{AllByRecursion}
-use Rattle.std.specs.Prelude.{slice_get}
-use Rattle.std.proofs.lemmas.Bool.{ne_eqb, eq-eqb, or_right}
-use Rattle.gc_world.specs.World.{Sent, Numbered, Ends}
-use Rattle.gc_world.specs.Worlds
-use Rattle.gc_world.specs.Faithful.{has_number, restarted_if}
-use Rattle.gc_world.specs.Record.{IsExecutedIn, handed_in}
+use Rattle.gc_world.proofs.Common.{◌≡◌, ℕ, ◌+◌, ◌<◌, ◌||◌, Bool, true, false, List, [], ◌∷◌, ◌++◌, length, Some, refl, sym, ◌∙◌, ap, subst, arith, eqb, AllByRecursion, slice_get, ne_eqb, eq-eqb, or_right, Numbered, Ends, has_number, restarted_if, IsExecutedIn, handed_in}
+use Rattle.gc_world.specs.World.{Sent}
 use Rattle.gc_world.proofs.Places.{get_more}
+use Rattle.gc_world.specs.Worlds
 
 -- a number above all of these isn't among them
 pub no_number : (n : ℕ) (xs : List ℕ) → AllByRecursion (λ x. x < n) xs → has_number n xs ≡ false

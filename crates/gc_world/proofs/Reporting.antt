@@ -1,35 +1,13 @@
 -- What holds of a run's wire holds of a report that has its lists and counts (`IsReport`).
-use Rattle.std.proofs.Common.{◌≡◌, ℕ, zero, suc, ◌+◌, ◌<◌, ◌≤◌, inl, inr, List, [], ◌∷◌, length, Some, refl, sym, ◌∙◌, ap, subst, arith}
-use Rattle.std.specs.List.{AllByRecursion}
-use Rattle.std.specs.Prelude.{slice_get}
-use Rattle.std.proofs.lemmas.Bool.{cases_lt}
-use Rattle.std.proofs.lemmas.List.{length-map}
-use Rattle.std.proofs.lemmas.List.Elements.{recursion_from_All}
-use Rattle.gc_catalogue.specs.Calls.{IsFitting}
-use Rattle.gc_catalogue.specs.declared.call.Call.{Call}
-use Rattle.gc_catalogue.specs.Texts.{request_line}
+use Rattle.gc_world.proofs.Common.{◌≡◌, ℕ, zero, suc, ◌+◌, ◌<◌, ◌≤◌, inl, inr, List, [], ◌∷◌, length, Some, refl, sym, ◌∙◌, ap, subst, arith, AllByRecursion, slice_get, cases_lt, length-map, recursion_from_All, IsFitting, request_line, IsReading, Call, IsReadBy, settlement_seen, outcome_seen, State, IsFittingState, restarted, exec, executed_line, without_kept, Made, Report, Sent, OneForOne, IsBookedAnswer, BooksAnswers, has_number, restarted_if, AreStatesBefore, IsReplyOf, RecordsExecution, ActsOnce, sent_seen, AgreesWith, Increasing, IsOneForOne, IsBooked, IsExecutedIn, HasExecutions, made_seen, IsReport, IsNoLongerThan, ends, Numbered, Wire, same_Some, none-some, slice_get_within}
 use Rattle.gc_client.specs.declared.settlement.Settlement.{Settlement}
 use Rattle.gc_client.specs.declared.settlement.Outcome.{Outcome}
 use Rattle.gc_client.specs.declared.settlement.Outcome.TheVariants.{Answered, Late, Lost}
-use Rattle.gc_client.specs.Rule
-use Rattle.gc_catalogue.specs.Readings.{IsReading}
-use Rattle.gc_client.specs.Settlements.{IsReadBy, settlement_seen, outcome_seen}
-use Rattle.gc_instrument.specs.State.{State, IsFittingState, restarted}
-use Rattle.gc_world.specs.declared.report.Made.{Made}
-use Rattle.gc_world.specs.declared.report.Report.{Report}
-use Rattle.gc_world.specs.declared.report.Sent.{Sent}
-use Rattle.gc_world.specs.Faithful.{OneForOne, IsBookedAnswer, BooksAnswers, has_number, restarted_if, AreStatesBefore, IsReplyOf, RecordsExecution, ActsOnce, sent_seen, AgreesWith}
-use Rattle.gc_world.specs.Record.{Increasing, IsOneForOne, IsBooked, IsExecutedIn, HasExecutions}
-use Rattle.gc_world.specs.Reports.{made_seen, IsReport, IsNoLongerThan}
-use Rattle.gc_world.specs.Clients.{ends}
-use Rattle.gc_instrument.specs.Execution.{exec}
-use Rattle.gc_instrument.specs.Replying.{executed_line, without_kept}
-use Rattle.gc_world.specs.World
-use Rattle.gc_world.specs.World.{Numbered, Wire}
 use Rattle.gc_world.proofs.Counts.{IsWithin}
 use Rattle.gc_world.proofs.Handing.{without_kept_after, line_without_kept, without_kept_restarted, fine}
-use Rattle.std.proofs.lemmas.Option.{same_Some, none-some, slice_get_within}
 use Rattle.gc_world.proofs.Places.{get_map, get_seen, element_at, all_at}
+use Rattle.gc_client.specs.Rule
+use Rattle.gc_world.specs.World
 
 -- increasing numbers from `low` on are at least `low`
 above_low : (low : ℕ) (xs : List ℕ) (j m : ℕ) → Increasing low xs → slice_get xs j ≡ Some m → low ≤ m

@@ -1,10 +1,7 @@
 -- Numbers in a queue: what holds of each, and that they never fall. Where a comment says that numbers never fall, `Rising low`
 -- holds of them: none is below low - 1 either.
-use Rattle.std.proofs.Common.{ℕ, zero, suc, ◌+◌, ◌<◌, ◌≤◌, List, [], ◌∷◌, ◌++◌, arith}
-use Rattle.std.specs.List.{AllByRecursion}
-use Rattle.gc_values.proofs.Every.{every_weaker as all_on}
+use Rattle.gc_world.proofs.Common.{ℕ, zero, suc, ◌+◌, ◌<◌, ◌≤◌, List, [], ◌∷◌, ◌++◌, arith, AllByRecursion, every_weaker as all_on, Rising, numbers}
 use Rattle.gc_world.specs.Worlds.{without, doubled, Numbered}
-use Rattle.gc_world.specs.Order.{Rising, numbers}
 
 module _ {A : Type 0} where
   -- a property that each element has holds of each element of the list without element k

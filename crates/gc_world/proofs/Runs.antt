@@ -1,16 +1,5 @@
 -- What every run by ids has at its end.
-use Rattle.std.proofs.Common.{◌≡◌, ℕ, ◌≤◌, List, Option, Some, true, sym, subst}
-use Rattle.std.specs.List.{AllByRecursion}
-use Rattle.gc_values.proofs.Every.{every_weaker as all_on}
-use Rattle.gc_instrument.specs.State.{KeptReply}
-use Rattle.gc_world.specs.Order.{IsRecent, numbers}
-use Rattle.std.specs.Prelude.{slice_get}
-use Rattle.gc_catalogue.specs.declared.call.Call.{Call}
-use Rattle.gc_client.specs.Rule.{Settlement}
-use Rattle.gc_world.specs.World.{Ends, Step, Wire, World, call_line}
-use Rattle.gc_world.specs.Clients.{ByNumber, run_by_ids, run_by_numbers}
-use Rattle.gc_world.specs.Exchange.{IsExchange, IsKeeper}
-use Rattle.gc_world.specs.Record.{IsOneForOne, IsBooked, HasExecutions}
+use Rattle.gc_world.proofs.Common.{◌≡◌, ℕ, ◌≤◌, List, Option, Some, true, sym, subst, AllByRecursion, every_weaker as all_on, KeptReply, IsRecent, numbers, slice_get, Call, Settlement, Ends, Step, Wire, World, call_line, ByNumber, run_by_ids, run_by_numbers, IsExchange, IsKeeper, IsOneForOne, IsBooked, HasExecutions}
 use Rattle.gc_world.proofs.Agree.{same_wire}
 use Rattle.gc_world.proofs.Booked.{Has, AllMade, backed_at}
 use Rattle.gc_world.proofs.Once.{Once, once_at, recent}

@@ -1,22 +1,10 @@
 -- Each request that was sent has its send in the list of events.
-use Rattle.std.proofs.Common.{◌≡◌, ℕ, zero, suc, cond, ◌+◌, ◌<◌, ◌≤◌, Bool, true, false, List, [], ◌∷◌, ◌++◌, length, Option, Some, None, ◌⊎◌, inl, inr, Contains, refl, sym, ◌∙◌, ap, subst, arith, append_assoc, ltb, eqb}
-use Rattle.std.specs.Prelude.{replicate}
-use Rattle.std.proofs.lemmas.Bool.{eqb-true, eqb-false}
-use Rattle.std.proofs.lemmas.List.{append-nil, length_push}
-use Rattle.gc_lines.proofs.Lists.{cons_tail}
-use Rattle.gc_catalogue.specs.declared.call.Call.{Call}
-use Rattle.gc_catalogue.specs.Texts.{request_line}
-use Rattle.gc_client.specs.Rule.{ById, Sending}
-use Rattle.gc_world.specs.declared.event.Event.{Event}
-use Rattle.gc_world.specs.declared.event.Event.TheVariants.{Send, UpDeliver, UpBytes, UpLose, UpRepeat, DownDeliver, DownBytes, DownLose, DownRepeat, Expire, RestartClient, RestartInstrument}
-use Rattle.gc_world.specs.Clients.{by_ids, ids_open, streams_by_ids}
-use Rattle.gc_world.specs.Streams.{Streams, untouched, cut, passed, is_begun, up_lines, down_lines, flows, flow}
-use Rattle.gc_world.specs.World
-use Rattle.gc_world.specs.FirstReply.{HasSend, IsInTime, IsTooLate, IsInTimeOrTooLate, IsNeverInTimeAndTooLate}
-use Rattle.gc_world.specs.Clients.{left_between}
-use Rattle.gc_world.specs.World.{Request, Numbered, Ends, Rule, Wire, World, Step, Up_deliver, Down_deliver, up_delivered, with_up, with_down, started, instrument_restarted, requested, down_delivered, client_restarted, happens, run}
+use Rattle.gc_world.proofs.Common.{◌≡◌, ℕ, zero, suc, cond, ◌+◌, ◌<◌, ◌≤◌, Bool, true, false, List, [], ◌∷◌, ◌++◌, length, Option, Some, None, ◌⊎◌, inl, inr, Contains, refl, sym, ◌∙◌, ap, subst, arith, append_assoc, ltb, eqb, replicate, eqb-true, eqb-false, append-nil, length_push, cons_tail, Call, request_line, ById, Sending, Event, UpDeliver, UpBytes, UpLose, UpRepeat, DownDeliver, DownBytes, DownLose, DownRepeat, RestartClient, RestartInstrument, by_ids, ids_open, streams_by_ids, left_between, Streams, untouched, cut, passed, is_begun, up_lines, down_lines, flows, flow, HasSend, IsInTime, IsTooLate, IsInTimeOrTooLate, IsNeverInTimeAndTooLate, Request, Numbered, Ends, Rule, Wire, World, Step, Up_deliver, Down_deliver, up_delivered, with_up, with_down, instrument_restarted, requested, down_delivered, client_restarted, happens, run}
+use Rattle.gc_world.specs.declared.event.Event.TheVariants.{Send, Expire}
+use Rattle.gc_world.specs.World.{started}
 use Rattle.gc_world.proofs.Flow.{flow_append}
 use Rattle.gc_world.proofs.Moments.{AllEarly, OneReaches, early_or_reached}
+use Rattle.gc_world.specs.World
 
 -- the event is a send
 abbrev IsSend : Event → Type 0

@@ -1,17 +1,7 @@
 -- What is settled and what is waiting are the requests that were sent, in order, each once.
-use Rattle.std.proofs.Common.{◌≡◌, ℕ, zero, suc, ◌+◌, Bool, true, false, List, [], ◌∷◌, ◌++◌, length, map, Some, refl, sym, ◌∙◌, ap, subst, ◌%◌, arith, append_assoc, length-append, eqb}
-use Rattle.std.specs.Prelude.{slice_get}
-use Rattle.std.proofs.lemmas.List.{map-append, append-nil, length-map}
-use Rattle.gc_client.specs.declared.pending.Pending.{Pending}
-use Rattle.gc_client.specs.Rule.{Settlement, Settled, ById, pending_of, send_unless_full}
-use Rattle.gc_client.specs.Rule.{Sending}
-use Rattle.gc_client.specs.OneForOne.{Wanted, of_settled, of_pending}
-use Rattle.gc_client.proofs.OneForOne.{lost_parts, expired_parts, heard_parts}
-use Rattle.gc_world.specs.Worlds.{Sent, of_sent, Ends, Step, Wire, World, started, requested, with_settled, run}
-use Rattle.gc_world.specs.Clients.{by_ids, ids_open}
-use Rattle.gc_world.specs.Record.{IsOneForOne}
+use Rattle.gc_world.proofs.Common.{◌≡◌, ℕ, zero, suc, ◌+◌, Bool, true, false, List, [], ◌∷◌, ◌++◌, length, map, Some, refl, sym, ◌∙◌, ap, subst, ◌%◌, arith, append_assoc, length-append, eqb, slice_get, map-append, append-nil, length-map, Pending, Settlement, Settled, ById, pending_of, send_unless_full, Sending, Wanted, of_settled, of_pending, lost_parts, expired_parts, heard_parts, of_sent, started, with_settled, by_ids, ids_open, IsOneForOne, same_Some, none-some}
+use Rattle.gc_world.specs.Worlds.{Sent, Ends, Step, Wire, World, requested, run}
 use Rattle.gc_world.proofs.Stable.{IsStable, stable_all}
-use Rattle.std.proofs.lemmas.Option.{same_Some, none-some}
 
 -- the settled requests, and after them those that wait, are those that were sent, in order
 abbrev pub AccountForSent : {Q : Type 0} → (settled : List (Settlement Q)) → (waiting : List (Pending Q)) → (sent : List (Sent Q)) → Type 0

@@ -1,42 +1,17 @@
 -- For the proofs of `stage.rt`. A report, two queues and a client *show* a world where they are those of the world
 -- (`AreOfWorld`). Each lemma says: where they show a world, and a function has done to them what its contract says
 -- (`Contracts.antt`), they show the world after that step.
-use Rattle.std.proofs.Common.{◌≡◌, ℕ, ◌+◌, ◌<◌, ◌≤◌, Bool, true, false, cond, List, [], ◌∷◌, ◌++◌, length, map, Option, Some, None, refl, sym, ◌∙◌, ap, subst, ltb, eqb, arith}
-use Rattle.std.specs.List.{AllByRecursion}
-use mathlib.Core.Path.{ap₂}
-use Rattle.std.specs.Prelude.{slice_get}
-use Rattle.std.proofs.lemmas.List.{map-append, length-map, append-nil}
-use Rattle.std.proofs.lemmas.Bool.{ltb-false}
-use Rattle.gc_lines.proofs.Lists.{all_append}
-use Rattle.gc_values.proofs.Every.{every_weaker as all_on}
-use Rattle.gc_catalogue.specs.declared.call.Call.{Call}
-use Rattle.gc_catalogue.specs.Readings.{IsReading}
-use Rattle.gc_client.specs.declared.window.TheConstants.{IDS}
+use Rattle.gc_world.proofs.Common.{◌≡◌, ℕ, ◌+◌, ◌<◌, ◌≤◌, Bool, true, false, cond, List, [], ◌∷◌, ◌++◌, length, map, Option, Some, None, refl, sym, ◌∙◌, ap, subst, ltb, eqb, arith, AllByRecursion, ap₂, slice_get, map-append, length-map, append-nil, ltb-false, all_append, every_weaker as all_on, Call, IsReading, IDS, HearsInto, ById, Windowed, Sending, heard, hears, place_in, settles_at, send_unless_full, sends, restarts, AreSettlements, Made, Report, Sent, Request, Numbered, Wire, World, bytes_of, Send, Up_deliver, Up_lose, Up_repeat, Down_deliver, Down_lose, Down_repeat, Restart_client, Restart_instrument, without, doubled, idle, up_delivered, with_up, with_down, on_wire, requested, down_delivered, client_restarted, instrument_restarted, Behaviour, ends_with, by_ids, sent_seen, SomeInFlight, numbers, made_seen, IsReport, after_step, IsSentIn, replies_at, AreOfWorld, same_Some, none-some}
 use Rattle.gc_client.specs.declared.heard.Hearing.{Hearing}
 use Rattle.gc_client.specs.declared.heard.Hearing.TheVariants.{Settled, Stray, Unread}
 use Rattle.gc_client.specs.declared.settlement.Settlement.{Settlement}
-use Rattle.gc_client.specs.Hearing.{HearsInto}
-use Rattle.gc_client.specs.Rule.{ById, Windowed, Sending, heard, hears, place_in, settles_at, send_unless_full, sends, restarts}
-use Rattle.gc_client.specs.Rule
-use Rattle.gc_client.specs.Settlements.{AreSettlements}
 use Rattle.gc_client.proofs.Settling.{settled_append}
-use Rattle.gc_world.specs.declared.report.Made.{Made}
-use Rattle.gc_world.specs.declared.report.Report.{Report}
-use Rattle.gc_world.specs.declared.report.Sent.{Sent}
-use Rattle.gc_world.specs.World
-use Rattle.gc_world.specs.World.{Request, Numbered, Wire, World, bytes_of, Send, Up_deliver, Up_lose, Up_repeat, Down_deliver, Down_lose, Down_repeat, Restart_client, Restart_instrument, without, doubled, idle, up_delivered, with_up, with_down, on_wire, requested, down_delivered, client_restarted, instrument_restarted}
-use Rattle.gc_world.specs.Behaviours.{Behaviour, ends_with}
-use Rattle.gc_world.specs.Clients.{by_ids}
-use Rattle.gc_world.specs.Faithful.{sent_seen}
-use Rattle.gc_world.specs.Memory.{SomeInFlight}
-use Rattle.gc_world.specs.Order.{numbers}
-use Rattle.gc_world.specs.Reports.{made_seen, IsReport}
-use Rattle.gc_world.specs.Stages.{after_step, IsSentIn, replies_at, AreOfWorld}
 use Rattle.gc_world.proofs.Contracts.{Sends, HandsToInstrument, HandsToClient, RestartsBoth}
 use Rattle.gc_world.proofs.Queues.{without_map, doubled_map, without_past, doubled_past}
 use Rattle.gc_world.proofs.Rows.{each_without, each_doubled}
-use Rattle.std.proofs.lemmas.Option.{same_Some, none-some}
 use Rattle.gc_world.proofs.Places.{get_map, get_more, get_push}
+use Rattle.gc_client.specs.Rule
+use Rattle.gc_world.specs.World
 
 -- the report after an event: as it is if the event was possible (`possible`), else with one more event that wasn't
 abbrev pub counted : {State : Type 0} → (possible : Bool) → Report State → Report State

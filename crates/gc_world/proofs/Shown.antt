@@ -1,40 +1,13 @@
 -- For the proofs of `stage.rt`, as `Showing`, but with the assemblers and the bytes that have gone: where a stage shows streams
 -- (`AreStreamsOf`), and a function has done to its parts what its contract says, the stage shows the streams after the event.
-use Rattle.std.proofs.Common.{◌≡◌, ℕ, ◌+◌, ◌<◌, ◌⊎◌, Bool, true, false, cond, List, [], ◌∷◌, length, map, Option, Some, refl, sym, ◌∙◌, ap, subst, ltb}
-use Rattle.std.specs.List.{AllByRecursion}
-use mathlib.Core.Path.{ap₂}
-use Rattle.std.specs.Option.{option_map}
-use Rattle.std.specs.Prelude.{slice_get}
-use Rattle.std.proofs.lemmas.List.{map-append}
-use Rattle.gc_lines.specs.Assembler.{StandsFor}
-use Rattle.gc_lines.specs.Lines.{IsPlain, with_end}
-use Rattle.gc_catalogue.specs.declared.call.Call.{Call}
-use Rattle.gc_client.specs.Rule.{ById, Windowed, Sending, sends}
-use Rattle.gc_world.specs.declared.direction.Direction.{Direction}
-use Rattle.gc_world.specs.declared.direction.Direction.TheVariants.{Up, Down}
-use Rattle.gc_world.specs.declared.event.Event.TheVariants as event
-use Rattle.gc_world.specs.declared.report.Made.{Made}
-use Rattle.gc_world.specs.declared.report.Report.{Report}
-use Rattle.gc_world.specs.declared.report.Sent.{Sent}
-use Rattle.gc_world.specs.declared.side.Side.{Side}
-use Rattle.gc_world.specs.Behaviours.{Behaviour, ends_with}
-use Rattle.gc_world.specs.Clients.{by_ids}
-use Rattle.gc_world.specs.Directions.{pick, bytes, texts, lines, gone, to_go, with_front_gone, after_cut}
-use Rattle.gc_world.specs.Memory.{SomeInFlight}
-use Rattle.gc_world.specs.Order.{numbers}
-use Rattle.gc_world.specs.Reports.{made_seen}
-use Rattle.gc_world.specs.Sides.{text_at, IsPartOfFront, IsFlow, Carries, ReplacesQueue}
-use Rattle.gc_world.specs.Stages.{StageParts, after_step, IsSentIn, replies_at, AreOfWorld, AreStreamsOf}
-use Rattle.gc_world.specs.Staging.{after_event, after_bytes}
-use Rattle.gc_world.specs.Streams.{Streams, up_texts, down_texts, is_begun, remaining}
-use Rattle.gc_world.specs.World.{Request, Numbered, Wire, World, bytes_of, Step, Send, Up_deliver, Up_lose, Up_repeat, Down_deliver, Down_lose, Down_repeat, Restart_client, Restart_instrument, Nothing, without, doubled, idle, up_delivered, with_up, with_down, on_wire, requested, down_delivered, client_restarted, instrument_restarted}
+use Rattle.gc_world.proofs.Common.{◌≡◌, ℕ, ◌+◌, ◌<◌, ◌⊎◌, Bool, true, false, cond, List, [], ◌∷◌, length, map, Option, Some, refl, sym, ◌∙◌, ap, subst, ltb, AllByRecursion, ap₂, option_map, slice_get, map-append, StandsFor, IsPlain, with_end, Call, ById, Windowed, Sending, sends, Direction, Up, Down, Made, Report, Sent, Side, Behaviour, ends_with, by_ids, pick, bytes, texts, lines, gone, to_go, with_front_gone, after_cut, SomeInFlight, numbers, made_seen, text_at, IsPartOfFront, IsFlow, Carries, ReplacesQueue, StageParts, after_step, IsSentIn, replies_at, AreOfWorld, AreStreamsOf, after_event, after_bytes, Streams, up_texts, down_texts, is_begun, remaining, Request, Numbered, Wire, World, bytes_of, Step, Send, Up_deliver, Up_lose, Up_repeat, Down_deliver, Down_lose, Down_repeat, Restart_client, Restart_instrument, Nothing, without, doubled, idle, up_delivered, with_up, with_down, on_wire, requested, down_delivered, client_restarted, instrument_restarted, same_Some}
 use Rattle.gc_world.proofs.Directions.{bytes_pass, idle_bytes}
-use Rattle.std.proofs.lemmas.Option.{same_Some}
 use Rattle.gc_world.proofs.Places.{get_seen}
 use Rattle.gc_world.proofs.Queues.{without_map, doubled_map}
 use Rattle.gc_world.proofs.Contracts.{Sends, HandsToInstrument, HandsToClient, RestartsBoth}
 use Rattle.gc_world.proofs.Showing.{counted, shows_idle, shows_up_lose, shows_up_repeat, shows_down_lose, shows_down_repeat, shows_send, shows_up_deliver, shows_down_deliver, shows_restart_client, shows_restart_client_idle, shows_restart_instrument_idle, up_front, down_front}
 use Rattle.gc_world.proofs.Streaming.{flow_start, flow_push, flow_without, flow_doubled, cut_short}
+use Rattle.gc_world.specs.declared.event.Event.TheVariants as event
 
 -- The queues after a step.
 

@@ -1,12 +1,5 @@
 -- What a side of the stage carries: its front line, and what is still to go of it.
-use Rattle.std.proofs.Common.{◌≡◌, ℕ, ◌+◌, ◌-◌, List, [], ◌∷◌, length, map, Option, Some, refl, sym, ◌∙◌, ap, subst}
-use Rattle.gc_lines.specs.Lines.{with_end}
-use Rattle.gc_world.specs.declared.direction.Direction.{Direction}
-use Rattle.gc_world.specs.declared.report.Report.{Report}
-use Rattle.gc_world.specs.declared.side.Side.{Side}
-use Rattle.gc_world.specs.Sides.{text_at, IsFlow, Carries}
-use Rattle.gc_world.specs.Streams.{remaining}
-use Rattle.std.proofs.lemmas.Option.{same_Some}
+use Rattle.gc_world.proofs.Common.{◌≡◌, ℕ, ◌+◌, ◌-◌, List, [], ◌∷◌, length, map, Option, Some, refl, sym, ◌∙◌, ap, subst, with_end, Direction, Report, Side, text_at, IsFlow, Carries, remaining, same_Some}
 use Rattle.gc_world.proofs.Streaming.{IsFront, front_of, remaining_is}
 
 -- the texts begin with a text that f finds at this place

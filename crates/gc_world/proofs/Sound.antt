@@ -1,22 +1,9 @@
 -- The invariant of the run by numbers: what holds of the client and of the line in every world of it. A world of which it holds
 -- is *sound*.
-use Rattle.std.proofs.Common.{◌≡◌, ℕ, zero, suc, ◌+◌, ◌-◌, ◌%◌, ◌<◌, ◌≤◌, Bool, true, false, List, [], ◌∷◌, ◌++◌, length, map, drop, Some, refl, sym, ◌∙◌, ap, subst, arith, length-append, length-drop, ltb, eqb}
-use Rattle.std.specs.List.{AllByRecursion}
-use Rattle.std.proofs.lemmas.List.{length-map}
-use Rattle.std.proofs.lemmas.Bool.{ltb-false, eqb-false}
-use Rattle.gc_lines.proofs.Lists.{all_append}
-use Rattle.gc_values.proofs.Every.{every_weaker as all_on}
-use Rattle.gc_client.specs.declared.pending.Pending.{Pending}
-use Rattle.gc_client.specs.Rule.{pending_of, expired, lost}
-use Rattle.gc_client.specs.Rule.{Sending}
-use Rattle.gc_client.proofs.OneForOne.{length-settle}
-use Rattle.gc_world.specs.Worlds.{Request, Numbered, Ends, Step, World, without, doubled, replied, started, on_wire, requested, with_settled, happens, run}
-use Rattle.gc_world.specs.Clients.{ByNumber, number_send, number_reply, expired_from, by_numbers, numbers_open}
-use Rattle.gc_world.specs.Exchange.{IsExchange}
-use Rattle.gc_world.specs.Order.{Rising, numbers}
+use Rattle.gc_world.proofs.Common.{◌≡◌, ℕ, zero, suc, ◌+◌, ◌-◌, ◌%◌, ◌<◌, ◌≤◌, Bool, true, false, List, [], ◌∷◌, ◌++◌, length, map, drop, Some, refl, sym, ◌∙◌, ap, subst, arith, length-append, length-drop, ltb, eqb, AllByRecursion, length-map, ltb-false, eqb-false, all_append, every_weaker as all_on, Pending, pending_of, expired, lost, Sending, length-settle, started, with_settled, ByNumber, number_send, number_reply, expired_from, by_numbers, numbers_open, IsExchange, Rising, numbers, same_Some}
+use Rattle.gc_world.specs.Worlds.{Request, Numbered, Ends, Step, World, without, doubled, replied, on_wire, requested, happens, run}
 use Rattle.gc_world.proofs.Rows.{each_number, each_without, each_doubled, rising_lower, rising_without, rising_doubled, rising_without_behind, rising_doubled_behind, rising_moved, rising_push}
 use Rattle.gc_world.proofs.Stable.{IsStable, stable, stable_all}
-use Rattle.std.proofs.lemmas.Option.{same_Some}
 
 -- expiring all but the first k of a list of requests leaves as many requests as before
 pub length_expired : {Q : Type 0} (now k : ℕ) (ps : List (Pending Q)) → length (expired_from now k ps) ≡ length ps

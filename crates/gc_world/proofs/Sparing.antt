@@ -1,18 +1,6 @@
 -- Events that take no memory: each condition for that, which `TakesNoMemory` states of a world, holds of the stage that shows the
 -- world.
-use Rattle.std.proofs.Common.{◌≡◌, ℕ, false, List, [], ◌∷◌, length, Some, inl, inr, sym, ◌∙◌, ap, subst, arith}
-use mathlib.Core.Path.{ap₂}
-use Rattle.std.specs.Prelude.{slice_get}
-use Rattle.gc_catalogue.specs.declared.call.Call.{Call}
-use Rattle.gc_client.specs.Rule.{ById, Windowed, fits, heard}
-use Rattle.gc_world.specs.declared.report.Made.{Made}
-use Rattle.gc_world.specs.declared.report.Report.{Report}
-use Rattle.gc_world.specs.Behaviours.{Behaviour}
-use Rattle.gc_world.specs.Memory.{SomeInFlight, FrontIsStray, IsNoRepeat}
-use Rattle.gc_world.specs.Order.{numbers}
-use Rattle.gc_world.specs.Stages.{AreOfWorld}
-use Rattle.gc_world.specs.Streams.{is_begun}
-use Rattle.gc_world.specs.World.{Numbered, World}
+use Rattle.gc_world.proofs.Common.{◌≡◌, ℕ, false, List, [], ◌∷◌, length, Some, inl, inr, sym, ◌∙◌, ap, subst, arith, ap₂, slice_get, Call, ById, Windowed, fits, heard, Made, Report, Behaviour, SomeInFlight, FrontIsStray, IsNoRepeat, numbers, AreOfWorld, is_begun, Numbered, World}
 use Rattle.gc_world.proofs.Showing.{same_up, same_down, no_up, no_down, down_front, down_line}
 
 -- where two queues are equally long, and as many bytes of both front lines have gone, a repeat of line k that isn't possible in

@@ -1,7 +1,6 @@
 -- A property P of worlds that each elementary change keeps is kept by each step and by each run.
-use Rattle.std.proofs.Common.{◌≡◌, ℕ, ◌+◌, Bool, true, false, List, [], ◌∷◌, length, Option, Some, None, refl, ltb}
-use Rattle.gc_client.specs.Rule.{Sending}
-use Rattle.gc_world.specs.Worlds.{Request, Numbered, Ends, Rule, Step, Send, Up_deliver, Up_lose, Up_repeat, Down_deliver, Down_lose, Down_repeat, Expire, Restart_client, Restart_instrument, Nothing, World, without, doubled, idle, replied, up_delivered, with_up, with_down, started, instrument_restarted, on_wire, requested, with_settled, down_delivered, client_restarted, happens, run}
+use Rattle.gc_world.proofs.Common.{◌≡◌, ℕ, ◌+◌, Bool, true, false, List, [], ◌∷◌, length, Option, Some, None, refl, ltb, Sending, started, with_settled}
+use Rattle.gc_world.specs.Worlds.{Request, Numbered, Ends, Rule, Step, Send, Up_deliver, Up_lose, Up_repeat, Down_deliver, Down_lose, Down_repeat, Expire, Restart_client, Restart_instrument, Nothing, World, without, doubled, idle, replied, up_delivered, with_up, with_down, instrument_restarted, on_wire, requested, down_delivered, client_restarted, happens, run}
 
 module _ {Q Client State : Type 0} (written : ℕ → Q → List ℕ) (ends : Ends Q State) (rule : Rule Q Client) (P : World Q Client State → Type 0) where
   -- each elementary change of a world keeps P: an idle event, a refused send, a send, a reply of the instrument, a loss and

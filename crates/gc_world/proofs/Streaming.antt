@@ -1,14 +1,6 @@
 -- How a queue may change while bytes of its front line have gone. An assembler *carries* the texts of a queue where it stands
 -- for the bytes of the front line that have gone, not all of them, and no text has a CR or an LF in it (`IsFlow`).
-use Rattle.std.proofs.Common.{◌≡◌, ℕ, zero, suc, ◌+◌, ◌-◌, ◌<◌, ◌≤◌, false, cond, List, [], ◌∷◌, ◌++◌, length, map, refl, sym, ap, subst, arith}
-use Rattle.std.specs.List.{AllByRecursion}
-use Rattle.std.proofs.lemmas.Bool.{lt-ltb, ltb-false}
-use Rattle.gc_lines.proofs.Lists.{all_append}
-use Rattle.gc_lines.specs.Assembler.{Kept, StandsFor}
-use Rattle.gc_lines.specs.Lines.{IsPlain, with_end}
-use Rattle.gc_world.specs.Sides.{IsFlow, StandsForPart}
-use Rattle.gc_world.specs.Streams.{Cut, one_line_more, cut, gone_of, is_begun, remaining}
-use Rattle.gc_world.specs.World.{without, doubled}
+use Rattle.gc_world.proofs.Common.{◌≡◌, ℕ, zero, suc, ◌+◌, ◌-◌, ◌<◌, ◌≤◌, false, cond, List, [], ◌∷◌, ◌++◌, length, map, refl, sym, ap, subst, arith, AllByRecursion, lt-ltb, ltb-false, all_append, Kept, StandsFor, IsPlain, with_end, IsFlow, StandsForPart, Cut, one_line_more, cut, gone_of, is_begun, remaining, without, doubled}
 use Rattle.gc_world.proofs.Pieces.{end_length}
 use Rattle.gc_world.proofs.Rows.{each_without, each_doubled}
 

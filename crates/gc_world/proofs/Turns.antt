@@ -1,18 +1,5 @@
 -- A turn of the loop that plays events.
-use Rattle.std.proofs.Common.{◌≡◌, ℕ, ◌+◌, ◌≤◌, List, length, take, sym, subst, arith, length-take}
-use Rattle.std.proofs.lemmas.List.{take_all}
-use Rattle.gc_lines.specs.Assembler.{Kept, StandsFor}
-use Rattle.gc_catalogue.specs.declared.call.Call.{Call}
-use Rattle.gc_client.specs.Rule.{ById, Windowed}
-use Rattle.gc_instrument.specs.State.{State, restarted}
-use Rattle.gc_world.specs.declared.direction.Direction.TheVariants.{Up, Down}
-use Rattle.gc_world.specs.declared.event.Event.{Event}
-use Rattle.gc_world.specs.declared.report.Report.{Report}
-use Rattle.gc_world.specs.Reports.{IsReport, StandsForGone}
-use Rattle.gc_world.specs.Clients.{by_ids, ids_open, streams_by_ids, streamed_between, left_between, ends, streamed, left_by_ids}
-use Rattle.gc_world.specs.Stages.{StageParts, AreOfWorld, AreStreamsOf}
-use Rattle.gc_world.specs.Streams.{Streams, untouched, gone_of, up_lines, down_lines}
-use Rattle.gc_world.specs.World.{World, Ends}
+use Rattle.gc_world.proofs.Common.{◌≡◌, ℕ, ◌+◌, ◌≤◌, List, length, take, sym, subst, arith, length-take, take_all, Kept, StandsFor, Call, ById, Windowed, State, restarted, Up, Down, Event, Report, IsReport, StandsForGone, by_ids, ids_open, streams_by_ids, streamed_between, left_between, ends, streamed, left_by_ids, StageParts, AreOfWorld, AreStreamsOf, Streams, untouched, gone_of, up_lines, down_lines, World, Ends}
 use Rattle.gc_world.proofs.Counts.{IsWithin, within_all}
 
 -- none of the lists and counts of a run by ids that `IsWithin` speaks of is above the count of its events

@@ -1,14 +1,8 @@
 -- With a width of eight, the repeat of the first reply has the id of the ninth request.
-use Rattle.std.proofs.Common.{◌≡◌, ℕ, List, [], ◌∷◌, ◌++◌, length, Option, Some, refl, sym, ◌∙◌, ap, lit<, arith}
+use Rattle.gc_world.proofs.Common.{◌≡◌, ℕ, List, [], ◌∷◌, ◌++◌, length, Option, Some, refl, sym, ◌∙◌, ap, lit<, arith, Call, ById, hears, State, restarted, by_ids, ids_open, by_numbers, numbers_open, ends, IsExchange, Ends, Step, Send, Up_deliver, Down_deliver, Down_repeat, World, Wire, run}
 use Rattle.gc_catalogue.specs.declared.call.Call.TheVariants.{NullProc}
-use Rattle.gc_catalogue.specs.declared.call.Call.{Call}
-use Rattle.gc_client.specs.Rule.{ById, hears}
-use Rattle.gc_instrument.specs.State.{State, restarted}
-use Rattle.gc_world.specs.Clients.{by_ids, ids_open, by_numbers, numbers_open}
-use Rattle.gc_world.specs.Exchange.{IsExchange}
-use Rattle.gc_world.specs.Clients.{ends}
 use Rattle.gc_world.specs.Width.{EightDiffers, EightSettlesNine, NumbersSettleOne}
-use Rattle.gc_world.specs.World.{Ends, Step, Send, Up_deliver, Down_deliver, Down_repeat, World, Wire, with_settled, run}
+use Rattle.gc_world.specs.World.{with_settled}
 use Rattle.gc_world.proofs.Handing.{KeptFits, kept_exchange}
 
 -- the steps before the first delivery of the first reply: its request is sent and handed over, and the reply is repeated

@@ -1,9 +1,6 @@
 -- What is asked of an instrument, the simulator or that of a scene: this project's own.
+use Rattle.gc_world.specs.Common.{IsPlain, Call, heard, Handed}
 use Rattle.std.specs.Prelude.{◌≡◌, ℕ, Bool, true, false, List, Option}
-use Rattle.gc_lines.specs.Lines.{IsPlain}
-use Rattle.gc_catalogue.specs.declared.call.Call.{Call}
-use Rattle.gc_client.specs.Rule.{heard}
-use Rattle.gc_instrument.specs.Replying.{Handed}
 use Rattle.gc_world.specs.World.{Ends}
 
 -- what an instrument does: with the request line of a call with an id, and at a restart

@@ -1,13 +1,9 @@
 -- Two clients of the world, this project's own: one that knows requests by ids of one digit, and one, the oracle client,
 -- that knows their numbers; and the runs with each: of steps or events, between any two ends, and of events on the simulated
 -- instrument.
+use Rattle.gc_world.specs.Common.{Call, IDS, Settled, Sending, ById, fresh, pending_of, expired, lost, settle, sends, hears, expires, restarts, handed, State, restarted}
 use Rattle.std.specs.Prelude.{ℕ, ◌+◌, ◌-◌, ◌%◌, Bool, true, false, List, [], ◌∷◌, ◌++◌, length, map, take, drop, Option, Some, None, nat_lt, nat_eq}
-use Rattle.gc_catalogue.specs.declared.call.Call.{Call}
-use Rattle.gc_client.specs.declared.window.TheConstants.{IDS}
 use Rattle.gc_client.specs.declared.pending.Pending.{Pending}
-use Rattle.gc_client.specs.Rule.{Settled, Sending, ById, fresh, pending_of, expired, lost, settle, sends, hears, expires, restarts}
-use Rattle.gc_instrument.specs.Replying.{handed}
-use Rattle.gc_instrument.specs.State.{State, restarted}
 use Rattle.gc_world.specs.declared.event.Event.{Event}
 use Rattle.gc_world.specs.Behaviours.{Behaviour, ends_with}
 use Rattle.gc_world.specs.Streams.{Streams, untouched, flow}

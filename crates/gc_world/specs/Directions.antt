@@ -1,12 +1,12 @@
 -- The two directions of the line, by what each has of its own. This project's own.
+use Rattle.gc_world.specs.Common.{with_end}
 use Rattle.std.specs.Prelude.{ℕ, ◌+◌, List, map, replicate}
-use Rattle.gc_lines.specs.Lines.{with_end}
 use Rattle.gc_world.specs.declared.direction.Direction.{Direction}
 use Rattle.gc_world.specs.declared.direction.Direction.TheVariants.{Up, Down}
 use Rattle.gc_world.specs.declared.event.Event.{Event}
-use Rattle.gc_world.specs.declared.event.Event.TheVariants as event
 use Rattle.gc_world.specs.Streams.{Streams, Cut, cut, remaining, up_texts, down_texts}
 use Rattle.gc_world.specs.World.{Ends, Rule, Wire, World, Step, Up_deliver, Down_deliver, run}
+use Rattle.gc_world.specs.declared.event.Event.TheVariants as event
 
 -- the first of two for `Up`, the second for `Down`
 abbrev pub pick : {A : Type 0} → Direction → A → A → A

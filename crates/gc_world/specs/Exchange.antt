@@ -1,9 +1,6 @@
 -- No part of this crate's promise: what the proofs ask of the two ends, and of the reply that an instrument keeps.
+use Rattle.gc_world.specs.Common.{kept_line, KeptReply, heard, IDS}
 use Rattle.std.specs.Prelude.{◌≡◌, ℕ, ◌<◌, List, true, false, Option, Some, None, IfSome}
-use Rattle.gc_instrument.specs.Replying.{kept_line}
-use Rattle.gc_instrument.specs.State.{KeptReply}
-use Rattle.gc_client.specs.Rule.{heard}
-use Rattle.gc_client.specs.declared.window.TheConstants.{IDS}
 use Rattle.gc_world.specs.Worlds.{Ends}
 
 -- the line of this kept reply, if there is one, reads as a reply with the id that it is kept with

@@ -1,25 +1,18 @@
 -- When the report of a list of events is faithful. It has four parts; each is here first in a sentence, then in symbols. The
 -- report's lists are counted from 0, and request m is the one at place m of `sent`. This project's own.
+use Rattle.gc_world.specs.Common.{Reading, Call, request_line, IDS, AreSettlements, ReadsAs, exec, executed_line, without_kept, State, restarted}
 use Rattle.std.specs.Prelude.{◌≡◌, ℕ, ◌+◌, ◌<◌, ◌≤◌, ◌||◌, Bool, true, false, List, [], ◌∷◌, length, Some, map, nat_eq, slice_get, ⊤}
-use Rattle.gc_catalogue.specs.declared.answer.Reading.{Reading}
 use Rattle.gc_catalogue.specs.declared.answer.Reading.TheVariants.{Value, Refused, ComFault, Unreadable}
-use Rattle.gc_catalogue.specs.declared.call.Call.{Call}
-use Rattle.gc_catalogue.specs.Texts.{request_line}
-use Rattle.gc_client.specs.declared.window.TheConstants.{IDS}
 use Rattle.gc_client.specs.declared.settlement.Settlement.{Settlement}
 use Rattle.gc_client.specs.declared.settlement.Outcome.{Outcome}
 use Rattle.gc_client.specs.declared.settlement.Outcome.TheVariants.{Answered, Late, Lost}
-use Rattle.gc_client.specs.Settlements.{AreSettlements, ReadsAs}
-use Rattle.gc_instrument.specs.Execution.{exec}
-use Rattle.gc_instrument.specs.Replying.{executed_line, without_kept}
-use Rattle.gc_instrument.specs.State.{State, restarted}
 use Rattle.gc_world.specs.declared.event.Event.{Event}
 use Rattle.gc_world.specs.declared.report.Made.{Made}
 use Rattle.gc_world.specs.declared.report.Report.{Report}
 use Rattle.gc_world.specs.declared.report.Sent.{Sent}
 use Rattle.gc_world.specs.Clients.{left_by_numbers}
-use Rattle.gc_world.specs.World
 use Rattle.gc_world.specs.World.{Wire}
+use Rattle.gc_world.specs.World
 
 -- one for one: there are no more settlements than requests, and settlement m has the target and the call of request m
 pub record OneForOne (r : Report State) : Type 0 where

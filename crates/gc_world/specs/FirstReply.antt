@@ -6,10 +6,8 @@
 -- "Delivered": its last byte goes over. Where one event hands over several replies, each is delivered in turn: the law that
 -- bytes go over in turn cuts such an event into one delivery for each.
 -- The width is that of the window: an argument of `play_width`, and `WINDOW` for `play`.
+use Rattle.gc_world.specs.Common.{Call, WINDOW, ById, Outcome, Answered, Late, Lost, Settlement}
 use Rattle.std.specs.Prelude.{◌≡◌, ◌⊎◌, ℕ, ◌+◌, ◌-◌, ◌<◌, ◌≤◌, List, [], ◌∷◌, ◌++◌, length, map, take, drop, Some, slice_get, Contains}
-use Rattle.gc_catalogue.specs.declared.call.Call.{Call}
-use Rattle.gc_client.specs.declared.window.TheConstants.{WINDOW}
-use Rattle.gc_client.specs.Rule.{ById, Outcome, Answered, Late, Lost, Settlement}
 use Rattle.gc_world.specs.declared.event.Event.{Event}
 use Rattle.gc_world.specs.declared.event.Event.TheVariants.{Send, DownDeliver, DownBytes, Expire}
 use Rattle.gc_world.specs.Clients.{streamed_between, left_between}

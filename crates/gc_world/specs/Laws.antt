@@ -1,12 +1,6 @@
 -- What holds of every list of events: laws of this project's own definitions. A law that needs a window of at most seven says so.
+use Rattle.gc_world.specs.Common.{IsFitting, Reading, Call, WINDOW, Settlement, ReadsAs, State, IsFittingState, restarted}
 use Rattle.std.specs.Prelude.{◌≡◌, ℕ, ◌≤◌, List, Some, slice_get}
-use Rattle.gc_catalogue.specs.Calls.{IsFitting}
-use Rattle.gc_catalogue.specs.declared.answer.Reading.{Reading}
-use Rattle.gc_catalogue.specs.declared.call.Call.{Call}
-use Rattle.gc_client.specs.declared.window.TheConstants.{WINDOW}
-use Rattle.gc_client.specs.Rule.{Settlement}
-use Rattle.gc_client.specs.Settlements.{ReadsAs}
-use Rattle.gc_instrument.specs.State.{State, IsFittingState, restarted}
 use Rattle.gc_world.specs.declared.event.Event.{Event}
 use Rattle.gc_world.specs.Clients.{ends, left_by_ids, played_between, played_by_numbers_between}
 use Rattle.gc_world.specs.Faithful.{IsValueOrRefusal}

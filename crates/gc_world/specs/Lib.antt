@@ -1,3 +1,5 @@
+mod Common
+pub mod Prelude
 pub mod Worlds
 pub mod World
 pub mod Streams

@@ -1,8 +1,6 @@
 -- Which events take no memory, this project's own: those at which none of the report's lists and no queue grows.
+use Rattle.gc_world.specs.Common.{Call, ById, fits, heard, State}
 use Rattle.std.specs.Prelude.{◌≡◌, ◌⊎◌, ℕ, zero, suc, ◌+◌, ◌≤◌, true, false, List, [], ◌∷◌, length, take, Some, slice_get, ⊤}
-use Rattle.gc_catalogue.specs.declared.call.Call.{Call}
-use Rattle.gc_client.specs.Rule.{ById, fits, heard}
-use Rattle.gc_instrument.specs.State.{State}
 use Rattle.gc_world.specs.declared.event.Event.{Event}
 use Rattle.gc_world.specs.declared.event.Event.TheVariants.{Send, UpDeliver, UpBytes, UpLose, UpRepeat, DownDeliver, DownBytes, DownLose, DownRepeat, Expire, RestartClient, RestartInstrument}
 use Rattle.gc_world.specs.Clients.{ends, streamed_between}

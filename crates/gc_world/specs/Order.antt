@@ -1,8 +1,7 @@
 -- What the laws of the runs say of the order of the line: which numbers can be in flight. A request's number is its place
 -- among those sent, counted from 0, and a reply has its request's number. This project's own.
+use Rattle.gc_world.specs.Common.{AllByRecursion, KeptReply}
 use Rattle.std.specs.Prelude.{◌≡◌, ℕ, ◌+◌, ◌<◌, ◌≤◌, List, [], ◌∷◌, ◌++◌, length, map, Option, IfSome}
-use Rattle.std.specs.List.{AllByRecursion}
-use Rattle.gc_instrument.specs.State.{KeptReply}
 use Rattle.gc_world.specs.Worlds.{Numbered, Wire}
 
 -- no number of a list is below the one before it. `low` is one above the number that counts as the one before the list, or 0 if

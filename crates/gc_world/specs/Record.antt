@@ -1,10 +1,7 @@
 -- What the laws of the runs say of a run's lists of requests, executions, replies and settlements: how they correspond. This
 -- project's own.
+use Rattle.gc_world.specs.Common.{request_line, IDS, Settlement, Answered, Handed}
 use Rattle.std.specs.Prelude.{◌≡◌, ℕ, ◌+◌, ◌<◌, ◌≤◌, List, [], ◌∷◌, length, true, Some, slice_get}
-use Rattle.gc_catalogue.specs.Texts.{request_line}
-use Rattle.gc_client.specs.declared.window.TheConstants.{IDS}
-use Rattle.gc_client.specs.Rule.{Settlement, Answered}
-use Rattle.gc_instrument.specs.Replying.{Handed}
 use Rattle.gc_world.specs.Faithful.{has_number, restarted_if}
 use Rattle.gc_world.specs.World.{Sent, Numbered, Ends, Wire}
 use Rattle.gc_world.specs.Worlds

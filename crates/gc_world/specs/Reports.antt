@@ -1,10 +1,6 @@
 -- What the report of a run is, and how long it can become. This project's own.
+use Rattle.gc_world.specs.Common.{Call, Windowed, AreSettlements, State, Kept, StandsFor}
 use Rattle.std.specs.Prelude.{◌≡◌, ℕ, ◌≤◌, List, length, map}
-use Rattle.gc_catalogue.specs.declared.call.Call.{Call}
-use Rattle.gc_client.specs.Rule.{Windowed}
-use Rattle.gc_client.specs.Settlements.{AreSettlements}
-use Rattle.gc_instrument.specs.State.{State}
-use Rattle.gc_lines.specs.Assembler.{Kept, StandsFor}
 use Rattle.gc_world.specs.declared.direction.Direction.{Direction}
 use Rattle.gc_world.specs.declared.direction.Direction.TheVariants.{Up, Down}
 use Rattle.gc_world.specs.declared.event.Event.{Event}

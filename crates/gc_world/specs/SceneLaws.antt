@@ -1,10 +1,7 @@
 -- What holds of every run on the instrument of a scene, whatever its rules say, beside the laws that gc_world has of runs between
 -- any two ends: laws of this project's own definitions.
+use Rattle.gc_world.specs.Common.{Call, WINDOW, Settlement, Answered, SceneState}
 use Rattle.std.specs.Prelude.{◌≡◌, ℕ, ◌≤◌, true, false, List, map, Some, slice_get}
-use Rattle.gc_catalogue.specs.declared.call.Call.{Call}
-use Rattle.gc_client.specs.declared.window.TheConstants.{WINDOW}
-use Rattle.gc_client.specs.Rule.{Settlement, Answered}
-use Rattle.gc_scenes.specs.SceneState.{SceneState}
 use Rattle.gc_world.specs.SceneRuns.{scene_ends, scene_played}
 use Rattle.gc_world.specs.declared.event.Event.{Event}
 use Rattle.gc_world.specs.Record.{HasExecutions, IsReplyAt}

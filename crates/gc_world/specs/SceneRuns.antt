@@ -1,12 +1,7 @@
 -- A run on the instrument of a scene, this project's own: the world of runs on the simulator, with this instrument in place of the simulator.
 -- What the client and the line do is the same.
+use Rattle.gc_world.specs.Common.{call_fields, Call, ById, Handed, handed_call, SceneState, scene_restarted}
 use Rattle.std.specs.Prelude.{ℕ, List, Some}
-use Rattle.gc_catalogue.specs.Calls.{call_fields}
-use Rattle.gc_catalogue.specs.declared.call.Call.{Call}
-use Rattle.gc_client.specs.Rule.{ById}
-use Rattle.gc_instrument.specs.Replying.{Handed}
-use Rattle.gc_scenes.specs.SceneReplying.{handed_call}
-use Rattle.gc_scenes.specs.SceneState.{SceneState, scene_restarted}
 use Rattle.gc_world.specs.declared.event.Event.{Event}
 use Rattle.gc_world.specs.Behaviours.{Behaviour, ends_with}
 use Rattle.gc_world.specs.Clients.{streamed_between, played_between}

@@ -1,10 +1,8 @@
 -- No part of a promise: what a side carries. A side is what the code keeps of the lines in flight in one direction: their
 -- places in the report, how many bytes of the front line have gone, and the assembler of those bytes.
+use Rattle.gc_world.specs.Common.{AllByRecursion, Kept, StandsFor, IsPlain, with_end}
 use Rattle.std.specs.Prelude.{◌≡◌, ℕ, ◌+◌, ◌<◌, true, false, List, [], ◌∷◌, length, take, Option, Some, map, slice_get, if◌then◌else◌, nat_lt}
-use Rattle.std.specs.List.{AllByRecursion}
 use Rattle.std.specs.Option.{option_map}
-use Rattle.gc_lines.specs.Assembler.{Kept, StandsFor}
-use Rattle.gc_lines.specs.Lines.{IsPlain, with_end}
 use Rattle.gc_world.specs.declared.direction.Direction.{Direction}
 use Rattle.gc_world.specs.declared.direction.Direction.TheVariants.{Up, Down}
 use Rattle.gc_world.specs.declared.report.Made.{Made}

@@ -1,11 +1,7 @@
 -- No part of a promise: what a stage shows of the streams of a run. A stage is what the code keeps while it plays events:
 -- the report so far, the client, and for each direction a side, with the lines in flight in it.
+use Rattle.gc_world.specs.Common.{AllByRecursion, IsFitting, Call, IDS, ById, Windowed}
 use Rattle.std.specs.Prelude.{◌≡◌, ℕ, ◌<◌, List, Option, Some, Result, IsOk, map, slice_get}
-use Rattle.std.specs.List.{AllByRecursion}
-use Rattle.gc_catalogue.specs.Calls.{IsFitting}
-use Rattle.gc_catalogue.specs.declared.call.Call.{Call}
-use Rattle.gc_client.specs.declared.window.TheConstants.{IDS}
-use Rattle.gc_client.specs.Rule.{ById, Windowed}
 use Rattle.gc_world.specs.declared.event.Event.{Event}
 use Rattle.gc_world.specs.declared.report.Made.{Made}
 use Rattle.gc_world.specs.declared.report.Report.{Report}

@@ -1,8 +1,7 @@
 -- No part of a promise: how code follows a run by ids between any two ends, event by event. What the code keeps of the run is a
 -- stage; which streams a stage shows is said of each kind of stage.
+use Rattle.gc_world.specs.Common.{Call, ById}
 use Rattle.std.specs.Prelude.{◌≡◌, ℕ, ◌<◌}
-use Rattle.gc_catalogue.specs.declared.call.Call.{Call}
-use Rattle.gc_client.specs.Rule.{ById}
 use Rattle.gc_world.specs.declared.direction.Direction.{Direction}
 use Rattle.gc_world.specs.declared.event.Event.{Event}
 use Rattle.gc_world.specs.Clients.{by_ids, ids_open}

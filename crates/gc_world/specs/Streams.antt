@@ -1,11 +1,11 @@
 -- The line as two streams of bytes, this project's own. Each line in flight is its bytes with CR LF; of the front line of
 -- each direction some first bytes may have gone. It is in flight until its last byte goes, and with that one it is handed
 -- over.
+use Rattle.gc_world.specs.Common.{with_end}
 use Rattle.std.specs.Prelude.{ℕ, zero, suc, ◌+◌, ◌-◌, ◌&&◌, Bool, List, [], ◌∷◌, length, map, take, replicate, if◌then◌else◌, nat_lt, nat_eq}
-use Rattle.gc_lines.specs.Lines.{with_end}
 use Rattle.gc_world.specs.declared.event.Event.{Event}
-use Rattle.gc_world.specs.declared.event.Event.TheVariants as event
 use Rattle.gc_world.specs.World.{Ends, Rule, Wire, World, Step, bytes_of, Send, Up_deliver, Up_lose, Up_repeat, Down_deliver, Down_lose, Down_repeat, Expire, Restart_client, Restart_instrument, Nothing, run}
+use Rattle.gc_world.specs.declared.event.Event.TheVariants as event
 
 -- What is in flight.
 

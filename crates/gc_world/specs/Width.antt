@@ -1,7 +1,7 @@
 -- Why the window is seven wide, not eight: with a width of eight the run by ids and that by numbers differ. This project's own.
+use Rattle.gc_world.specs.Common.{State}
 use Rattle.std.specs.Prelude.{◌≡◌, ◌≢◌, List, [], ◌∷◌, length}
 use Rattle.gc_catalogue.specs.declared.call.Call.TheVariants.{NullProc}
-use Rattle.gc_instrument.specs.State.{State}
 use Rattle.gc_world.specs.declared.event.Event.{Event}
 use Rattle.gc_world.specs.declared.event.Event.TheVariants.{Send, UpDeliver, DownDeliver, DownRepeat}
 use Rattle.gc_world.specs.Clients.{left_by_ids, left_by_numbers}

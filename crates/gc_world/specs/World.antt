@@ -1,9 +1,7 @@
 -- The world, this project's own: a client and an instrument, the line between them, what may happen on it, and a run. A client of
 -- this world asks for calls of the table.
+use Rattle.gc_world.specs.Common.{Call, request_line, Sending}
 use Rattle.std.specs.Prelude.{ℕ, List, Option, Some}
-use Rattle.gc_catalogue.specs.declared.call.Call.{Call}
-use Rattle.gc_catalogue.specs.Texts.{request_line}
-use Rattle.gc_client.specs.Rule.{Sending}
 use Rattle.gc_world.specs.Worlds
 pub use Rattle.gc_world.specs.Worlds.{Numbered, Send, Up_deliver, Up_lose, Up_repeat, Down_deliver, Down_lose, Down_repeat, Expire, Restart_client, Restart_instrument, Nothing, opened, without, doubled, idle, replied, up_delivered, with_up, with_down, started, instrument_restarted, on_wire, with_settled, down_delivered, client_restarted}
 

@@ -1,10 +1,8 @@
 -- The world of a client that may ask for anything of one type, this project's own: a client and an instrument, the line between
 -- them, what may happen on it, and a run. Q is the type of what is asked for; `World.antt` has the world in which it is a call of
 -- the table. `written` is the line that the client writes with an id for what it asks for.
+use Rattle.gc_world.specs.Common.{Wanted, Settlement, Settled, Sending, Handed}
 use Rattle.std.specs.Prelude.{ℕ, zero, suc, ◌+◌, Bool, true, false, List, [], ◌∷◌, ◌++◌, length, Option, Some, None, if◌then◌else◌, nat_lt}
-use Rattle.gc_client.specs.OneForOne.{Wanted}
-use Rattle.gc_client.specs.Rule.{Settlement, Settled, Sending}
-use Rattle.gc_instrument.specs.Replying.{Handed}
 
 -- The line.
 

@@ -1,15 +1,7 @@
 -- What a synchronization hears of bytes, and how many of its eight null procedures are answered. The word is the ids of these, and
 -- `left` those of them that aren't answered yet.
-use Rattle.std.proofs.Common.{◌≡◌, ℕ, ◌≤◌, ◌<◌, List, [], ◌∷◌, length, drop, refl, ap, arith}
-use Rattle.std.specs.List.{filter_map}
-use Rattle.std.proofs.lemmas.List.{drop_all, length-drop}
-use Rattle.gc_lines.specs.Frames.{line_in}
-use Rattle.gc_lines.specs.declared.frame.Frame.{Frame}
-use Rattle.gc_lines.specs.declared.frame.Frame.TheVariants.{Line, Cleared, Overlong, More}
-use Rattle.gc_client.specs.Beginning.{the_word}
-use Rattle.geocom_c.specs.Beginning.{unanswered_after, left_past}
-use Rattle.geocom_c.specs.Rest.{IsRest}
-use Rattle.geocom_c.specs.declared.rest.GeocomRest.{GeocomRest}
+use Rattle.geocom_c.proofs.Common.{◌≡◌, ℕ, ◌≤◌, ◌<◌, List, [], ◌∷◌, length, drop, refl, ap, arith, filter_map, drop_all, length-drop, line_in, Frame, Line, Cleared, Overlong, More, the_word, left_past, IsRest, GeocomRest}
+use Rattle.geocom_c.specs.Beginning.{unanswered_after}
 use Rattle.geocom_c.proofs.Hearings.{HearsInTurn}
 
 -- a synchronization hears lines in turn, frame by frame (`left_past`)

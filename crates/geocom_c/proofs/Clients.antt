@@ -1,17 +1,7 @@
 -- Clients: their widths, and the lines and lists that their calls write.
-use Rattle.std.proofs.Common.{◌≡◌, ℕ, List, ◌++◌, Some, Ok, Err, length, take, ◌∙◌, sym, ap, subst, arith}
-use Rattle.std.proofs.lemmas.List.{take_all, take-append-le}
-use Rattle.gc_lines.specs.Lines.{with_end}
-use Rattle.gc_lines.specs.Requests.{request_text}
-use Rattle.gc_catalogue.specs.Asked.{asked_line, raw_params, IsAsked}
-use Rattle.gc_catalogue.specs.Raws.{IsRawCall, IsRawRefusal}
+use Rattle.geocom_c.proofs.Common.{◌≡◌, ℕ, List, ◌++◌, Some, Ok, Err, length, take, ◌∙◌, sym, ap, subst, arith, take_all, take-append-le, with_end, request_text, asked_line, raw_params, IsAsked, IsRawCall, IsRawRefusal, Asked, Raw, RawCall, Windowed, IsGiven}
 use Rattle.gc_catalogue.proofs.RawRules.{no_raw_refusal}
-use Rattle.gc_catalogue.specs.declared.asked.Asked.{Asked}
-use Rattle.gc_catalogue.specs.declared.asked.Asked.TheVariants.{Raw}
-use Rattle.gc_catalogue.specs.declared.raw.RawCall.{RawCall}
 use Rattle.gc_catalogue.specs.declared.raw.RawFault.{RawFault}
-use Rattle.gc_client.specs.Rule.{Windowed}
-use Rattle.geocom_c.specs.Beginning.{IsGiven}
 
 -- where client d has the width of client c, d is c with the ids of d
 pub same_width : (c d : Windowed Asked) → d.width ≡ c.width → d ≡ record c { ids = d.ids }

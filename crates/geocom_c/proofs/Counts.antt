@@ -1,24 +1,9 @@
 -- The counts of a session's exchange stay those of a window, whatever the session is told.
-use Rattle.std.proofs.Common.{◌≡◌, ℕ, zero, suc, ◌+◌, ◌≤◌, ◌&&◌, Bool, true, false, List, [], ◌∷◌, length, nat_lt, Option, Some, None, refl, arith}
-use Rattle.std.proofs.lemmas.Bool.{cond_both, ltb-true}
-use Rattle.std.proofs.lemmas.List.{length-drop}
-use Rattle.gc_catalogue.specs.declared.asked.Asked.{Asked}
-use Rattle.gc_client.specs.Rule.{ById, fits, heard, hears, hears_line, place_in, settle, settles_at}
-use Rattle.gc_client.specs.declared.pending.Pending.{Pending}
-use Rattle.gc_client.specs.declared.window.TheConstants.{WINDOW}
+use Rattle.geocom_c.proofs.Common.{◌≡◌, ℕ, zero, suc, ◌+◌, ◌≤◌, ◌&&◌, Bool, true, false, List, [], ◌∷◌, length, nat_lt, Option, Some, None, refl, arith, cond_both, ltb-true, length-drop, Asked, ById, fits, heard, hears, hears_line, place_in, settle, settles_at, Pending, WINDOW, Settings, Want, Nothing, Answers, Send, Phase, Standing, ends_with_table, Session, asked, at_step, attended, came, is_up, line_came, line_heard, line_synchronized, met_in, next_of, phase_cleared, quieted_in, sign_on_noted, stepped, timed, with_standing, is_sign_on, AreCounts}
 use Rattle.gc_session.specs.declared.exchange.Exchange.{Exchange}
-use Rattle.gc_session.specs.declared.settings.Settings.{Settings}
-use Rattle.gc_session.specs.declared.settings.Want.{Want}
-use Rattle.gc_session.specs.declared.settings.Want.TheVariants.{Nothing, Answers, Send}
-use Rattle.gc_session.specs.declared.standing.Phase.{Phase}
-use Rattle.gc_session.specs.declared.standing.Phase.TheVariants as phase
-use Rattle.gc_session.specs.declared.standing.Standing.{Standing}
-use Rattle.gc_session.specs.Exchange as exchange
-use Rattle.gc_session.specs.Lines.{ends_with_table}
-use Rattle.gc_session.specs.Sessions.{Session, asked, at_step, attended, came, is_up, line_came, line_heard, line_synchronized, met_in, next_of, phase_cleared, quieted_in, sign_on_noted, stepped, timed, with_standing}
-use Rattle.gc_texts.specs.SignOns.{is_sign_on}
-use Rattle.geocom_c.specs.SessionState.{AreCounts}
 use Rattle.geocom_c.proofs.NextSteps.{each_line, each_next}
+use Rattle.gc_session.specs.declared.standing.Phase.TheVariants as phase
+use Rattle.gc_session.specs.Exchange as exchange
 
 -- the counts of a session are those of a window
 abbrev pub HasCounts : Session → Type 0

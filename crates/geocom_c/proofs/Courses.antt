@@ -2,30 +2,14 @@
 -- course is what a client has sent and settled so far, and the client after that; a step is a send, a line heard, a moment read
 -- or a restart. The word is the ids of a synchronization's null procedures, and `left` those of them that aren't answered.
 -- `Leads` says that events lead from one course to another, and `Over` that calls do, by their events.
-use Rattle.std.proofs.Common.{◌≡◌, ℕ, List, [], ◌∷◌, ◌++◌, map, Option, Some, None, refl, sym, ap, subst, ◌∙◌, inl, inr, append_assoc, arith}
-use Rattle.std.proofs.lemmas.Bool.{le-ltb}
+use Rattle.geocom_c.proofs.Common.{◌≡◌, ℕ, List, [], ◌∷◌, ◌++◌, map, Option, Some, None, refl, sym, ap, subst, ◌∙◌, inl, inr, append_assoc, arith, le-ltb, rest_behind, one_asked, one_call, Asked, Table, Raw, the_word, left_by, Course, course_after, course, settled_on, AccountsForSends, ById, Settled, expires, fresh, heard, hears, settles_at, place_in, restarts, ClientEvent, Came, Stepped, AreInTurn, left_among, steps_among, ask_events, left_by_restart, given, left_by_bytes, CallsReach, CallStage, first_stage, hearing_lines, left_by_call, stage_after, CallsAreEvents, lines_completed, AreEvents, begin_events, call_events, step_events, StateCall, SendRaw, Begin, Feed, Expire, Restart}
 use Rattle.std.proofs.lemmas.List.{append-nil}
-use Rattle.gc_lines.specs.Frames.{rest_behind}
-use Rattle.gc_catalogue.proofs.AskedRules.{one_asked}
-use Rattle.gc_catalogue.proofs.CallLaws.{one_call}
-use Rattle.gc_catalogue.specs.declared.asked.Asked.{Asked}
-use Rattle.gc_catalogue.specs.declared.asked.Asked.TheVariants.{Table, Raw}
-use Rattle.gc_client.specs.Beginning.{the_word, left_by}
-use Rattle.gc_client.specs.OneForOne.{Course, course_after, course, settled_on, AccountsForSends}
-use Rattle.gc_client.specs.OneForOne as one
-use Rattle.gc_client.specs.Rule.{ById, Settled, expires, fresh, heard, hears, settles_at, place_in, restarts}
 use Rattle.gc_client.proofs.OneForOne.{accounts_for_sends}
 use Rattle.gc_station.proofs.Words.{left_none}
-use Rattle.gc_session.specs.Events.{ClientEvent, Came, Stepped, AreInTurn, left_among, steps_among}
-use Rattle.gc_theorems.specs.ClientRuns.{ask_events}
 use Rattle.gc_theorems.proofs.BeginWords.{cons_not_nil}
-use Rattle.geocom_c.specs.Beginning.{left_by_restart, given, left_by_bytes, unanswered_after}
-use Rattle.geocom_c.specs.Following.{CallsReach, CallStage, first_stage, hearing_lines, left_by_call, stage_after}
-use Rattle.geocom_c.specs.Laws.{CallsAreEvents}
-use Rattle.geocom_c.specs.Rest.{lines_completed}
-use Rattle.geocom_c.specs.Steps.{AreEvents, begin_events, call_events, step_events}
-use Rattle.geocom_c.specs.declared.following.StateCall.{StateCall}
-use Rattle.geocom_c.specs.declared.following.StateCall.TheVariants.{Send, SendRaw, Begin, Feed, Expire, Restart}
+use Rattle.geocom_c.specs.Beginning.{unanswered_after}
+use Rattle.geocom_c.specs.declared.following.StateCall.TheVariants.{Send}
+use Rattle.gc_client.specs.OneForOne as one
 
 -- the events `front` lead from course x to course y, and from the ids `left` of the word that aren't answered to the ids
 -- `after`; `es` stands for any events after these

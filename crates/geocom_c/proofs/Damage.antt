@@ -1,32 +1,15 @@
 -- Calls on a state over a line that damages: the library settles what the client of the field settles, and each answer is own or damaged.
-use Rattle.std.proofs.Common.{◌≡◌, ℕ, List, [], ◌∷◌, ◌++◌, drop, map, Option, refl, sym, ◌∙◌, ap, subst, append-nil}
-use Rattle.gc_catalogue.specs.declared.asked.Asked.{Asked}
-use Rattle.gc_client.specs.OneForOne.{Course, begun, course}
-use Rattle.gc_instrument.specs.State.{KeptReply}
-use Rattle.gc_session.specs.Events.{Stepped, steps_among}
-use Rattle.gc_world.specs.Worlds.{of_sent}
-use Rattle.gc_theorems.specs.World.{Ends}
-use Rattle.gc_theorems.specs.Begin.{begins}
-use Rattle.gc_theorems.specs.Begun.{nulls, nulls_settled}
-use Rattle.gc_theorems.specs.Field as field
-use Rattle.gc_theorems.specs.Instrument.{AnyState, IsAnInstrument}
+use Rattle.geocom_c.proofs.Common.{◌≡◌, ℕ, List, [], ◌∷◌, ◌++◌, drop, map, Option, refl, sym, ◌∙◌, ap, subst, append-nil, Asked, Course, begun, course, KeptReply, Stepped, steps_among, Ends, begins, nulls, nulls_settled, AnyState, IsAnInstrument, Harm, Does, Damages, Strikes, harmed, harms, Holding, AllMayHarmApart, MayHarmApart, holding_begun, holding_harms, harm_events, left_by_sync, IsPossibleHarm, seen_at, seen_harms, WasStruck, steps_in_front, CallsReach, CallStage, first_stage, StateCall}
+use Rattle.gc_world.specs.Prelude.{of_sent}
 use Rattle.gc_theorems.proofs.BegunFaithful.{begun_prefixed, prefixed_all}
-use Rattle.gc_theorems.proofs.Parting.{steps_in_front}
-use Rattle.gc_theorems.specs.Harm.{Harm, Does, Damages, Strikes, harmed, harms}
-use Rattle.gc_theorems.specs.DamagedHoldingBack.{Holding, AllMayHarmApart, MayHarmApart, holding_begun, holding_harms}
-use Rattle.gc_theorems.specs.DamagedSessions.{harm_events}
-use Rattle.gc_theorems.specs.Stretch.{left_by_sync}
-use Rattle.gc_theorems.specs.Stretches.{IsPossibleHarm, seen_at, seen_harms}
-use Rattle.gc_theorems.specs.DamagedSynchronizing.{WasStruck}
 use Rattle.gc_theorems.proofs.HoldingBack.{fresh_if_held_back}
 use Rattle.gc_theorems.proofs.Own.{own_or_broken}
 use Rattle.gc_theorems.proofs.SeenHarms.{Same, after_nulls, course_append, same_harm}
 use Rattle.gc_theorems.proofs.DamagedSessions.{none_of_harms}
 use Rattle.gc_theorems.proofs.Stretch.{left_clean}
 use Rattle.geocom_c.specs.Damage.{AreCallsOver, AreHeldBack, HarmedCalls, HeldBackAnswersAreOwnOrDamaged, begun_over}
-use Rattle.geocom_c.specs.Following.{CallsReach, CallStage, first_stage}
-use Rattle.geocom_c.specs.declared.following.StateCall.{StateCall}
 use Rattle.geocom_c.proofs.Courses.{over_events}
+use Rattle.gc_theorems.specs.Field as field
 
 module _ {State : Type 0} (width : ℕ) (ends : Ends State) (Good : State → Type 0) (kept : State → Option KeptReply) (is : IsAnInstrument ends Good kept) where
   -- a step that may be made by a client that holds back is possible

@@ -1,15 +1,6 @@
 -- Replies to requests for described procedures: their values, as the library lists them for C.
-use Rattle.std.proofs.Common.{◌≡◌, ℕ, suc, Bool, List, ◌++◌, length, take, drop, sym, ap, subst, ◌∙◌, arith}
-use Rattle.std.proofs.lemmas.List.{length-take, take-append-drop, take-append-le}
-use Rattle.gc_lines.specs.Replies.{ReplyFields}
+use Rattle.geocom_c.proofs.Common.{◌≡◌, ℕ, suc, Bool, List, ◌++◌, length, take, drop, sym, ap, subst, ◌∙◌, arith, length-take, take-append-drop, take-append-le, ReplyFields, Reading, Value, Refused, ComFault, Unreadable, DescriptionSeen, KindsSeen, AnswersBy, HasItemsOf, IsDescribedReading, IsNoAnswer, answer_kinds, AreStanding, IsKind, ListsItems, StandsAt, GeocomAnswer}
 use Rattle.gc_values.specs.declared.value.Kind.{Kind}
-use Rattle.gc_catalogue.specs.declared.answer.Reading.{Reading}
-use Rattle.gc_catalogue.specs.declared.answer.Reading.TheVariants.{Value, Refused, ComFault, Unreadable}
-use Rattle.gc_texts.specs.Descriptions.{DescriptionSeen}
-use Rattle.gc_texts.specs.KindLists.{KindsSeen}
-use Rattle.geocom_c.specs.Described.{AnswersBy, HasItemsOf, IsDescribedReading, IsNoAnswer, answer_kinds}
-use Rattle.geocom_c.specs.Settled.{AreStanding, IsKind, ListsItems, StandsAt}
-use Rattle.geocom_c.specs.declared.described.GeocomAnswer.{GeocomAnswer}
 use Rattle.geocom_c.proofs.Items.{stands_more}
 use Rattle.geocom_c.proofs.Places.{first_are_weaker}
 

@@ -1,21 +1,9 @@
 -- Calls that meet each premise of `EachAnswerIsOwn`, computed: so the laws that say it aren't about nothing.
-use Rattle.std.proofs.Common.{◌≡◌, ◌⊎◌, ℕ, [], ◌∷◌, None, inl, inr, refl, lit≤, arith}
-use Rattle.std.specs.Prelude.{codes, take, drop}
+use Rattle.geocom_c.proofs.Common.{◌≡◌, ◌⊎◌, ℕ, [], ◌∷◌, None, inl, inr, refl, lit≤, arith, codes, header_at, reply_at, IsCall, Table, Raw, RawCall, exec, handed, IsFittingState, simulator_opening, simulator_ends, counting, kept_by, AnyState, TreatsRawsAlike, kept_of, simulator_is_an_instrument}
+use Rattle.std.specs.Prelude.{take, drop}
 use Rattle.std.specs.Fmt.{digits}
-use Rattle.gc_lines.specs.Readers.{header_at, reply_at}
-use Rattle.gc_catalogue.specs.Calls.{IsCall}
-use Rattle.gc_catalogue.specs.declared.asked.Asked.TheVariants.{Table, Raw}
-use Rattle.gc_catalogue.specs.declared.raw.RawCall.{RawCall}
 use Rattle.gc_catalogue.specs.declared.call.Call.TheVariants.{InstrumentNo}
-use Rattle.gc_instrument.specs.Execution.{exec}
-use Rattle.gc_instrument.specs.Replying.{handed}
-use Rattle.gc_instrument.specs.State.{IsFittingState, simulator_opening}
-use Rattle.gc_theorems.specs.Simulator.{simulator_ends}
-use Rattle.gc_theorems.specs.CountingChain.{counting, kept_by}
-use Rattle.gc_theorems.specs.Instrument.{AnyState, TreatsRawsAlike}
-use Rattle.gc_theorems.specs.Laws.{kept_of}
 use Rattle.gc_theorems.proofs.CountingChain.{counted_in_field}
-use Rattle.gc_theorems.proofs.Instruments.{simulator_is_an_instrument}
 use Rattle.gc_theorems.proofs.Witness.{opening_fits, units}
 use Rattle.geocom_c.specs.FieldWitness.{AreInField, SomeCallsAreInField, counting_exchange, moves, simulator_exchange}
 

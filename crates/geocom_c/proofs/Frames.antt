@@ -1,19 +1,6 @@
 -- Frames that are fed: what a line feed makes of the bytes before it, and what is told of a frame.
-use Rattle.std.proofs.Common.{◌≡◌, ℕ, ◌-◌, List, [], Bool, true, false, length, take, sym, ap, ◌∙◌, subst}
+use Rattle.geocom_c.proofs.Common.{◌≡◌, ℕ, ◌-◌, List, [], Bool, true, false, length, take, sym, ap, ◌∙◌, subst, Frame, Line, Cleared, Overlong, More, frame_of, ends_in_return, Asked, Settlement, Windowed, IsRest, StandsForClient, IsFedAs, IsInFront, feed_effect, unended, GeocomHeard, MORE, GeocomRest, GeocomSettlement, GeocomClient}
 use Rattle.std.specs.Prelude.{if◌then◌else◌, nat_lt}
-use Rattle.gc_lines.specs.declared.frame.Frame.{Frame}
-use Rattle.gc_lines.specs.declared.frame.Frame.TheVariants.{Line, Cleared, Overlong, More}
-use Rattle.gc_lines.specs.Frames.{frame_of, ends_in_return}
-use Rattle.gc_catalogue.specs.declared.asked.Asked.{Asked}
-use Rattle.gc_client.specs.Rule.{Settlement, Windowed}
-use Rattle.geocom_c.specs.Rest.{IsRest}
-use Rattle.geocom_c.specs.State.{StandsForClient}
-use Rattle.geocom_c.specs.Feeding.{IsFedAs, IsInFront, feed_effect, unended}
-use Rattle.geocom_c.specs.declared.answers.GeocomHeard.{GeocomHeard}
-use Rattle.geocom_c.specs.declared.header.TheConstants.{MORE}
-use Rattle.geocom_c.specs.declared.rest.GeocomRest.{GeocomRest}
-use Rattle.geocom_c.specs.declared.settled.GeocomSettlement.{GeocomSettlement}
-use Rattle.geocom_c.specs.declared.state.GeocomClient.{GeocomClient}
 
 -- a frame that is chosen among `Overlong`, `Cleared` and l isn't `More`, if l isn't
 chosen_not_more : (a b : Bool) (l : Frame) → (l ≡ More → ⊥) → (if a then (if b then Overlong else l) else Cleared) ≡ More → ⊥

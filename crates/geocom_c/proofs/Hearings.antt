@@ -2,24 +2,8 @@
 -- lines lead that are heard in order; a frame is what a line feed makes of the bytes before it; `rest` is the bytes since the last
 -- line feed. `HeardBut` says that all bytes but some were heard. A course is what a client has sent and settled so far, and the
 -- client after that.
-use Rattle.std.proofs.Common.{◌≡◌, ◌≢◌, ℕ, ◌+◌, arith, length, inl, inr, Option, List, [], ◌∷◌, ◌++◌, map, take, drop, Some, None, refl, sym, ap, subst, ◌∙◌}
-use Rattle.std.specs.List.{position, filter_map}
-use Rattle.std.proofs.lemmas.Bool.{cases_eq}
-use Rattle.std.proofs.lemmas.List.{drop_all}
-use Rattle.gc_catalogue.specs.declared.asked.Asked.{Asked}
-use Rattle.gc_lines.specs.Frames.{is_line_feed, frame_of, line_in, pieces_behind, rest_behind}
-use Rattle.gc_lines.specs.declared.frame.Frame.{Frame}
-use Rattle.gc_lines.specs.declared.frame.Frame.TheVariants.{Line, Cleared, Overlong, More}
-use Rattle.gc_lines.proofs.Cutting.{cut_none, cut_some}
-use Rattle.gc_client.specs.Rule.{ById, Sending}
-use Rattle.gc_client.specs.OneForOne.{Course, course_after, sent_on}
+use Rattle.geocom_c.proofs.Common.{◌≡◌, ◌≢◌, ℕ, ◌+◌, arith, length, inl, inr, Option, List, [], ◌∷◌, ◌++◌, map, take, drop, Some, None, refl, sym, ap, subst, ◌∙◌, position, filter_map, cases_eq, drop_all, Asked, is_line_feed, frame_of, line_in, pieces_behind, rest_behind, Frame, Line, Cleared, Overlong, More, cut_none, cut_some, ById, Sending, Course, course_after, sent_on, client_past, SendMeets, hearing_lines, StandsForCourse, lines_completed, HeardBut, GeocomClient, Effect}
 use Rattle.gc_client.specs.OneForOne as one
-use Rattle.geocom_c.specs.Feeding.{client_past}
-use Rattle.geocom_c.specs.Sending.{SendMeets}
-use Rattle.geocom_c.specs.Following.{hearing_lines, StandsForCourse}
-use Rattle.geocom_c.specs.Rest.{lines_completed, HeardBut}
-use Rattle.geocom_c.specs.declared.state.GeocomClient.{GeocomClient}
-use Rattle.geocom_c.specs.Rooms.{Effect}
 
 -- hearing no line changes nothing, and hearing the lines of the frames f and `fs` is hearing f, as `past` says, and then the lines
 -- of `fs`

@@ -1,8 +1,5 @@
 -- Items, as texts of values, that stand in a text: at a place, which is an offset and a length in bytes.
-use Rattle.std.proofs.Common.{◌≡◌, ℕ, zero, suc, ◌+◌, ◌≤◌, List, [], ◌∷◌, ◌++◌, length, take, drop, refl, ap, ◌∙◌, arith, length-append}
-use Rattle.std.proofs.lemmas.List.{drop_at, take_all, take-append-le}
-use Rattle.geocom_c.specs.Settled.{StandsAt}
-use Rattle.geocom_c.specs.declared.listed.GeocomItem.{GeocomItem}
+use Rattle.geocom_c.proofs.Common.{◌≡◌, ℕ, zero, suc, ◌+◌, ◌≤◌, List, [], ◌∷◌, ◌++◌, length, take, drop, refl, ap, ◌∙◌, arith, length-append, drop_at, take_all, take-append-le, StandsAt, GeocomItem}
 
 -- the k bytes from place n on, if they are within t, are the same once u is appended
 take_drop_front : (n k : ℕ) (t u : List ℕ) → n + k ≤ length t → take k (drop n (t ++ u)) ≡ take k (drop n t)

@@ -1,14 +1,9 @@
 -- What is kept of a line that no line feed has ended yet, as more of it comes: at most 514 bytes, the first 513 and the last
 -- one so far. A frame is what a line feed makes of the bytes before it. `GoAlike` says of two texts that the same frame comes
 -- of them, however both go on.
-use Rattle.std.proofs.Common.{◌≡◌, ℕ, ◌+◌, ◌-◌, ◌<◌, ◌≤◌, List, [], ◌∷◌, ◌++◌, length, take, get_or, All, refl, sym, subst, ap, ap₂, ◌∙◌, arith, append_assoc, length-append, if◌then◌else◌, ◌==◌}
-use Rattle.std.specs.Prelude.{slice_set}
-use Rattle.std.proofs.lemmas.List.{length-take, append-nil, take-take, take_more_set}
+use Rattle.geocom_c.proofs.Common.{◌≡◌, ℕ, ◌+◌, ◌-◌, ◌<◌, ◌≤◌, List, [], ◌∷◌, ◌++◌, length, take, get_or, All, refl, sym, subst, ap, ap₂, ◌∙◌, arith, append_assoc, length-append, if◌then◌else◌, ◌==◌, slice_set, length-take, take-take, take_more_set, lt-ltb, frame_of, Overlong, Cleared, IsNoLineFeed, IsRest}
+use Rattle.std.proofs.lemmas.List.{append-nil}
 use Rattle.std.proofs.lemmas.List.Elements.{All-append, All-push, All-take}
-use Rattle.std.proofs.lemmas.Bool.{lt-ltb}
-use Rattle.gc_lines.specs.Frames.{frame_of}
-use Rattle.gc_lines.specs.declared.frame.Frame.TheVariants.{Overlong, Cleared}
-use Rattle.geocom_c.specs.Rest.{IsNoLineFeed, IsRest}
 use Rattle.gc_lines.proofs.Keeping.{take-append, last-append}
 
 -- the last byte of a text; 0 for an empty one

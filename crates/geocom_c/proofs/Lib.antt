@@ -1,3 +1,4 @@
+mod Common
 mod LineFeeds
 mod Keeping
 mod Clients

@@ -1,11 +1,6 @@
 -- Bytes without a line feed.
-use Rattle.std.proofs.Common.{◌≡◌, ℕ, ◌≤◌, true, false, cond, List, length, get_or, All, Some, None, refl, arith, ltb}
-use Rattle.std.specs.List.{prefix_len, position}
-use Rattle.std.proofs.lemmas.Bool.{ltb-true, ltb-false, eqb-true, eqb-false, not-true, not-false}
+use Rattle.geocom_c.proofs.Common.{◌≡◌, ℕ, ◌≤◌, true, false, cond, List, length, get_or, All, Some, None, refl, arith, ltb, prefix_len, position, ltb-true, ltb-false, eqb-true, eqb-false, not-true, not-false, is_line_feed, goes_on, IsNoLineFeed}
 use Rattle.std.proofs.lemmas.List.Sums.{prefix_len_passes, prefix_len_stops}
-use Rattle.gc_lines.specs.Frames.{is_line_feed}
-use Rattle.gc_lines.proofs.Cutting.{goes_on}
-use Rattle.geocom_c.specs.Rest.{IsNoLineFeed}
 
 -- a byte at which the search stops is a line feed
 is_the_line_feed : (b : ℕ) → goes_on b ≡ false → b ≡ 10

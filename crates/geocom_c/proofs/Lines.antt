@@ -1,15 +1,7 @@
 -- Request lines without an id, and what they ask for.
-use Rattle.std.proofs.Common.{◌≡◌, ℕ, List, sym, subst, ◌∙◌}
+use Rattle.geocom_c.proofs.Common.{◌≡◌, ℕ, List, sym, subst, ◌∙◌, LineFault, RequestFields, IsRequest, request_at, Asked, asked_id, asked_line, asked_request, IsAsked, ReadsBackAsked, IsLineOf}
 use Rattle.std.specs.Prelude.{Ok, Err, None}
-use Rattle.gc_lines.specs.declared.fault.LineFault.{LineFault}
-use Rattle.gc_lines.specs.Requests.{RequestFields, IsRequest}
-use Rattle.gc_lines.specs.Readers.{request_at}
 use Rattle.gc_lines.proofs.Requests.{request_found, request_again}
-use Rattle.gc_catalogue.specs.declared.asked.Asked.{Asked}
-use Rattle.gc_catalogue.proofs.AskedRules.{asked_id}
-use Rattle.gc_catalogue.specs.Asked.{asked_line, asked_request, IsAsked}
-use Rattle.gc_catalogue.specs.AskedLaws.{ReadsBackAsked}
-use Rattle.geocom_c.specs.State.{IsLineOf}
 
 -- the line that is written for what is asked, without an id, is one that asks for it (`IsLineOf`)
 pub written_line_asks : (line : List ℕ) (asked : Asked) → ReadsBackAsked None asked → line ≡ asked_line None asked → IsLineOf line asked

@@ -1,15 +1,8 @@
 -- What a session does next is one of nine things, and a line is heard, discarded or for the synchronization: a claim on where each leads, and
 -- on what each settles, holds of what is next, and of a line.
-use Rattle.std.proofs.Common.{ℕ, Bool, true, false, List, [], if◌then◌else◌}
-use Rattle.gc_catalogue.specs.declared.asked.Asked.{Asked}
-use Rattle.gc_client.specs.Rule.{Settlement, hears_line, restarts}
-use Rattle.gc_session.specs.declared.next.Next.{Next}
+use Rattle.geocom_c.proofs.Common.{ℕ, Bool, true, false, List, [], if◌then◌else◌, Asked, Settlement, hears_line, restarts, Next, Phase, Standing, Session, done, flushed, line_came_in, line_heard, line_heard_if, line_synchronized, null_asked, phase_cleared, renewed, settled_by, settled_in, with_standing, is_sign_on}
 use Rattle.gc_session.specs.declared.next.Next.TheVariants as next
-use Rattle.gc_session.specs.declared.standing.Phase.{Phase}
 use Rattle.gc_session.specs.declared.standing.Phase.TheVariants as phase
-use Rattle.gc_session.specs.declared.standing.Standing.{Standing}
-use Rattle.gc_session.specs.Sessions.{Session, done, flushed, line_came_in, line_heard, line_heard_if, line_synchronized, null_asked, phase_cleared, renewed, settled_by, settled_in, with_standing}
-use Rattle.gc_texts.specs.SignOns.{is_sign_on}
 
 -- Here the claim holds of the session as it is, and of where a line feed, a null procedure of the synchronization, one of the client, a
 -- resynchronization and a read lead.

@@ -1,19 +1,7 @@
 -- Calls whose events are those of runs, one after the other: each settlement is its own, as with any client in the field.
-use Rattle.std.proofs.Common.{◌≡◌, Option, sym, ◌∙◌, ap, subst}
-use Rattle.std.specs.List.{AllByRecursion}
-use Rattle.gc_catalogue.specs.declared.asked.Asked.{Asked}
-use Rattle.gc_client.specs.Beginning.{the_word}
-use Rattle.gc_client.specs.OneForOne.{Course, begun, course}
-use Rattle.gc_instrument.specs.State.{KeptReply}
-use Rattle.gc_session.specs.Events.{AreInTurn, left_among, steps_among}
+use Rattle.geocom_c.proofs.Common.{◌≡◌, Option, sym, ◌∙◌, ap, subst, AllByRecursion, Asked, the_word, Course, begun, course, KeptReply, AreInTurn, left_among, steps_among, Ends, events_over, placed_runs, IsAnInstrument, IsOwn, IsOwnUnlessLost, each_is_own_if_safe, EachAnswerIsOwn}
 use Rattle.gc_station.proofs.Lists.{all_on}
-use Rattle.gc_theorems.specs.World.{Ends}
-use Rattle.gc_theorems.specs.ClientRuns.{events_over, placed_runs}
-use Rattle.gc_theorems.specs.Instrument.{IsAnInstrument}
-use Rattle.gc_theorems.specs.Owned.{IsOwn, IsOwnUnlessLost}
 use Rattle.gc_theorems.proofs.Owning.{all_own_if_safe}
-use Rattle.gc_theorems.proofs.Parting.{each_is_own_if_safe}
-use Rattle.geocom_c.specs.Laws.{EachAnswerIsOwn}
 use Rattle.geocom_c.proofs.Courses.{over_events}
 
 -- the law: each settlement is its own, over every instrument

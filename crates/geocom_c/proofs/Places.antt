@@ -1,8 +1,7 @@
 -- Two lists side by side, one element further. `FirstAre Is xs ys` says that the first items of `xs` go with those of `ys`, one
 -- for one. An item of `xs` goes with one of `ys` if `Is` holds of the two.
-use Rattle.std.proofs.Common.{◌≡◌, ℕ, zero, suc, ◌<◌, List, [], ◌∷◌, ◌++◌, length, take, subst, arith}
-use Rattle.std.specs.Prelude.{Some, slice_get, slice_set}
-use Rattle.geocom_c.specs.FirstAre.{FirstAre}
+use Rattle.geocom_c.proofs.Common.{◌≡◌, ℕ, zero, suc, ◌<◌, List, [], ◌∷◌, ◌++◌, length, take, subst, arith, slice_get, slice_set, FirstAre}
+use Rattle.std.specs.Prelude.{Some}
 
 module _ {A B : Type 0} (Is : A → B → Type 0) where
   -- if the first items of `xs` go with `ys`, and the next one goes with y, the first ones go with `ys` and then y

@@ -1,30 +1,11 @@
 -- Records of settlements, as the library writes them for C: numbers, and places in a text.
-use Rattle.std.proofs.Common.{◌≡◌, ℕ, zero, suc, ◌≤◌, Bool, true, false, List, [], ◌∷◌, ◌++◌, length, take, drop, Some, None, Ok, Err, Option, Result, refl, sym, subst, ap, ◌∙◌, arith, if◌then◌else◌}
-use Rattle.std.proofs.lemmas.List.{length-map, length-take, take-append-drop, take-append-le}
-use Rattle.gc_values.specs.Item.{kind_of}
-use Rattle.gc_values.specs.Params.{IsParams}
+use Rattle.geocom_c.proofs.Common.{◌≡◌, ℕ, zero, suc, ◌≤◌, Bool, true, false, List, [], ◌∷◌, ◌++◌, length, take, drop, Some, None, Ok, Err, Option, Result, refl, sym, subst, ap, ◌∙◌, arith, if◌then◌else◌, length-map, length-take, take-append-drop, take-append-le, kind_of, IsParams, LineFault, ReplyFields, Reading, Value, Refused, ComFault, Unreadable, Asked, Table, Raw, answer_fields, IsAskedReading, Pending, ById, Settlement, settle, place_in, settles_at, hears, id_in, fits, FirstAre, line_kind, fault_number_in, StandsAt, AreListed, AreReadAs, IsKind, HasReading, ListsItems, HasOutcome, IsRecord, AnswerHasLine, AnswersHaveLine, GeocomItem, GeocomSettlement, false≢true}
 use Rattle.gc_values.proofs.ListLaws.{same_count}
-use Rattle.gc_lines.specs.declared.fault.LineFault.{LineFault}
-use Rattle.gc_lines.specs.Replies.{ReplyFields}
 use Rattle.gc_catalogue.specs.declared.answer.Answer.{Answer}
-use Rattle.gc_catalogue.specs.declared.answer.Reading.{Reading}
-use Rattle.gc_catalogue.specs.declared.answer.Reading.TheVariants.{Value, Refused, ComFault, Unreadable}
-use Rattle.gc_catalogue.specs.declared.asked.Asked.{Asked}
-use Rattle.gc_catalogue.specs.declared.asked.Asked.TheVariants.{Table, Raw}
-use Rattle.gc_catalogue.specs.Answers.{answer_fields}
-use Rattle.gc_catalogue.specs.Asked.{IsAskedReading}
 use Rattle.gc_catalogue.proofs.Table.{few_answer_values}
-use Rattle.gc_client.specs.declared.pending.Pending.{Pending}
-use Rattle.gc_client.specs.Rule.{ById, Settlement, settle, place_in, settles_at, hears, id_in, fits}
-use Rattle.gc_client.specs.Rule
-use Rattle.geocom_c.specs.FirstAre.{FirstAre}
-use Rattle.geocom_c.specs.Feeding.{line_kind, fault_number_in}
-use Rattle.geocom_c.specs.Settled.{StandsAt, AreListed, AreReadAs, IsKind, HasReading, ListsItems, HasOutcome, IsRecord, AnswerHasLine, AnswersHaveLine}
-use Rattle.geocom_c.specs.declared.listed.GeocomItem.{GeocomItem}
-use Rattle.geocom_c.specs.declared.settled.GeocomSettlement.{GeocomSettlement}
 use Rattle.geocom_c.proofs.Places.{first_are_weaker}
 use Rattle.geocom_c.proofs.Items.{stands_more}
-use Rattle.std.proofs.lemmas.Bool.{false≢true}
+use Rattle.gc_client.specs.Rule
 
 -- where a text lists the items of a reply's parameters if they are at most 16 (`ListsItems`), and the reply reads as an answer to
 -- what was asked, the text lists the items of this answer (`AreListed`)

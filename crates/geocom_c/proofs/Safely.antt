@@ -1,25 +1,10 @@
 -- When what calls on a state send is safe: either if a request that is no call of the table is to the instrument as all others,
 -- or if no call sends a raw request. An event is a null procedure that is sent, a line that comes, or a step of a client; a run
 -- is the turns of a synchronization and then the moves of the field.
-use Rattle.std.proofs.Common.{ℕ, List, [], ◌∷◌, map, Option, Some, None, refl, sym, subst, inl, inr}
-use Rattle.gc_catalogue.specs.declared.asked.Asked.{Asked}
-use Rattle.gc_catalogue.specs.declared.asked.Asked.TheVariants.{Table}
-use Rattle.gc_client.specs.Beginning.{the_word}
-use Rattle.gc_client.specs.OneForOne as one
-use Rattle.gc_instrument.specs.State.{KeptReply}
-use Rattle.gc_lines.proofs.Lists.{all_append}
-use Rattle.gc_lines.specs.Frames.{rest_behind}
-use Rattle.gc_session.specs.Events.{ClientEvent, Came, Stepped}
+use Rattle.geocom_c.proofs.Common.{ℕ, List, [], ◌∷◌, map, Option, Some, None, refl, sym, subst, inl, inr, Asked, Table, the_word, KeptReply, all_append, rest_behind, ClientEvent, Came, Stepped, ask_events, events_over, Ends, table_safe, left_by_restart, given, left_by_bytes, AreOfTheTable, TableCallsAreSafe, lines_completed, AreEvents, begin_events, step_events, StateCall, SendRaw, Begin, Feed, Expire, Restart}
 use Rattle.gc_session.proofs.InTable.{AreInTable, IsInTable}
-use Rattle.gc_theorems.specs.ClientRuns.{ask_events, events_over}
-use Rattle.gc_theorems.specs.World.{Ends}
-use Rattle.gc_theorems.proofs.InTable.{table_safe}
-use Rattle.geocom_c.specs.Beginning.{left_by_restart, given, left_by_bytes}
-use Rattle.geocom_c.specs.Laws.{AreOfTheTable, TableCallsAreSafe}
-use Rattle.geocom_c.specs.Rest.{lines_completed}
-use Rattle.geocom_c.specs.Steps.{AreEvents, begin_events, step_events}
-use Rattle.geocom_c.specs.declared.following.StateCall.{StateCall}
-use Rattle.geocom_c.specs.declared.following.StateCall.TheVariants.{Send, SendRaw, Begin, Feed, Expire, Restart}
+use Rattle.geocom_c.specs.declared.following.StateCall.TheVariants.{Send}
+use Rattle.gc_client.specs.OneForOne as one
 
 -- lines that come ask for nothing
 came_in_table : (lines : List (List ℕ)) → AreInTable (map Came lines)

@@ -1,11 +1,6 @@
 -- Sends: what a number and parameters ask for, or why they are refused, and what a send of that does.
-use Rattle.std.proofs.Common.{◌≡◌, ◌≢◌, ◌<◌, ℕ, Result, Ok, Err, refl, sym, ap, ◌∙◌, arith}
-use Rattle.gc_catalogue.specs.declared.asked.Asked.{Asked}
-use Rattle.geocom_c.specs.Sending.{AsksOrRefuses, IsSend, RequestRule, WasAsked, read_rule}
-use Rattle.geocom_c.specs.declared.header.TheConstants.{WINDOW_FULL}
-use Rattle.geocom_c.specs.declared.state.GeocomClient.{GeocomClient}
+use Rattle.geocom_c.proofs.Common.{◌≡◌, ◌≢◌, ◌<◌, ℕ, Result, Ok, Err, refl, sym, ap, ◌∙◌, arith, Asked, AsksOrRefuses, IsSend, RequestRule, WasAsked, read_rule, WINDOW_FULL, GeocomClient, Effect}
 use Rattle.geocom_c.proofs.Clients.{never_ok}
-use Rattle.geocom_c.specs.Rooms.{Effect}
 
 -- Results.
 

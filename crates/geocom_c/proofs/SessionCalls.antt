@@ -1,42 +1,8 @@
 -- Any calls of C on a session's state are calls on its session, and do what these do.
-use Rattle.std.proofs.Common.{◌≡◌, ◌≢◌, ◌∙◌, ◌⊎◌, inl, inr, ◌<◌, ◌≤◌, ◌&&◌, ℕ, Bool, true, false, not, if◌then◌else◌, List, [], ◌∷◌, ◌++◌, length, take, map, nat_eq, Option, Some, None, refl, sym, ap, subst, arith, append_assoc, append-nil}
-use Rattle.std.specs.List.{AllByRecursion, position}
-use Rattle.std.proofs.lemmas.Bool.{cases_eq, cases_lt, eq-eqb, ne_eqb}
-use Rattle.std.proofs.lemmas.List.{map-append}
-use Rattle.gc_lines.specs.Frames.{is_line_feed, frame_of}
-use Rattle.gc_lines.specs.Lines.{with_end}
-use Rattle.gc_lines.specs.declared.frame.Frame.{Frame}
-use Rattle.gc_lines.specs.declared.frame.Frame.TheVariants.{Line, Cleared, Overlong, More}
-use Rattle.gc_catalogue.specs.Asked.{asked_line, procedure_of}
-use Rattle.gc_catalogue.specs.declared.asked.Asked.{Asked}
-use Rattle.gc_client.specs.Rule.{IsWidth, Settlement}
-use Rattle.gc_client.specs.declared.window.TheConstants.{WINDOW}
-use Rattle.gc_session.specs.declared.next.Next.{Next}
-use Rattle.gc_session.specs.declared.next.Next.TheVariants as next
-use Rattle.gc_session.specs.declared.session.TheConstants.{OWN}
-use Rattle.gc_session.specs.declared.settings.Want.{Want}
-use Rattle.gc_session.specs.declared.settings.Want.TheVariants.{Nothing, Answers, Send}
-use Rattle.gc_session.specs.Calls.{Call, Asks, Closes, Opens, Restarts, Steps, after, after_all, settled_all, settles}
-use Rattle.gc_session.specs.Laws.{taken_all, taken_by, taken_if}
-use Rattle.gc_session.specs.Sessions.{Session, act_for, at_step, came, line_of, may_send, next_of, opening}
-use Rattle.geocom_c.specs.Asking.{IsAsk}
-use Rattle.geocom_c.specs.Feeding.{HasRoomToSettle}
-use Rattle.geocom_c.specs.FirstAre.{FirstAre}
-use Rattle.geocom_c.specs.Hearing.{IsFeed, at_feed, frame_settles, session_past}
-use Rattle.geocom_c.specs.Sending.{RequestRule, raw_rule, table_rule}
-use Rattle.geocom_c.specs.SessionCalls
-use Rattle.geocom_c.specs.SessionCalls.{AreMade, AreOfSession, ArePart, AreSideBySide, Handed, IsAskPart, IsHanded, IsMade, IsOfItsCalls, IsPart, IsPartOf, KeepsSession, Part, Request, SessionCall, SessionCallsAreCalls, bytes_all, bytes_by, comes_calls, fed_part, first_handed, handed_all, handed_by, hears_calls, request_by, request_if, request_of, requests_all, state_after, state_before, written_all, written_by}
-use Rattle.geocom_c.specs.SessionState.{StandsForSession}
-use Rattle.geocom_c.specs.Sessions.{IsInit}
-use Rattle.geocom_c.specs.Settled.{IsRecord}
-use Rattle.geocom_c.specs.Stepping.{HasRoomToStep, IsStep, bytes_of, want_number}
-use Rattle.geocom_c.specs.declared.answers.GeocomHeard.{GeocomHeard}
-use Rattle.geocom_c.specs.declared.answers.GeocomStep.{GeocomStep}
-use Rattle.geocom_c.specs.declared.header.TheConstants.{LINE_ROOM, NOT_NOW, OWN_TARGET, TEXT_ROOM, WANT_ANSWERS, WANT_NOTHING, WANT_SEND}
-use Rattle.geocom_c.specs.declared.session_state.GeocomSession.{GeocomSession}
-use Rattle.geocom_c.specs.declared.settled.GeocomSettlement.{GeocomSettlement}
+use Rattle.geocom_c.proofs.Common.{◌≡◌, ◌≢◌, ◌∙◌, ◌⊎◌, inl, inr, ◌<◌, ◌≤◌, ◌&&◌, ℕ, Bool, true, false, not, if◌then◌else◌, List, [], ◌∷◌, ◌++◌, length, take, map, nat_eq, Option, Some, None, refl, sym, ap, subst, arith, append_assoc, append-nil, AllByRecursion, position, cases_eq, cases_lt, eq-eqb, ne_eqb, map-append, is_line_feed, frame_of, with_end, Frame, Line, Cleared, Overlong, More, asked_line, procedure_of, Asked, IsWidth, Settlement, WINDOW, Next, OWN, Want, Nothing, Answers, Send, Call, Asks, Closes, Opens, Restarts, Steps, after, after_all, settled_all, settles, taken_all, taken_by, taken_if, Session, act_for, at_step, came, line_of, may_send, next_of, opening, IsAsk, HasRoomToSettle, FirstAre, IsFeed, at_feed, frame_settles, session_past, RequestRule, raw_rule, table_rule, AreMade, AreOfSession, ArePart, AreSideBySide, Handed, IsAskPart, IsHanded, IsMade, IsOfItsCalls, IsPart, IsPartOf, KeepsSession, Part, Request, SessionCall, SessionCallsAreCalls, bytes_all, bytes_by, comes_calls, fed_part, first_handed, handed_all, handed_by, hears_calls, request_by, request_if, request_of, requests_all, state_after, state_before, written_all, written_by, StandsForSession, IsInit, IsRecord, HasRoomToStep, IsStep, bytes_of, want_number, GeocomHeard, GeocomStep, LINE_ROOM, NOT_NOW, OWN_TARGET, TEXT_ROOM, WANT_ANSWERS, WANT_NOTHING, WANT_SEND, GeocomSession, GeocomSettlement, Effect, SettlingEffect}
 use Rattle.geocom_c.proofs.SessionSteps.{fault_if, no_other_fault, roomy}
-use Rattle.geocom_c.specs.Rooms.{Effect, SettlingEffect}
+use Rattle.gc_session.specs.declared.next.Next.TheVariants as next
+use Rattle.geocom_c.specs.SessionCalls
 
 -- Lists side by side.
 

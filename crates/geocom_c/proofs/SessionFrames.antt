@@ -1,23 +1,5 @@
 -- Frames that are fed to a session: what a line settles, and what is told of it.
-use Rattle.std.proofs.Common.{◌≡◌, ◌<◌, ◌≤◌, ℕ, List, [], ◌∷◌, length, nat_lt, Result, Ok, Err, refl, ap, arith}
-use Rattle.std.proofs.lemmas.Bool.{lt-ltb}
-use Rattle.std.proofs.lemmas.List.{length-map}
-use Rattle.gc_lines.specs.Readers.{reply_at}
-use Rattle.gc_lines.specs.Replies.{ReplyFields}
-use Rattle.gc_lines.specs.declared.fault.LineFault.{LineFault}
-use Rattle.gc_lines.specs.declared.frame.Frame.{Frame}
-use Rattle.gc_lines.specs.declared.frame.Frame.TheVariants.{Line, Cleared, Overlong, More}
-use Rattle.gc_catalogue.specs.declared.asked.Asked.{Asked}
-use Rattle.gc_client.specs.Rule.{Settlement, expired, heard, hears, id_in}
-use Rattle.gc_client.specs.declared.window.TheConstants.{WINDOW}
-use Rattle.gc_session.specs.Exchange.{has_begun}
-use Rattle.gc_session.specs.Sessions.{Session, line_settles}
-use Rattle.geocom_c.specs.Feeding.{fault_number_in, line_kind}
-use Rattle.geocom_c.specs.Hearing.{at_feed, session_past}
-use Rattle.geocom_c.specs.SessionState.{StandsForSession}
-use Rattle.geocom_c.specs.Settled.{AnswersHaveLine}
-use Rattle.geocom_c.specs.declared.header.TheConstants.{SETTLED}
-use Rattle.geocom_c.specs.declared.session_state.GeocomSession.{GeocomSession}
+use Rattle.geocom_c.proofs.Common.{◌≡◌, ◌<◌, ◌≤◌, ℕ, List, [], ◌∷◌, length, nat_lt, Result, Ok, Err, refl, ap, arith, lt-ltb, length-map, reply_at, ReplyFields, LineFault, Frame, Line, Cleared, Overlong, More, Asked, Settlement, expired, heard, hears, id_in, WINDOW, has_begun, Session, line_settles, fault_number_in, line_kind, at_feed, session_past, StandsForSession, AnswersHaveLine, SETTLED, GeocomSession}
 use Rattle.geocom_c.proofs.Counts.{HasCounts, came_counts, line_came_counts}
 use Rattle.geocom_c.proofs.NextSteps.{each_line}
 use Rattle.geocom_c.proofs.Records.{heard_have_line}

@@ -1,20 +1,8 @@
 -- Records that calls of C on a session's state hand out: each is its own, as the settlement is that it is of.
-use Rattle.std.proofs.Common.{◌≡◌, ◌∙◌, ℕ, List, [], ◌∷◌, take, Option, refl, sym, ap, arith}
-use Rattle.std.specs.List.{AllByRecursion}
-use Rattle.gc_catalogue.specs.declared.asked.Asked.{Asked}
-use Rattle.gc_client.specs.Rule as rule
-use Rattle.gc_client.specs.Rule.{Settlement}
-use Rattle.gc_client.specs.declared.window.TheConstants.{WINDOW}
-use Rattle.gc_instrument.specs.State.{KeptReply}
-use Rattle.gc_theorems.specs.ClientRuns.{PlacedRun, placed_runs}
-use Rattle.gc_theorems.specs.Sessions.{EachSessionIsOwn, IsOwnIfCallers}
-use Rattle.gc_theorems.specs.World.{Ends}
-use Rattle.geocom_c.specs.SessionCalls.{AreSideBySide, Handed, IsHanded, handed_all}
+use Rattle.geocom_c.proofs.Common.{◌≡◌, ◌∙◌, ℕ, List, [], ◌∷◌, take, Option, refl, sym, ap, arith, AllByRecursion, Asked, Settlement, WINDOW, KeptReply, PlacedRun, placed_runs, EachSessionIsOwn, IsOwnIfCallers, Ends, AreSideBySide, Handed, IsHanded, handed_all, HasOutcome, ANSWERED, LATE, GeocomSettlement}
 use Rattle.geocom_c.specs.SessionLaws.{EachRecordIsOwn, IsOwnHanded}
-use Rattle.geocom_c.specs.Settled.{HasOutcome}
-use Rattle.geocom_c.specs.declared.header.TheConstants.{ANSWERED, LATE}
-use Rattle.geocom_c.specs.declared.settled.GeocomSettlement.{GeocomSettlement}
 use Rattle.geocom_c.proofs.SessionCalls.{calls_are_calls}
+use Rattle.gc_client.specs.Rule as rule
 
 -- a record of an answer is of a request that was answered, by the line at the front of the text
 of_answer : (r : GeocomSettlement) (text : List ℕ) (call : Asked) (o : rule.Outcome) → HasOutcome r text call o → r.outcome ≡ ANSWERED

@@ -1,16 +1,8 @@
 -- A session's settings stay as they are, and what it loses is outstanding.
-use Rattle.std.proofs.Common.{◌≡◌, ℕ, Bool, true, false, List, [], map, refl, sym, subst}
-use Rattle.gc_catalogue.specs.declared.asked.Asked.{Asked}
-use Rattle.gc_client.specs.Rule.{IsWidth}
-use Rattle.gc_client.specs.Settlements.{settlement_seen}
+use Rattle.geocom_c.proofs.Common.{◌≡◌, ℕ, Bool, true, false, List, [], map, refl, sym, subst, Asked, IsWidth, settlement_seen, Settings, Want, Session, anew, anew_settles, asked, asked_if, at_step, begun_anew, line_came, next_of, settled_by, sign_on_noted, stepped, takes, with_standing, is_sign_on, AreLost}
 use Rattle.gc_client.specs.declared.settlement.Settlement.{Settlement}
-use Rattle.gc_session.specs.declared.settings.Settings.{Settings}
-use Rattle.gc_session.specs.declared.settings.Want.{Want}
-use Rattle.gc_session.specs.Exchange as exchange
-use Rattle.gc_session.specs.Sessions.{Session, anew, anew_settles, asked, asked_if, at_step, begun_anew, line_came, next_of, settled_by, sign_on_noted, stepped, takes, with_standing}
-use Rattle.gc_texts.specs.SignOns.{is_sign_on}
-use Rattle.geocom_c.specs.Settled.{AreLost}
 use Rattle.geocom_c.proofs.NextSteps.{each_line, each_next}
+use Rattle.gc_session.specs.Exchange as exchange
 
 -- a width is allowed in settings that are the same
 pub still_allowed : (x y : Settings) → y ≡ x → IsWidth x.width → IsWidth y.width

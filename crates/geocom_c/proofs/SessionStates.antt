@@ -1,15 +1,5 @@
 -- Sessions and the bytes of their states.
-use Rattle.std.proofs.Common.{◌≡◌, ◌∙◌, ℕ, drop, ap}
-use Rattle.gc_catalogue.specs.declared.asked.Asked.{Asked}
-use Rattle.gc_client.specs.Beginning.{the_word}
-use Rattle.gc_client.specs.Rule.{ById}
-use Rattle.gc_session.specs.Sessions.{Session}
-use Rattle.gc_session.specs.declared.settings.Settings.{Settings}
-use Rattle.gc_session.specs.declared.standing.Standing.{Standing}
-use Rattle.geocom_c.specs.SessionState.{HoldsStanding}
-use Rattle.geocom_c.specs.State.{KeepsAnswered}
-use Rattle.geocom_c.specs.declared.session_state.GeocomSession.{GeocomSession}
-use Rattle.geocom_c.specs.declared.state.GeocomClient.{GeocomClient}
+use Rattle.geocom_c.proofs.Common.{◌≡◌, ◌∙◌, ℕ, drop, ap, Asked, the_word, ById, Session, Settings, Standing, HoldsStanding, KeepsAnswered, GeocomSession, GeocomClient}
 
 -- settings with the numbers of `x` are `x`
 pub same_settings : (width timeout quiet : ℕ) (x : Settings) → width ≡ x.width → timeout ≡ x.timeout → quiet ≡ x.quiet

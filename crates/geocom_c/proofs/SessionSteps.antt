@@ -1,22 +1,7 @@
 -- Steps of a session's state, and requests that it is asked.
-use Rattle.std.proofs.Common.{◌≡◌, ◌≢◌, ◌↔◌, ◌⊎◌, inl, inr, ◌<◌, ◌≤◌, ◌&&◌, ◌∙◌, ℕ, Bool, true, false, not, List, Result, Ok, Err, if◌then◌else◌, nat_eq, refl, sym, ap, subst, arith}
-use Rattle.std.proofs.lemmas.Bool.{and_from, and_parts, cases_lt, eq-eqb, false_from_ne_true, false≢true, ne_eqb, not_from_false}
-use Rattle.gc_catalogue.specs.declared.asked.Asked.{Asked}
+use Rattle.geocom_c.proofs.Common.{◌≡◌, ◌≢◌, ◌↔◌, ◌⊎◌, inl, inr, ◌<◌, ◌≤◌, ◌&&◌, ◌∙◌, ℕ, Bool, true, false, not, List, Result, Ok, Err, if◌then◌else◌, nat_eq, refl, sym, ap, subst, arith, and_from, and_parts, cases_lt, eq-eqb, false_from_ne_true, false≢true, ne_eqb, not_from_false, Asked, OWN, Want, Send, Session, asked, asked_if, may_send, next_of, takes, IsAsk, WasSessionAsked, AsksOrRefuses, RequestRule, read_rule, IsOfNoSession, IsOfSession, StandsForSession, HasRoomToStep, IsStep, IsWant, unmoved_with, want_number, GeocomStep, LINE_ROOM, NO_CLIENT, NO_ROOM, NO_WANT, NOT_NOW, OWN_TARGET, GeocomSession, GeocomSettlement, Effect, settling_effect}
 use Rattle.gc_session.specs.declared.session.NotTaken.{NotTaken}
 use Rattle.gc_session.specs.declared.session.NotTaken.TheVariants.{NotNow, OwnTarget}
-use Rattle.gc_session.specs.declared.session.TheConstants.{OWN}
-use Rattle.gc_session.specs.declared.settings.Want.{Want}
-use Rattle.gc_session.specs.declared.settings.Want.TheVariants.{Send}
-use Rattle.gc_session.specs.Sessions.{Session, asked, asked_if, may_send, next_of, takes}
-use Rattle.geocom_c.specs.Asking.{IsAsk, WasSessionAsked}
-use Rattle.geocom_c.specs.Sending.{AsksOrRefuses, RequestRule, read_rule}
-use Rattle.geocom_c.specs.SessionState.{IsOfNoSession, IsOfSession, StandsForSession}
-use Rattle.geocom_c.specs.Stepping.{HasRoomToStep, IsStep, IsWant, unmoved_with, want_number}
-use Rattle.geocom_c.specs.declared.answers.GeocomStep.{GeocomStep}
-use Rattle.geocom_c.specs.declared.header.TheConstants.{LINE_ROOM, NO_CLIENT, NO_ROOM, NO_WANT, NOT_NOW, OWN_TARGET}
-use Rattle.geocom_c.specs.declared.session_state.GeocomSession.{GeocomSession}
-use Rattle.geocom_c.specs.declared.settled.GeocomSettlement.{GeocomSettlement}
-use Rattle.geocom_c.specs.Rooms.{Effect, settling_effect}
 
 -- a step that was refused with this fault, for which its reason holds
 pub never_stepped : (number now fault : ℕ) (old : GeocomSession) (before : List GeocomSettlement) (blank : List ℕ) (told : GeocomStep) → told ≡ unmoved_with fault → fault ≢ 0

@@ -1,19 +1,6 @@
 -- What is told a session's state.
-use Rattle.std.proofs.Common.{◌≡◌, ◌≤◌, ◌∙◌, ℕ, suc, Bool, not, List, [], ◌∷◌, length, Option, Some, refl, sym, ap, subst, arith}
-use Rattle.std.specs.List.{filter}
-use Rattle.std.proofs.lemmas.Bool.{cond_both}
-use Rattle.std.proofs.lemmas.List.{length-map}
-use Rattle.gc_catalogue.specs.declared.asked.Asked.{Asked}
-use Rattle.gc_client.specs.Rule.{IsWidth, deadlines}
-use Rattle.gc_client.specs.declared.pending.Pending.{Pending}
-use Rattle.gc_session.specs.declared.standing.Standing.{Standing}
-use Rattle.std.proofs.lemmas.Option.{same_Some}
-use Rattle.gc_session.specs.Sessions.{Session, all_of, current_of, is_ready, is_up}
-use Rattle.geocom_c.specs.SessionState.{IsOfNoSession, StandsForSession, flag_byte}
-use Rattle.geocom_c.specs.Sessions.{IsTold, status_of}
+use Rattle.geocom_c.proofs.Common.{◌≡◌, ◌≤◌, ◌∙◌, ℕ, suc, Bool, not, List, [], ◌∷◌, length, Option, Some, refl, sym, ap, subst, arith, filter, cond_both, length-map, Asked, IsWidth, deadlines, Pending, Standing, same_Some, Session, all_of, current_of, is_ready, is_up, IsOfNoSession, StandsForSession, flag_byte, IsTold, status_of, NO_CLIENT, GeocomSession}
 use Rattle.geocom_c.specs.declared.answers.GeocomStatus.{GeocomStatus}
-use Rattle.geocom_c.specs.declared.header.TheConstants.{NO_CLIENT}
-use Rattle.geocom_c.specs.declared.session_state.GeocomSession.{GeocomSession}
 use Rattle.geocom_c.proofs.SessionSettings.{still_allowed}
 
 -- a session that is stored is stored as what it is equal to

@@ -1,10 +1,6 @@
 -- What a session makes of a request that it is asked, this project's own.
+use Rattle.geocom_c.specs.Common.{asked_line, Asked, OWN, Send, Session, asked, may_send, next_of, takes}
 use Rattle.std.specs.Prelude.{◌≡◌, ◌≢◌, ◌≤◌, ℕ, true, false, List, length, Some, if◌then◌else◌, nat_eq}
-use Rattle.gc_catalogue.specs.Asked.{asked_line}
-use Rattle.gc_catalogue.specs.declared.asked.Asked.{Asked}
-use Rattle.gc_session.specs.declared.session.TheConstants.{OWN}
-use Rattle.gc_session.specs.declared.settings.Want.TheVariants.{Send}
-use Rattle.gc_session.specs.Sessions.{Session, asked, may_send, next_of, takes}
 use Rattle.geocom_c.specs.Beginning.{IsGiven}
 use Rattle.geocom_c.specs.Rooms.{Effect, FaultLeavesAll, ReportsNoRoom, WritesWithin}
 use Rattle.geocom_c.specs.Sending.{RequestRule}

@@ -1,18 +1,13 @@
 -- A synchronization over calls on a state, this project's own: what it makes of the bytes that come, and which line is sent.
 -- Its word is the ids of its null procedures, in the order in which they are asked.
+use Rattle.geocom_c.specs.Common.{with_end, rest_behind, Frame, Line, the_word, asks, left_by, heard}
 use Rattle.std.specs.Prelude.{◌≡◌, ◌≢◌, ◌↔◌, ℕ, Bool, true, false, List, [], ◌∷◌, length, take, nat_eq, Option, Some, None}
-use Rattle.gc_lines.specs.Lines.{with_end}
-use Rattle.gc_lines.specs.Frames.{rest_behind}
-use Rattle.gc_lines.specs.declared.frame.Frame.{Frame}
-use Rattle.gc_lines.specs.declared.frame.Frame.TheVariants.{Line}
-use Rattle.gc_client.specs.Beginning.{the_word, asks, left_by}
-pub use Rattle.gc_client.specs.Beginning.{unanswered_after}
-use Rattle.gc_client.specs.Rule.{heard}
 use Rattle.geocom_c.specs.Rest.{lines_completed, IsRest}
 use Rattle.geocom_c.specs.State.{IfOfClient, StandsForClient, left_of}
 use Rattle.geocom_c.specs.declared.answers.GeocomBeginning.{GeocomBeginning}
 use Rattle.geocom_c.specs.declared.rest.GeocomRest.{GeocomRest}
 use Rattle.geocom_c.specs.declared.state.GeocomClient.{GeocomClient}
+pub use Rattle.gc_client.specs.Beginning.{unanswered_after}
 
 -- the ids that aren't answered after these bytes, where `left` weren't before: each line that the bytes end, after the bytes
 -- `rest` since the last line feed, is heard

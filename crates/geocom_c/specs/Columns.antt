@@ -1,10 +1,10 @@
 -- Columns in plain fields, this project's own.
+use Rattle.geocom_c.specs.Common.{FieldSeen}
 use Rattle.std.specs.Prelude.{◌≡◌, ℕ, length, take}
 use Rattle.gc_values.specs.declared.value.Kind.{Kind}
-use Rattle.gc_values.specs.declared.value.Kind.TheVariants as kind
-use Rattle.gc_texts.specs.Fields.{FieldSeen}
 use Rattle.geocom_c.specs.declared.columns.GeocomColumn.{GeocomColumn}
 use Rattle.geocom_c.specs.declared.header.TheConstants.{DOUBLE, LONG, SHORT, BYTE, BOOLEAN, STRING}
+use Rattle.gc_values.specs.declared.value.Kind.TheVariants as kind
 
 -- the number of a kind
 abbrev pub kind_number : Kind → ℕ

@@ -1,20 +1,8 @@
 -- Calls on a state over a line that damages, this project's own: what holds of a client from its synchronization until its restart, if
 -- the caller holds back. It holds back if it sends only while the outstanding requests, and those that the last line settled, are
 -- together fewer than seven (`AllMayHarmApart` of gc_theorems); requests that have timed out are outstanding, too, until a reply settles them.
+use Rattle.geocom_c.specs.Common.{the_word, IsWidth, KeptReply, Stepped, Ends, IsWellFormed, UnderWay, begins, OfAnyInstrument, Harm, AreOwnOr, Harmed, harm_begun, harmed, AllMayHarmApart, holding_begun, harm_events, left_by_sync, seen_harms, SyncHarm, AllMaySyncHarm, OwnEighthComes, WasStruck}
 use Rattle.std.specs.Prelude.{◌≡◌, ℕ, List, [], ◌++◌, drop, map, Option}
-use Rattle.gc_client.specs.Beginning.{the_word}
-use Rattle.gc_client.specs.Rule.{IsWidth}
-use Rattle.gc_instrument.specs.State.{KeptReply}
-use Rattle.gc_session.specs.Events.{Stepped}
-use Rattle.gc_theorems.specs.World.{Ends}
-use Rattle.gc_theorems.specs.Begin.{IsWellFormed, UnderWay, begins}
-use Rattle.gc_theorems.specs.Instrument.{OfAnyInstrument}
-use Rattle.gc_theorems.specs.Harm.{Harm, AreOwnOr, Harmed, harm_begun, harmed}
-use Rattle.gc_theorems.specs.DamagedHoldingBack.{AllMayHarmApart, holding_begun}
-use Rattle.gc_theorems.specs.DamagedSessions.{harm_events}
-use Rattle.gc_theorems.specs.Stretch.{left_by_sync}
-use Rattle.gc_theorems.specs.Stretches.{seen_harms}
-use Rattle.gc_theorems.specs.DamagedSynchronizing.{SyncHarm, AllMaySyncHarm, OwnEighthComes, WasStruck}
 use Rattle.geocom_c.specs.Following.{CallsReach, CallStage, first_stage}
 use Rattle.geocom_c.specs.Steps.{AreEvents}
 use Rattle.geocom_c.specs.declared.following.StateCall.{StateCall}

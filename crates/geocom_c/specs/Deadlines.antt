@@ -1,7 +1,6 @@
 -- Requests that time out, and the earliest deadline in plain fields: this project's own.
+use Rattle.geocom_c.specs.Common.{Asked, Windowed, IsEarliest, deadlines, expires, expiring}
 use Rattle.std.specs.Prelude.{◌≡◌, ◌≢◌, ℕ, List, length, take, Option, Some, None, if◌then◌else◌, nat_eq}
-use Rattle.gc_catalogue.specs.declared.asked.Asked.{Asked}
-use Rattle.gc_client.specs.Rule.{Windowed, IsEarliest, deadlines, expires, expiring}
 use Rattle.geocom_c.specs.State.{IfOfClient, StandsForClient}
 use Rattle.geocom_c.specs.declared.answers.GeocomCount.{GeocomCount}
 use Rattle.geocom_c.specs.declared.answers.GeocomDeadline.{GeocomDeadline}

@@ -1,23 +1,14 @@
 -- What a reply says by a description, in plain fields, this project's own.
+use Rattle.geocom_c.specs.Common.{line_fault_number, FirstBadOfReply, IsReply, ReplyFields, LineFault, IsParams, Value, Answer, Reading, IsReadingBy, DescriptionSeen, IsDescription, AreOfKinds, HaveValues, IsKindsFault, KindsSeen, kinds_of_fields}
 use Rattle.std.specs.Prelude.{◌≡◌, ◌<◌, ◌≤◌, ◌⊎◌, ℕ, List, length, take}
-use Rattle.gc_lines.specs.Faults.{line_fault_number}
-use Rattle.gc_lines.specs.Replies.{FirstBadOfReply, IsReply, ReplyFields}
-use Rattle.gc_lines.specs.declared.fault.LineFault.{LineFault}
 use Rattle.gc_lines.specs.declared.fault.LineFault.TheVariants.{TooLong}
-use Rattle.gc_values.specs.Params.{IsParams}
-use Rattle.gc_values.specs.declared.value.Value.{Value}
-use Rattle.gc_catalogue.specs.declared.answer.Answer.{Answer}
 use Rattle.gc_catalogue.specs.declared.answer.Answer.TheVariants.{Nothing}
-use Rattle.gc_catalogue.specs.declared.answer.Reading.{Reading}
-use Rattle.gc_catalogue.specs.declared.answer.Reading.TheVariants as reading
-use Rattle.gc_catalogue.specs.Readings.{IsReadingBy}
-use Rattle.gc_texts.specs.Descriptions.{DescriptionSeen, IsDescription}
-use Rattle.gc_texts.specs.KindLists.{AreOfKinds, HaveValues, IsKindsFault, KindsSeen, kinds_of_fields}
 use Rattle.geocom_c.specs.Describing.{DescribesNothing}
 use Rattle.geocom_c.specs.Rooms.{KeepsLength}
 use Rattle.geocom_c.specs.Settled.{AreStanding, IsKind}
 use Rattle.geocom_c.specs.declared.described.GeocomAnswer.{GeocomAnswer}
 use Rattle.geocom_c.specs.declared.header.TheConstants.{NO_ROOM, TEXT_ROOM}
+use Rattle.gc_catalogue.specs.declared.answer.Reading.TheVariants as reading
 
 -- the kinds of the values of a description's answer, and whether further ones may follow
 abbrev pub answer_kinds : DescriptionSeen → KindsSeen

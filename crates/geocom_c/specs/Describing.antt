@@ -1,13 +1,7 @@
 -- What a text says of a procedure, in plain fields, this project's own.
+use Rattle.geocom_c.specs.Common.{value_fault_number, Value, IsProcedure, before, DescriptionSeen, IsDescription, description_seen, AreOfKinds, IsKindsFault, KindsSeen, kinds_of_fields, IsRpc}
 use Rattle.std.specs.Prelude.{◌≡◌, ◌<◌, ◌≤◌, ◌⊎◌, ℕ, false, List, length, if◌then◌else◌}
-use Rattle.gc_values.specs.ValueFault.{value_fault_number}
 use Rattle.gc_values.specs.declared.fault.ValueFault.{ValueFault}
-use Rattle.gc_values.specs.declared.value.Value.{Value}
-use Rattle.gc_catalogue.specs.Calls.{IsProcedure}
-use Rattle.gc_texts.specs.Cuts.{before}
-use Rattle.gc_texts.specs.Descriptions.{DescriptionSeen, IsDescription, description_seen}
-use Rattle.gc_texts.specs.KindLists.{AreOfKinds, IsKindsFault, KindsSeen, kinds_of_fields}
-use Rattle.gc_texts.specs.Procedures.{IsRpc}
 use Rattle.gc_texts.specs.declared.description.Description.{Description}
 use Rattle.geocom_c.specs.Columns.{IsColumnOf}
 use Rattle.geocom_c.specs.FirstAre.{FirstAre}

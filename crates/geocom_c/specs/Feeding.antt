@@ -1,16 +1,6 @@
 -- What a frame that is fed comes to for a client, this project's own: its kind, what it settles, and what the call returns.
+use Rattle.geocom_c.specs.Common.{position, LineFault, line_fault_number, is_line_feed, frame_of, reply_at, ReplyFields, Frame, Line, Cleared, Overlong, More, Asked, Settlement, Windowed, heard, hears_line, fits, restarts, WINDOW}
 use Rattle.std.specs.Prelude.{◌≡◌, ◌≢◌, ◌<◌, ◌≤◌, ◌+◌, ◌++◌, ℕ, Bool, true, false, List, [], length, take, Result, Ok, Err, Some, None}
-use Rattle.std.specs.List.{position}
-use Rattle.gc_lines.specs.declared.fault.LineFault.{LineFault}
-use Rattle.gc_lines.specs.Faults.{line_fault_number}
-use Rattle.gc_lines.specs.Frames.{is_line_feed, frame_of}
-use Rattle.gc_lines.specs.declared.frame.Frame.{Frame}
-use Rattle.gc_lines.specs.declared.frame.Frame.TheVariants.{Line, Cleared, Overlong, More}
-use Rattle.gc_lines.specs.Readers.{reply_at}
-use Rattle.gc_lines.specs.Replies.{ReplyFields}
-use Rattle.gc_catalogue.specs.declared.asked.Asked.{Asked}
-use Rattle.gc_client.specs.Rule.{Settlement, Windowed, heard, hears_line, fits, restarts}
-use Rattle.gc_client.specs.declared.window.TheConstants.{WINDOW}
 use Rattle.geocom_c.specs.FirstAre.{FirstAre}
 use Rattle.geocom_c.specs.Rooms.{KeepsLength, WritesFirst}
 use Rattle.geocom_c.specs.Settled.{IsRecord}

@@ -2,39 +2,17 @@
 -- command has. It is discarded, the eight null procedures are answered, two commands are sent at once, and a moment passes;
 -- both are answered. Over the instrument that counts the second command is for a procedure that isn't in the table, whichever
 -- it is. Then the client restarts, and resynchronizes.
+use Rattle.geocom_c.specs.Common.{AllByRecursion, with_end, raw_params, Asked, Table, Raw, RawCall, the_word, begun, course, IsWidth, Answered, WINDOW, KeptReply, IsFittingState, simulator_opening, ClientEvent, steps_among, simulator_ends, Ends, Up_deliver, IsWellFormed, LacksTheWord, SyncTurn, UnderWay, begins, leaves, turned, Run, WasMadeOn, ArePossibleRuns, events_over, placed_runs, counting, kept_by, Move, Sends, Tells, OnLine, IsAnInstrument, AnyState, kept_of, IsSafeRun, eight_answered, replies}
 use Rattle.std.specs.Prelude.{◌≡◌, ℕ, List, [], ◌∷◌, ◌++◌, codes, drop, Option, None}
 use Rattle.std.specs.Borrow.{Bor}
-use Rattle.std.specs.List.{AllByRecursion}
-use Rattle.gc_lines.specs.Lines.{with_end}
-use Rattle.gc_catalogue.specs.Asked.{raw_params}
-use Rattle.gc_catalogue.specs.declared.asked.Asked.{Asked}
-use Rattle.gc_catalogue.specs.declared.asked.Asked.TheVariants.{Table, Raw}
-use Rattle.gc_catalogue.specs.declared.raw.RawCall.{RawCall}
 use Rattle.gc_catalogue.specs.declared.call.Call.TheVariants.{InstrumentNo}
-use Rattle.gc_client.specs.Beginning.{the_word}
-use Rattle.gc_client.specs.declared.window.TheConstants.{WINDOW}
-use Rattle.gc_client.specs.OneForOne.{begun, course}
-use Rattle.gc_client.specs.Rule.{IsWidth, Answered}
-use Rattle.gc_instrument.specs.State.{KeptReply, IsFittingState, simulator_opening}
-use Rattle.gc_session.specs.Events.{ClientEvent, steps_among}
-use Rattle.gc_theorems.specs.Simulator.{simulator_ends}
-use Rattle.gc_theorems.specs.World.{Ends, Up_deliver}
-use Rattle.gc_theorems.specs.Begin.{IsWellFormed, LacksTheWord, SyncTurn, Asks, Comes, UnderWay, begins, leaves, turned}
-use Rattle.gc_theorems.specs.Beginnings.{Run}
-use Rattle.gc_theorems.specs.Begun.{WasMadeOn}
-use Rattle.gc_theorems.specs.ClientRuns.{ArePossibleRuns, events_over, placed_runs}
-use Rattle.gc_theorems.specs.CountingChain as chain
-use Rattle.gc_theorems.specs.CountingChain.{counting, kept_by}
-use Rattle.gc_theorems.specs.Field.{Move, Sends, Tells, OnLine}
-use Rattle.gc_theorems.specs.Field as field
-use Rattle.gc_theorems.specs.Instrument.{IsAnInstrument, AnyState}
-use Rattle.gc_theorems.specs.Laws.{kept_of}
-use Rattle.gc_theorems.specs.Owned.{IsSafeRun}
-use Rattle.gc_theorems.specs.Witness.{eight_answered, replies}
+use Rattle.gc_theorems.specs.Prelude.{Asks, Comes}
 use Rattle.geocom_c.specs.Following.{CallsReach, CallStage, first_stage}
 use Rattle.geocom_c.specs.Steps.{AreEvents}
 use Rattle.geocom_c.specs.declared.following.StateCall.{StateCall}
 use Rattle.geocom_c.specs.declared.following.StateCall.TheVariants.{Send, SendRaw, Begin, Feed, Expire, Restart}
+use Rattle.gc_theorems.specs.CountingChain as chain
+use Rattle.gc_theorems.specs.Field as field
 
 -- an old reply, from before the client synchronizes, with the id that the first command has
 abbrev pub old_reply : List ℕ

@@ -1,10 +1,6 @@
 -- Any sequence of calls, this project's own: what a client does over the calls that a caller makes on a state.
+use Rattle.geocom_c.specs.Common.{rest_behind, Asked, the_word, Course, begun, course}
 use Rattle.std.specs.Prelude.{◌≡◌, ◌⊎◌, ℕ, List, [], ◌∷◌, map}
-use Rattle.gc_lines.specs.Frames.{rest_behind}
-use Rattle.gc_catalogue.specs.declared.asked.Asked.{Asked}
-use Rattle.gc_client.specs.Beginning.{the_word}
-use Rattle.gc_client.specs.OneForOne.{Course, begun, course}
-use Rattle.gc_client.specs.OneForOne as one
 use Rattle.geocom_c.specs.Beginning.{left_by_restart, left_by_bytes}
 use Rattle.geocom_c.specs.Rest.{lines_completed, HeardBut}
 use Rattle.geocom_c.specs.Sending.{RequestRule, raw_rule, table_rule}
@@ -12,6 +8,7 @@ use Rattle.geocom_c.specs.State.{StandsForClient, left_of}
 use Rattle.geocom_c.specs.declared.state.GeocomClient.{GeocomClient}
 use Rattle.geocom_c.specs.declared.following.StateCall.{StateCall}
 use Rattle.geocom_c.specs.declared.following.StateCall.TheVariants.{Send, SendRaw, Begin, Feed, Expire, Restart}
+use Rattle.gc_client.specs.OneForOne as one
 
 -- the course of a client that was of the course `x`, and then hears these lines, in order
 abbrev pub hearing_lines : (width : ℕ) → Course Asked → (lines : List (List ℕ)) → Course Asked

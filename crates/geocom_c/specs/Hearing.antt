@@ -1,13 +1,6 @@
 -- What bytes that are fed to a session come to: what the frame that they end settles, and what the call returns. This project's own.
+use Rattle.geocom_c.specs.Common.{position, is_line_feed, frame_of, reply_at, Frame, Line, Cleared, Overlong, More, Asked, Settlement, Session, came, line_came, line_settles}
 use Rattle.std.specs.Prelude.{◌≡◌, ◌↔◌, ◌<◌, ◌≤◌, ◌+◌, ◌++◌, ℕ, List, [], ◌∷◌, length, take, nat_lt, Some, None}
-use Rattle.std.specs.List.{position}
-use Rattle.gc_lines.specs.Frames.{is_line_feed, frame_of}
-use Rattle.gc_lines.specs.Readers.{reply_at}
-use Rattle.gc_lines.specs.declared.frame.Frame.{Frame}
-use Rattle.gc_lines.specs.declared.frame.Frame.TheVariants.{Line, Cleared, Overlong, More}
-use Rattle.gc_catalogue.specs.declared.asked.Asked.{Asked}
-use Rattle.gc_client.specs.Rule.{Settlement}
-use Rattle.gc_session.specs.Sessions.{Session, came, line_came, line_settles}
 use Rattle.geocom_c.specs.Feeding.{FeedEffect, FeedFaultLeavesState, HasRoomToSettle, IsFedAs, WritesSettled, feed_effect, line_kind, unended}
 use Rattle.geocom_c.specs.SessionState.{IsOfNoSession, IsOfSession, StandsForSession}
 use Rattle.geocom_c.specs.declared.answers.GeocomHeard.{GeocomHeard}

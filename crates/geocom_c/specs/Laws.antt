@@ -3,19 +3,8 @@
 -- many connections that keeps order, loses lines whole and repeats a line directly after it, and an instrument that may start
 -- again and change by itself at any moment. What is in flight when the client synchronizes may be anything, but for the word of
 -- a synchronization. No clock has a part in it.
+use Rattle.geocom_c.specs.Common.{AllByRecursion, the_word, IsWidth, KeptReply, IsFittingState, simulator_ends, Ends, IsWellFormed, LacksTheWord, UnderWay, Run, PlacedRun, ArePossibleRuns, events_over, placed_runs, AnyState, OfAnyInstrument, TreatsRawsAlike, kept_of, AreOfRuns, IsOwn, IsSafeRun}
 use Rattle.std.specs.Prelude.{ℕ, List, [], Option}
-use Rattle.std.specs.List.{AllByRecursion}
-use Rattle.gc_client.specs.Beginning.{the_word}
-use Rattle.gc_client.specs.Rule.{IsWidth}
-use Rattle.gc_instrument.specs.State.{KeptReply, IsFittingState}
-use Rattle.gc_theorems.specs.Simulator.{simulator_ends}
-use Rattle.gc_theorems.specs.World.{Ends}
-use Rattle.gc_theorems.specs.Begin.{IsWellFormed, LacksTheWord, UnderWay}
-use Rattle.gc_theorems.specs.Beginnings.{Run}
-use Rattle.gc_theorems.specs.ClientRuns.{PlacedRun, ArePossibleRuns, events_over, placed_runs}
-use Rattle.gc_theorems.specs.Instrument.{AnyState, OfAnyInstrument, TreatsRawsAlike}
-use Rattle.gc_theorems.specs.Laws.{kept_of}
-use Rattle.gc_theorems.specs.Owned.{AreOfRuns, IsOwn, IsSafeRun}
 use Rattle.geocom_c.specs.Following.{CallsReach, CallStage, first_stage}
 use Rattle.geocom_c.specs.Steps.{AreEvents, IsOverEvents}
 use Rattle.geocom_c.specs.declared.following.StateCall.{StateCall}

@@ -1,3 +1,4 @@
+mod Common
 pub mod FirstAre
 pub mod Rest
 pub mod State

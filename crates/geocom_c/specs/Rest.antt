@@ -1,9 +1,8 @@
 -- The bytes of an incomplete line, this project's own: what a state keeps of those since the last line feed.
+use Rattle.geocom_c.specs.Common.{position, is_line_feed, frame_of, rest_behind}
 use Rattle.std.specs.Prelude.{◌≡◌, ◌≢◌, ◌≤◌, ◌+◌, ℕ, List, ◌++◌, length, take, All, Some, None}
-use Rattle.std.specs.List.{position}
-use Rattle.gc_lines.specs.Frames.{is_line_feed, frame_of, rest_behind}
-pub use Rattle.gc_lines.specs.Passing.{lines_completed}
 use Rattle.geocom_c.specs.declared.rest.GeocomRest.{GeocomRest}
+pub use Rattle.gc_lines.specs.Passing.{lines_completed}
 
 -- the bytes that are kept
 abbrev pub kept_bytes : GeocomRest → List ℕ

@@ -1,6 +1,6 @@
 -- The lists that a call writes into (its rooms), this project's own: what stays as it was, and what a fault says.
+use Rattle.geocom_c.specs.Common.{WINDOW}
 use Rattle.std.specs.Prelude.{◌≡◌, ◌≢◌, ◌↔◌, ◌<◌, ◌≤◌, ◌+◌, ◌++◌, ℕ, List, length, take, drop}
-use Rattle.gc_client.specs.declared.window.TheConstants.{WINDOW}
 use Rattle.geocom_c.specs.State.{IsOfNoClient}
 use Rattle.geocom_c.specs.declared.answers.GeocomCount.{GeocomCount}
 use Rattle.geocom_c.specs.declared.header.TheConstants.{NO_ROOM, NO_CLIENT}

@@ -1,27 +1,18 @@
 -- What a send writes and returns, this project's own.
+use Rattle.geocom_c.specs.Common.{value_fault_number, line_fault_number, Asked, Table, Raw, RawCall, IsAsked, asked_line, refusal_number, IsCall, IsRefusal, IsRawRefusal, ById, Windowed, Sending, sends}
 use Rattle.std.specs.Prelude.{◌≡◌, ◌≢◌, ◌<◌, ◌≤◌, ℕ, List, [], length, Option, Some, None, Result, Ok, Err}
-use Rattle.gc_values.specs.ValueFault.{value_fault_number}
-use Rattle.gc_values.specs.declared.fault.ValueFault.TheVariants as value
-use Rattle.gc_lines.specs.Faults.{line_fault_number}
-use Rattle.gc_lines.specs.declared.fault.LineFault.TheVariants as line
-use Rattle.gc_catalogue.specs.declared.asked.Asked.{Asked}
-use Rattle.gc_catalogue.specs.declared.asked.Asked.TheVariants.{Table, Raw}
 use Rattle.gc_catalogue.specs.declared.call.Call.{Call}
 use Rattle.gc_catalogue.specs.declared.fault.CallFault.{CallFault}
-use Rattle.gc_catalogue.specs.declared.raw.RawCall.{RawCall}
-use Rattle.gc_catalogue.specs.Asked.{IsAsked, asked_line}
-use Rattle.gc_catalogue.specs.CallFault.{refusal_number}
-use Rattle.gc_catalogue.specs.Calls.{IsCall, IsRefusal}
-use Rattle.gc_catalogue.specs.Raws.{IsRawRefusal}
 use Rattle.gc_catalogue.specs.declared.raw.RawFault.{RawFault}
 use Rattle.gc_catalogue.specs.declared.raw.RawFault.TheVariants.{InTable, NotPlain, TooLong, OpenQuote, TooMany}
-use Rattle.gc_client.specs.Rule.{ById, Windowed, Sending, sends}
 use Rattle.geocom_c.specs.Beginning.{IsGiven}
 use Rattle.geocom_c.specs.Rest.{IsRest}
 use Rattle.geocom_c.specs.Rooms.{Effect, FaultLeavesAll, ReportsNoClient, ReportsNoRoom, WritesWithin}
 use Rattle.geocom_c.specs.State.{IfOfClient, KeepsAnswered, StandsForClient, left_of}
 use Rattle.geocom_c.specs.declared.header.TheConstants.{LINE_ROOM, WINDOW_FULL, NO_ROOM, NO_CLIENT, NOT_BEGUN, IN_TABLE, NOT_NOW, OWN_TARGET}
 use Rattle.geocom_c.specs.declared.state.GeocomClient.{GeocomClient}
+use Rattle.gc_values.specs.declared.fault.ValueFault.TheVariants as value
+use Rattle.gc_lines.specs.declared.fault.LineFault.TheVariants as line
 
 -- what a number and parameters ask for, and why they are refused: `to x` is asked for, for each x of which `is` holds; and each e of
 -- which `is_not` holds is a reason to refuse, with this number

@@ -1,20 +1,7 @@
 -- Any sequence of the nine calls of a session that C has, this project's own: each with what it found, left and returned, and what it is to
 -- a session.
+use Rattle.geocom_c.specs.Common.{AllByRecursion, position, is_line_feed, frame_of, with_end, Frame, Line, asked_line, procedure_of, Asked, Wanted, Settlement, WINDOW, Want, Call, Steps, Asks, Comes, Hears, Opens, Closes, Restarts, after, after_all, settled_all, taken_all, Session, act_for, at_step, closed, line_of, next_of, opened, opening, takes}
 use Rattle.std.specs.Prelude.{◌≡◌, ◌≢◌, ◌⊎◌, ◌≤◌, ℕ, List, [], ◌∷◌, ◌++◌, length, take, map, if◌then◌else◌, nat_eq, Option, Some, None}
-use Rattle.std.specs.List.{AllByRecursion, position}
-use Rattle.gc_lines.specs.Frames.{is_line_feed, frame_of}
-use Rattle.gc_lines.specs.Lines.{with_end}
-use Rattle.gc_lines.specs.declared.frame.Frame.{Frame}
-use Rattle.gc_lines.specs.declared.frame.Frame.TheVariants.{Line}
-use Rattle.gc_catalogue.specs.Asked.{asked_line, procedure_of}
-use Rattle.gc_catalogue.specs.declared.asked.Asked.{Asked}
-use Rattle.gc_client.specs.OneForOne.{Wanted}
-use Rattle.gc_client.specs.Rule.{Settlement}
-use Rattle.gc_client.specs.declared.window.TheConstants.{WINDOW}
-use Rattle.gc_session.specs.declared.settings.Want.{Want}
-use Rattle.gc_session.specs.Calls.{Call, Steps, Asks, Comes, Hears, Opens, Closes, Restarts, after, after_all, settled_all}
-use Rattle.gc_session.specs.Laws.{taken_all}
-use Rattle.gc_session.specs.Sessions.{Session, act_for, at_step, closed, line_of, next_of, opened, opening, takes}
 use Rattle.geocom_c.specs.Asking.{IsAsk}
 use Rattle.geocom_c.specs.Feeding.{HasRoomToSettle}
 use Rattle.geocom_c.specs.Hearing.{IsFeed}

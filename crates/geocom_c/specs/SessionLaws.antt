@@ -1,20 +1,8 @@
 -- What holds of calls of C on a session's state if there is an instrument at the other end, this project's own: what holds of the session on
 -- which these are calls.
+use Rattle.geocom_c.specs.Common.{AllByRecursion, Asked, Settlement, WINDOW, KeptReply, settled_all, opening, OWN, IsWellFormed, LacksTheWord, UnderWay, PlacedRun, placed_runs, OfAnyInstrument, HasExecution, IsSessionOver, SessionRun, Ends}
 use Rattle.std.specs.Prelude.{◌≡◌, ◌≢◌, ℕ, List, [], take, Option}
-use Rattle.std.specs.List.{AllByRecursion}
-use Rattle.gc_catalogue.specs.declared.asked.Asked.{Asked}
-use Rattle.gc_client.specs.Rule.{Settlement}
-use Rattle.gc_client.specs.declared.window.TheConstants.{WINDOW}
-use Rattle.gc_instrument.specs.State.{KeptReply}
-use Rattle.gc_session.specs.Calls.{settled_all}
-use Rattle.gc_session.specs.Sessions.{opening}
-use Rattle.gc_session.specs.declared.session.TheConstants.{OWN}
-use Rattle.gc_theorems.specs.Begin.{IsWellFormed, LacksTheWord, UnderWay}
-use Rattle.gc_theorems.specs.ClientRuns.{PlacedRun, placed_runs}
-use Rattle.gc_theorems.specs.Instrument.{OfAnyInstrument}
-use Rattle.gc_theorems.specs.Owned.{HasExecution, IsItsOwn}
-use Rattle.gc_theorems.specs.Sessions.{IsSessionOver, SessionRun}
-use Rattle.gc_theorems.specs.World.{Ends}
+use Rattle.gc_theorems.specs.Owned.{IsItsOwn}
 use Rattle.geocom_c.specs.SessionCalls.{AreMade, ArePart, AreSideBySide, Handed, IsHanded, KeepsSession, SessionCall, handed_all}
 use Rattle.geocom_c.specs.SessionState.{StandsForSession}
 use Rattle.geocom_c.specs.declared.header.TheConstants.{ANSWERED, LATE}

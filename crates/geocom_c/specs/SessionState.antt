@@ -1,17 +1,15 @@
 -- What the bytes of a session's state stand for: a session, and the bytes since the last line feed. This project's own.
+use Rattle.geocom_c.specs.Common.{IsWidth, WINDOW, Session}
 use Rattle.std.specs.Prelude.{◌≡◌, ℕ, ◌≤◌, Bool, List, if◌then◌else◌, Option, Some, None}
-use Rattle.gc_client.specs.Rule.{IsWidth}
-use Rattle.gc_client.specs.declared.window.TheConstants.{WINDOW}
 use Rattle.gc_session.specs.declared.exchange.Exchange.{Exchange}
 use Rattle.gc_session.specs.declared.settings.Settings.{Settings}
 use Rattle.gc_session.specs.declared.standing.Phase.{Phase}
-use Rattle.gc_session.specs.declared.standing.Phase.TheVariants as phase
 use Rattle.gc_session.specs.declared.standing.Standing.{Standing}
-use Rattle.gc_session.specs.Sessions.{Session}
 use Rattle.geocom_c.specs.Rest.{IsRest}
 use Rattle.geocom_c.specs.State.{StandsForClient, left_of}
 use Rattle.geocom_c.specs.declared.state.GeocomClient.{GeocomClient}
 use Rattle.geocom_c.specs.declared.session_state.GeocomSession.{GeocomSession}
+use Rattle.gc_session.specs.declared.standing.Phase.TheVariants as phase
 
 -- the byte of a flag
 abbrev pub flag_byte : Bool → ℕ

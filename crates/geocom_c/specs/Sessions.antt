@@ -1,10 +1,6 @@
 -- What is told a session, this project's own: its connections, a new start, and how far it is, in plain fields.
+use Rattle.geocom_c.specs.Common.{Asked, IsWidth, Settlement, has_begun, Session, all_of, anew, anew_settles, current_of, is_ready, is_up, opening, WINDOW}
 use Rattle.std.specs.Prelude.{◌≡◌, ◌≢◌, ◌↔◌, ◌≤◌, ℕ, List, [], length}
-use Rattle.gc_catalogue.specs.declared.asked.Asked.{Asked}
-use Rattle.gc_client.specs.Rule.{IsWidth, Settlement}
-use Rattle.gc_session.specs.Exchange.{has_begun}
-use Rattle.gc_session.specs.Sessions.{Session, all_of, anew, anew_settles, current_of, is_ready, is_up, opening}
-use Rattle.gc_client.specs.declared.window.TheConstants.{WINDOW}
 use Rattle.geocom_c.specs.FirstAre.{FirstAre}
 use Rattle.geocom_c.specs.Rooms.{Effect, FaultLeavesAll, ReportsNoRoom, WritesFirst}
 use Rattle.geocom_c.specs.SessionState.{IfOfSession, IsOfNoSession, IsOfSession, StandsForSession, flag_byte}

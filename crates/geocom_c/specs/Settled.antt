@@ -1,26 +1,14 @@
 -- The records of settlements, this project's own: what a record says of a settlement.
+use Rattle.geocom_c.specs.Common.{AllByRecursion, value_fault_number, IsParams, AreItems, ReplyFields, IsReply, Answer, Reading, Asked, Table, Raw, answer_fields, procedure_of, IsAskedReading, Pending, ReadsBy, settlement_seen}
 use Rattle.std.specs.Prelude.{◌≡◌, ◌≤◌, ◌+◌, ℕ, List, length, take, drop, map}
-use Rattle.std.specs.List.{AllByRecursion}
-use Rattle.gc_values.specs.ValueFault.{value_fault_number}
-use Rattle.gc_values.specs.Params.{IsParams}
-use Rattle.gc_values.specs.Lists.{AreItems}
-use Rattle.gc_lines.specs.Replies.{ReplyFields, IsReply}
-use Rattle.gc_catalogue.specs.declared.answer.Answer.{Answer}
-use Rattle.gc_catalogue.specs.declared.answer.Reading.{Reading}
 use Rattle.gc_catalogue.specs.declared.answer.Reading.TheVariants.{Value, Refused, ComFault, Unreadable}
-use Rattle.gc_catalogue.specs.declared.asked.Asked.{Asked}
-use Rattle.gc_catalogue.specs.declared.asked.Asked.TheVariants.{Table, Raw}
-use Rattle.gc_catalogue.specs.Answers.{answer_fields}
-use Rattle.gc_catalogue.specs.Asked.{procedure_of, IsAskedReading}
-use Rattle.gc_client.specs.Rule
-use Rattle.gc_client.specs.declared.pending.Pending.{Pending}
-use Rattle.gc_client.specs.Settlements.{ReadsBy, settlement_seen}
 use Rattle.gc_client.specs.declared.settlement.Settlement.{Settlement}
 use Rattle.geocom_c.specs.FirstAre.{FirstAre}
 use Rattle.geocom_c.specs.declared.header.TheConstants.{ANSWERED, LATE, LOST, NONE, VALUE, REFUSED, COM_FAULT, UNREADABLE}
 use Rattle.geocom_c.specs.declared.listed.GeocomItem.{GeocomItem}
 use Rattle.geocom_c.specs.declared.listed.ListedLine.{ListedLine}
 use Rattle.geocom_c.specs.declared.settled.GeocomSettlement.{GeocomSettlement}
+use Rattle.gc_client.specs.Rule
 
 -- the item is in the text where its place says
 pub record StandsAt (text : List ℕ) (place : GeocomItem) (item : List ℕ) : Type 0 where

@@ -1,13 +1,7 @@
 -- What the bytes of a state stand for: a client, the bytes since the last line feed, and how far its synchronization came. This
 -- project's own.
+use Rattle.geocom_c.specs.Common.{RequestFields, IsRequest, Asked, IsAsked, the_word, Windowed, IsWidth, Pending, IDS}
 use Rattle.std.specs.Prelude.{◌≡◌, ℕ, ◌<◌, ◌≤◌, List, length, take, drop, if◌then◌else◌, Option, Some, None}
-use Rattle.gc_lines.specs.Requests.{RequestFields, IsRequest}
-use Rattle.gc_catalogue.specs.declared.asked.Asked.{Asked}
-use Rattle.gc_catalogue.specs.Asked.{IsAsked}
-use Rattle.gc_client.specs.Beginning.{the_word}
-use Rattle.gc_client.specs.declared.pending.Pending.{Pending}
-use Rattle.gc_client.specs.declared.window.TheConstants.{IDS}
-use Rattle.gc_client.specs.Rule.{Windowed, IsWidth}
 use Rattle.geocom_c.specs.FirstAre.{FirstAre}
 use Rattle.geocom_c.specs.Rest.{IsRest}
 use Rattle.geocom_c.specs.declared.state.GeocomWaiting.{GeocomWaiting}

@@ -1,12 +1,7 @@
 -- What a session's step returns and writes, in plain fields: this project's own.
+use Rattle.geocom_c.specs.Common.{with_end, WINDOW, Want, Nothing, Answers, Send, Session, IsActFor, at_step, line_of, next_of, settled_by, stepped}
 use Rattle.std.specs.Prelude.{◌≡◌, ◌≢◌, ◌↔◌, ◌≤◌, ℕ, List, [], ◌∷◌, length, take, nat_eq, if◌then◌else◌}
-use Rattle.gc_lines.specs.Lines.{with_end}
-use Rattle.gc_client.specs.declared.window.TheConstants.{WINDOW}
 use Rattle.gc_session.specs.declared.settings.Act.{Act}
-use Rattle.gc_session.specs.declared.settings.Act.TheVariants as act
-use Rattle.gc_session.specs.declared.settings.Want.{Want}
-use Rattle.gc_session.specs.declared.settings.Want.TheVariants.{Nothing, Answers, Send}
-use Rattle.gc_session.specs.Sessions.{Session, IsActFor, at_step, line_of, next_of, settled_by, stepped}
 use Rattle.geocom_c.specs.FirstAre.{FirstAre}
 use Rattle.geocom_c.specs.Rooms.{SettlingEffect, WritesFirst, WritesWithin}
 use Rattle.geocom_c.specs.SessionState.{IfOfSession, IsOfNoSession, IsOfSession, StandsForSession, phase_byte}
@@ -15,6 +10,7 @@ use Rattle.geocom_c.specs.declared.answers.GeocomStep.{GeocomStep}
 use Rattle.geocom_c.specs.declared.header.TheConstants.{CLOSE, LINE_ROOM, NO_CLIENT, NO_ROOM, NO_WANT, OPEN, READ, SEND, WAIT, WANT_ANSWERS, WANT_NOTHING, WANT_SEND, WRITE}
 use Rattle.geocom_c.specs.declared.session_state.GeocomSession.{GeocomSession}
 use Rattle.geocom_c.specs.declared.settled.GeocomSettlement.{GeocomSettlement}
+use Rattle.gc_session.specs.declared.settings.Act.TheVariants as act
 
 -- the number of a want
 abbrev pub want_number : Want → ℕ

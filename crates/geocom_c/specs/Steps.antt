@@ -1,17 +1,13 @@
 -- Calls as events, this project's own: what the calls that a caller makes on a state are to a synchronization, and to a client
 -- that has synchronized.
+use Rattle.geocom_c.specs.Common.{Asked, the_word, begun, course, ClientEvent, Came, Stepped, AreInTurn, left_among, steps_among, ask_events}
 use Rattle.std.specs.Prelude.{◌≡◌, ℕ, List, [], ◌∷◌, ◌++◌, map}
-use Rattle.gc_catalogue.specs.declared.asked.Asked.{Asked}
-use Rattle.gc_client.specs.Beginning.{the_word}
-use Rattle.gc_client.specs.OneForOne.{begun, course}
-use Rattle.gc_client.specs.OneForOne as one
-use Rattle.gc_session.specs.Events.{ClientEvent, Came, Stepped, AreInTurn, left_among, steps_among}
-use Rattle.gc_theorems.specs.ClientRuns.{ask_events}
 use Rattle.geocom_c.specs.Beginning.{given, left_by_bytes}
 use Rattle.geocom_c.specs.Following.{CallMakes, CallStage, left_by_call, rest_by_call}
 use Rattle.geocom_c.specs.Rest.{lines_completed}
 use Rattle.geocom_c.specs.declared.following.StateCall.{StateCall}
 use Rattle.geocom_c.specs.declared.following.StateCall.TheVariants.{Begin}
+use Rattle.gc_client.specs.OneForOne as one
 
 -- the events of a begin: while the client synchronizes, each line that the bytes end comes, and then a null procedure may be
 -- sent. Once it has synchronized there are none, and the lines are discarded

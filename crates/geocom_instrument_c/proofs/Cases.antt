@@ -1,15 +1,11 @@
 -- What the code does in each case is what the definitions say: a feed with and without a reply, and calls of an instrument that
 -- is there. s or b is the state of the instrument before a call, and n the one after it; `old` and `new` are the text before and
 -- after the reply is appended.
-use Rattle.std.proofs.Common.{◌≡◌, ℕ, true, false, List, [], ◌∷◌, ◌++◌, Option, Some, None, refl, sym, ap, ◌∙◌, subst}
-use Rattle.gc_lines.specs.Answering.{AppendsAnswer}
-use Rattle.gc_lines.specs.Lines.{with_end}
+use Rattle.geocom_instrument_c.proofs.Common.{◌≡◌, ℕ, true, false, List, [], ◌∷◌, ◌++◌, Some, None, refl, sym, ap, ◌∙◌, subst, AppendsAnswer, with_end, BenchState, CallsBench, HearsAndAnswers, IsSent, IsWithoutReply, GeocomReplied}
+use Rattle.std.proofs.Common.{Option}
 use Rattle.gc_lines.specs.declared.frame.Frame.{Frame}
 use Rattle.gc_lines.specs.declared.frame.Frame.TheVariants.{Line}
-use Rattle.gc_scenes.specs.Slow.{SlowState, HearsLine}
-use Rattle.geocom_instrument_c.specs.Bench.{BenchState, CallsBench}
-use Rattle.geocom_instrument_c.specs.Feeding.{HearsAndAnswers, IsSent, IsWithoutReply}
-use Rattle.geocom_instrument_c.specs.declared.replied.GeocomReplied.{GeocomReplied}
+use Rattle.gc_scenes.specs.Prelude.{SlowState, HearsLine}
 
 -- a feed of `used` bytes, whose frame is a line, has the result r
 module _ (s n : SlowState) (frame : Frame) (line old new : List ℕ) (now used : ℕ) (r : GeocomReplied) (is : frame ≡ Line (record { items = line })) where

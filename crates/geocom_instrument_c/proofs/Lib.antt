@@ -1,2 +1,3 @@
+mod Common
 pub mod Cases
 pub mod Steps

@@ -1,7 +1,7 @@
 -- The state of an instrument over bytes, and calls where there may be none: this project's own.
 use Rattle.std.specs.Prelude.{◌≡◌, Option, Some, None}
-use Rattle.gc_lines.specs.Assembler.{Kept}
-use Rattle.gc_scenes.specs.Slow.{SlowState}
+use Rattle.gc_lines.specs.Prelude.{Kept}
+use Rattle.gc_scenes.specs.Prelude.{SlowState}
 
 -- an instrument over bytes: that of a scene (`slow`), with what is kept of the bytes since the last line feed (`incomplete`)
 pub record BenchState : Type 0 where

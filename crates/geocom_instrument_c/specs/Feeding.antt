@@ -1,10 +1,9 @@
 -- What a feed does to an instrument, and what it answers: this project's own.
 use Rattle.std.specs.Prelude.{◌≡◌, ℕ, ◌+◌, List, [], ◌++◌, length, take, Option, Some, None}
 use Rattle.std.specs.List.{position}
-use Rattle.gc_lines.specs.Assembler.{StandsFor}
-use Rattle.gc_lines.specs.Frames.{is_line_feed, frame_of}
+use Rattle.gc_lines.specs.Prelude.{StandsFor, is_line_feed, frame_of}
 use Rattle.gc_lines.specs.declared.frame.Frame.{Frame}
-use Rattle.gc_scenes.specs.Slow.{SlowState, HearsFrame}
+use Rattle.gc_scenes.specs.Prelude.{SlowState, HearsFrame}
 use Rattle.geocom_instrument_c.specs.Bench.{BenchState, CallsBench}
 use Rattle.geocom_instrument_c.specs.declared.header.TheConstants.{NO_INSTRUMENT}
 use Rattle.geocom_instrument_c.specs.declared.replied.GeocomReplied.{GeocomReplied}

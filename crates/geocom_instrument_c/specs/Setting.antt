@@ -1,16 +1,15 @@
 -- What sets an instrument up and what restarts it: this project's own.
 use Rattle.std.specs.Prelude.{◌≡◌, ℕ, List, [], Option, Some, None}
-use Rattle.gc_lines.specs.Assembler.{StandsFor}
-use Rattle.gc_filters.specs.SceneLines.{IsLineOf}
-use Rattle.gc_filters.specs.Scenes.{IsTimedScene, SceneFault}
-use Rattle.gc_filters.specs.declared.scene_line.SceneKind.TheVariants as kind
-use Rattle.gc_scenes.specs.Slow.{slow_restarted}
-use Rattle.gc_texts.specs.Faults.{run_fault_number}
+use Rattle.gc_lines.specs.Prelude.{StandsFor}
+use Rattle.gc_filters.specs.Prelude.{IsLineOf, IsTimedScene, SceneFault}
+use Rattle.gc_scenes.specs.Prelude.{slow_restarted}
+use Rattle.gc_texts.specs.Prelude.{run_fault_number}
 use Rattle.gc_texts.specs.declared.fault.RunFault.{RunFault}
 use Rattle.gc_texts.specs.declared.fault.RunFault.TheVariants.{Schedule}
 use Rattle.geocom_instrument_c.specs.Bench.{BenchState, CallsBench}
 use Rattle.geocom_instrument_c.specs.declared.header.TheConstants.{NO_INSTRUMENT}
 use Rattle.geocom_instrument_c.specs.declared.replied.GeocomMade.{GeocomMade}
+use Rattle.gc_filters.specs.declared.scene_line.SceneKind.TheVariants as kind
 
 -- the instrument is restarted, and no byte of a line is left
 pub record IsBenchRestarted (before after : BenchState) : Type 0 where

@@ -1,17 +1,8 @@
-use Rattle.std.proofs.Common.{◌≡◌, ℕ, ◌+◌, ◌<◌, List, [], ◌++◌, length, take, drop, Ok, Err, ap, ◌∙◌, refl, arith, length-append}
-use Rattle.std.proofs.lemmas.List.{length-take, take_all}
-use Rattle.std.proofs.KnownBytes.{Consumes-trans, Consumes-nil}
-use Rattle.gc_ask.specs.Asking.{LinkResult, ready_for}
-use Rattle.gc_ask.specs.Links.{SeenStep}
-use Rattle.gc_ask.specs.Listening.{heard_by, reads_of, seen_through}
-use Rattle.gc_ask.specs.Looping.{BothEnd, SeenAtBoth}
+use Rattle.gc_ask.proofs.Common.{◌≡◌, ℕ, ◌+◌, ◌<◌, List, [], ◌++◌, length, take, drop, Ok, Err, ap, ◌∙◌, refl, arith, length-append, length-take, take_all, Consumes-trans, Consumes-nil, LinkResult, ready_for, SeenStep, heard_by, reads_of, seen_through, BothEnd, SeenAtBoth, split_at_item, RunFault, TooManyReads}
 use Rattle.gc_ask.proofs.Asked.{course_start, course_all}
 use Rattle.gc_ask.proofs.Ends.{sound_start, both_sound_step, both_end, both_end_well, asking_ends_weaker}
 use Rattle.gc_ask.proofs.Exchanging.{course_next, run_fault}
 use Rattle.gc_ask.proofs.ask.ask_all.Goals as goal
-use Rattle.gc_texts.proofs.SettlementLines.{split_at_item}
-use Rattle.gc_texts.specs.declared.fault.RunFault.{RunFault}
-use Rattle.gc_texts.specs.declared.fault.RunFault.TheVariants.{TooManyReads}
 
 pub loop-place-init : goal.loop-place-init
 loop-place-init g c = record {

@@ -1,7 +1,4 @@
-use Rattle.std.proofs.Common.{◌≡◌, ◌≤◌, ◌+◌, ◌-◌, ◌*◌, List, ℕ, length, take}
-use Rattle.std.specs.Io.KnownBytes.{Consumes}
-use Rattle.gc_ask.specs.Listening.{reads_of, seen_through}
-use Rattle.gc_ask.specs.declared.unused.TheConstants.{ROOM}
+use Rattle.gc_ask.proofs.Common.{◌≡◌, ◌≤◌, ◌+◌, ◌-◌, ◌*◌, List, ℕ, length, take, Consumes, reads_of, seen_through, ROOM}
 use Rattle.gc_ask.proofs.Asked.{Course}
 use Rattle.gc_ask.proofs.Ends.{BothSound}
 use Rattle.gc_ask.proofs.ask.ask_all.Given as goal

@@ -1,10 +1,6 @@
-use Rattle.std.proofs.Common.{◌≡◌, ap, rules}
-use Rattle.gc_lines.specs.Answering.{ports_of, taken_by}
-use Rattle.gc_ask.specs.AskRuns.{AskRuns, SeenAtClient}
-use Rattle.gc_ask.specs.Looping.{SeenAtBoth}
+use Rattle.gc_ask.proofs.Common.{◌≡◌, ap, rules, ports_of, taken_by, AskRuns, SeenAtClient, SeenAtBoth, input_of}
 use Rattle.gc_ask.proofs.Runs.{runs_remote}
 use Rattle.gc_ask.proofs.ask.run_ask.Goals as goal
-use Rattle.gc_texts.specs.WholeTexts.{input_of}
 
 pub returns-clause-asks : goal.returns-clause-asks
 returns-clause-asks g c =

@@ -1,4 +1,4 @@
-use Rattle.std.proofs.Common.{inr}
+use Rattle.gc_ask.proofs.Common.{inr}
 use Rattle.gc_ask.proofs.Runs.{no_memory}
 use Rattle.gc_ask.proofs.ask.run_over.Goals as goal
 

@@ -1,5 +1,4 @@
-use Rattle.std.proofs.Common.{◌≡◌, ℕ, arith, subst}
-use Rattle.gc_ask.specs.Keeping.{KeepsCallers}
+use Rattle.gc_ask.proofs.Common.{◌≡◌, ℕ, arith, subst, KeepsCallers}
 use Rattle.gc_ask.proofs.Keeps.{keeps_none, keeps_more}
 use Rattle.gc_ask.proofs.callers.keep.Goals as goal
 

@@ -1,5 +1,4 @@
-use Rattle.std.proofs.Common.{◌≤◌}
-use Rattle.gc_ask.specs.Keeping.{KeepsCallers}
+use Rattle.gc_ask.proofs.Common.{◌≤◌, KeepsCallers}
 use Rattle.gc_ask.proofs.callers.keep.Given as goal
 
 -- `at` callers were served, as `KeepsCallers` says

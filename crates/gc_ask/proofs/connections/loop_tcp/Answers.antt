@@ -1,8 +1,4 @@
-use Rattle.std.proofs.Common.{Err, subst, sym}
-use Rattle.gc_ask.specs.Looping.{LoopRunsConnected}
-use Rattle.gc_lines.specs.Answering.{taken_by}
-use Rattle.gc_texts.specs.WholeTexts.{input_of}
-use Rattle.gc_texts.specs.declared.fault.RunFault.{RunFault}
+use Rattle.gc_ask.proofs.Common.{Err, subst, sym, LoopRunsConnected, taken_by, input_of, RunFault}
 use Rattle.gc_ask.proofs.connections.loop_tcp.Goals as goal
 
 pub returns-in-Err : goal.returns-in-Err

@@ -1,6 +1,4 @@
-use Rattle.std.proofs.Common.{rules, ◌≡◌, arith}
-use Rattle.gc_texts.specs.declared.fault.RunFault.{RunFault}
-use Rattle.gc_texts.specs.declared.fault.RunFault.TheVariants.{Socket}
+use Rattle.gc_ask.proofs.Common.{rules, ◌≡◌, arith, RunFault, Socket}
 use Rattle.gc_ask.proofs.ServesMore.{well_none, well_more, each_well, each_stopped}
 use Rattle.gc_ask.proofs.connections.serve_on.Goals as goal
 

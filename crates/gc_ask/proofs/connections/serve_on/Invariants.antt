@@ -1,5 +1,4 @@
-use Rattle.std.proofs.Common.{◌≤◌}
-use Rattle.gc_ask.specs.Serving.{ServesWell}
+use Rattle.gc_ask.proofs.Common.{◌≤◌, ServesWell}
 use Rattle.gc_ask.proofs.connections.serve_on.Given as goal
 
 -- `at` connections were served, and serving each ended well

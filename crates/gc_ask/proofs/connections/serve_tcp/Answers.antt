@@ -1,4 +1,4 @@
-use Rattle.std.proofs.Common.{inl, refl, arith}
+use Rattle.gc_ask.proofs.Common.{inl, refl, arith}
 use Rattle.gc_ask.proofs.ServesMore.{well_none}
 use Rattle.gc_ask.proofs.connections.serve_tcp.Goals as goal
 

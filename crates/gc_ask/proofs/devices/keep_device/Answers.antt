@@ -1,5 +1,4 @@
-use Rattle.std.proofs.Common.{◌≡◌, ◌∙◌, refl, subst, ℕ}
-use Rattle.gc_ask.specs.Keeping.{ServesCaller}
+use Rattle.gc_ask.proofs.Common.{◌≡◌, ◌∙◌, refl, subst, ℕ, ServesCaller}
 use Rattle.gc_ask.proofs.Keeps.{turns_seen}
 use Rattle.gc_ask.proofs.devices.keep_device.Goals as goal
 

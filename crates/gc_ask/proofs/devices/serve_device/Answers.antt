@@ -1,4 +1,4 @@
-use Rattle.std.proofs.Common.{rules, ◌≡◌, arith}
+use Rattle.gc_ask.proofs.Common.{rules, ◌≡◌, arith}
 use Rattle.gc_ask.specs.Places.{IsFaultOfPlace}
 use Rattle.gc_ask.proofs.ServesMore.{well_none, well_more, each_well, each_stopped}
 use Rattle.gc_ask.proofs.devices.serve_device.Goals as goal

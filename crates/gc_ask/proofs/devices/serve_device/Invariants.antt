@@ -1,5 +1,4 @@
-use Rattle.std.proofs.Common.{◌≤◌}
-use Rattle.gc_ask.specs.Serving.{ServesWell}
+use Rattle.gc_ask.proofs.Common.{◌≤◌, ServesWell}
 use Rattle.gc_ask.proofs.devices.serve_device.Given as goal
 
 -- so many connections were served as the loop had turns, and serving each ended well

@@ -1,5 +1,4 @@
-use Rattle.std.proofs.Common.{false, rules}
-use Rattle.gc_ask.specs.Looping.{AsksAtBoth, SeenAtBoth, seen_of}
+use Rattle.gc_ask.proofs.Common.{false, rules, AsksAtBoth, SeenAtBoth, seen_of}
 use Rattle.gc_ask.proofs.looped.ask_looped.Goals as goal
 
 pub returns : goal.returns

@@ -1,6 +1,4 @@
-use Rattle.std.proofs.Common.{ap}
-use Rattle.std.specs.Prelude.{Some}
-use Rattle.gc_catalogue.specs.declared.asked.Asked.TheVariants.{Raw}
+use Rattle.gc_catalogue.proofs.Common.{ap, Some, Raw}
 use Rattle.gc_catalogue.proofs.AskedRules.{one_asked}
 use Rattle.gc_catalogue.proofs.asked.decode_asked.Goals as goal
 

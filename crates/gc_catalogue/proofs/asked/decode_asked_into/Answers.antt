@@ -1,6 +1,4 @@
-use Rattle.std.proofs.Common.{subst}
-use Rattle.gc_lines.specs.Replies.{reply_seen}
-use Rattle.gc_catalogue.specs.Asked.{IsAskedReading}
+use Rattle.gc_catalogue.proofs.Common.{subst, reply_seen, IsAskedReading}
 use Rattle.gc_catalogue.proofs.RawRules.{one_raw_reading}
 use Rattle.gc_catalogue.proofs.asked.decode_asked_into.Goals as goal
 

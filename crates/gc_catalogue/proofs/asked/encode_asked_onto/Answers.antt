@@ -1,8 +1,4 @@
-use Rattle.std.proofs.Common.{subst, sym}
-use Rattle.gc_lines.specs.Lines.{IsPlain}
-use Rattle.gc_catalogue.specs.Asked.{asked_line}
-use Rattle.gc_catalogue.specs.AskedLaws.{ReadsBackAsked}
-use Rattle.gc_catalogue.specs.declared.asked.Asked.TheVariants.{Raw}
+use Rattle.gc_catalogue.proofs.Common.{subst, sym, IsPlain, asked_line, ReadsBackAsked, Raw}
 use Rattle.gc_catalogue.proofs.AskedRules.{asked_again}
 use Rattle.gc_catalogue.proofs.LineLaws.{id_in_range}
 use Rattle.gc_catalogue.proofs.RawLines.{raw_fits}

@@ -1,4 +1,4 @@
-use Rattle.std.proofs.Common.{sym, ◌∙◌}
+use Rattle.gc_catalogue.proofs.Common.{sym, ◌∙◌}
 use Rattle.gc_catalogue.proofs.Table.{same_parameter_count}
 use Rattle.gc_catalogue.proofs.names.parameter_count.Goals as goal
 

@@ -1,8 +1,5 @@
-use Rattle.std.proofs.Common.{sym, ap, ◌∙◌, rules}
-use Rattle.std.specs.Prelude.{Ok, Err}
-use Rattle.gc_catalogue.specs.Raws.{IsRawCall}
+use Rattle.gc_catalogue.proofs.Common.{sym, ap, ◌∙◌, rules, Ok, Err, IsRawCall, params_short}
 use Rattle.gc_catalogue.proofs.AskedRules.{same_raw}
-use Rattle.gc_catalogue.specs.RawFacts.{params_short}
 use Rattle.gc_catalogue.proofs.RawRules.{one_raw_refusal}
 use Rattle.gc_catalogue.proofs.raw.raw_call.Goals as goal
 

@@ -1,7 +1,4 @@
-use Rattle.std.proofs.Common.{◌≤◌, rules}
-use Rattle.gc_lines.specs.Lines.{IsPlain}
-use Rattle.gc_catalogue.specs.Calls.{IsNoProcedure}
-use Rattle.gc_catalogue.specs.Raws.{line_length, AreFewItems}
+use Rattle.gc_catalogue.proofs.Common.{◌≤◌, rules, IsPlain, IsNoProcedure, line_length, AreFewItems}
 use Rattle.gc_catalogue.proofs.RawRules.{few_however_split, few_close_quotes}
 use Rattle.gc_catalogue.proofs.raw.raw_fault.Goals as goal
 

@@ -1,6 +1,4 @@
-use Rattle.std.proofs.Common.{rules}
-use Rattle.gc_lines.specs.Replies.{reply_seen}
-use Rattle.gc_catalogue.specs.Readings.{IsReading}
+use Rattle.gc_catalogue.proofs.Common.{rules, reply_seen, IsReading}
 use Rattle.gc_catalogue.proofs.AnswerLaws.{one_reading}
 use Rattle.gc_catalogue.proofs.replies.decode_answer_into.Goals as goal
 

@@ -1,5 +1,4 @@
-use Rattle.std.proofs.Common.{◌++◌, ap, ◌∙◌}
-use Rattle.gc_catalogue.specs.Texts.{reply_line}
+use Rattle.gc_catalogue.proofs.Common.{◌++◌, ap, ◌∙◌, reply_line}
 use Rattle.gc_catalogue.proofs.replies.encode_answer.Goals as goal
 
 pub returns-clause-line : goal.returns-clause-line

@@ -1,11 +1,5 @@
-use Rattle.std.proofs.Common.{◌≡◌, ◌++◌, ℕ, List, [], append-nil, append_assoc, ap, sym, ◌∙◌, Some, arith, lit<, length, length-append}
-use Rattle.gc_lines.specs.Replies.{reply_text}
-use Rattle.gc_lines.proofs.Plain.{reply_plain}
-use Rattle.gc_values.specs.Lists.{AreValues}
-use Rattle.gc_values.specs.declared.value.Value.{Value}
-use Rattle.gc_catalogue.specs.Answers.{answer_fields, rounded_answer}
-use Rattle.gc_catalogue.specs.Lists.{before_commas, behind_commas, params_of, shown_values}
-use Rattle.gc_catalogue.specs.Texts.{reply_of}
+use Rattle.gc_catalogue.proofs.Common.{◌≡◌, ◌++◌, ℕ, List, [], append-nil, append_assoc, ap, sym, ◌∙◌, arith, lit<, length, length-append, reply_text, reply_plain, AreValues, Value, answer_fields, rounded_answer, before_commas, behind_commas, params_of, shown_values, reply_of}
+use Rattle.std.proofs.Common.{Some}
 use Rattle.gc_catalogue.proofs.Joining.{list_behind_comma, params_text-params_of, reply_text-params}
 use Rattle.gc_catalogue.proofs.Lengths.{behind_short}
 use Rattle.gc_catalogue.proofs.LineLaws.{answer_again, refusal_again}

@@ -1,5 +1,4 @@
-use Rattle.std.proofs.Common.{[], append-nil, refl, subst, ◌∙◌}
-use Rattle.gc_values.specs.Lists.{IsListFault}
+use Rattle.gc_catalogue.proofs.Common.{[], append-nil, refl, subst, ◌∙◌, IsListFault}
 use Rattle.gc_catalogue.proofs.replies.read_any_spelling.Goals as goal
 
 pub returns-in-Err : goal.returns-in-Err

@@ -1,5 +1,4 @@
-use Rattle.std.proofs.Common.{◌∙◌, ◌++◌, ap}
-use Rattle.gc_catalogue.specs.Texts.{request_line}
+use Rattle.gc_catalogue.proofs.Common.{◌∙◌, ◌++◌, ap, request_line}
 use Rattle.gc_catalogue.proofs.requests.encode_call.Goals as goal
 
 pub returns-clause-line : goal.returns-clause-line

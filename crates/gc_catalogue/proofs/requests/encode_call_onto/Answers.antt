@@ -1,10 +1,4 @@
-use Rattle.std.proofs.Common.{◌≡◌, ◌++◌, [], sym, append-nil}
-use Rattle.gc_lines.specs.Requests.{request_text}
-use Rattle.gc_lines.proofs.Plain.{request_plain}
-use Rattle.gc_values.specs.Lists.{AreValues}
-use Rattle.gc_catalogue.specs.Calls.{call_fields}
-use Rattle.gc_catalogue.specs.Lists.{before_commas}
-use Rattle.gc_catalogue.specs.Texts.{request_of}
+use Rattle.gc_catalogue.proofs.Common.{◌≡◌, ◌++◌, [], sym, append-nil, request_text, request_plain, AreValues, call_fields, before_commas, request_of}
 use Rattle.gc_catalogue.proofs.Joining.{request_with_list}
 use Rattle.gc_catalogue.proofs.LineLaws.{call_again, id_in_range}
 use Rattle.gc_catalogue.proofs.Plain.{plain_params}

@@ -1,5 +1,4 @@
-use Rattle.std.proofs.Common.{◌≡◌, true, [], append-nil, subst, rules}
-use Rattle.gc_values.specs.Lists.{IsListFault}
+use Rattle.gc_catalogue.proofs.Common.{◌≡◌, true, [], append-nil, subst, rules, IsListFault}
 use Rattle.gc_catalogue.proofs.requests.read_any_spelling.Goals as goal
 
 pub returns-in-Err-clause-fault : goal.returns-in-Err-clause-fault

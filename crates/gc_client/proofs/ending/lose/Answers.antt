@@ -1,12 +1,8 @@
-use Rattle.std.proofs.Common.{◌+◌, ◌<◌, length, map, take, set, sym, subst, ap, ◌∙◌, arith, length-set}
-use Rattle.arrayvec.specs.ArrayVec.{ArrayVec}
-use Rattle.gc_client.specs.declared.settlement.Settlement.{Settlement}
-use Rattle.gc_client.specs.Rule.{lost}
-use Rattle.gc_client.specs.Settlements.{AreSettledBy}
+use Rattle.gc_client.proofs.Common.{◌+◌, ◌<◌, length, map, take, set, sym, subst, ap, ◌∙◌, arith, length-set, ArrayVec, Settlement, lost, AreSettledBy}
 use Rattle.gc_client.proofs.Lists.{rest_after_first, none_is_no_some}
 use Rattle.gc_client.proofs.Settling.{next_lost, settled_one_written}
-use Rattle.gc_client.proofs.ending.lose.Goals as goal
 use Rattle.gc_client.proofs.ending.lose.Goals.{in-Some, in_default}
+use Rattle.gc_client.proofs.ending.lose.Goals as goal
 
 pub loop-k-preserved : goal.loop-k-preserved
 loop-k-preserved g c =

@@ -1,6 +1,4 @@
-use Rattle.std.proofs.Common.{◌≡◌, length, map, take, drop}
-use Rattle.gc_client.specs.Rule.{lost}
-use Rattle.gc_client.specs.Settlements.{AreSettledBy}
+use Rattle.gc_client.proofs.Common.{◌≡◌, length, map, take, drop, lost, AreSettledBy}
 use Rattle.gc_client.proofs.ending.lose.Given as goal
 
 -- the first k requests are settled as lost, and the others wait

@@ -1,4 +1,4 @@
-use Rattle.std.proofs.Common.{◌≡◌, ◌≤◌, length}
+use Rattle.gc_client.proofs.Common.{◌≡◌, ◌≤◌, length}
 use Rattle.gc_client.proofs.ending.make_places.Given as goal
 
 -- the list has as many settlements as the counter says

@@ -1,4 +1,4 @@
-use Rattle.gc_lines.specs.Replies.{reply_seen}
+use Rattle.gc_client.proofs.Common.{reply_seen}
 use Rattle.gc_client.proofs.Ends.{answered_is}
 use Rattle.gc_client.proofs.ending.set_replied.Goals as goal
 

@@ -1,9 +1,6 @@
-use Rattle.std.proofs.Common.{inl, inr}
-use Rattle.std.proofs.lemmas.Result.{IfOk-weaker}
+use Rattle.gc_console.proofs.Common.{inl, inr, IfOk-weaker, simulator_opening, end_seen}
 use Rattle.gc_console.proofs.Played.{plays_at_0, reads_at_0}
-use Rattle.gc_instrument.specs.State.{simulator_opening}
 use Rattle.gc_console.proofs.Started.{same_plain, never_ruled}
-use Rattle.gc_console.specs.Refusing.{end_seen}
 use Rattle.gc_console.proofs.drill.drill_scene.Goals as goal
 
 pub returns-in-Ok-Plain-clause-done : goal.returns-in-Ok-Plain-clause-done

@@ -1,5 +1,4 @@
-use Rattle.std.proofs.Common.{inr}
-use Rattle.std.proofs.lemmas.Result.{IfOk-weaker}
+use Rattle.gc_console.proofs.Common.{inr, IfOk-weaker}
 use Rattle.gc_console.proofs.drill.drill_within.Goals as goal
 
 pub returns-clause-told : goal.returns-clause-told

@@ -1,5 +1,4 @@
-use Rattle.std.proofs.Common.{inr}
-use Rattle.std.proofs.lemmas.Result.{IfOk-weaker}
+use Rattle.gc_console.proofs.Common.{inr, IfOk-weaker}
 use Rattle.gc_console.proofs.looped.loop_over_streams.Goals as goal
 
 pub returns-in-Ok-Plain-clause-told : goal.returns-in-Ok-Plain-clause-told

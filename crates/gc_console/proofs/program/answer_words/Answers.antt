@@ -1,5 +1,4 @@
-use Rattle.std.proofs.Common.{inl, inr, sym, ◌∙◌}
-use Rattle.std.proofs.lemmas.Result.{IfOk-weaker}
+use Rattle.gc_console.proofs.Common.{inl, inr, sym, ◌∙◌, IfOk-weaker}
 use Rattle.gc_console.proofs.program.answer_words.Goals as goal
 
 pub returns-then-matches-clause-answered : goal.returns-then-matches-clause-answered

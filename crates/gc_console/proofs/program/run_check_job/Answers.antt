@@ -1,7 +1,5 @@
-use Rattle.std.proofs.Common.{Some, ap, sym}
-use Rattle.std.specs.Process.{exit_status}
+use Rattle.gc_console.proofs.Common.{Some, ap, sym, exit_status, DoesCheck}
 use Rattle.gc_console.proofs.Begun.{check_did, ends_from}
-use Rattle.gc_console.specs.Subcommands.{DoesCheck}
 use Rattle.gc_console.proofs.program.run_check_job.Goals as goal
 
 pub returns-clause-did : goal.returns-clause-did

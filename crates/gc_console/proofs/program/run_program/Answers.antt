@@ -1,5 +1,4 @@
-use Rattle.std.proofs.Common.{inl, inr}
-use Rattle.std.proofs.lemmas.Result.{IfOk-weaker}
+use Rattle.gc_console.proofs.Common.{inl, inr, IfOk-weaker}
 use Rattle.gc_console.proofs.program.run_program.Goals as goal
 
 pub returns-in-Ok-clause-done : goal.returns-in-Ok-clause-done

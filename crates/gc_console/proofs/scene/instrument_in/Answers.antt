@@ -1,6 +1,4 @@
-use Rattle.std.proofs.Common.{ℕ, List, sym, subst, inr}
-use Rattle.gc_console.specs.Refusing.{refusal_fault}
-use Rattle.gc_texts.specs.declared.fault.RunFault.{RunFault}
+use Rattle.gc_console.proofs.Common.{ℕ, List, sym, subst, inr, refusal_fault, RunFault}
 use Rattle.gc_console.proofs.scene.instrument_in.Goals as goal
 
 pub returns-clause-fault : goal.returns-clause-fault

@@ -1,4 +1,4 @@
-use Rattle.std.proofs.lemmas.Result.{IfErr-weaker}
+use Rattle.gc_console.proofs.Common.{IfErr-weaker}
 use Rattle.gc_console.proofs.Missing.{device_of_place}
 use Rattle.gc_console.proofs.serve.keep_endpoint.Goals as goal
 

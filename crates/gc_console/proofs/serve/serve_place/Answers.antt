@@ -1,5 +1,4 @@
-use Rattle.std.proofs.Common.{inl, inr}
-use Rattle.std.proofs.lemmas.Result.{IfOk-weaker}
+use Rattle.gc_console.proofs.Common.{inl, inr, IfOk-weaker}
 use Rattle.gc_console.proofs.Missing.{each_of_place}
 use Rattle.gc_console.proofs.serve.serve_place.Goals as goal
 

@@ -1,6 +1,4 @@
-use Rattle.std.proofs.Common.{Err, inr}
-use Rattle.std.proofs.lemmas.Result.{IfOk-weaker}
-use Rattle.gc_texts.specs.declared.fault.RunFault.TheVariants.{Clock}
+use Rattle.gc_console.proofs.Common.{Err, inr, IfOk-weaker, Clock}
 use Rattle.gc_console.proofs.serve.serve_slow.Goals as goal
 
 pub returns-in_default-clause-port : goal.returns-in_default-clause-port

@@ -1,6 +1,4 @@
-use Rattle.std.proofs.Common.{Err, inr}
-use Rattle.std.proofs.lemmas.Result.{IfOk-weaker}
-use Rattle.gc_texts.specs.declared.fault.RunFault.TheVariants.{StreamClosed}
+use Rattle.gc_console.proofs.Common.{Err, inr, IfOk-weaker, StreamClosed}
 use Rattle.gc_console.proofs.serve.serve_with_places_filled.Goals as goal
 
 pub returns-in_default-clause-port : goal.returns-in_default-clause-port

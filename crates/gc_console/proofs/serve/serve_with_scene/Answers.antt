@@ -1,6 +1,4 @@
-use Rattle.std.proofs.Common.{inl, inr}
-use Rattle.std.proofs.lemmas.Result.{IfOk-weaker}
-use Rattle.gc_instrument.specs.State.{simulator_opening}
+use Rattle.gc_console.proofs.Common.{inl, inr, IfOk-weaker, simulator_opening}
 use Rattle.gc_console.proofs.Started.{same_still, never_still_ruled, never_slow, slow_served}
 use Rattle.gc_console.proofs.serve.serve_with_scene.Goals as goal
 

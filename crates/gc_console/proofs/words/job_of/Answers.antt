@@ -1,6 +1,4 @@
-use Rattle.std.proofs.Common.{◌≡◌, true, map, subst}
-use Rattle.std.specs.String.{string_bytes}
-use Rattle.clap.specs.Takes.{takes}
+use Rattle.gc_console.proofs.Common.{◌≡◌, true, map, subst, string_bytes, takes}
 use Rattle.clap.specs.Values.{kind_of}
 use Rattle.clap.specs.declared.error.ErrorKind.{ErrorKind}
 use Rattle.gc_console.proofs.ProgramLemmas.{is_program, job_asked}

@@ -1,8 +1,5 @@
-use Rattle.std.proofs.Common.{◌≡◌, ◌∙◌, Some, None, sym, subst, Option}
+use Rattle.gc_console.proofs.Common.{◌≡◌, ◌∙◌, Some, None, sym, subst, Option, IsJobOf, name_of, subcommand_named, Subcommand, words_of}
 use Rattle.gc_console.proofs.JobLemmas.{named_again, named_so}
-use Rattle.gc_console.specs.Jobs.{IsJobOf, name_of, subcommand_named}
-use Rattle.gc_console.specs.declared.words.Subcommand.{Subcommand}
-use Rattle.gc_options.specs.Words.{words_of}
 use Rattle.gc_console.proofs.words.named_job.Goals as goal
 
 pub returns-in-Some : goal.returns-in-Some

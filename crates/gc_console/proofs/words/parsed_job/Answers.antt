@@ -1,11 +1,5 @@
-use Rattle.std.proofs.Common.{rules, ◌≡◌, Some, sym, subst, option_map, false}
-use Rattle.std.specs.Prelude.{is_some}
-use Rattle.clap.specs.Matches.{subcommand_name_of}
-use Rattle.clap.specs.Simple.{subcommand_rows_of}
-use Rattle.clap.specs.declared.parser.matches.ArgMatches.TheViews.{out-ArgMatches}
+use Rattle.gc_console.proofs.Common.{rules, ◌≡◌, Some, sym, subst, option_map, false, is_some, subcommand_name_of, subcommand_rows_of, out-ArgMatches, IsJobOf, name_of, words_of}
 use Rattle.gc_console.proofs.JobLemmas.{found_subcommand, none_found, one_name}
-use Rattle.gc_console.specs.Jobs.{IsJobOf, name_of}
-use Rattle.gc_options.specs.Words.{words_of}
 use Rattle.gc_console.proofs.words.parsed_job.Goals as goal
 
 pub returns-in-Some : goal.returns-in-Some

@@ -1,6 +1,5 @@
-use Rattle.std.proofs.Common.{◌∙◌, refl, sym}
+use Rattle.gc_console.proofs.Common.{◌∙◌, refl, sym, words_of}
 use Rattle.gc_console.proofs.JobLemmas.{rehearsal_missing}
-use Rattle.gc_options.specs.Words.{words_of}
 use Rattle.gc_console.proofs.words.rehearse_job.Goals as goal
 
 pub returns-in_default-rehearsal_of : goal.returns-in_default-rehearsal_of

@@ -1,7 +1,5 @@
-use Rattle.std.proofs.Common.{◌∙◌, Some, sym, subst, codes}
+use Rattle.gc_console.proofs.Common.{◌∙◌, Some, sym, subst, codes, IsJobOf, words_of}
 use Rattle.gc_console.proofs.JobLemmas.{station_asked, station_missing}
-use Rattle.gc_console.specs.Jobs.{IsJobOf}
-use Rattle.gc_options.specs.Words.{words_of}
 use Rattle.gc_console.proofs.words.station_job.Goals as goal
 
 pub returns-in_default-station_of : goal.returns-in_default-station_of

@@ -1,5 +1,5 @@
+use Rattle.gc_console.proofs.Common.{subcommands}
 use Rattle.gc_console.proofs.ProgramLemmas.{are_next}
-use Rattle.gc_console.specs.Jobs.{subcommands}
 use Rattle.gc_console.proofs.words.subcommands_of.Goals as goal
 
 pub loop-subcommand-preserved : goal.loop-subcommand-preserved

@@ -1,6 +1,4 @@
-use Rattle.std.proofs.Common.{take}
-use Rattle.gc_console.specs.Jobs.{subcommands}
-use Rattle.gc_console.specs.Program.{AreSubcommands}
+use Rattle.gc_console.proofs.Common.{take, subcommands, AreSubcommands}
 use Rattle.gc_console.proofs.words.subcommands_of.Given as goal
 
 -- the subcommands so far

@@ -1,5 +1,4 @@
-use Rattle.std.proofs.Common.{rules, ◌≤◌, ◌+◌, ◌∙◌, take, drop, ap, arith}
-use Rattle.gc_files.specs.Files.{content}
+use Rattle.gc_files.proofs.Common.{rules, ◌≤◌, ◌+◌, ◌∙◌, take, drop, ap, arith, content}
 use Rattle.gc_files.proofs.Feeds.{puts_block, counts_block, puts_all}
 use Rattle.gc_files.proofs.Looking.{full_block_size}
 use Rattle.gc_files.proofs.copying.copy_lines.Goals as goal

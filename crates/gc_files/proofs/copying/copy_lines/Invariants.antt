@@ -1,7 +1,4 @@
-use Rattle.std.proofs.Common.{◌≡◌, ◌≤◌, ◌-◌, take, Some}
-use Rattle.gc_files.specs.Failing.{feeds}
-use Rattle.gc_files.specs.Files.{Life, content}
-use Rattle.gc_files.specs.Rows.{PutsAll}
+use Rattle.gc_files.proofs.Common.{◌≡◌, ◌≤◌, ◌-◌, take, Some, feeds, Life, content, PutsAll}
 use Rattle.gc_files.proofs.copying.copy_lines.Given as goal
 
 -- the first `at` bytes of `old` were appended to `fresh`, and `lines` is how many line feeds are among them

@@ -1,5 +1,4 @@
-use Rattle.std.proofs.Common.{rules, ◌≡◌, ◌==◌, ◌∙◌, sym, arith}
-use Rattle.std.specs.Prelude.{count_by}
+use Rattle.gc_files.proofs.Common.{rules, ◌≡◌, ◌==◌, ◌∙◌, sym, arith, count_by}
 use Rattle.std.proofs.lemmas.List.Sums.{length-filter, count_by-le-length}
 use Rattle.gc_files.proofs.copying.feeds_in.Goals as goal
 

@@ -1,4 +1,4 @@
-use Rattle.std.proofs.Common.{refl}
+use Rattle.gc_files.proofs.Common.{refl}
 use Rattle.gc_files.proofs.Remembering.{holds_after_call, made_step}
 use Rattle.gc_files.proofs.memory_file.make_call.Goals as goal
 

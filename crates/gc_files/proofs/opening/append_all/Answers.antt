@@ -1,4 +1,4 @@
-use Rattle.std.proofs.Common.{ap, arith, length, length-drop}
+use Rattle.gc_files.proofs.Common.{ap, arith, length, length-drop}
 use Rattle.gc_files.proofs.Looking.{puts_next, puts_front}
 use Rattle.gc_files.proofs.opening.append_all.Goals as goal
 

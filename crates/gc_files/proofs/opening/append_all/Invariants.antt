@@ -1,5 +1,4 @@
-use Rattle.std.proofs.Common.{◌≤◌, ◌-◌, length, take}
-use Rattle.gc_files.specs.Rows.{PutsAll}
+use Rattle.gc_files.proofs.Common.{◌≤◌, ◌-◌, length, take, PutsAll}
 use Rattle.gc_files.proofs.opening.append_all.Given as goal
 
 -- the first `done` bytes were appended

@@ -1,4 +1,4 @@
-use Rattle.std.proofs.Common.{rules}
+use Rattle.gc_files.proofs.Common.{rules}
 use Rattle.gc_files.proofs.Adding.{cut_and_sync_mend}
 use Rattle.gc_files.proofs.opening.cut_torn_row.Goals as goal
 

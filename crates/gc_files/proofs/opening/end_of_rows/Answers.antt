@@ -1,6 +1,5 @@
-use Rattle.std.proofs.Common.{rules, ◌≡◌, ◌≤◌, ◌+◌, ◌-◌, length, arith, ◌∙◌, ap}
+use Rattle.gc_files.proofs.Common.{rules, ◌≡◌, ◌≤◌, ◌+◌, ◌-◌, length, arith, ◌∙◌, ap, content}
 use Rattle.gc_files.proofs.Looking.{block_none, block_some, full_block_size, no_row_before_end}
-use Rattle.gc_files.specs.Files.{content}
 use Rattle.gc_files.proofs.opening.end_of_rows.Goals as goal
 
 pub returns-then-rows-gt0-clause-end : goal.returns-then-rows-gt0-clause-end

@@ -1,6 +1,4 @@
-use Rattle.std.proofs.Common.{◌≡◌, ◌≤◌, drop, Some, false}
-use Rattle.gc_files.specs.Files.{Life, content}
-use Rattle.gc_files.specs.Rows.{has_feed}
+use Rattle.gc_files.proofs.Common.{◌≡◌, ◌≤◌, drop, Some, false, Life, content, has_feed}
 use Rattle.gc_files.proofs.opening.end_of_rows.Given as goal
 
 -- no line feed is in the file from place `end` on

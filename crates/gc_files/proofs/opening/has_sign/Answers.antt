@@ -1,9 +1,7 @@
-use Rattle.std.proofs.Common.{rules, ◌≤◌, ◌+◌, length, take, drop, arith, ◌∙◌, ap, sym, refl, length-drop}
-use Rattle.std.proofs.lemmas.Bool.{true≢false}
+use Rattle.gc_files.proofs.Common.{rules, ◌≤◌, ◌+◌, length, take, drop, arith, ◌∙◌, ap, sym, refl, length-drop, true≢false, content}
 use Rattle.std.proofs.lemmas.Bool.Decides.{Decides-eqb}
 use Rattle.std.proofs.lemmas.Slice.Eq.{slice_eq-Decides}
 use Rattle.gc_files.proofs.Looking.{same_piece_fits_on, other_piece_fits_not, all_looked_at_fits, full_block_size}
-use Rattle.gc_files.specs.Files.{content}
 use Rattle.gc_files.proofs.opening.has_sign.Goals as goal
 
 pub returns-then-not-starts_with : goal.returns-then-not-starts_with

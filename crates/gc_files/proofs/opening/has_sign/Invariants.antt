@@ -1,6 +1,4 @@
-use Rattle.std.proofs.Common.{◌≡◌, ◌≤◌, ◌-◌, length, drop, Some}
-use Rattle.gc_files.specs.Files.{Life, content}
-use Rattle.gc_files.specs.Rows.{fits}
+use Rattle.gc_files.proofs.Common.{◌≡◌, ◌≤◌, ◌-◌, length, drop, Some, Life, content, fits}
 use Rattle.gc_files.proofs.opening.has_sign.Given as goal
 
 -- the first `at` bytes of the sign and of the file are the same, so that only those after them say whether the file fits the sign

@@ -1,4 +1,4 @@
-use Rattle.std.proofs.Common.{rules}
+use Rattle.gc_files.proofs.Common.{rules}
 use Rattle.std.proofs.lemmas.Result.{IfErr-weaker, IfOk-weaker}
 use Rattle.gc_files.proofs.Adding.{opens_whole, opens_head, opens_part, opens_head_part}
 use Rattle.gc_files.proofs.opening.make_table.Goals as goal

@@ -1,4 +1,4 @@
-use Rattle.std.proofs.Common.{rules, arith, ◌∙◌, refl}
+use Rattle.gc_files.proofs.Common.{rules, arith, ◌∙◌, refl}
 use Rattle.gc_files.proofs.Looking.{read_more, length-put}
 use Rattle.gc_files.proofs.opening.read_all.Goals as goal
 

@@ -1,5 +1,4 @@
-use Rattle.std.proofs.Common.{◌≡◌, ◌≤◌, ◌-◌, length, take, drop, Some}
-use Rattle.gc_files.specs.Files.{Life, content}
+use Rattle.gc_files.proofs.Common.{◌≡◌, ◌≤◌, ◌-◌, length, take, drop, Some, Life, content}
 use Rattle.gc_files.proofs.opening.read_all.Given as goal
 
 -- the first `done` bytes of the buffer are those of the file from place `at` on

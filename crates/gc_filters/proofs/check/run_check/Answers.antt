@@ -1,4 +1,4 @@
-use Rattle.std.proofs.Common.{refl, arith}
+use Rattle.gc_filters.proofs.Common.{refl, arith}
 use Rattle.gc_filters.proofs.Checked.{frames_are_checked, few_reads}
 use Rattle.gc_filters.proofs.check.run_check.Goals as goal
 

@@ -1,5 +1,4 @@
-use Rattle.std.proofs.Common.{◌≡◌, ◌≤◌, List, ℕ, length, rules, subst, sym, ◌∙◌}
-use Rattle.gc_texts.specs.Logs.{IsLogLine}
+use Rattle.gc_filters.proofs.Common.{◌≡◌, ◌≤◌, List, ℕ, length, rules, subst, sym, ◌∙◌, IsLogLine}
 use Rattle.gc_filters.specs.LogChecking.{reads}
 use Rattle.gc_filters.proofs.check_log.push_log_verdict.Goals as goal
 

@@ -1,7 +1,5 @@
-use Rattle.std.proofs.Common.{inl, inr, sym, subst, refl}
-use Rattle.gc_texts.specs.Logs.{escaped}
+use Rattle.gc_filters.proofs.Common.{inl, inr, sym, subst, refl, escaped, IsMarkedVerdict}
 use Rattle.gc_texts.specs.declared.log_line.LogMark.{LogMark}
-use Rattle.gc_filters.specs.LogChecking.{IsMarkedVerdict}
 use Rattle.gc_filters.proofs.check_log.push_marked_verdict.Goals as goal
 
 pub returns-in-Went-clause-items : goal.returns-in-Went-clause-items

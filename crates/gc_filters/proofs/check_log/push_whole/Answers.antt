@@ -1,6 +1,4 @@
-use Rattle.std.proofs.Common.{refl}
-use Rattle.gc_filters.specs.LogChecking.{line}
-use Rattle.gc_filters.specs.Verdicts.{verdict_text}
+use Rattle.gc_filters.proofs.Common.{refl, line, verdict_text}
 use Rattle.gc_filters.proofs.check_log.push_whole.Goals as goal
 
 pub returns-else-bytes-gt512-clause-items : goal.returns-else-bytes-gt512-clause-items

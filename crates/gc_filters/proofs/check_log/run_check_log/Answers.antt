@@ -1,10 +1,7 @@
-use Rattle.std.proofs.Common.{◌≤◌, [], length, take, arith, sym, ◌∙◌, rules}
-use Rattle.std.proofs.lemmas.Bool.{ne_eqb}
-use Rattle.std.proofs.lemmas.List.{length-take}
+use Rattle.gc_filters.proofs.Common.{◌≤◌, [], length, take, arith, sym, ◌∙◌, rules, ne_eqb, length-take, nothing_known}
 use Rattle.gc_lines.proofs.Exactly.{has_ended}
 use Rattle.gc_lines.proofs.Given.{gave_more}
 use Rattle.gc_filters.proofs.LogVerdicts.{checked_more, checked_part}
-use Rattle.gc_filters.specs.LogClients.{nothing_known}
 use Rattle.gc_filters.proofs.check_log.run_check_log.Goals as goal
 
 pub loop-preserved : goal.loop-preserved

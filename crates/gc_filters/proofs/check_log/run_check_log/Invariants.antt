@@ -1,7 +1,4 @@
-use Rattle.std.proofs.Common.{◌≡◌, ◌+◌, ◌*◌, ◌<◌, ◌≤◌, [], length, false}
-use Rattle.gc_lines.specs.Answering.{GaveInReads}
-use Rattle.gc_filters.specs.LogChecking.{HasChecked, NoneWait}
-use Rattle.gc_filters.specs.LogClients.{nothing_known}
+use Rattle.gc_filters.proofs.Common.{◌≡◌, ◌+◌, ◌*◌, ◌<◌, ◌≤◌, [], length, false, GaveInReads, HasChecked, NoneWait, nothing_known}
 use Rattle.gc_filters.proofs.check_log.run_check_log.Given as goal
 
 -- the check is done with all bytes read so far (`HasChecked`), in `counter` reads, at most 256 verdicts for each; the last read, if

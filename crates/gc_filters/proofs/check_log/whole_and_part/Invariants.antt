@@ -1,5 +1,4 @@
-use Rattle.std.proofs.Common.{◌≡◌, ◌+◌, drop}
-use Rattle.gc_lines.specs.Passing.{whole_and_part}
+use Rattle.gc_filters.proofs.Common.{◌≡◌, ◌+◌, drop, whole_and_part}
 use Rattle.gc_filters.proofs.check_log.whole_and_part.Given as goal
 
 abbrev pub invariant-loop-length : goal.invariant-loop-length

@@ -1,4 +1,4 @@
-use Rattle.gc_world.specs.declared.event.Event.TheVariants.{UpBytes, UpLose, UpRepeat, DownBytes, DownLose, DownRepeat, Expire}
+use Rattle.gc_filters.proofs.Common.{UpBytes, UpLose, UpRepeat, DownBytes, DownLose, DownRepeat, Expire}
 use Rattle.gc_filters.proofs.event.read_numbered.Goals as goal
 
 pub returns-clause-none : goal.returns-clause-none

@@ -1,7 +1,4 @@
-use Rattle.std.proofs.Common.{◌≡◌, ℕ, ap, rules, subst, Some, None}
-use Rattle.std.specs.Option.{option_copied}
-use Rattle.gc_texts.specs.Procedures.{IsNumber, IsTarget}
-use Rattle.gc_texts.proofs.Procedures.{with_rest}
+use Rattle.gc_filters.proofs.Common.{◌≡◌, ℕ, ap, rules, subst, Some, None, option_copied, IsNumber, IsTarget, with_rest}
 use Rattle.gc_filters.proofs.Forms.{has_target, has_deadline, has_procedure}
 use Rattle.gc_filters.proofs.InThree.{parts_at_two_spaces, has_space, has_second_space}
 use Rattle.gc_filters.proofs.event.read_requested.Goals as goal

@@ -1,4 +1,4 @@
-use Rattle.std.proofs.Common.{refl}
+use Rattle.gc_filters.proofs.Common.{refl}
 use Rattle.gc_filters.proofs.Forms.{requested_send_is_event, unrequested_is_no_send}
 use Rattle.gc_filters.proofs.event.read_send.Goals as goal
 

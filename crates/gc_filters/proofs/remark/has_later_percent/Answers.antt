@@ -1,4 +1,4 @@
-use Rattle.std.proofs.Common.{sym, ◌∙◌}
+use Rattle.gc_filters.proofs.Common.{sym, ◌∙◌}
 use Rattle.gc_filters.proofs.Percents.{sign_on_in_front, no_lone_return}
 use Rattle.gc_filters.proofs.remark.has_later_percent.Goals as goal
 

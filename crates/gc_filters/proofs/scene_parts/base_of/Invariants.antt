@@ -1,6 +1,4 @@
-use Rattle.std.proofs.Common.{◌≡◌, ◌++◌, drop}
-use Rattle.gc_instrument.specs.State.{simulator_opening}
-use Rattle.gc_filters.specs.Scenes.{serial_of, name_of, targets_of}
+use Rattle.gc_filters.proofs.Common.{◌≡◌, ◌++◌, drop, simulator_opening, serial_of, name_of, targets_of}
 use Rattle.gc_filters.proofs.scene_parts.base_of.Given as goal
 
 -- the lines that are left make of the serial number and of the name so far what all lines make of the simulator's; and the targets

@@ -1,6 +1,4 @@
-use Rattle.std.proofs.Common.{◌≡◌, drop}
-use Rattle.gc_scenes.specs.Laws.{still}
-use Rattle.gc_filters.specs.Scenes.{prism_of}
+use Rattle.gc_filters.proofs.Common.{◌≡◌, drop, still, prism_of}
 use Rattle.gc_filters.proofs.scene_parts.prism_of.Given as goal
 
 -- the lines that are left make of the target so far what all lines make of it at first, when it is never hidden and doesn't move

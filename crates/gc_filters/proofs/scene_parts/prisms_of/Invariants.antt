@@ -1,5 +1,4 @@
-use Rattle.std.proofs.Common.{◌≡◌, ◌++◌, ◌+◌, ◌≤◌, drop, length}
-use Rattle.gc_filters.specs.Scenes.{prisms_of}
+use Rattle.gc_filters.proofs.Common.{◌≡◌, ◌++◌, ◌+◌, ◌≤◌, drop, length, prisms_of}
 use Rattle.gc_filters.specs.declared.scene_parts.TheConstants.{MOST_TARGETS}
 use Rattle.gc_filters.proofs.scene_parts.prisms_of.Given as goal
 

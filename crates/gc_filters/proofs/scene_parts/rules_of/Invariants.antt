@@ -1,6 +1,4 @@
-use Rattle.std.proofs.Common.{◌≡◌, ◌++◌, drop, None, true}
-use Rattle.gc_scenes.specs.Ways.{no_ways}
-use Rattle.gc_filters.specs.Scenes.{faults_of, answers_of, noise_of, repeats_of, ways_of}
+use Rattle.gc_filters.proofs.Common.{◌≡◌, ◌++◌, drop, None, true, no_ways, faults_of, answers_of, noise_of, repeats_of, ways_of}
 use Rattle.gc_filters.proofs.scene_parts.rules_of.Given as goal
 
 -- what was gathered so far, and what the lines that are left say, is what all lines say

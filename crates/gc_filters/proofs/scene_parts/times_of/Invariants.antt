@@ -1,5 +1,4 @@
-use Rattle.std.proofs.Common.{◌≡◌, ◌++◌, drop, false}
-use Rattle.gc_filters.specs.Scenes.{delays_of, drops_from, late_of, starts_of}
+use Rattle.gc_filters.proofs.Common.{◌≡◌, ◌++◌, drop, false, delays_of, drops_from, late_of, starts_of}
 use Rattle.gc_filters.proofs.scene_parts.times_of.Given as goal
 
 -- the starts and delays gathered so far, and those of the lines that are left, are those of all lines; and the lines that are left make

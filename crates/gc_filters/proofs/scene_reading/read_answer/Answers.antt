@@ -1,9 +1,4 @@
-use Rattle.std.proofs.Common.{inl, inr, List, ℕ, ap, subst, ◌∙◌}
-use Rattle.gc_scenes.specs.declared.rules.Scripted.{Scripted}
-use Rattle.gc_texts.specs.Cuts.{before, behind}
-use Rattle.gc_texts.specs.Words.{second_word}
-use Rattle.gc_filters.specs.SceneLines.{IsAnswerLine, rc_in_answer}
-use Rattle.gc_filters.specs.SceneTroubles.{IsScriptRead}
+use Rattle.gc_filters.proofs.Common.{inl, inr, List, ℕ, ap, subst, ◌∙◌, Scripted, before, behind, second_word, IsAnswerLine, rc_in_answer, IsScriptRead}
 use Rattle.gc_filters.proofs.RuleForms.{read_as_answer}
 use Rattle.gc_filters.proofs.SceneFields.{no_number, number_here}
 use Rattle.gc_filters.proofs.scene_reading.read_answer.Goals as goal

@@ -1,8 +1,6 @@
-use Rattle.std.proofs.Common.{rules}
-use Rattle.gc_filters.specs.SceneLines.{IsSceneLine}
-use Rattle.gc_filters.specs.declared.scene_line.SceneLine.{SceneLine}
-use Rattle.gc_filters.specs.declared.scene_trouble.SceneWord.TheVariants as word
+use Rattle.gc_filters.proofs.Common.{rules, IsSceneLine, SceneLine}
 use Rattle.gc_filters.proofs.SceneWords.{says_none_of}
+use Rattle.gc_filters.specs.declared.scene_trouble.SceneWord.TheVariants as word
 use Rattle.gc_filters.proofs.scene_reading.read_behind.Goals as goal
 
 pub returns-in_err-read_target-in-Target : goal.returns-in_err-read_target-in-Target

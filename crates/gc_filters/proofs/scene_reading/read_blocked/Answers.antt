@@ -1,7 +1,4 @@
-use Rattle.std.proofs.Common.{inl}
-use Rattle.gc_texts.specs.Words.{second_word, third_word, after_three_words}
-use Rattle.gc_filters.specs.SceneLines.{IsBlockedLine}
-use Rattle.gc_filters.specs.declared.scene_line.Blocked.{Blocked}
+use Rattle.gc_filters.proofs.Common.{inl, second_word, third_word, after_three_words, IsBlockedLine, Blocked}
 use Rattle.gc_filters.proofs.SceneFields.{no_number}
 use Rattle.gc_filters.proofs.scene_reading.read_blocked.Goals as goal
 

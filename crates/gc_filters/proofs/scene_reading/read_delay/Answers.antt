@@ -1,7 +1,4 @@
-use Rattle.std.proofs.Common.{inr, codes}
-use Rattle.gc_texts.specs.Words.{second_word, after_two_words}
-use Rattle.gc_scenes.specs.declared.delay.Delay.{Delay}
-use Rattle.gc_filters.specs.SceneLines.{IsDelayLine}
+use Rattle.gc_filters.proofs.Common.{inr, codes, second_word, after_two_words, Delay, IsDelayLine}
 use Rattle.gc_filters.proofs.SceneFields.{no_number}
 use Rattle.gc_filters.proofs.scene_reading.read_delay.Goals as goal
 

@@ -1,7 +1,4 @@
-use Rattle.std.proofs.Common.{inr}
-use Rattle.gc_texts.specs.Words.{second_word, third_word, fourth_word, after_four_words}
-use Rattle.gc_filters.specs.SceneLines.{IsDriftLine}
-use Rattle.gc_filters.specs.declared.scene_line.Drift.{Drift}
+use Rattle.gc_filters.proofs.Common.{inr, second_word, third_word, fourth_word, after_four_words, IsDriftLine, Drift}
 use Rattle.gc_filters.proofs.SceneFields.{decimal_here, no_decimal, no_number, number_here}
 use Rattle.gc_filters.proofs.scene_reading.read_drift.Goals as goal
 

@@ -1,7 +1,4 @@
-use Rattle.std.proofs.Common.{inl, List, ℕ, subst, sym}
-use Rattle.gc_scenes.specs.declared.rules.Fault.{Fault}
-use Rattle.gc_texts.specs.Words.{second_word, third_word}
-use Rattle.gc_filters.specs.SceneLines.{IsFaultLine, IsSpan}
+use Rattle.gc_filters.proofs.Common.{inl, List, ℕ, subst, sym, Fault, second_word, third_word, IsFaultLine, IsSpan}
 use Rattle.gc_filters.proofs.SceneFields.{no_number}
 use Rattle.gc_filters.proofs.scene_reading.read_fault.Goals as goal
 

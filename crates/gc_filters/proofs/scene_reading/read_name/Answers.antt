@@ -1,6 +1,4 @@
-use Rattle.std.proofs.Common.{◌≡◌, ap, sym, ◌∙◌, codes}
-use Rattle.std.proofs.lemmas.List.{append_cancel_left}
-use Rattle.gc_texts.specs.Cuts.{behind}
+use Rattle.gc_filters.proofs.Common.{◌≡◌, ap, sym, ◌∙◌, codes, append_cancel_left, behind}
 use Rattle.gc_filters.proofs.scene_reading.read_name.Goals as goal
 
 pub returns-in_default : goal.returns-in_default

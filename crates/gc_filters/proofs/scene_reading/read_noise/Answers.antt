@@ -1,7 +1,4 @@
-use Rattle.std.proofs.Common.{inl, inr}
-use Rattle.gc_scenes.specs.declared.rules.Noise.{Noise}
-use Rattle.gc_texts.specs.Words.{second_word, third_word, fourth_word, after_four_words}
-use Rattle.gc_filters.specs.SceneLines.{IsNoiseLine}
+use Rattle.gc_filters.proofs.Common.{inl, inr, Noise, second_word, third_word, fourth_word, after_four_words, IsNoiseLine}
 use Rattle.gc_filters.proofs.SceneFields.{decimal_here, no_decimal, no_number, number_here}
 use Rattle.gc_filters.proofs.scene_reading.read_noise.Goals as goal
 

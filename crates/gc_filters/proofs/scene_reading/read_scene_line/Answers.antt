@@ -1,6 +1,4 @@
-use Rattle.std.proofs.Common.{◌∙◌}
-use Rattle.gc_filters.specs.SceneTroubles.{BeginsWith}
-use Rattle.gc_filters.specs.declared.scene_trouble.SceneWord.{SceneWord}
+use Rattle.gc_filters.proofs.Common.{◌∙◌, BeginsWith, SceneWord}
 use Rattle.gc_filters.proofs.SceneWords.{begins, word_in}
 use Rattle.gc_filters.proofs.scene_reading.read_scene_line.Goals as goal
 

@@ -1,6 +1,4 @@
-use Rattle.std.proofs.Common.{List, ℕ, ℤ, subst, sym}
-use Rattle.gc_texts.specs.Cuts.{behind}
-use Rattle.gc_values.specs.Whole.{FitsLong, NamesWhole}
+use Rattle.gc_filters.proofs.Common.{List, ℕ, ℤ, subst, sym, behind, FitsLong, NamesWhole}
 use Rattle.gc_filters.proofs.scene_reading.read_serial.Goals as goal
 
 pub returns-in-None : goal.returns-in-None

@@ -1,7 +1,4 @@
-use Rattle.std.proofs.Common.{inl, List, ℕ, subst, sym}
-use Rattle.gc_scenes.specs.declared.rules.Fault.{Fault}
-use Rattle.gc_texts.specs.Words.{second_word}
-use Rattle.gc_filters.specs.SceneLines.{IsSpan, IsStartLine}
+use Rattle.gc_filters.proofs.Common.{inl, List, ℕ, subst, sym, Fault, second_word, IsSpan, IsStartLine}
 use Rattle.gc_filters.proofs.SceneFields.{no_number}
 use Rattle.gc_filters.proofs.scene_reading.read_start.Goals as goal
 

@@ -1,7 +1,4 @@
-use Rattle.std.proofs.Common.{inl}
-use Rattle.gc_instrument.specs.declared.target.Target.{Target}
-use Rattle.gc_texts.specs.Words.{second_word, third_word, after_three_words}
-use Rattle.gc_filters.specs.SceneLines.{IsTargetLine}
+use Rattle.gc_filters.proofs.Common.{inl, Target, second_word, third_word, after_three_words, IsTargetLine}
 use Rattle.gc_filters.proofs.SceneFields.{decimal_here, no_decimal}
 use Rattle.gc_filters.proofs.scene_reading.read_target.Goals as goal
 

@@ -1,4 +1,4 @@
-use Rattle.std.proofs.Common.{Some, None, refl}
+use Rattle.gc_filters.proofs.Common.{Some, None, refl}
 use Rattle.gc_filters.proofs.RuleForms.{made_reply_is_scripted}
 use Rattle.gc_filters.proofs.scene_reading.scripted.Goals as goal
 

@@ -1,4 +1,4 @@
-use Rattle.std.proofs.Common.{◌≡◌, true, false, sym, ◌∙◌}
+use Rattle.gc_filters.proofs.Common.{◌≡◌, true, false, sym, ◌∙◌}
 use Rattle.gc_filters.specs.declared.scene_trouble.SceneWord.TheVariants as word
 use Rattle.gc_filters.proofs.scene_reading.word_of.Goals as goal
 

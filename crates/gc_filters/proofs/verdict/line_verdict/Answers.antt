@@ -1,5 +1,4 @@
-use Rattle.std.proofs.Common.{refl}
-use Rattle.gc_filters.specs.Verdicts.{reply}
+use Rattle.gc_filters.proofs.Common.{refl, reply}
 use Rattle.gc_filters.proofs.verdict.line_verdict.Goals as goal
 
 pub returns-in-Ok : goal.returns-in-Ok

@@ -1,5 +1,4 @@
-use Rattle.std.proofs.Common.{refl}
-use Rattle.gc_filters.specs.Verdicts.{reads, refuses}
+use Rattle.gc_filters.proofs.Common.{refl, reads, refuses}
 use Rattle.gc_filters.proofs.verdict.request_verdict.Goals as goal
 
 pub returns-in-Ok : goal.returns-in-Ok

@@ -1,5 +1,4 @@
-use Rattle.std.proofs.Common.{refl}
-use Rattle.gc_filters.specs.Verdicts.{request, no_request}
+use Rattle.gc_filters.proofs.Common.{refl, request, no_request}
 use Rattle.gc_filters.proofs.verdict.verdict_as_request.Goals as goal
 
 pub returns-in-Ok : goal.returns-in-Ok

@@ -1,8 +1,5 @@
-use Rattle.std.proofs.Common.{◌≢◌, List, ℕ, refl}
-use Rattle.gc_lines.specs.Replies.{FirstBadOfReply}
-use Rattle.gc_lines.specs.declared.fault.LineFault.{LineFault}
+use Rattle.gc_filters.proofs.Common.{◌≢◌, List, ℕ, refl, FirstBadOfReply, LineFault, BeginsAsReply, no_reply}
 use Rattle.gc_lines.specs.declared.fault.LineFault.TheVariants as fault
-use Rattle.gc_filters.specs.Verdicts.{BeginsAsReply, no_reply}
 use Rattle.gc_filters.proofs.verdict.verdict_on_no_reply.Goals as goal
 
 -- if the first field that is bad in a line, read as a reply, isn't the signature, the line begins as a reply

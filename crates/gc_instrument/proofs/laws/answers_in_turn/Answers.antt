@@ -1,5 +1,4 @@
-use Rattle.gc_lines.proofs.InOrder.{in_order_then}
-use Rattle.gc_instrument.specs.Replying.{IsReplied}
+use Rattle.gc_instrument.proofs.Common.{in_order_then, IsReplied}
 use Rattle.gc_instrument.proofs.Turns.{one_hearing, output_then}
 use Rattle.gc_instrument.proofs.laws.answers_in_turn.Goals as goal
 

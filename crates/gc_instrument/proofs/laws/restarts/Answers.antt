@@ -1,4 +1,4 @@
-use Rattle.std.proofs.Common.{refl}
+use Rattle.gc_instrument.proofs.Common.{refl}
 use Rattle.gc_instrument.proofs.Executions.{restarted_fits}
 use Rattle.gc_instrument.proofs.laws.restarts.Goals as goal
 

@@ -1,5 +1,4 @@
-use Rattle.gc_lines.specs.AnsweringLines.{RepliesTo}
-use Rattle.gc_lines.proofs.AnsweringLines.{line_answered, line_unanswered}
+use Rattle.gc_instrument.proofs.Common.{RepliesTo, line_answered, line_unanswered}
 use Rattle.gc_instrument.proofs.replies.answer_frame.Goals as goal
 
 pub returns-then-not-reply_to_line-clause-answered : goal.returns-then-not-reply_to_line-clause-answered

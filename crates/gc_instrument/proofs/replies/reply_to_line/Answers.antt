@@ -1,7 +1,5 @@
-use Rattle.std.proofs.Common.{refl}
-use Rattle.gc_lines.specs.Requests.{request_seen}
-use Rattle.gc_lines.specs.AnsweringLines.{silent, answers}
-use Rattle.gc_lines.proofs.AnsweringLines.{faulty_is_no_request}
+use Rattle.gc_instrument.proofs.Common.{refl, request_seen, faulty_is_no_request}
+use Rattle.gc_lines.specs.Prelude.{silent, answers}
 use Rattle.gc_instrument.proofs.replies.reply_to_line.Goals as goal
 
 pub returns-in-Ok-clause-replied : goal.returns-in-Ok-clause-replied

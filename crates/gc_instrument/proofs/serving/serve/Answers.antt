@@ -1,4 +1,4 @@
-use Rattle.std.proofs.Common.{refl}
+use Rattle.gc_instrument.proofs.Common.{refl}
 use Rattle.gc_instrument.proofs.HeardFrames.{serves_frames}
 use Rattle.gc_instrument.proofs.serving.serve.Goals as goal
 

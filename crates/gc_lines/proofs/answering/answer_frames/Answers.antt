@@ -1,6 +1,4 @@
-use Rattle.std.proofs.Common.{◌≤◌, length, take, arith, sym, ◌∙◌, rules}
-use Rattle.std.proofs.lemmas.Bool.{ne_eqb}
-use Rattle.std.proofs.lemmas.List.{length-take}
+use Rattle.gc_lines.proofs.Common.{◌≤◌, length, take, arith, sym, ◌∙◌, rules, ne_eqb, length-take}
 use Rattle.gc_lines.proofs.Exactly.{has_ended}
 use Rattle.gc_lines.proofs.Given.{answered_with_piece, part_with_piece, gave_more, given_end}
 use Rattle.gc_lines.proofs.answering.answer_frames.Goals as goal

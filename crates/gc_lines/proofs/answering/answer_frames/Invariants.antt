@@ -1,6 +1,4 @@
-use Rattle.std.proofs.Common.{◌≡◌, ◌+◌, ◌*◌, ◌<◌, ◌≤◌, length, false}
-use Rattle.gc_lines.specs.Answering.{GaveInReads, progress}
-use Rattle.gc_lines.specs.Passing.{NoneWait}
+use Rattle.gc_lines.proofs.Common.{◌≡◌, ◌+◌, ◌*◌, ◌<◌, ◌≤◌, length, false, GaveInReads, progress, NoneWait}
 use Rattle.gc_lines.proofs.Given.{HasAnswered}
 use Rattle.gc_lines.proofs.answering.answer_frames.Given as goal
 

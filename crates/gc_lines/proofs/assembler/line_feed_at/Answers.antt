@@ -1,4 +1,4 @@
-use Rattle.gc_lines.specs.Frames.{is_line_feed}
+use Rattle.gc_lines.proofs.Common.{is_line_feed}
 use Rattle.gc_lines.proofs.Finding.{first_position}
 use Rattle.gc_lines.proofs.assembler.line_feed_at.Goals as goal
 

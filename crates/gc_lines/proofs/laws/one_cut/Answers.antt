@@ -1,5 +1,4 @@
-use Rattle.std.proofs.Common.{◌≡◌, ℕ, List, subst, sym}
-use Rattle.gc_lines.specs.Frames.{IsCut, pieces, rest_of}
+use Rattle.gc_lines.proofs.Common.{◌≡◌, ℕ, List, subst, sym, IsCut, pieces, rest_of}
 use Rattle.gc_lines.proofs.Cutting.{one_cut, is_cut_of}
 use Rattle.gc_lines.proofs.laws.one_cut.Goals as goal
 

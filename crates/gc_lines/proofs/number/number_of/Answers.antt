@@ -1,9 +1,7 @@
-use Rattle.std.proofs.Common.{◌+◌, ◌*◌, ◌<◌, ◌^◌, get_or, drop, arith, rules, inl, inr, sym, ◌∙◌, refl}
-use Rattle.std.proofs.lemmas.List.{take_rest}
-use Rattle.gc_lines.specs.Numbers.{NoDigitFirst}
+use Rattle.gc_lines.proofs.Common.{◌+◌, ◌*◌, ◌<◌, ◌^◌, get_or, drop, arith, rules, inl, inr, sym, ◌∙◌, refl, take_rest, NoDigitFirst}
 use Rattle.gc_lines.proofs.Digits.{run_more, value_next, value_small, digit_range, run_at_least, number_too_long, number_read, number_refused, stops_at, stops_at_end}
-use Rattle.gc_lines.proofs.number.number_of.Goals as goal
 use Rattle.gc_lines.proofs.number.number_of.Goals.{then-loop-len-test+else-is_ascii_digit, else-loop-len-test}
+use Rattle.gc_lines.proofs.number.number_of.Goals as goal
 
 pub returns-then-len-eq5 : goal.returns-then-len-eq5
 returns-then-len-eq5 c =

@@ -1,5 +1,4 @@
-use Rattle.std.proofs.Common.{◌≡◌, ◌-◌, ◌≤◌, length, take}
-use Rattle.std.specs.Str.Parse.{digits_value, AllDigits}
+use Rattle.gc_lines.proofs.Common.{◌≡◌, ◌-◌, ◌≤◌, length, take, digits_value, AllDigits}
 use Rattle.gc_lines.proofs.number.number_of.Given as goal
 
 abbrev pub invariant-loop-len : goal.invariant-loop-len

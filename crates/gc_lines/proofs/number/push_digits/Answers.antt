@@ -1,4 +1,4 @@
-use Rattle.std.proofs.Common.{◌++◌, arith, ap, ◌∙◌}
+use Rattle.gc_lines.proofs.Common.{◌++◌, arith, ap, ◌∙◌}
 use Rattle.gc_lines.proofs.Digits.{digit_written, last_digit_written}
 use Rattle.gc_lines.proofs.number.push_digits.Goals as goal
 

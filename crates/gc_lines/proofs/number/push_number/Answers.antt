@@ -1,5 +1,4 @@
-use Rattle.std.proofs.Common.{◌++◌, sym, ap, ◌∙◌}
-use Rattle.std.proofs.lemmas.Fmt.{decimal_digit}
+use Rattle.gc_lines.proofs.Common.{◌++◌, sym, ap, ◌∙◌, decimal_digit}
 use Rattle.gc_lines.proofs.number.push_number.Goals as goal
 
 pub returns-then-n-lt10-clause-items : goal.returns-then-n-lt10-clause-items

@@ -1,5 +1,4 @@
-use Rattle.std.proofs.Common.{arith}
-use Rattle.std.proofs.lemmas.Fmt.{decimal_digit}
+use Rattle.gc_lines.proofs.Common.{arith, decimal_digit}
 use Rattle.gc_lines.proofs.reply.push_reply.Goals as goal
 
 pub returns-then-rc-eq0-clause-items : goal.returns-then-rc-eq0-clause-items

@@ -1,4 +1,4 @@
-use Rattle.gc_lines.specs.Replies.{reply_seen}
+use Rattle.gc_lines.proofs.Common.{reply_seen}
 use Rattle.gc_lines.proofs.Reading.{knows_result}
 use Rattle.gc_lines.proofs.Replies.{reply_reads}
 use Rattle.gc_lines.proofs.reply.read_reply.Goals as goal

@@ -1,4 +1,4 @@
-use Rattle.gc_lines.specs.Requests.{request_seen}
+use Rattle.gc_lines.proofs.Common.{request_seen}
 use Rattle.gc_lines.proofs.Reading.{knows_result}
 use Rattle.gc_lines.proofs.Requests.{request_reads}
 use Rattle.gc_lines.proofs.request.read_request.Goals as goal

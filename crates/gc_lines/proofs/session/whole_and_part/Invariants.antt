@@ -1,5 +1,4 @@
-use Rattle.std.proofs.Common.{◌≡◌, ◌+◌, drop}
-use Rattle.gc_lines.specs.Passing.{whole_and_part}
+use Rattle.gc_lines.proofs.Common.{◌≡◌, ◌+◌, drop, whole_and_part}
 use Rattle.gc_lines.proofs.session.whole_and_part.Given as goal
 
 abbrev pub invariant-loop-length : goal.invariant-loop-length

@@ -1,7 +1,4 @@
-use Rattle.std.proofs.Common.{ℕ, List, take, sym, ap, ◌∙◌, arith, length-drop}
-use Rattle.std.proofs.Math.Seq.{take-add}
-use Rattle.std.proofs.lemmas.List.{take_rest}
-use Rattle.std.proofs.KnownBytes.{Appends-trans}
+use Rattle.gc_lines.proofs.Common.{ℕ, List, take, sym, ap, ◌∙◌, arith, length-drop, take-add, take_rest, Appends-trans}
 use Rattle.gc_lines.proofs.Known.{Appends-is}
 use Rattle.gc_lines.proofs.writing.write_whole.Goals as goal
 

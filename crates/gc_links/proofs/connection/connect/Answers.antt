@@ -1,7 +1,4 @@
-use Rattle.std.proofs.Common.{[], ◌∷◌, sym, subst, refl}
-use Rattle.std.specs.Net.ToAddrs.{host_addrs}
-use Rattle.gc_links.specs.Calls.{Found}
-use Rattle.gc_links.specs.Connecting.{Seeks}
+use Rattle.gc_links.proofs.Common.{[], ◌∷◌, sym, subst, refl, host_addrs, Found, Seeks}
 use Rattle.gc_links.proofs.Connecting.{at_port, by_name}
 use Rattle.gc_links.proofs.connection.connect.Goals as goal
 

@@ -1,5 +1,4 @@
-use Rattle.std.proofs.Common.{◌∷◌, ◌++◌, [], ap, ◌∙◌}
-use Rattle.std.specs.Net.ToAddrs.{host_addrs}
+use Rattle.gc_links.proofs.Common.{◌∷◌, ◌++◌, [], ap, ◌∙◌, host_addrs}
 use Rattle.gc_links.proofs.Addresses.{one_comes, none_comes}
 use Rattle.gc_links.proofs.Connecting.{reached_next, passed_next, split_next, passed_all}
 use Rattle.gc_links.proofs.connection.connect_first.Goals as goal

@@ -1,7 +1,4 @@
-use Rattle.std.proofs.Common.{◌≡◌, ◌++◌, map, List}
-use Rattle.std.specs.Net.ToAddrs.{host_addrs}
-use Rattle.std.specs.declared.net.socket_addr.SocketAddr.{SocketAddr}
-use Rattle.gc_links.specs.Connecting.{not_reached}
+use Rattle.gc_links.proofs.Common.{◌≡◌, ◌++◌, map, List, host_addrs, SocketAddr, not_reached}
 use Rattle.gc_links.proofs.connection.connect_first.Given as goal
 
 abbrev pub invariant-loop-address : goal.invariant-loop-address

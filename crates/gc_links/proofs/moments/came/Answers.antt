@@ -1,7 +1,4 @@
-use Rattle.std.proofs.Common.{rules}
-use Rattle.std.specs.Time.{instant_nanos}
-use Rattle.gc_links.specs.Clocks.{MissesClocks, ClocksAfter}
-use Rattle.gc_links.specs.declared.link.Came.TheVariants.{NoMoment}
+use Rattle.gc_links.proofs.Common.{rules, instant_nanos, MissesClocks, ClocksAfter, NoMoment}
 use Rattle.gc_links.proofs.Making.{makes_as}
 use Rattle.gc_links.proofs.moments.came.Goals as goal
 

@@ -1,5 +1,4 @@
-use Rattle.std.specs.Time.{instant_nanos}
-use Rattle.gc_links.specs.Devices.{device_end}
+use Rattle.gc_links.proofs.Common.{instant_nanos, device_end}
 use Rattle.gc_links.proofs.Reading.{clocks_then, clocks_missed}
 use Rattle.gc_links.proofs.serial.read_serial.Goals as goal
 

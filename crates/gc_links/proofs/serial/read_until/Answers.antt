@@ -1,6 +1,4 @@
-use Rattle.std.specs.Time.{instant_nanos}
-use Rattle.gc_links.specs.declared.link.Came.TheVariants.{Silence}
-use Rattle.gc_links.specs.Devices.{device_end}
+use Rattle.gc_links.proofs.Common.{instant_nanos, Silence, device_end}
 use Rattle.gc_links.proofs.Waiting.{silence_then}
 use Rattle.gc_links.proofs.serial.read_until.Goals as goal
 

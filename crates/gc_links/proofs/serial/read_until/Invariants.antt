@@ -1,8 +1,4 @@
-use Rattle.std.specs.Time.{instant_nanos}
-use Rattle.gc_links.specs.Acts.{Silent}
-use Rattle.gc_links.specs.Calls.{Makes}
-use Rattle.gc_links.specs.Devices.{device_end}
-use Rattle.gc_links.specs.Does.{DoesConnected}
+use Rattle.gc_links.proofs.Common.{instant_nanos, Silent, Makes, device_end, DoesConnected}
 use Rattle.gc_links.proofs.serial.read_until.Given as goal
 
 abbrev pub invariant-loop : goal.invariant-loop

@@ -1,5 +1,4 @@
-use Rattle.std.proofs.Common.{rules}
-use Rattle.gc_links.specs.Devices.{device_end}
+use Rattle.gc_links.proofs.Common.{rules, device_end}
 use Rattle.gc_links.proofs.Sending.{took_within, took_more, took_none}
 use Rattle.gc_links.proofs.serial.send_serial.Goals as goal
 

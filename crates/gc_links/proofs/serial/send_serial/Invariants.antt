@@ -1,7 +1,5 @@
-use Rattle.std.proofs.Common.{length, drop, ◌+◌, ◌-◌, ◌≤◌}
-use Rattle.gc_links.specs.Devices.{device_end}
-use Rattle.gc_links.specs.Calls.{Makes}
-use Rattle.gc_links.specs.Does.{Sends}
+use Rattle.gc_links.proofs.Common.{length, ◌+◌, ◌-◌, ◌≤◌, device_end, Makes, Sends}
+use Rattle.std.proofs.Common.{drop}
 use Rattle.gc_links.proofs.serial.send_serial.Given as goal
 
 abbrev pub invariant-loop-at : goal.invariant-loop-at

@@ -1,7 +1,4 @@
-use Rattle.std.proofs.Common.{◌≡◌, subst}
-use Rattle.gc_links.specs.Calls.{Makes}
-use Rattle.gc_links.specs.Holds.{ended, ending}
-use Rattle.gc_links.specs.Slots.{hold_of}
+use Rattle.gc_links.proofs.Common.{◌≡◌, subst, Makes, ended, ending, hold_of}
 use Rattle.gc_links.proofs.DeviceActs.{opens_device}
 use Rattle.gc_links.proofs.slot.open_slot.Goals as goal
 

@@ -1,9 +1,4 @@
-use Rattle.std.proofs.Common.{sym, subst}
-use Rattle.gc_links.specs.Acts.{put_act}
-use Rattle.gc_links.specs.Calls.{Makes}
-use Rattle.gc_links.specs.Does.{DoesOver}
-use Rattle.gc_links.specs.Holds.{linked_end}
-use Rattle.gc_links.specs.Slots.{hold_of}
+use Rattle.gc_links.proofs.Common.{sym, subst, put_act, Makes, DoesOver, linked_end, hold_of}
 use Rattle.gc_links.proofs.slot.put_linked.Goals as goal
 
 pub returns-in-Linked-clause-does : goal.returns-in-Linked-clause-does

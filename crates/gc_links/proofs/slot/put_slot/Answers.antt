@@ -1,4 +1,4 @@
-use Rattle.gc_links.specs.Slots.{hold_of}
+use Rattle.gc_links.proofs.Common.{hold_of}
 use Rattle.gc_links.proofs.DeviceActs.{puts_on_device}
 use Rattle.gc_links.proofs.slot.put_slot.Goals as goal
 

@@ -1,10 +1,4 @@
-use Rattle.std.proofs.Common.{sym, subst}
-use Rattle.std.specs.Time.{instant_nanos}
-use Rattle.gc_links.specs.Acts.{read_act}
-use Rattle.gc_links.specs.Calls.{Makes}
-use Rattle.gc_links.specs.Does.{DoesOver}
-use Rattle.gc_links.specs.Holds.{linked_end}
-use Rattle.gc_links.specs.Slots.{hold_of}
+use Rattle.gc_links.proofs.Common.{sym, subst, instant_nanos, read_act, Makes, DoesOver, linked_end, hold_of}
 use Rattle.gc_links.proofs.slot.read_linked.Goals as goal
 
 pub returns-in-Empty-clause-does : goal.returns-in-Empty-clause-does

@@ -1,5 +1,4 @@
-use Rattle.std.specs.Time.{instant_nanos}
-use Rattle.gc_links.specs.Slots.{hold_of}
+use Rattle.gc_links.proofs.Common.{instant_nanos, hold_of}
 use Rattle.gc_links.proofs.DeviceActs.{reads_on_device}
 use Rattle.gc_links.proofs.slot.read_slot.Goals as goal
 

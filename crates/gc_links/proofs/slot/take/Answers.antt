@@ -1,9 +1,6 @@
-use Rattle.std.proofs.Common.{◌≡◌, Option}
+use Rattle.gc_links.proofs.Common.{◌≡◌, Option, Device, device_end, hold_of}
 use Rattle.std.proofs.lemmas.Result.{IfOk-at_ok}
 use Rattle.gc_links.specs.declared.device.Unusable.{Unusable}
-use Rattle.gc_links.specs.Calls.{Device}
-use Rattle.gc_links.specs.Devices.{device_end}
-use Rattle.gc_links.specs.Slots.{hold_of}
 use Rattle.gc_links.proofs.DeviceActs.{takes_again, takes_anew}
 use Rattle.gc_links.proofs.slot.take.Goals as goal
 

@@ -1,5 +1,4 @@
-use Rattle.std.proofs.Common.{ap}
-use Rattle.gc_links.specs.Slots.{hold_of}
+use Rattle.gc_links.proofs.Common.{ap, hold_of}
 use Rattle.gc_links.proofs.DeviceActs.{held_gone}
 use Rattle.gc_links.proofs.slot.take_held.Goals as goal
 

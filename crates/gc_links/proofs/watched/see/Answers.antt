@@ -1,5 +1,4 @@
-use Rattle.std.proofs.Common.{◌≡◌, ◌||◌, ap, false, rules, sym, true, ◌∙◌}
-use Rattle.gc_links.specs.Seeing.{signals_at}
+use Rattle.gc_links.proofs.Common.{◌≡◌, ◌||◌, ap, false, rules, sym, true, ◌∙◌, signals_at}
 use Rattle.gc_links.proofs.Taking.{seen_at}
 use Rattle.gc_links.proofs.watched.see.Goals as goal
 

@@ -1,5 +1,4 @@
-use Rattle.std.proofs.Common.{rules}
-use Rattle.gc_links.specs.Seeing.{path_at}
+use Rattle.gc_links.proofs.Common.{rules, path_at}
 use Rattle.gc_links.proofs.Taking.{touch_kept, touch_none, touch_not_kept}
 use Rattle.gc_links.proofs.watched.take_touch.Goals as goal
 

@@ -1,6 +1,4 @@
-use Rattle.std.proofs.Common.{rules, refl, inr}
-use Rattle.gc_values.specs.FileValues.{no_value, path_of}
-use Rattle.gc_links.specs.Seeing.{IsTakenBy}
+use Rattle.gc_links.proofs.Common.{rules, refl, inr, no_value, path_of, IsTakenBy}
 use Rattle.gc_links.proofs.Making.{makes_none}
 use Rattle.gc_links.proofs.Taking.{kept_taken, not_kept_taken}
 use Rattle.gc_links.proofs.watched.take_value.Goals as goal

@@ -1,6 +1,4 @@
-use Rattle.std.proofs.Common.{◌+◌, ◌≤◌, ◌<◌, length, take, arith, get_or, slice_set}
-use Rattle.gc_values.specs.FileValues.{path_of}
-use Rattle.gc_links.specs.Seeing.{AreValues, IsTakenBy}
+use Rattle.gc_links.proofs.Common.{◌+◌, ◌≤◌, ◌<◌, length, take, arith, get_or, slice_set, path_of, AreValues, IsTakenBy}
 use Rattle.gc_links.proofs.Making.{makes_as, makes_none, makes_then}
 use Rattle.gc_links.proofs.Taking.{values_all, values_more, values_none}
 use Rattle.gc_links.proofs.watched.take_values.Goals as goal

@@ -1,6 +1,4 @@
-use Rattle.std.proofs.Common.{take}
-use Rattle.gc_links.specs.Calls.{Makes}
-use Rattle.gc_links.specs.Seeing.{AreValues}
+use Rattle.gc_links.proofs.Common.{take, Makes, AreValues}
 use Rattle.gc_links.proofs.watched.take_values.Given as goal
 
 -- the files so far were read

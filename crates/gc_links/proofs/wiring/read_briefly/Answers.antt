@@ -1,5 +1,4 @@
-use Rattle.std.specs.Time.{instant_nanos}
-use Rattle.gc_links.specs.Answered.{wired_end}
+use Rattle.gc_links.proofs.Common.{instant_nanos, wired_end}
 use Rattle.gc_links.proofs.Reading.{came_then, clocks_then, clocks_missed, quiet_after}
 use Rattle.gc_links.proofs.wiring.read_briefly.Goals as goal
 

@@ -1,5 +1,4 @@
-use Rattle.std.specs.Time.{instant_nanos}
-use Rattle.gc_links.specs.Answered.{wired_end}
+use Rattle.gc_links.proofs.Common.{instant_nanos, wired_end}
 use Rattle.gc_links.proofs.Reading.{came_then, none_then}
 use Rattle.gc_links.proofs.wiring.read_over.Goals as goal
 

@@ -1,9 +1,4 @@
-use Rattle.std.proofs.Common.{sym, subst}
-use Rattle.std.specs.Time.{instant_nanos}
-use Rattle.gc_links.specs.Acts.{read_act}
-use Rattle.gc_links.specs.Answered.{open_end}
-use Rattle.gc_links.specs.Calls.{Makes}
-use Rattle.gc_links.specs.Does.{DoesOver}
+use Rattle.gc_links.proofs.Common.{sym, subst, instant_nanos, read_act, open_end, Makes, DoesOver}
 use Rattle.gc_links.proofs.wiring.read_wired.Goals as goal
 
 pub returns-in-None-clause-does : goal.returns-in-None-clause-does

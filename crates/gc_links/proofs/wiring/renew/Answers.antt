@@ -1,4 +1,4 @@
-use Rattle.gc_links.specs.Answered.{open_end}
+use Rattle.gc_links.proofs.Common.{open_end}
 use Rattle.gc_links.proofs.Opening.{refused, dropped_again, opened}
 use Rattle.gc_links.proofs.wiring.renew.Goals as goal
 

@@ -1,8 +1,4 @@
-use Rattle.std.proofs.Common.{sym, subst}
-use Rattle.gc_links.specs.Acts.{put_act}
-use Rattle.gc_links.specs.Answered.{open_end}
-use Rattle.gc_links.specs.Calls.{Makes}
-use Rattle.gc_links.specs.Does.{DoesOver}
+use Rattle.gc_links.proofs.Common.{sym, subst, put_act, open_end, Makes, DoesOver}
 use Rattle.gc_links.proofs.wiring.send.Goals as goal
 
 pub returns-in-Some-clause-does : goal.returns-in-Some-clause-does

@@ -1,5 +1,4 @@
-use Rattle.std.proofs.Common.{◌≡◌, ◌≤◌, ◌+◌, ◌-◌, ◌++◌, length}
-use Rattle.std.specs.Io.KnownBytes.{Consumes}
+use Rattle.gc_logs.proofs.Common.{◌≡◌, ◌≤◌, ◌+◌, ◌-◌, ◌++◌, length, Consumes}
 use Rattle.gc_logs.proofs.heard.hear_text.Given as goal
 
 -- the text so far is what the source gave and noted, in at most one read for each byte, and is within the limit; the source has

@@ -1,4 +1,4 @@
-use Rattle.std.proofs.Common.{lit<}
+use Rattle.gc_measuring.proofs.Common.{lit<}
 use Rattle.gc_measuring.proofs.Scaled.{rounded_apart}
 use Rattle.gc_measuring.proofs.angles.scaled.Goals as goal
 

@@ -1,5 +1,4 @@
-use Rattle.std.proofs.Common.{rules}
-use Rattle.std.specs.Fmt.{decimal}
+use Rattle.gc_measuring.proofs.Common.{rules, decimal}
 use Rattle.gc_measuring.proofs.Scaled.{zeros_before}
 use Rattle.gc_measuring.proofs.angles.write_part.Goals as goal
 

@@ -1,5 +1,4 @@
-use Rattle.std.proofs.Common.{◌≡◌, drop}
-use Rattle.gc_measuring.specs.Bounds.{lost_by}
+use Rattle.gc_measuring.proofs.Common.{◌≡◌, drop, lost_by}
 use Rattle.gc_measuring.proofs.bound.lost_by.Given as goal
 
 -- the time by the tasks still to come is that by all of them

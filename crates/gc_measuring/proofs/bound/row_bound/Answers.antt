@@ -1,6 +1,4 @@
-use Rattle.std.proofs.Common.{◌≡◌, ℕ, ◌+◌, ◌-◌, ◌*◌, min, ap, ◌∙◌, arith}
-use Rattle.gc_station.specs.RecordedInTime.{raws_of_setup}
-use Rattle.gc_measuring.specs.Bounds.{lost_by}
+use Rattle.gc_measuring.proofs.Common.{◌≡◌, ℕ, ◌+◌, ◌-◌, ◌*◌, min, ap, ◌∙◌, arith, raws_of_setup, lost_by}
 use Rattle.gc_measuring.specs.declared.bound.TheConstants.{CALL}
 use Rattle.gc_measuring.proofs.LostTimes.{lost_from_none, row_is}
 use Rattle.gc_measuring.proofs.bound.row_bound.Goals as goal

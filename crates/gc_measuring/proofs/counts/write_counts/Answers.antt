@@ -1,5 +1,4 @@
-use Rattle.std.proofs.lemmas.Result.{IfOk-weaker}
-use Rattle.std.proofs.KnownBytes.{Appends-trans}
+use Rattle.gc_measuring.proofs.Common.{IfOk-weaker, Appends-trans}
 use Rattle.gc_measuring.proofs.counts.write_counts.Goals as goal
 
 pub returns : goal.returns

@@ -1,6 +1,5 @@
-use Rattle.std.proofs.Common.{◌*◌, lit<, refl}
+use Rattle.gc_measuring.proofs.Common.{◌*◌, lit<, refl, half_up_rounds}
 use Rattle.gc_measuring.specs.Angles.{half, scale_of}
-use Rattle.gc_values.specs.RoundedFacts.{half_up_rounds}
 use Rattle.gc_measuring.proofs.laws.shown_angles_are_nearest.Goals as goal
 
 pub returns-clause-nearest : goal.returns-clause-nearest

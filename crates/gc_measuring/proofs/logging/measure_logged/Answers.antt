@@ -1,8 +1,5 @@
-use Rattle.std.specs.Process.{exit_status}
-use Rattle.std.proofs.Common.{subst}
-use Rattle.std.proofs.lemmas.Result.{IfOk-weaker}
+use Rattle.gc_measuring.proofs.Common.{exit_status, subst, IfOk-weaker, ReportsLossAndEnd}
 use Rattle.gc_measuring.proofs.Measured.{done_at_0}
-use Rattle.gc_measuring.specs.Telling.{ReportsLossAndEnd}
 use Rattle.gc_measuring.proofs.logging.measure_logged.Goals as goal
 
 pub returns-clause-told : goal.returns-clause-told

@@ -1,4 +1,4 @@
-use Rattle.std.proofs.lemmas.Result.{IfOk-weaker}
+use Rattle.gc_measuring.proofs.Common.{IfOk-weaker}
 use Rattle.gc_measuring.proofs.logging.report_loss_and_end.Goals as goal
 
 pub returns-clause-told : goal.returns-clause-told

@@ -1,4 +1,4 @@
-use Rattle.std.proofs.Common.{sym}
+use Rattle.gc_measuring.proofs.Common.{sym}
 use Rattle.gc_measuring.proofs.measure.measure.Goals as goal
 
 pub returns-clause-runs : goal.returns-clause-runs

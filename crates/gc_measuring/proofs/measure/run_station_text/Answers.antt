@@ -1,5 +1,4 @@
-use Rattle.std.proofs.Common.{inl, inr, refl, sym, Ok, Err, arith}
-use Rattle.gc_texts.specs.declared.fault.RunFault.TheVariants.{Memory}
+use Rattle.gc_measuring.proofs.Common.{inl, inr, refl, sym, Ok, Err, arith, Memory}
 use Rattle.gc_measuring.proofs.Reached.{reaches_a_line}
 use Rattle.gc_measuring.proofs.measure.run_station_text.Goals as goal
 

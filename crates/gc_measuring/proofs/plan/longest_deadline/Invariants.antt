@@ -1,5 +1,4 @@
-use Rattle.std.proofs.Common.{◌≡◌, drop}
-use Rattle.gc_measuring.specs.Choices.{longest_deadline}
+use Rattle.gc_measuring.proofs.Common.{◌≡◌, drop, longest_deadline}
 use Rattle.gc_measuring.proofs.plan.longest_deadline.Given as goal
 
 -- the longest of `longest` and the deadlines of the tasks still to come is the longest deadline in use

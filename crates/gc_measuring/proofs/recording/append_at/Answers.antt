@@ -1,11 +1,5 @@
-use Rattle.std.proofs.Common.{inl, inr, refl, Some, map, ap, subst, sym, ◌∙◌}
+use Rattle.gc_measuring.proofs.Common.{inl, inr, refl, Some, map, ap, subst, sym, ◌∙◌, IfOk-weaker, IfSome, IsMeantAt, place_seen, signals_at, bytes_in}
 use Rattle.std.proofs.lemmas.Option.{IfSome_then}
-use Rattle.std.proofs.lemmas.Result.{IfOk-weaker}
-use Rattle.std.specs.Prelude.{IfSome}
-use Rattle.gc_links.specs.LinksMeant.{IsMeantAt}
-use Rattle.gc_links.specs.Placed.{place_seen}
-use Rattle.gc_links.specs.Seeing.{signals_at}
-use Rattle.gc_logs.specs.Following.{bytes_in}
 use Rattle.gc_measuring.specs.Recording.{IsBegunAt}
 use Rattle.gc_measuring.proofs.Both.{if_ok_both}
 use Rattle.gc_measuring.proofs.HandingBack.{appends_left_back, files_left_back, reports_left_back}

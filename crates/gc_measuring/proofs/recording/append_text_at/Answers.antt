@@ -1,5 +1,4 @@
-use Rattle.std.proofs.Common.{inl, inr, refl, Some, map, ap, sym, ◌∙◌}
-use Rattle.std.proofs.lemmas.Result.{IfOk-weaker}
+use Rattle.gc_measuring.proofs.Common.{inl, inr, refl, Some, map, ap, sym, ◌∙◌, IfOk-weaker}
 use Rattle.gc_measuring.proofs.recording.append_text_at.Goals as goal
 
 pub returns-clause-told : goal.returns-clause-told

@@ -1,7 +1,4 @@
-use Rattle.std.proofs.Common.{subst, ap, ◌∙◌, append-nil}
-use Rattle.std.proofs.KnownBytes.{Appends-trans}
-use Rattle.std.specs.Io.KnownBytes.{Appends}
-use Rattle.gc_texts.specs.Faults.{fault_line, run_fault_text}
+use Rattle.gc_measuring.proofs.Common.{subst, ap, ◌∙◌, append-nil, Appends-trans, Appends, fault_line, run_fault_text}
 use Rattle.gc_measuring.proofs.recording.refuse_file.Goals as goal
 
 pub returns : goal.returns

@@ -1,7 +1,5 @@
-use Rattle.std.proofs.Common.{ap, ◌∙◌}
-use Rattle.std.specs.Prelude.{option_map}
+use Rattle.gc_measuring.proofs.Common.{ap, ◌∙◌, option_map, described_as, description_seen}
 use Rattle.gc_measuring.proofs.Described.{made_at_once}
-use Rattle.gc_texts.specs.Descriptions.{described_as, description_seen}
 use Rattle.gc_measuring.proofs.row.description_of.Goals as goal
 
 pub returns : goal.returns

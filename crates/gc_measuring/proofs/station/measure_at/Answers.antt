@@ -1,9 +1,5 @@
+use Rattle.gc_measuring.proofs.Common.{inl, inr, refl, false, Err, Some, sym, ap, ◌∙◌, false≢true, IfOk-weaker, Run, acts_of, stage}
 use Rattle.std.specs.Option.{is_some}
-use Rattle.std.proofs.Common.{inl, inr, refl, false, Err, Some, sym, ap, ◌∙◌}
-use Rattle.std.proofs.lemmas.Bool.{false≢true}
-use Rattle.std.proofs.lemmas.Result.{IfOk-weaker}
-use Rattle.gc_measuring.specs.declared.stop.Stop.TheVariants.{Run}
-use Rattle.gc_measuring.specs.Telling.{acts_of, stage}
 use Rattle.gc_measuring.proofs.AtLink.{measures_at_link, measures_all_at_link}
 use Rattle.gc_measuring.proofs.HandingBack.{measures_handed_back, reports_handed_back}
 use Rattle.gc_measuring.proofs.Unbegun.{sink_is_as_it_was}

@@ -1,6 +1,4 @@
-use Rattle.std.specs.Process.{exit_status}
-use Rattle.std.proofs.Common.{refl}
-use Rattle.std.proofs.lemmas.Result.{IfOk-weaker}
+use Rattle.gc_measuring.proofs.Common.{exit_status, refl, IfOk-weaker}
 use Rattle.gc_measuring.proofs.Measured.{done_at_0}
 use Rattle.gc_measuring.proofs.station.measure_over.Goals as goal
 

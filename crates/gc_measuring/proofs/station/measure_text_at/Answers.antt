@@ -1,5 +1,4 @@
-use Rattle.std.proofs.Common.{inl, inr, refl, Some, map, ap, ◌∙◌}
-use Rattle.std.proofs.lemmas.Result.{IfOk-weaker}
+use Rattle.gc_measuring.proofs.Common.{inl, inr, refl, Some, map, ap, ◌∙◌, IfOk-weaker}
 use Rattle.gc_measuring.proofs.Both.{if_ok_both}
 use Rattle.gc_measuring.proofs.station.measure_text_at.Goals as goal
 

@@ -1,5 +1,4 @@
-use Rattle.std.proofs.lemmas.Result.{IfErr-weaker}
-use Rattle.gc_logs.specs.Transcripts.{hearing_of}
+use Rattle.gc_measuring.proofs.Common.{IfErr-weaker, hearing_of}
 use Rattle.gc_measuring.proofs.Hearing.{refused_if_heard}
 use Rattle.gc_measuring.proofs.task_text.hear_task_text.Goals as goal
 

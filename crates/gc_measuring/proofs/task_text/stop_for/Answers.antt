@@ -1,8 +1,4 @@
-use Rattle.std.proofs.Common.{ℕ, List, refl, subst, sym}
-use Rattle.gc_measuring.specs.TaskTexts.{IsStopFor}
-use Rattle.gc_measuring.specs.declared.stop.Stop.TheVariants.{Line}
-use Rattle.gc_texts.specs.Troubles.{IsTrouble}
-use Rattle.gc_texts.specs.declared.fault.RunFault.{RunFault}
+use Rattle.gc_measuring.proofs.Common.{ℕ, List, refl, subst, sym, IsStopFor, Line, IsTrouble, RunFault}
 use Rattle.gc_measuring.proofs.task_text.stop_for.Goals as goal
 
 pub returns-in-Schedule : goal.returns-in-Schedule

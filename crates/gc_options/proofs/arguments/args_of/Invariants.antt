@@ -1,5 +1,4 @@
-use Rattle.std.proofs.Common.{map, take}
-use Rattle.gc_options.specs.Tables.{HaveRules, rule_of_row}
+use Rattle.gc_options.proofs.Common.{map, take, HaveRules, rule_of_row}
 use Rattle.gc_options.proofs.arguments.args_of.Given as goal
 
 -- the arguments so far have the rules of the rows so far

@@ -1,7 +1,6 @@
-use Rattle.std.proofs.Common.{[], map}
+use Rattle.gc_options.proofs.Common.{[], map, rule_of_row}
 use Rattle.std.proofs.lemmas.Result.{IfOk-weaker}
 use Rattle.gc_options.proofs.TableLemmas.{all_added, bare}
-use Rattle.gc_options.specs.Tables.{rule_of_row}
 use Rattle.gc_options.proofs.arguments.command_of.Goals as goal
 
 pub returns : goal.returns

@@ -1,5 +1,4 @@
-use Rattle.std.proofs.Common.{◌∙◌}
-use Rattle.clap.specs.Matches.{found_of}
+use Rattle.gc_options.proofs.Common.{◌∙◌, found_of}
 use Rattle.gc_options.proofs.Getters.{flag_given}
 use Rattle.gc_options.proofs.given.has_flag.Goals as goal
 

@@ -1,4 +1,4 @@
-use Rattle.clap.specs.Matches.{found_of}
+use Rattle.gc_options.proofs.Common.{found_of}
 use Rattle.gc_options.proofs.Getters.{text_given}
 use Rattle.gc_options.proofs.given.text_in.Goals as goal
 

@@ -1,5 +1,4 @@
-use Rattle.std.specs.Str.Parse.{ExplainsUnsignedError, HasUnsignedDigitsIfOk, ParsesUnsigned}
-use Rattle.clap.specs.Matches.{found_of}
+use Rattle.gc_options.proofs.Common.{ExplainsUnsignedError, HasUnsignedDigitsIfOk, ParsesUnsigned, found_of}
 use Rattle.gc_options.proofs.Getters.{ReadsBits, narrow, number_read}
 use Rattle.gc_options.proofs.given.u32_in.Goals as goal
 

@@ -1,6 +1,5 @@
-use Rattle.std.proofs.Common.{◌≡◌, ◌∙◌, Some, sym, subst, ap, option_map}
+use Rattle.gc_options.proofs.Common.{◌≡◌, ◌∙◌, Some, sym, subst, ap, option_map, text_in, words_of}
 use Rattle.gc_options.proofs.LimitLemmas.{limit_read}
-use Rattle.gc_options.specs.Words.{text_in, words_of}
 use Rattle.gc_options.proofs.limit.limit_in.Goals as goal
 
 pub returns : goal.returns

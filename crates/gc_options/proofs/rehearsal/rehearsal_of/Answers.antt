@@ -1,4 +1,4 @@
-use Rattle.std.proofs.Common.{◌≡◌, true, false}
+use Rattle.gc_options.proofs.Common.{◌≡◌, true, false}
 use Rattle.gc_options.proofs.rehearsal.rehearsal_of.Goals as goal
 
 pub returns-in_err-station-clause-only : goal.returns-in_err-station-clause-only

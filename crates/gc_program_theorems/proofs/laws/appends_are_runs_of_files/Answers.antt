@@ -1,4 +1,4 @@
-use Rattle.std.proofs.Common.{refl}
+use Rattle.gc_program_theorems.proofs.Common.{refl}
 use Rattle.gc_program_theorems.proofs.Lasting.{appends_are_runs}
 use Rattle.gc_program_theorems.proofs.laws.appends_are_runs_of_files.Goals as goal
 

@@ -1,4 +1,4 @@
-use Rattle.std.proofs.Common.{refl}
+use Rattle.gc_program_theorems.proofs.Common.{refl}
 use Rattle.gc_program_theorems.proofs.ProgramRows.{idle_programs, programs_faithful}
 use Rattle.gc_program_theorems.proofs.laws.programs_are_faithful.Goals as goal
 

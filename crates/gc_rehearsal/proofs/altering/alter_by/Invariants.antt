@@ -1,4 +1,4 @@
-use Rattle.std.proofs.Common.{◌≡◌, ◌+◌, ◌*◌, ◌≤◌, ◌++◌, length}
+use Rattle.gc_rehearsal.proofs.Common.{◌≡◌, ◌+◌, ◌*◌, ◌≤◌, ◌++◌, length}
 use Rattle.gc_rehearsal.specs.Altering.{altered_from}
 use Rattle.gc_rehearsal.proofs.altering.alter_by.Given as goal
 

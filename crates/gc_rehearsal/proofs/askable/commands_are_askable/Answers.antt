@@ -1,8 +1,5 @@
-use Rattle.std.proofs.Common.{rules, ◌≡◌, get_or, subst}
-use Rattle.std.proofs.lemmas.List.{take_all}
-use Rattle.std.specs.List.{AllByRecursion}
+use Rattle.gc_rehearsal.proofs.Common.{rules, ◌≡◌, get_or, subst, take_all, AllByRecursion, IsAskable}
 use Rattle.gc_values.proofs.Every.{every_more}
-use Rattle.gc_rehearsal.specs.Askable.{IsAskable}
 use Rattle.gc_rehearsal.proofs.askable.commands_are_askable.Goals as goal
 
 pub loop-task-preserved : goal.loop-task-preserved

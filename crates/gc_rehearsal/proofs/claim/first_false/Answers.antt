@@ -1,4 +1,4 @@
-use Rattle.std.proofs.Common.{rules}
+use Rattle.gc_rehearsal.proofs.Common.{rules}
 use Rattle.gc_rehearsal.proofs.Matching.{matched_next}
 use Rattle.gc_rehearsal.proofs.claim.first_false.Goals as goal
 

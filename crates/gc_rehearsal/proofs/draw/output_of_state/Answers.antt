@@ -1,4 +1,4 @@
-use Rattle.std.proofs.Common.{ap, ◌∙◌}
+use Rattle.gc_rehearsal.proofs.Common.{ap, ◌∙◌}
 use Rattle.rand_core.proofs.StepsLemmas.{next_u64-stream_of}
 use Rattle.rand_xoshiro.specs.SplitMix64.{splitmix_steps}
 use Rattle.gc_rehearsal.specs.Draws.{output_at}

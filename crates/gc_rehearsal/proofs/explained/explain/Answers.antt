@@ -1,6 +1,4 @@
-use Rattle.std.proofs.Common.{◌≡◌, length, Some, refl}
-use Rattle.std.proofs.lemmas.Option.{slice_get_read}
-use Rattle.std.specs.Prelude.{slice_get}
+use Rattle.gc_rehearsal.proofs.Common.{◌≡◌, length, Some, refl, slice_get_read, slice_get}
 use Rattle.gc_rehearsal.proofs.Explaining.{all_explained, explained_next, no_more_doubts, no_more_than_rows}
 use Rattle.gc_rehearsal.proofs.explained.explain.Goals as goal
 

@@ -1,4 +1,4 @@
-use Rattle.std.proofs.Common.{length, ◌+◌, ◌-◌, ◌≤◌}
+use Rattle.gc_rehearsal.proofs.Common.{length, ◌+◌, ◌-◌, ◌≤◌}
 use Rattle.gc_rehearsal.proofs.Explaining.{HasExplained}
 use Rattle.gc_rehearsal.proofs.explained.explain.Given as goal
 

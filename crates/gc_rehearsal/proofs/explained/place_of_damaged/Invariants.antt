@@ -1,4 +1,4 @@
-use Rattle.std.proofs.Common.{length, ◌-◌, ◌≤◌}
+use Rattle.gc_rehearsal.proofs.Common.{length, ◌-◌, ◌≤◌}
 use Rattle.gc_rehearsal.proofs.explained.place_of_damaged.Given as goal
 
 -- the replies before the place `from` aren't looked at

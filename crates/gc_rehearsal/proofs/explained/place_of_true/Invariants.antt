@@ -1,4 +1,4 @@
-use Rattle.std.proofs.Common.{length, ◌-◌}
+use Rattle.gc_rehearsal.proofs.Common.{length, ◌-◌}
 use Rattle.gc_rehearsal.proofs.explained.place_of_true.Given as goal
 
 -- nothing is said of the replies so far

@@ -1,4 +1,4 @@
-use Rattle.std.proofs.Common.{◌≡◌, ◌<◌, ◌-◌, length, get_or, ◌∙◌, subst}
+use Rattle.gc_rehearsal.proofs.Common.{◌≡◌, ◌<◌, ◌-◌, length, get_or, ◌∙◌, subst}
 use Rattle.gc_rehearsal.proofs.Queued.{adds_copy}
 use Rattle.gc_rehearsal.proofs.flight.repeat_last.Goals as goal
 

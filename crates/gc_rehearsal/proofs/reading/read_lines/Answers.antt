@@ -1,5 +1,4 @@
-use Rattle.std.proofs.Common.{ap, subst}
-use Rattle.std.specs.Option.{option_copied}
+use Rattle.gc_rehearsal.proofs.Common.{ap, subst, option_copied}
 use Rattle.gc_rehearsal.proofs.Leading.{Comes, comes_on, faulty_here}
 use Rattle.gc_rehearsal.proofs.reading.read_lines.Goals as goal
 

@@ -1,5 +1,4 @@
-use Rattle.std.specs.Option.{option_copied}
-use Rattle.gc_texts.proofs.TextLines.{much_left}
+use Rattle.gc_rehearsal.proofs.Common.{option_copied, much_left}
 use Rattle.gc_rehearsal.proofs.Leading.{Comes}
 use Rattle.gc_rehearsal.proofs.reading.read_lines.Given as goal
 

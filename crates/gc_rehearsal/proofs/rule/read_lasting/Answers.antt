@@ -1,7 +1,4 @@
-use Rattle.std.proofs.Common.{rules, subst, sym}
-use Rattle.gc_rehearsal.specs.RuleForms.{IsLasting}
-use Rattle.gc_rehearsal.specs.Shares.{IsShare}
-use Rattle.gc_rehearsal.specs.declared.frequency.Frequency.{Frequency}
+use Rattle.gc_rehearsal.proofs.Common.{rules, subst, sym, IsLasting, IsShare, Frequency}
 use Rattle.gc_rehearsal.proofs.rule.read_lasting.Goals as goal
 
 pub returns-in_err-share : goal.returns-in_err-share

@@ -1,6 +1,4 @@
-use Rattle.std.proofs.Common.{ℕ, ap, rules}
-use Rattle.std.specs.Option.{option_copied}
-use Rattle.gc_rehearsal.specs.Shares.{IsShare}
+use Rattle.gc_rehearsal.proofs.Common.{ℕ, ap, rules, option_copied, IsShare}
 use Rattle.gc_rehearsal.proofs.ShareForms.{parts_of_share, no_parts_without_whole, no_parts_without_places, no_parts_above_100}
 use Rattle.gc_rehearsal.proofs.share.read_share.Goals as goal
 

@@ -1,5 +1,5 @@
-use Rattle.std.proofs.Common.{◌≡◌, length}
-use Rattle.gc_values.specs.Pieces.{without_front_spaces}
+use Rattle.gc_rehearsal.proofs.Common.{◌≡◌, length}
+use Rattle.gc_values.specs.Prelude.{without_front_spaces}
 use Rattle.gc_rehearsal.proofs.spaced.without_front_spaces.Given as goal
 
 -- only spaces were taken off the front of the text

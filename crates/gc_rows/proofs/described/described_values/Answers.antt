@@ -1,7 +1,4 @@
-use Rattle.std.proofs.Common.{subst, sym}
-use Rattle.gc_texts.specs.Descriptions.{description_seen}
-use Rattle.gc_texts.specs.KindLists.{AreOfKinds, IsKindsFault, kinds_seen}
-use Rattle.gc_rows.specs.DescribedCells.{answer_kinds}
+use Rattle.gc_rows.proofs.Common.{subst, sym, description_seen, AreOfKinds, IsKindsFault, kinds_seen, answer_kinds}
 use Rattle.gc_rows.proofs.ValueReading.{fault_not_read, of_kinds_read, same_kinds}
 use Rattle.gc_rows.proofs.described.described_values.Goals as goal
 

@@ -1,4 +1,4 @@
-use Rattle.std.proofs.Common.{length}
+use Rattle.gc_rows.proofs.Common.{length}
 use Rattle.gc_rows.proofs.json_line.+append_cells.Given as goal
 
 -- each call is for fewer cells

@@ -1,7 +1,4 @@
-use Rattle.std.proofs.Common.{◌≡◌, ◌+◌, ◌*◌, ◌≤◌, ◌++◌, take}
-use Rattle.std.specs.List.{flat_map}
-use Rattle.arrayvec.specs.ArrayVec.{array_vec_len}
-use Rattle.gc_rows.specs.JsonLines.{behind_backslash}
+use Rattle.gc_rows.proofs.Common.{◌≡◌, ◌+◌, ◌*◌, ◌≤◌, ◌++◌, take, flat_map, array_vec_len, behind_backslash}
 use Rattle.gc_rows.proofs.json_line.append_behind_backslashes.Given as goal
 
 -- the bytes so far were appended, each double quote and each backslash after a backslash

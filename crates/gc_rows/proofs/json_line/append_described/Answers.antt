@@ -1,11 +1,4 @@
-use Rattle.std.proofs.Common.{◌≡◌, ◌++◌, ◌∙◌, Some, None, rules, append-nil, map, ap, sym, arith}
-use Rattle.gc_texts.specs.Descriptions.{description_seen}
-use Rattle.gc_texts.specs.Fields.{field_seen}
-use Rattle.gc_rows.specs.Cells.{members_of}
-use Rattle.gc_rows.specs.DescribedCells.{answer_kinds, field_cells, field_cells_if}
-use Rattle.gc_rows.specs.Items.{items_of}
-use Rattle.gc_rows.specs.JsonLines.{members_text}
-use Rattle.gc_rows.specs.ValueReading.{values_read}
+use Rattle.gc_rows.proofs.Common.{◌≡◌, ◌++◌, ◌∙◌, Some, None, rules, append-nil, map, ap, sym, arith, description_seen, field_seen, members_of, answer_kinds, field_cells, field_cells_if, items_of, members_text, values_read}
 use Rattle.gc_rows.proofs.json_line.append_described.Goals as goal
 
 pub append_read-requires : goal.append_read-requires

@@ -1,14 +1,4 @@
-use Rattle.std.proofs.Common.{◌≡◌, ◌<◌, ◌≤◌, ◌+◌, ◌*◌, ◌++◌, ◌∷◌, ◌∙◌, [], rules, suc, append-nil, drop, get_or, length, map, take, ap, sym, arith, le_trans}
-use Rattle.std.specs.List.{drop-map}
-use Rattle.std.proofs.lemmas.List.{drop_all, drop_more, length-map}
-use Rattle.arrayvec.specs.ArrayVec.{array_vec_len}
-use Rattle.gc_values.specs.Params.{total_length}
-use Rattle.gc_values.proofs.ItemBytes.{total_length_front, total_length_next}
-use Rattle.gc_texts.specs.Fields.{field_seen}
-use Rattle.gc_rows.specs.declared.json_line.TheConstants.{OWN_ROOM, VALUES_ROOM}
-use Rattle.gc_rows.specs.Cells.{members_of}
-use Rattle.gc_rows.specs.DescribedCells.{field_cells}
-use Rattle.gc_rows.specs.JsonLines.{members_text, value_members}
+use Rattle.gc_rows.proofs.Common.{◌≡◌, ◌<◌, ◌≤◌, ◌+◌, ◌*◌, ◌++◌, ◌∷◌, ◌∙◌, [], rules, suc, append-nil, drop, get_or, length, map, take, ap, sym, arith, le_trans, drop-map, drop_all, drop_more, length-map, array_vec_len, total_length, total_length_front, total_length_next, field_seen, OWN_ROOM, VALUES_ROOM, members_of, field_cells, members_text, value_members}
 use Rattle.gc_rows.proofs.FieldMembers.{one_more_field}
 use Rattle.gc_rows.proofs.Items.{first_texts_within}
 use Rattle.gc_rows.proofs.json_line.append_fields.Goals as goal

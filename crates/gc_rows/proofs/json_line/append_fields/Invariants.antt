@@ -1,11 +1,4 @@
-use Rattle.std.proofs.Common.{◌≡◌, ◌+◌, ◌*◌, ◌≤◌, ◌++◌, drop, map, take}
-use Rattle.arrayvec.specs.ArrayVec.{array_vec_len}
-use Rattle.gc_values.specs.Params.{total_length}
-use Rattle.gc_texts.specs.Fields.{field_seen}
-use Rattle.gc_rows.specs.declared.json_line.TheConstants.{OWN_ROOM}
-use Rattle.gc_rows.specs.Cells.{members_of}
-use Rattle.gc_rows.specs.DescribedCells.{field_cells}
-use Rattle.gc_rows.specs.JsonLines.{members_text}
+use Rattle.gc_rows.proofs.Common.{◌≡◌, ◌+◌, ◌*◌, ◌≤◌, ◌++◌, drop, map, take, array_vec_len, total_length, field_seen, OWN_ROOM, members_of, field_cells, members_text}
 use Rattle.gc_rows.proofs.json_line.append_fields.Given as goal
 
 -- the members of the first values were appended, and those of the others make up all

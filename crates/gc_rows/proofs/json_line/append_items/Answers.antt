@@ -1,9 +1,4 @@
-use Rattle.std.proofs.Common.{rules, Err, ap, sym, arith, append-nil, ◌++◌, ◌∙◌}
-use Rattle.std.specs.Prelude.{codes}
-use Rattle.gc_rows.specs.Cells.{members_in}
-use Rattle.gc_rows.specs.Columns.{split_content}
-use Rattle.gc_rows.specs.JsonLines.{texts_member, members_text}
-use Rattle.gc_values.proofs.ItemBytes.{items_within_params}
+use Rattle.gc_rows.proofs.Common.{rules, Err, ap, sym, arith, append-nil, ◌++◌, ◌∙◌, codes, members_in, split_content, texts_member, members_text, items_within_params}
 use Rattle.gc_rows.proofs.Items.{refused_is_none, few_are_split}
 use Rattle.gc_rows.proofs.json_line.append_items.Goals as goal
 

@@ -1,13 +1,4 @@
-use Rattle.std.proofs.Common.{◌≡◌, ◌≤◌, ◌++◌, ◌∙◌, Some, None, Err, rules, length, map, ap, sym, arith}
-use Rattle.std.proofs.lemmas.List.{length-map}
-use Rattle.gc_values.specs.Params.{total_length}
-use Rattle.gc_values.proofs.ItemBytes.{items_within_params}
-use Rattle.gc_texts.specs.Descriptions.{description_seen}
-use Rattle.gc_texts.specs.Fields.{field_seen}
-use Rattle.gc_rows.specs.Cells.{members_of}
-use Rattle.gc_rows.specs.DescribedCells.{answer_kinds, field_cells}
-use Rattle.gc_rows.specs.JsonLines.{members_text}
-use Rattle.gc_rows.specs.ValueReading.{values_of_items, values_read}
+use Rattle.gc_rows.proofs.Common.{◌≡◌, ◌≤◌, ◌++◌, ◌∙◌, Some, None, Err, rules, length, map, ap, sym, arith, length-map, total_length, items_within_params, description_seen, field_seen, members_of, answer_kinds, field_cells, members_text, values_of_items, values_read}
 use Rattle.gc_rows.proofs.Items.{few_are_split, items_are_the_grammars, refused_is_none}
 use Rattle.gc_rows.proofs.ReadCounts.{read_counts}
 use Rattle.gc_rows.proofs.json_line.append_read.Goals as goal

@@ -1,11 +1,4 @@
-use Rattle.std.proofs.Common.{rules, suc, ◌≡◌, ◌≤◌, ◌<◌, ◌+◌, ◌*◌, ◌++◌, length, get_or, take, drop, [], ap, arith, le_trans, ◌∙◌}
-use Rattle.std.specs.Prelude.{nat_lt}
-use Rattle.std.proofs.lemmas.Bool.{lt-ltb}
-use Rattle.arrayvec.specs.ArrayVec.{array_vec_len}
-use Rattle.gc_rows.specs.declared.json_line.TheConstants.{STRINGS_ROOM}
-use Rattle.gc_rows.specs.JsonLines.{string_text, strings_text}
-use Rattle.gc_values.specs.Params.{total_length}
-use Rattle.gc_values.proofs.ItemBytes.{total_length_next}
+use Rattle.gc_rows.proofs.Common.{rules, suc, ◌≡◌, ◌≤◌, ◌<◌, ◌+◌, ◌*◌, ◌++◌, length, get_or, take, drop, [], ap, arith, le_trans, ◌∙◌, nat_lt, lt-ltb, array_vec_len, STRINGS_ROOM, string_text, strings_text, total_length, total_length_next}
 use Rattle.gc_rows.proofs.Items.{first_texts_within}
 use Rattle.gc_rows.proofs.JsonLines.{strings_next}
 use Rattle.gc_rows.proofs.json_line.append_strings.Goals as goal

@@ -1,8 +1,4 @@
-use Rattle.std.proofs.Common.{◌≡◌, ◌+◌, ◌*◌, ◌≤◌, ◌++◌, false, take, drop}
-use Rattle.std.specs.Prelude.{nat_lt}
-use Rattle.arrayvec.specs.ArrayVec.{array_vec_len}
-use Rattle.gc_values.specs.Params.{total_length}
-use Rattle.gc_rows.specs.JsonLines.{strings_text}
+use Rattle.gc_rows.proofs.Common.{◌≡◌, ◌+◌, ◌*◌, ◌≤◌, ◌++◌, false, take, drop, nat_lt, array_vec_len, total_length, strings_text}
 use Rattle.gc_rows.proofs.json_line.append_strings.Given as goal
 
 -- the strings of the first k texts were appended, and those of the others make up all strings

@@ -1,8 +1,4 @@
-use Rattle.std.proofs.Common.{◌≡◌, ℕ, ◌+◌, ◌*◌, ◌≤◌, List, length, ap, rules, arith}
-use Rattle.std.proofs.lemmas.Grind.{common_steps}
-use Rattle.arrayvec.specs.ArrayVec.{array_vec_len}
-use Rattle.gc_texts.specs.Cuts.{before, behind}
-use Rattle.gc_rows.specs.declared.json_line.TheConstants.{OWN_ROOM}
+use Rattle.gc_rows.proofs.Common.{◌≡◌, ℕ, ◌+◌, ◌*◌, ◌≤◌, List, length, ap, rules, arith, common_steps, array_vec_len, before, behind, OWN_ROOM}
 use Rattle.gc_rows.proofs.Halves.{parts_short}
 use Rattle.gc_rows.proofs.json_line.append_values.Goals as goal
 

@@ -1,9 +1,4 @@
-use Rattle.std.proofs.Common.{◌≡◌, ◌+◌, ◌*◌, ◌≤◌, ◌++◌, drop, length}
-use Rattle.arrayvec.specs.ArrayVec.{array_vec_len}
-use Rattle.gc_rows.specs.declared.json_line.TheConstants.{OWN_ROOM}
-use Rattle.gc_rows.specs.Cells.{members_of}
-use Rattle.gc_rows.specs.Columns.{value_cells}
-use Rattle.gc_rows.specs.JsonLines.{members_text}
+use Rattle.gc_rows.proofs.Common.{◌≡◌, ◌+◌, ◌*◌, ◌≤◌, ◌++◌, drop, length, array_vec_len, OWN_ROOM, members_of, value_cells, members_text}
 use Rattle.gc_rows.proofs.json_line.append_values.Given as goal
 
 -- the members of the values so far were appended, and those of the others, from this column and the rest of `came` on, make up

@@ -1,9 +1,4 @@
-use Rattle.std.proofs.Common.{◌≡◌, ◌++◌, ap, rules, sym, ◌∙◌}
-use Rattle.std.specs.Prelude.{codes}
-use Rattle.gc_texts.specs.Stamps.{stamp_text}
-use Rattle.gc_rows.specs.Cells.{members_in, members_of}
-use Rattle.gc_rows.specs.Columns.{cells_in, entry_seen, first_columns, item_content, last_columns, quantity_cells}
-use Rattle.gc_rows.specs.JsonLines.{member_text, members_text, string_text}
+use Rattle.gc_rows.proofs.Common.{◌≡◌, ◌++◌, ap, rules, sym, ◌∙◌, codes, stamp_text, members_in, members_of, cells_in, entry_seen, first_columns, item_content, last_columns, quantity_cells, member_text, members_text, string_text}
 use Rattle.gc_rows.proofs.Rows.{three_written}
 use Rattle.gc_rows.proofs.Spreading.{members_apart}
 use Rattle.gc_rows.proofs.json_line.json_line.Goals as goal

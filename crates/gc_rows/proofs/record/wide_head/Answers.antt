@@ -1,7 +1,4 @@
-use Rattle.std.proofs.Common.{◌≡◌, ◌++◌, ◌∙◌, List, ℕ, map, ap, refl, rules}
-use Rattle.std.specs.Prelude.{codes}
-use Rattle.gc_rows.specs.Quantities.{quantity_names}
-use Rattle.gc_rows.specs.Rows.{field_text, fields_behind_commas}
+use Rattle.gc_rows.proofs.Common.{◌≡◌, ◌++◌, ◌∙◌, List, ℕ, map, ap, refl, rules, codes, quantity_names, field_text, fields_behind_commas}
 use Rattle.gc_rows.proofs.Heads.{first_behind_run, last_names, wide_row}
 use Rattle.gc_rows.proofs.NamedFields.{names_written}
 use Rattle.gc_rows.proofs.record.wide_head.Goals as goal

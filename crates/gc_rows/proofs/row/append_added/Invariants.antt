@@ -1,10 +1,4 @@
-use Rattle.std.proofs.Common.{◌≡◌, ◌+◌, ◌*◌, ◌≤◌, ◌++◌, map, take}
-use Rattle.std.specs.List.{flat_map}
-use Rattle.arrayvec.specs.ArrayVec.{array_vec_len}
-use Rattle.gc_texts.specs.Fields.{field_seen}
-use Rattle.gc_rows.specs.NamedFields.{text_under}
-use Rattle.gc_rows.specs.Rows.{behind_comma}
-use Rattle.gc_rows.specs.declared.row.TheConstants.{VALUE_ROOM}
+use Rattle.gc_rows.proofs.Common.{◌≡◌, ◌+◌, ◌*◌, ◌≤◌, ◌++◌, map, take, flat_map, array_vec_len, field_seen, text_under, behind_comma, VALUE_ROOM}
 use Rattle.gc_rows.proofs.row.append_added.Given as goal
 
 -- the fields under the names so far were appended

@@ -1,6 +1,4 @@
-use Rattle.std.proofs.Common.{◌++◌, ap, ◌∙◌}
-use Rattle.std.proofs.lemmas.List.{take-replicate}
-use Rattle.gc_rows.specs.declared.row.TheConstants.{MOST_QUANTITIES}
+use Rattle.gc_rows.proofs.Common.{◌++◌, ap, ◌∙◌, take-replicate, MOST_QUANTITIES}
 use Rattle.gc_rows.proofs.row.append_blanks.Goals as goal
 
 pub returns-clause-text : goal.returns-clause-text

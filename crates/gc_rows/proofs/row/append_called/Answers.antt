@@ -1,6 +1,4 @@
-use Rattle.std.proofs.Common.{◌++◌, [], ap, append_assoc, replicate, rules, sym, ◌∙◌}
-use Rattle.std.proofs.lemmas.Grind.{flat_map-append}
-use Rattle.gc_rows.specs.Rows.{answer_columns, behind_comma, fields_behind_commas}
+use Rattle.gc_rows.proofs.Common.{◌++◌, [], ap, append_assoc, replicate, rules, sym, ◌∙◌, flat_map-append, answer_columns, behind_comma, fields_behind_commas}
 use Rattle.gc_rows.proofs.Rows.{blanks_text}
 use Rattle.gc_rows.proofs.row.append_called.Goals as goal
 

@@ -1,13 +1,4 @@
-use Rattle.std.proofs.Common.{◌≡◌, ◌++◌, Some, None, ap, map, rules, ◌∙◌}
-use Rattle.std.proofs.lemmas.List.{length-map}
-use Rattle.gc_texts.specs.Descriptions.{description_seen}
-use Rattle.gc_texts.specs.Fields.{field_seen}
-use Rattle.gc_rows.specs.DescribedCells.{answer_kinds, field_cells_if}
-use Rattle.gc_rows.specs.Items.{items_of}
-use Rattle.gc_rows.specs.NamedFields.{named_fields, text_under}
-use Rattle.gc_rows.specs.Quantities.{quantity_names}
-use Rattle.gc_rows.specs.Rows.{fields_behind_commas}
-use Rattle.gc_rows.specs.ValueReading.{values_read}
+use Rattle.gc_rows.proofs.Common.{◌≡◌, ◌++◌, Some, None, ap, map, rules, ◌∙◌, length-map, description_seen, field_seen, answer_kinds, field_cells_if, items_of, named_fields, text_under, quantity_names, fields_behind_commas, values_read}
 use Rattle.gc_rows.proofs.NamedFields.{all_empty, texts_found}
 use Rattle.gc_rows.proofs.row.append_described.Goals as goal
 

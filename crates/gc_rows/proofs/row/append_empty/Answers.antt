@@ -1,5 +1,4 @@
-use Rattle.std.proofs.Common.{◌+◌, ◌++◌, ap, rules, sym, ◌∙◌}
-use Rattle.gc_rows.specs.declared.quantity.TheConstants.{QUANTITIES}
+use Rattle.gc_rows.proofs.Common.{◌+◌, ◌++◌, ap, rules, sym, ◌∙◌, QUANTITIES}
 use Rattle.gc_rows.proofs.Rows.{blanks_text}
 use Rattle.gc_rows.proofs.row.append_empty.Goals as goal
 

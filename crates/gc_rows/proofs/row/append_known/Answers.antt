@@ -1,8 +1,4 @@
-use Rattle.std.proofs.Common.{◌<◌, ◌++◌, ap, map, rules, ◌∙◌}
-use Rattle.gc_texts.specs.Fields.{field_seen}
-use Rattle.gc_rows.specs.NamedFields.{text_under}
-use Rattle.gc_rows.specs.Quantities.{quantity_names}
-use Rattle.gc_rows.specs.Rows.{behind_comma, fields_behind_commas}
+use Rattle.gc_rows.proofs.Common.{◌<◌, ◌++◌, ap, map, rules, ◌∙◌, field_seen, text_under, quantity_names, behind_comma, fields_behind_commas}
 use Rattle.gc_rows.proofs.NamedFields.{one_more_known}
 use Rattle.gc_rows.proofs.row.append_known.Goals as goal
 

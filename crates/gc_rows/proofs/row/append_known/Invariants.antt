@@ -1,10 +1,4 @@
-use Rattle.std.proofs.Common.{◌≡◌, ◌+◌, ◌*◌, ◌≤◌, ◌++◌, drop, map}
-use Rattle.arrayvec.specs.ArrayVec.{array_vec_len}
-use Rattle.gc_texts.specs.Fields.{field_seen}
-use Rattle.gc_rows.specs.NamedFields.{text_under}
-use Rattle.gc_rows.specs.Quantities.{quantity_names}
-use Rattle.gc_rows.specs.Rows.{fields_behind_commas}
-use Rattle.gc_rows.specs.declared.row.TheConstants.{VALUE_ROOM}
+use Rattle.gc_rows.proofs.Common.{◌≡◌, ◌+◌, ◌*◌, ◌≤◌, ◌++◌, drop, map, array_vec_len, field_seen, text_under, quantity_names, fields_behind_commas, VALUE_ROOM}
 use Rattle.gc_rows.proofs.row.append_known.Given as goal
 
 -- the fields under the first names were appended, and those under the others make up all

@@ -1,10 +1,4 @@
-use Rattle.std.proofs.Common.{◌++◌, ap, append_assoc, map, rules, sym, ◌∙◌}
-use Rattle.std.proofs.lemmas.Grind.{flat_map-append}
-use Rattle.std.proofs.lemmas.List.{map-append}
-use Rattle.gc_texts.specs.Fields.{field_seen}
-use Rattle.gc_rows.specs.NamedFields.{text_under}
-use Rattle.gc_rows.specs.Quantities.{quantity_names}
-use Rattle.gc_rows.specs.Rows.{behind_comma, fields_behind_commas}
+use Rattle.gc_rows.proofs.Common.{◌++◌, ap, append_assoc, map, rules, sym, ◌∙◌, flat_map-append, map-append, field_seen, text_under, quantity_names, behind_comma, fields_behind_commas}
 use Rattle.gc_rows.proofs.NamedFields.{fields_written}
 use Rattle.gc_rows.proofs.row.append_named.Goals as goal
 

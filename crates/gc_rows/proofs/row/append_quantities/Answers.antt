@@ -1,8 +1,4 @@
-use Rattle.std.proofs.Common.{◌≡◌, ◌++◌, ◌∙◌, Some, None, ap, rules}
-use Rattle.std.proofs.lemmas.List.{length-map}
-use Rattle.gc_texts.specs.Endings.{ending_seen, line_of}
-use Rattle.gc_rows.specs.Columns.{counted_answer, entry_seen}
-use Rattle.gc_rows.specs.Rows.{fields_behind_commas}
+use Rattle.gc_rows.proofs.Common.{◌≡◌, ◌++◌, ◌∙◌, Some, None, ap, rules, length-map, ending_seen, line_of, counted_answer, entry_seen, fields_behind_commas}
 use Rattle.gc_rows.proofs.NamedFields.{answered_fields, unanswered_fields}
 use Rattle.gc_rows.proofs.row.append_quantities.Goals as goal
 

@@ -1,10 +1,4 @@
-use Rattle.std.proofs.Common.{◌++◌, ◌∙◌, ap, map, option_map, sym}
-use Rattle.std.proofs.lemmas.List.{length-map}
-use Rattle.gc_texts.specs.Descriptions.{description_seen}
-use Rattle.gc_rows.specs.DescribedCells.{cells_of_values}
-use Rattle.gc_rows.specs.NamedFields.{named_fields}
-use Rattle.gc_rows.specs.Quantities.{quantity_names}
-use Rattle.gc_rows.specs.Rows.{fields_behind_commas, values_of}
+use Rattle.gc_rows.proofs.Common.{◌++◌, ◌∙◌, ap, map, option_map, sym, length-map, description_seen, cells_of_values, named_fields, quantity_names, fields_behind_commas, values_of}
 use Rattle.gc_rows.proofs.NamedFields.{all_empty}
 use Rattle.gc_rows.proofs.row.append_raw.Goals as goal
 

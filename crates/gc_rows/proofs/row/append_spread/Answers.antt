@@ -1,7 +1,4 @@
-use Rattle.std.proofs.Common.{◌≡◌, ◌++◌, ◌-◌, ap, rules, length, replicate, ◌∙◌}
-use Rattle.std.specs.List.{flat_map}
-use Rattle.gc_rows.specs.declared.quantity.TheConstants.{QUANTITIES}
-use Rattle.gc_rows.specs.Rows.{value_behind_comma}
+use Rattle.gc_rows.proofs.Common.{◌≡◌, ◌++◌, ◌-◌, ap, rules, length, replicate, ◌∙◌, flat_map, QUANTITIES, value_behind_comma}
 use Rattle.gc_rows.proofs.Rows.{spread_text}
 use Rattle.gc_rows.proofs.row.append_spread.Goals as goal
 

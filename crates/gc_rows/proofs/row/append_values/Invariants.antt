@@ -1,8 +1,4 @@
-use Rattle.std.proofs.Common.{◌≡◌, ◌+◌, ◌*◌, ◌≤◌, ◌++◌, take}
-use Rattle.std.specs.List.{flat_map}
-use Rattle.arrayvec.specs.ArrayVec.{array_vec_len}
-use Rattle.gc_rows.specs.declared.row.TheConstants.{VALUE_ROOM}
-use Rattle.gc_rows.specs.Rows.{value_behind_comma}
+use Rattle.gc_rows.proofs.Common.{◌≡◌, ◌+◌, ◌*◌, ◌≤◌, ◌++◌, take, flat_map, array_vec_len, VALUE_ROOM, value_behind_comma}
 use Rattle.gc_rows.proofs.row.append_values.Given as goal
 
 -- the values so far were appended, each as a field after a comma

@@ -1,10 +1,4 @@
-use Rattle.std.proofs.Common.{◌++◌, ap, rules, sym, ◌∙◌}
-use Rattle.std.specs.Prelude.{codes}
-use Rattle.gc_texts.specs.Stamps.{stamp_text}
-use Rattle.gc_rows.specs.Cells.{fields_of}
-use Rattle.gc_rows.specs.Columns.{cells_in, entry_seen, first_columns, last_columns}
-use Rattle.gc_rows.specs.NamedFields.{quantity_fields}
-use Rattle.gc_rows.specs.Rows.{field_text, behind_comma, fields_behind_commas, row_of}
+use Rattle.gc_rows.proofs.Common.{◌++◌, ap, rules, sym, ◌∙◌, codes, stamp_text, fields_of, cells_in, entry_seen, first_columns, last_columns, quantity_fields, field_text, behind_comma, fields_behind_commas, row_of}
 use Rattle.gc_rows.proofs.Rows.{three_written}
 use Rattle.gc_rows.proofs.Spreading.{fields_apart}
 use Rattle.gc_rows.proofs.row.csv_row.Goals as goal

@@ -1,7 +1,4 @@
-use Rattle.std.proofs.Common.{◌≡◌, subst}
-use Rattle.gc_catalogue.specs.declared.answer.Answer.TheVariants.{Nothing}
-use Rattle.gc_catalogue.specs.declared.call.Call.{Call}
-use Rattle.gc_instrument.specs.Execution.{Executed, exec}
+use Rattle.gc_scenes.proofs.Common.{◌≡◌, subst, Nothing, Call, Executed, exec}
 use Rattle.gc_scenes.proofs.Acted.{change_face_outcome, simple_mea_outcome, get_date_outcome}
 use Rattle.gc_scenes.proofs.acting.act_faceless.Goals as goal
 

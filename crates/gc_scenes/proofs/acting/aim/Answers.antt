@@ -1,9 +1,4 @@
-use Rattle.std.proofs.Common.{sym, ap, ◌∙◌}
-use Rattle.gc_catalogue.specs.declared.answer.Answer.TheVariants.{Nothing}
-use Rattle.gc_instrument.specs.Execution.{adjusted, done, pointed, refused}
-use Rattle.gc_instrument.specs.State.{State}
-use Rattle.gc_instrument.specs.declared.pointing.Pointing.{Pointing}
-use Rattle.gc_scenes.specs.Ways.{nearest}
+use Rattle.gc_scenes.proofs.Common.{sym, ap, ◌∙◌, Nothing, adjusted, done, pointed, refused, State, Pointing, nearest}
 use Rattle.gc_scenes.proofs.acting.aim.Goals as goal
 
 pub returns-in-Some : goal.returns-in-Some

@@ -1,10 +1,4 @@
-use Rattle.std.proofs.Common.{sym, ap, ◌∙◌}
-use Rattle.gc_values.specs.declared.decimal.Decimal.{Decimal}
-use Rattle.gc_catalogue.specs.declared.answer.Answer.TheVariants.{Nothing}
-use Rattle.gc_instrument.specs.Execution.{done, pointed}
-use Rattle.gc_instrument.specs.State.{State}
-use Rattle.gc_instrument.specs.declared.pointing.Pointing.{Pointing}
-use Rattle.gc_scenes.specs.Ways.{other_hz, other_v}
+use Rattle.gc_scenes.proofs.Common.{sym, ap, ◌∙◌, Decimal, Nothing, done, pointed, State, Pointing, other_hz, other_v}
 use Rattle.gc_scenes.proofs.acting.turn_over.Goals as goal
 
 pub returns : goal.returns

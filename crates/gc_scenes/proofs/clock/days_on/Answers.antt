@@ -1,4 +1,4 @@
-use Rattle.std.proofs.Common.{arith}
+use Rattle.gc_scenes.proofs.Common.{arith}
 use Rattle.gc_scenes.proofs.Days.{one_day_later}
 use Rattle.gc_scenes.proofs.clock.days_on.Goals as goal
 

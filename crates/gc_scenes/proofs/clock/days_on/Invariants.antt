@@ -1,5 +1,4 @@
-use Rattle.std.proofs.Common.{◌≡◌, ◌≤◌}
-use Rattle.gc_scenes.specs.Clocks.{days_on}
+use Rattle.gc_scenes.proofs.Common.{◌≡◌, ◌≤◌, days_on}
 use Rattle.gc_scenes.proofs.clock.days_on.Given as goal
 
 -- `day` is the date as many days later as have passed, and no more have passed than `days`

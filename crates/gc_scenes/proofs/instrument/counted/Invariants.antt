@@ -1,5 +1,4 @@
-use Rattle.std.proofs.Common.{◌≡◌, ◌++◌, ◌≤◌, drop, length}
-use Rattle.gc_scenes.specs.Rules.{counted}
+use Rattle.gc_scenes.proofs.Common.{◌≡◌, ◌++◌, ◌≤◌, drop, length, counted}
 use Rattle.gc_scenes.proofs.instrument.counted.Given as goal
 
 -- the faults counted so far, and those that are left, counted, are all faults, counted; and there are at most as many as were

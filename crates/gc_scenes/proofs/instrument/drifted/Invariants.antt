@@ -1,5 +1,4 @@
-use Rattle.std.proofs.Common.{◌≡◌, ◌++◌, ◌≤◌, drop, length}
-use Rattle.gc_scenes.specs.Rules.{drifted}
+use Rattle.gc_scenes.proofs.Common.{◌≡◌, ◌++◌, ◌≤◌, drop, length, drifted}
 use Rattle.gc_scenes.proofs.instrument.drifted.Given as goal
 
 -- the targets moved so far, and those that are left, moved, are all targets, moved; and there are at most as many as were

@@ -1,5 +1,4 @@
-use Rattle.std.proofs.Common.{◌≡◌, ◌++◌, ◌≤◌, drop, length}
-use Rattle.gc_scenes.specs.Rules.{seen}
+use Rattle.gc_scenes.proofs.Common.{◌≡◌, ◌++◌, ◌≤◌, drop, length, seen}
 use Rattle.gc_scenes.proofs.instrument.seen.Given as goal
 
 -- the targets seen so far, and those seen among the ones that are left, are all that are seen; and there are at most as many as

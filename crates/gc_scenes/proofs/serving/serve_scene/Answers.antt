@@ -1,4 +1,4 @@
-use Rattle.std.proofs.Common.{refl}
+use Rattle.gc_scenes.proofs.Common.{refl}
 use Rattle.gc_scenes.proofs.serving.serve_scene.Goals as goal
 
 pub returns : goal.returns

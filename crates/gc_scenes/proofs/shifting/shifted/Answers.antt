@@ -1,5 +1,4 @@
-use Rattle.std.proofs.Common.{refl, lit≤}
-use Rattle.std.proofs.lemmas.Bool.{false≢true}
+use Rattle.gc_scenes.proofs.Common.{refl, lit≤, false≢true}
 use Rattle.gc_scenes.proofs.Shifts.{sum_is, shifted_made, shifted_kept}
 use Rattle.gc_scenes.proofs.shifting.shifted.Goals as goal
 

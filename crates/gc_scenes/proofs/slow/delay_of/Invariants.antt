@@ -1,6 +1,4 @@
-use Rattle.std.proofs.Common.{◌≡◌, drop}
-use Rattle.std.specs.Prelude.{fold}
-use Rattle.gc_scenes.specs.Slow.{delay_of, delayed}
+use Rattle.gc_scenes.proofs.Common.{◌≡◌, drop, fold, delay_of, delayed}
 use Rattle.gc_scenes.proofs.slow.delay_of.Given as goal
 
 -- the delays that are left make of `ms` what all delays make of 0

@@ -1,7 +1,5 @@
-use Rattle.std.proofs.Common.{◌≡◌, Option, Some, None, is_some, option_map, refl, ap, rules, tests, ◌∙◌}
-use Rattle.std.proofs.lemmas.Iterator.{YieldsList-from_slice}
-use Rattle.std.proofs.lemmas.Iterator.Search.{find_from_yields_List}
-use Rattle.gc_scenes.specs.Rules.{is_due}
+use Rattle.gc_scenes.proofs.Common.{◌≡◌, Option, Some, None, is_some, refl, ap, rules, tests, ◌∙◌, YieldsList-from_slice, find_from_yields_List, is_due}
+use Rattle.std.proofs.Common.{option_map}
 use Rattle.gc_scenes.proofs.starting.is_start_due.Goals as goal
 
 -- whether there is a value stays the same where a function is applied to it

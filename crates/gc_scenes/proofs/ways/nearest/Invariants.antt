@@ -1,5 +1,4 @@
-use Rattle.std.proofs.Common.{◌≡◌, drop, None}
-use Rattle.gc_scenes.specs.Ways.{nearest_of}
+use Rattle.gc_scenes.proofs.Common.{◌≡◌, drop, None, nearest_of}
 use Rattle.gc_scenes.proofs.ways.nearest.Given as goal
 
 -- the nearest of the target found so far and those that are left is the nearest of all

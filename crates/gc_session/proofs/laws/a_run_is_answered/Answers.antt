@@ -1,5 +1,5 @@
-use Rattle.std.proofs.Common.{refl}
-use Rattle.gc_lines.specs.Readers.{reply_at, header_at}
+use Rattle.gc_session.proofs.Common.{refl}
+use Rattle.gc_lines.specs.Prelude.{reply_at, header_at}
 use Rattle.gc_session.specs.Witness.{ARunIsAnswered}
 use Rattle.gc_session.proofs.laws.a_run_is_answered.Goals as goal
 

@@ -1,7 +1,4 @@
-use Rattle.std.proofs.Common.{ℕ, List, sym, subst}
-use Rattle.gc_lines.specs.Replies.{ReplyFields, IsReply, reply_seen}
-use Rattle.gc_lines.proofs.Replies.{one_reply}
-use Rattle.gc_station.specs.Saying.{IsSaidInForm}
+use Rattle.gc_station.proofs.Common.{ℕ, List, sym, subst, ReplyFields, IsReply, reply_seen, one_reply, IsSaidInForm}
 use Rattle.gc_station.proofs.described.line_reading.Goals as goal
 
 pub returns-in-Ok : goal.returns-in-Ok

@@ -1,5 +1,4 @@
-use Rattle.std.proofs.Common.{ℕ, List, Some, sym, subst}
-use Rattle.gc_lines.specs.Replies.{IsReply, reply_seen}
+use Rattle.gc_station.proofs.Common.{ℕ, List, Some, sym, subst, IsReply, reply_seen}
 use Rattle.gc_station.proofs.Saying.{zero_said}
 use Rattle.gc_station.proofs.described.line_reading_as_zero.Goals as goal
 

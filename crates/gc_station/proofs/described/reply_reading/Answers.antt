@@ -1,4 +1,4 @@
-use Rattle.gc_lines.specs.Replies.{reply_seen}
+use Rattle.gc_station.proofs.Common.{reply_seen}
 use Rattle.gc_station.proofs.Saying.{codes_are_zero}
 use Rattle.gc_station.proofs.described.reply_reading.Goals as goal
 

@@ -1,7 +1,4 @@
-use Rattle.std.proofs.Common.{subst}
-use Rattle.gc_links.specs.Acts.{Act}
-use Rattle.gc_station.specs.Model.{opening, action_at, Performs}
-use Rattle.gc_station.specs.Runs.{state_after}
+use Rattle.gc_station.proofs.Common.{subst, Act, opening, action_at, Performs, state_after}
 use Rattle.gc_station.proofs.Closings.{runs_split, closed_for}
 use Rattle.gc_station.proofs.laws.closes_for_a_cause.Goals as goal
 

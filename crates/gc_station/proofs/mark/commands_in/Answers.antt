@@ -1,7 +1,7 @@
-use Rattle.std.proofs.Common.{true, false, sym, ◌∙◌, arith}
+use Rattle.gc_station.proofs.Common.{true, false, sym, ◌∙◌, arith}
 use Rattle.gc_station.proofs.Records.{commands_more, is_command_there}
-use Rattle.gc_station.proofs.mark.commands_in.Goals as goal
 use Rattle.gc_station.proofs.mark.commands_in.Goals.{then-is_some, else-is_some}
+use Rattle.gc_station.proofs.mark.commands_in.Goals as goal
 
 pub loop-mark-preserved : goal.loop-mark-preserved
 loop-mark-preserved c =

@@ -1,5 +1,4 @@
-use Rattle.std.proofs.Common.{◌≡◌, ◌≤◌, take}
-use Rattle.gc_station.specs.Marks.{commands_in}
+use Rattle.gc_station.proofs.Common.{◌≡◌, ◌≤◌, take, commands_in}
 use Rattle.gc_station.proofs.mark.commands_in.Given as goal
 
 -- `commands` is how many of the marks before this one are of commands

@@ -1,11 +1,4 @@
-use Rattle.std.proofs.Common.{◌≡◌, inl, inr, refl, ap, sym, ◌∙◌, arith}
-use Rattle.gc_station.specs.Tallies.{total}
-use Rattle.gc_station.specs.declared.progress.Progress.{Progress}
-use Rattle.gc_station.specs.Keeping.{reads_clock_alone}
-use Rattle.gc_station.specs.Runs.{state_after}
-use Rattle.gc_station.specs.Scopes.{Scope, Reads}
-use Rattle.gc_station.specs.Model.{opening}
-use Rattle.gc_station.specs.Watching.{places_of}
+use Rattle.gc_station.proofs.Common.{◌≡◌, inl, inr, refl, ap, sym, ◌∙◌, arith, total, Progress, reads_clock_alone, state_after, Scope, Reads, opening, places_of}
 use Rattle.gc_station.proofs.Readings.{reads_as_in_scope, same_readings, some_readings}
 use Rattle.gc_station.proofs.Going.{on_call, went_nothing, kept_same, went_kept, fails_at_sync, went_on, fails_at_record, went_nearer, has_model_on}
 use Rattle.gc_station.proofs.Noting.{noted_nothing, noted_kept, noted_on, noted_end, noted_closed, noted_refused}

@@ -1,6 +1,4 @@
-use Rattle.std.proofs.Common.{◌≡◌, ◌≤◌, ◌-◌, length}
-use Rattle.gc_station.specs.Scopes.{AreReadings, Reads}
-use Rattle.gc_station.specs.Watching.{places_of}
+use Rattle.gc_station.proofs.Common.{◌≡◌, ◌≤◌, ◌-◌, length, AreReadings, Reads, places_of}
 use Rattle.gc_station.proofs.Going.{Went, HasModel}
 use Rattle.gc_station.proofs.Noting.{Noted}
 use Rattle.gc_station.proofs.Turns.{left_to_do}

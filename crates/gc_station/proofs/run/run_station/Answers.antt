@@ -1,4 +1,4 @@
-use Rattle.std.proofs.Common.{sym, ◌∙◌}
+use Rattle.gc_station.proofs.Common.{sym, ◌∙◌}
 use Rattle.gc_station.proofs.Faulty.{failed_with_its_fault}
 use Rattle.gc_station.proofs.Noting.{faulty_keeps}
 use Rattle.gc_station.proofs.Readings.{for_readings}

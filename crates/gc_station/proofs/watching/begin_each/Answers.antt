@@ -1,5 +1,4 @@
-use Rattle.gc_station.specs.Watching.{unanswered}
-use Rattle.gc_station.specs.declared.watching.Watch.{Watch}
+use Rattle.gc_station.proofs.Common.{unanswered, Watch}
 use Rattle.gc_station.proofs.Freshness.{next_is_mapped}
 use Rattle.gc_station.proofs.watching.begin_each.Goals as goal
 

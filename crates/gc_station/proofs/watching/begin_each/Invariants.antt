@@ -1,6 +1,4 @@
-use Rattle.std.proofs.Common.{◌≡◌}
-use Rattle.gc_station.specs.Watching.{unanswered}
-use Rattle.gc_station.specs.declared.watching.Watch.{Watch}
+use Rattle.gc_station.proofs.Common.{◌≡◌, unanswered, Watch}
 use Rattle.gc_station.proofs.Freshness.{first_mapped}
 use Rattle.gc_station.proofs.watching.begin_each.Given as goal
 

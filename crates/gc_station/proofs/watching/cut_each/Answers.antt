@@ -1,4 +1,4 @@
-use Rattle.gc_station.specs.Watching.{cut_to}
+use Rattle.gc_station.proofs.Common.{cut_to}
 use Rattle.gc_station.proofs.Freshness.{next_is_mapped}
 use Rattle.gc_station.proofs.watching.cut_each.Goals as goal
 

@@ -1,5 +1,4 @@
-use Rattle.std.proofs.Common.{◌≡◌}
-use Rattle.gc_station.specs.Watching.{cut_to}
+use Rattle.gc_station.proofs.Common.{◌≡◌, cut_to}
 use Rattle.gc_station.proofs.Freshness.{first_mapped}
 use Rattle.gc_station.proofs.watching.cut_each.Given as goal
 

@@ -1,5 +1,4 @@
-use Rattle.std.proofs.Common.{◌≡◌, take}
-use Rattle.gc_station.specs.Watching.{oldest}
+use Rattle.gc_station.proofs.Common.{◌≡◌, take, oldest}
 use Rattle.gc_station.proofs.watching.oldest_of.Given as goal
 
 -- of the watched commands before this one `found` was answered well the longest ago

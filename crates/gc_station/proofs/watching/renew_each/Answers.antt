@@ -1,6 +1,4 @@
-use Rattle.std.proofs.Common.{◌==◌}
-use Rattle.gc_station.specs.Watching.{renewed_if}
-use Rattle.gc_station.specs.declared.watching.Watch.{Watch}
+use Rattle.gc_station.proofs.Common.{◌==◌, renewed_if, Watch}
 use Rattle.gc_station.proofs.Freshness.{next_is_mapped}
 use Rattle.gc_station.proofs.watching.renew_each.Goals as goal
 

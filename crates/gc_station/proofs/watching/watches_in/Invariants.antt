@@ -1,5 +1,4 @@
-use Rattle.std.proofs.Common.{◌≡◌, map, take}
-use Rattle.gc_station.specs.Watching.{unanswered, watched_in}
+use Rattle.gc_station.proofs.Common.{◌≡◌, map, take, unanswered, watched_in}
 use Rattle.gc_station.proofs.watching.watches_in.Given as goal
 
 -- the watched ones of the tasks before this one were appended

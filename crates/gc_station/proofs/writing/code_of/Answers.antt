@@ -1,8 +1,5 @@
-use Rattle.std.proofs.Common.{None, sym, ap, subst, ◌∙◌}
-use Rattle.gc_catalogue.specs.Asked.{IsAskedReading}
-use Rattle.gc_client.specs.Settlements.{IsReadBy, outcome_seen}
-use Rattle.gc_client.specs.declared.settlement.Outcome.{Outcome}
-use Rattle.gc_station.specs.Attempts.{code_in, code_of}
+use Rattle.gc_station.proofs.Common.{None, sym, ap, subst, ◌∙◌, IsAskedReading, outcome_seen, Outcome, code_in, code_of}
+use Rattle.gc_client.specs.Prelude.{IsReadBy}
 use Rattle.gc_station.proofs.writing.code_of.Goals as goal
 
 pub returns-in-Answered : goal.returns-in-Answered

@@ -1,9 +1,5 @@
-use Rattle.std.proofs.Common.{sym, ap, subst, ◌∙◌}
-use Rattle.gc_catalogue.specs.Asked.{IsAskedReading}
-use Rattle.gc_client.specs.Settlements.{IsReadBy, outcome_seen}
-use Rattle.gc_client.specs.declared.settlement.Outcome.{Outcome}
-use Rattle.gc_station.specs.Marks.{answer_as, end_of}
-use Rattle.gc_station.specs.Zeros.{IsByForm, IsZeroOf}
+use Rattle.gc_station.proofs.Common.{sym, ap, subst, ◌∙◌, IsAskedReading, outcome_seen, Outcome, answer_as, end_of, IsByForm, IsZeroOf}
+use Rattle.gc_client.specs.Prelude.{IsReadBy}
 use Rattle.gc_station.proofs.Saying.{answer_ends}
 use Rattle.gc_station.proofs.writing.ending_of.Goals as goal
 

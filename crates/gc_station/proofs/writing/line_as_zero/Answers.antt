@@ -1,8 +1,4 @@
-use Rattle.std.proofs.Common.{Option, sym, subst}
-use Rattle.gc_client.specs.Settlements.{ReadsBy}
-use Rattle.gc_texts.specs.Zeroed.{as_zero}
-use Rattle.gc_texts.specs.declared.form.Form.{Form}
-use Rattle.gc_station.specs.Saying.{IsSaid}
+use Rattle.gc_station.proofs.Common.{Option, sym, subst, ReadsBy, as_zero, Form, IsSaid}
 use Rattle.gc_station.proofs.writing.line_as_zero.Goals as goal
 
 pub returns-in-Some : goal.returns-in-Some

@@ -1,11 +1,4 @@
-use Rattle.std.proofs.Common.{◌≡◌, ◌++◌, Some, ap, ◌∙◌, subst, [], ◌∷◌}
-use Rattle.gc_texts.specs.Endings.{ending_seen}
-use Rattle.gc_client.specs.Settlements.{settlement_seen}
-use Rattle.gc_station.specs.Attempts.{code_of}
-use Rattle.gc_station.specs.Marks.{end_of, command_of, record_with}
-use Rattle.std.specs.Io.KnownBytes.{Appends}
-use Rattle.gc_station.specs.Records.{Record, WritesPart, texts_of}
-use Rattle.gc_station.specs.Writing.{noted}
+use Rattle.gc_station.proofs.Common.{◌≡◌, ◌++◌, Some, ap, ◌∙◌, subst, [], ◌∷◌, ending_seen, settlement_seen, code_of, end_of, command_of, record_with, Appends, Record, WritesPart, texts_of, noted}
 use Rattle.gc_station.proofs.Records.{part_one, record_of_ending, whole_one}
 use Rattle.gc_station.proofs.writing.write_settlement.Goals as goal
 

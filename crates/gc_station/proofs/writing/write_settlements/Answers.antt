@@ -1,8 +1,5 @@
-use Rattle.std.proofs.Common.{[], ◌∷◌, ◌+◌, ◌++◌, take, drop, map, refl, ap, sym, ◌∙◌, append_assoc, append-nil, drop-drop}
+use Rattle.gc_station.proofs.Common.{[], ◌∷◌, ◌+◌, ◌++◌, take, drop, map, refl, ap, sym, ◌∙◌, append_assoc, append-nil, drop-drop, settlement_seen, first_mark, records_of, texts_of}
 use Rattle.gc_lines.proofs.Known.{Appends-is}
-use Rattle.gc_client.specs.Settlements.{settlement_seen}
-use Rattle.gc_station.specs.Marks.{first_mark, records_of}
-use Rattle.gc_station.specs.Records.{texts_of}
 use Rattle.gc_station.proofs.Records.{records-none, records_seen_more, records_seen_left, part_behind, recorded-none, recorded_more}
 use Rattle.gc_station.proofs.writing.write_settlements.Goals as goal
 

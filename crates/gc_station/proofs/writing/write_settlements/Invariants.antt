@@ -1,10 +1,4 @@
-use Rattle.std.proofs.Common.{◌≡◌, ℕ, ◌++◌, List, Option, take, drop, map}
-use Rattle.std.specs.Io.KnownBytes.{Appends}
-use Rattle.gc_client.specs.Settlements.{settlement_seen}
-use Rattle.gc_station.specs.Marks.{records_of}
-use Rattle.gc_station.specs.Records.{Record, texts_of}
-use Rattle.gc_station.specs.Scopes.{AreReadings, Reads}
-use Rattle.gc_station.specs.Writing.{recorded_after}
+use Rattle.gc_station.proofs.Common.{◌≡◌, ℕ, ◌++◌, List, Option, take, drop, map, Appends, settlement_seen, records_of, Record, texts_of, AreReadings, Reads, recorded_after}
 use Rattle.gc_station.proofs.writing.write_settlements.Given as goal
 
 -- the records of the settlements before this one are in the book, which writes records as at first, and has failed exactly if it

@@ -1,7 +1,5 @@
-use Rattle.std.proofs.Common.{sym, ap, subst, ◌∙◌}
-use Rattle.gc_client.specs.declared.settlement.Outcome.{Outcome}
+use Rattle.gc_station.proofs.Common.{sym, ap, subst, ◌∙◌, Outcome, IsZeroOf}
 use Rattle.gc_client.specs.declared.settlement.Outcome.TheVariants as outcomes
-use Rattle.gc_station.specs.Zeros.{IsZeroOf}
 use Rattle.gc_station.proofs.writing.zero_of.Goals as goal
 
 pub returns-in-Answered-Refused-default : goal.returns-in-Answered-Refused-default

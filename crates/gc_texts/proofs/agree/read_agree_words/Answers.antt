@@ -1,8 +1,4 @@
-use Rattle.std.proofs.Common.{rules, ◌≡◌, false}
-use Rattle.gc_values.specs.Directions.{is_tolerance}
-use Rattle.gc_texts.specs.Agrees.{AreAgreeWords}
-use Rattle.gc_texts.specs.Nears.{is_length}
-use Rattle.gc_texts.specs.declared.agree.Agree.{Agree}
+use Rattle.gc_texts.proofs.Common.{rules, ◌≡◌, false, is_tolerance, AreAgreeWords, is_length, Agree}
 use Rattle.gc_texts.proofs.AgreeForms.{no_hz, no_v, no_distance}
 use Rattle.gc_texts.proofs.agree.read_agree_words.Goals as goal
 

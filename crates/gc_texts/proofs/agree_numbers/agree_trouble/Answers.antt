@@ -1,8 +1,4 @@
-use Rattle.std.proofs.Common.{rules, IsTrue, IsFalse, inl, inr, subst, ap, ◌∙◌}
-use Rattle.gc_values.specs.Directions.{is_tolerance}
-use Rattle.gc_texts.specs.Cuts.{before, behind}
-use Rattle.gc_texts.specs.Nears.{is_length}
-use Rattle.gc_texts.specs.Troubles.{IsFit, IsUnfit}
+use Rattle.gc_texts.proofs.Common.{rules, IsTrue, IsFalse, inl, inr, subst, ap, ◌∙◌, is_tolerance, before, behind, is_length, IsFit, IsUnfit}
 use Rattle.gc_texts.proofs.agree_numbers.agree_trouble.Goals as goal
 
 pub returns-then-not-are_three_words : goal.returns-then-not-are_three_words

@@ -1,8 +1,4 @@
-use Rattle.std.proofs.Common.{◌≡◌, length, arith, ap, ◌∙◌}
-use Rattle.std.proofs.lemmas.List.{length-map}
-use Rattle.gc_texts.specs.Attempts.{tasks_planned}
-use Rattle.gc_texts.specs.Sendings.{sendings}
-use Rattle.gc_texts.specs.declared.attempts.Planned.{Planned}
+use Rattle.gc_texts.proofs.Common.{◌≡◌, length, arith, ap, ◌∙◌, length-map, tasks_planned, sendings, Planned}
 use Rattle.gc_texts.proofs.SentAs.{twice_as_many}
 use Rattle.gc_texts.proofs.attempts.commands_in_attempt.Goals as goal
 

@@ -1,4 +1,4 @@
-use Rattle.std.proofs.Common.{rules, ◌<◌, length}
+use Rattle.gc_texts.proofs.Common.{rules, ◌<◌, length}
 use Rattle.gc_texts.proofs.Laying.{lays_on}
 use Rattle.gc_texts.proofs.attempts.lay_out.Goals as goal
 

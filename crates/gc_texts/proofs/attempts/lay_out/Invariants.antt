@@ -1,4 +1,4 @@
-use Rattle.std.proofs.Common.{◌-◌, length}
+use Rattle.gc_texts.proofs.Common.{◌-◌, length}
 use Rattle.gc_texts.proofs.Laying.{Lays}
 use Rattle.gc_texts.proofs.attempts.lay_out.Given as goal
 

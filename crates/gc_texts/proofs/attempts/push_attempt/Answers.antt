@@ -1,6 +1,4 @@
-use Rattle.std.proofs.Common.{◌≡◌, ◌++◌, length, map, OnOk, sym, ap, subst, ◌∙◌}
-use Rattle.gc_texts.specs.Attempts.{in_attempt, tasks_planned}
-use Rattle.gc_texts.specs.Sendings.{sendings}
+use Rattle.gc_texts.proofs.Common.{◌≡◌, ◌++◌, length, map, OnOk, sym, ap, subst, ◌∙◌, in_attempt, tasks_planned, sendings}
 use Rattle.gc_texts.proofs.SentAs.{sent_once}
 use Rattle.gc_texts.proofs.attempts.push_attempt.Goals as goal
 

@@ -1,6 +1,4 @@
-use Rattle.std.proofs.Common.{rules, ap, ◌<◌, ◌+◌, ◌*◌}
-use Rattle.gc_texts.specs.Attempts.{tasks_planned}
-use Rattle.gc_texts.specs.Sendings.{sendings}
+use Rattle.gc_texts.proofs.Common.{rules, ap, ◌<◌, ◌+◌, ◌*◌, tasks_planned, sendings}
 use Rattle.gc_texts.proofs.Laying.{pushes_one}
 use Rattle.gc_texts.proofs.attempts.push_attempts.Goals as goal
 

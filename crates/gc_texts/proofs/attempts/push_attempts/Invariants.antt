@@ -1,5 +1,4 @@
-use Rattle.gc_texts.specs.Attempts.{tasks_planned}
-use Rattle.gc_texts.specs.Sendings.{sendings}
+use Rattle.gc_texts.proofs.Common.{tasks_planned, sendings}
 use Rattle.gc_texts.proofs.Laying.{Pushes}
 use Rattle.gc_texts.proofs.attempts.push_attempts.Given as goal
 

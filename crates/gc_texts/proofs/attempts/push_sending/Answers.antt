@@ -1,5 +1,4 @@
-use Rattle.std.proofs.Common.{rules, ◌≡◌, ◌<◌, [], ◌∷◌, ◌++◌, length, ap, ◌∙◌}
-use Rattle.gc_texts.specs.Attempts.{in_attempt}
+use Rattle.gc_texts.proofs.Common.{rules, ◌≡◌, ◌<◌, [], ◌∷◌, ◌++◌, length, ap, ◌∙◌, in_attempt}
 use Rattle.gc_texts.proofs.SentAs.{sent_one_more}
 use Rattle.gc_texts.proofs.attempts.push_sending.Goals as goal
 

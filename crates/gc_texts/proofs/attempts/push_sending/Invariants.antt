@@ -1,6 +1,4 @@
-use Rattle.std.proofs.Common.{◌≡◌, ◌++◌, length, map, take}
-use Rattle.gc_texts.specs.Attempts.{in_attempt, tasks_planned}
-use Rattle.gc_texts.specs.Sendings.{sent_from}
+use Rattle.gc_texts.proofs.Common.{◌≡◌, ◌++◌, length, map, take, in_attempt, tasks_planned, sent_from}
 use Rattle.gc_texts.proofs.attempts.push_sending.Given as goal
 
 -- the tasks of the commands so far were appended

@@ -1,7 +1,4 @@
-use Rattle.std.proofs.Common.{ap, rules, ◌<◌}
-use Rattle.std.specs.Option.{option_copied}
-use Rattle.gc_texts.specs.Codes.{IsCodeList}
-use Rattle.gc_texts.specs.declared.codes.Codes.{Codes}
+use Rattle.gc_texts.proofs.Common.{ap, rules, ◌<◌, option_copied, IsCodeList, Codes}
 use Rattle.gc_texts.proofs.CodeForms.{code_fails, code_reads, all_codes_read}
 use Rattle.gc_texts.proofs.codes.read_code_list.Goals as goal
 

@@ -1,4 +1,4 @@
-use Rattle.std.proofs.Common.{◌<◌, length, sym, arith}
+use Rattle.gc_texts.proofs.Common.{◌<◌, length, sym, arith}
 use Rattle.gc_texts.proofs.ColumnSteps.{column_test, named_test, no_column, named_twice, one_column}
 use Rattle.gc_texts.proofs.column_name.are_columns.Goals as goal
 

@@ -1,6 +1,4 @@
-use Rattle.std.proofs.Common.{◌≡◌, map, drop}
-use Rattle.gc_texts.specs.ColumnNames.{are_columns}
-use Rattle.gc_texts.specs.Fields.{field_seen}
+use Rattle.gc_texts.proofs.Common.{◌≡◌, map, drop, are_columns, field_seen}
 use Rattle.gc_texts.proofs.column_name.are_columns.Given as goal
 
 -- the fields from here on decide

@@ -1,6 +1,4 @@
-use Rattle.std.proofs.Common.{List, ℕ, ap, sym, ◌∙◌}
-use Rattle.gc_texts.specs.ColumnNames.{ends_as_text, is_name_of_row, suits_name}
-use Rattle.gc_texts.specs.Fields.{field_seen}
+use Rattle.gc_texts.proofs.Common.{List, ℕ, ap, sym, ◌∙◌, ends_as_text, is_name_of_row, suits_name, field_seen}
 use Rattle.gc_texts.proofs.ColumnSteps.{column_as_text, column_suits}
 use Rattle.gc_texts.proofs.column_name.is_column.Goals as goal
 

@@ -1,8 +1,6 @@
-use Rattle.std.proofs.Common.{ℕ, List, refl, subst, sym}
+use Rattle.gc_texts.proofs.Common.{ℕ, List, refl, subst, sym, IsFaultOfCommand, RunFault}
 use Rattle.gc_texts.specs.CommandStops.{IsCommandStopFor}
-use Rattle.gc_texts.specs.Troubles.{IsFaultOfCommand}
 use Rattle.gc_texts.specs.declared.command_text.CommandStop.TheVariants.{Line}
-use Rattle.gc_texts.specs.declared.fault.RunFault.{RunFault}
 use Rattle.gc_texts.proofs.command_text.command_stop_for.Goals as goal
 
 pub returns-in-Schedule : goal.returns-in-Schedule

@@ -1,7 +1,4 @@
-use Rattle.std.proofs.Common.{rules, Some, None}
-use Rattle.std.specs.Option.{option_copied}
-use Rattle.gc_texts.specs.Commands.{IsCommand}
-use Rattle.gc_texts.specs.declared.commands.Command.{Command}
+use Rattle.gc_texts.proofs.Common.{rules, Some, None, option_copied, IsCommand, Command}
 use Rattle.gc_texts.proofs.Procedures.{with_rest}
 use Rattle.gc_texts.proofs.CommandForms.{unspaced_is_no_command, targetless_is_no_command, callless_is_no_command}
 use Rattle.gc_texts.proofs.commands.read_command.Goals as goal

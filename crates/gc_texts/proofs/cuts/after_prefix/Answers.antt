@@ -1,5 +1,4 @@
-use Rattle.std.proofs.lemmas.Slice.Eq.{strip_prefix_is}
-use Rattle.std.proofs.lemmas.Bool.Decides.{Decides-eqb}
+use Rattle.gc_texts.proofs.Common.{strip_prefix_is, Decides-eqb}
 use Rattle.gc_texts.proofs.cuts.after_prefix.Goals as goal
 
 pub returns : goal.returns

@@ -1,4 +1,4 @@
-use Rattle.std.specs.Option.{option_copied}
+use Rattle.gc_texts.proofs.Common.{option_copied}
 use Rattle.gc_texts.proofs.Fronts.{cut_before}
 use Rattle.gc_texts.proofs.cuts.before.Goals as goal
 

@@ -1,5 +1,4 @@
-use Rattle.std.proofs.Common.{ℕ, List, [], unwrap_or, sym, ap, ◌∙◌}
-use Rattle.std.specs.Option.{option_copied}
+use Rattle.gc_texts.proofs.Common.{ℕ, List, [], unwrap_or, sym, ap, ◌∙◌, option_copied}
 use Rattle.gc_texts.proofs.Fronts.{cut_behind}
 use Rattle.gc_texts.proofs.cuts.behind.Goals as goal
 

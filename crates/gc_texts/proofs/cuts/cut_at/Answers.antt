@@ -1,5 +1,4 @@
-use Rattle.std.proofs.Common.{◌+◌, ◌-◌, length, take, drop, length-drop, arith}
-use Rattle.std.proofs.lemmas.List.{take_all}
+use Rattle.gc_texts.proofs.Common.{◌+◌, ◌-◌, length, take, drop, length-drop, arith, take_all}
 use Rattle.gc_texts.proofs.Cutting.{found_mark_cuts, missing_mark_cuts}
 use Rattle.gc_texts.proofs.cuts.cut_at.Goals as goal
 

@@ -1,5 +1,4 @@
-use Rattle.std.proofs.Common.{◌≡◌, length}
-use Rattle.gc_texts.specs.Cuts.{has_part}
+use Rattle.gc_texts.proofs.Common.{◌≡◌, length, has_part}
 use Rattle.gc_texts.proofs.cuts.has_part.Given as goal
 
 -- the part is in the text if it is in what is left of it

@@ -1,7 +1,7 @@
 use Rattle.gc_texts.proofs.DatedPaths.{made_last, made_mark, made_other, of_none}
 use Rattle.gc_texts.proofs.Items.{no_bytes}
-use Rattle.gc_texts.proofs.dated_path.append_first.Goals as goal
 use Rattle.gc_texts.proofs.dated_path.append_first.Goals.{in_default-via-in-Some+else-first-eq37, in_default-via-in_default}
+use Rattle.gc_texts.proofs.dated_path.append_first.Goals as goal
 
 pub returns-in_ok-append_part-in-Some-clause-made :
     goal.returns-in_ok-append_part-in-Some-clause-made

@@ -1,4 +1,4 @@
-use Rattle.std.proofs.Common.{sym, ◌∙◌}
+use Rattle.gc_texts.proofs.Common.{sym, ◌∙◌}
 use Rattle.gc_texts.proofs.DatedPaths.{date_behind, date_here, date_last, date_none, date_other, of_none}
 use Rattle.gc_texts.proofs.Items.{no_bytes}
 use Rattle.gc_texts.proofs.dated_path.has_date.Goals as goal

@@ -1,5 +1,4 @@
-use Rattle.std.proofs.Common.{◌≡◌, length}
-use Rattle.gc_texts.specs.DatedPaths.{has_date}
+use Rattle.gc_texts.proofs.Common.{◌≡◌, length, has_date}
 use Rattle.gc_texts.proofs.dated_path.has_date.Given as goal
 
 -- a part of the moment is in the path if it is in what is left of it

@@ -1,4 +1,4 @@
-use Rattle.std.proofs.Common.{sym, ◌∙◌}
+use Rattle.gc_texts.proofs.Common.{sym, ◌∙◌}
 use Rattle.gc_texts.proofs.DatedPaths.{formed_behind, formed_last, formed_not, formed_other, formed_whole}
 use Rattle.gc_texts.proofs.Items.{no_bytes}
 use Rattle.gc_texts.proofs.dated_path.is_dated_path.Goals as goal

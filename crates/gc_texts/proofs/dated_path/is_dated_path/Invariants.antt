@@ -1,5 +1,4 @@
-use Rattle.std.proofs.Common.{◌≡◌, length}
-use Rattle.gc_texts.specs.DatedPaths.{is_dated_path}
+use Rattle.gc_texts.proofs.Common.{◌≡◌, length, is_dated_path}
 use Rattle.gc_texts.proofs.dated_path.is_dated_path.Given as goal
 
 -- the path is well-formed if what is left of it is

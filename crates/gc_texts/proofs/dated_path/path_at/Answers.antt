@@ -1,4 +1,4 @@
-use Rattle.std.proofs.Common.{ap, ◌∙◌}
+use Rattle.gc_texts.proofs.Common.{ap, ◌∙◌}
 use Rattle.gc_texts.proofs.DatedPaths.{made_whole}
 use Rattle.gc_texts.proofs.Items.{no_bytes}
 use Rattle.gc_texts.proofs.dated_path.path_at.Goals as goal

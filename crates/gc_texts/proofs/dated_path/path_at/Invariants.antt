@@ -1,5 +1,4 @@
-use Rattle.std.proofs.Common.{◌≡◌, ◌++◌, length}
-use Rattle.gc_texts.specs.DatedPaths.{dated}
+use Rattle.gc_texts.proofs.Common.{◌≡◌, ◌++◌, length, dated}
 use Rattle.gc_texts.proofs.dated_path.path_at.Given as goal
 
 -- what was made, and what is left of the path as it is at the moment, are the path as it is then

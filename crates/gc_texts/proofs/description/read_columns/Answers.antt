@@ -1,8 +1,4 @@
-use Rattle.std.proofs.Common.{List, ap, map, rules, sym, ◌∙◌}
-use Rattle.gc_texts.specs.ColumnNames.{are_columns}
-use Rattle.gc_texts.specs.Descriptions.{IsNoColumns}
-use Rattle.gc_texts.specs.declared.field.Field.{Field}
-use Rattle.gc_texts.specs.Fields.{field_seen}
+use Rattle.gc_texts.proofs.Common.{List, ap, map, rules, sym, ◌∙◌, are_columns, IsNoColumns, Field, field_seen}
 use Rattle.gc_texts.proofs.DescriptionForms.{columns_found, columns_no_end, columns_refused, no_list_no_columns}
 use Rattle.gc_texts.proofs.description.read_columns.Goals as goal
 

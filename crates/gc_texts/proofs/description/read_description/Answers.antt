@@ -1,7 +1,4 @@
-use Rattle.std.proofs.Common.{map, rules}
-use Rattle.gc_texts.specs.Descriptions.{IsDescription, description_seen}
-use Rattle.gc_texts.specs.Fields.{field_seen}
-use Rattle.gc_texts.specs.declared.description.Description.{Description}
+use Rattle.gc_texts.proofs.Common.{map, rules, IsDescription, description_seen, field_seen, Description}
 use Rattle.gc_texts.proofs.DescriptionForms.{no_columns}
 use Rattle.gc_texts.proofs.description.read_description.Goals as goal
 

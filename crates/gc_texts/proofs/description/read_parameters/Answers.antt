@@ -1,5 +1,4 @@
-use Rattle.std.proofs.Common.{map}
-use Rattle.gc_texts.specs.Fields.{field_seen}
+use Rattle.gc_texts.proofs.Common.{map, field_seen}
 use Rattle.gc_texts.proofs.DescriptionForms.{no_list_no_params, params_found, params_other}
 use Rattle.gc_texts.proofs.description.read_parameters.Goals as goal
 

@@ -1,5 +1,4 @@
-use Rattle.std.proofs.Common.{◌≡◌, length}
-use Rattle.gc_texts.specs.Expectations.{count_among}
+use Rattle.gc_texts.proofs.Common.{◌≡◌, length, count_among}
 use Rattle.gc_texts.proofs.expectation.count_among.Given as goal
 
 -- the items and values that are left decide

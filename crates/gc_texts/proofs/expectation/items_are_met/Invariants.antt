@@ -1,5 +1,4 @@
-use Rattle.std.proofs.Common.{◌≡◌, length}
-use Rattle.gc_texts.specs.Expectations.{items_are_met}
+use Rattle.gc_texts.proofs.Common.{◌≡◌, length, items_are_met}
 use Rattle.gc_texts.proofs.expectation.items_are_met.Given as goal
 
 -- the items and values that are left decide

@@ -1,4 +1,4 @@
-use Rattle.std.proofs.Common.{◌≡◌, true, false, sym, ◌∙◌}
+use Rattle.gc_texts.proofs.Common.{◌≡◌, true, false, sym, ◌∙◌}
 use Rattle.gc_values.specs.declared.value.Kind.TheVariants as kind
 use Rattle.gc_texts.proofs.field.kind_of_word.Goals as goal
 

@@ -1,7 +1,4 @@
-use Rattle.std.proofs.Common.{◌≡◌, ◌<◌, List, [], ◌∷◌, ◌++◌, length, map, true, false, ap, subst, sym, ◌∙◌, arith, rules, codes}
-use Rattle.std.proofs.lemmas.Bool.{eqb-true, eqb-false}
-use Rattle.std.proofs.lemmas.List.{length-map, map-append}
-use Rattle.gc_texts.specs.Fields.{FieldSeen, IsNoFieldList, field_seen}
+use Rattle.gc_texts.proofs.Common.{◌≡◌, ◌<◌, List, [], ◌∷◌, ◌++◌, length, map, true, false, ap, subst, sym, ◌∙◌, arith, rules, codes, eqb-true, eqb-false, length-map, map-append, FieldSeen, IsNoFieldList, field_seen}
 use Rattle.gc_texts.proofs.FieldForms.{FieldsSoFar, field_fails, fields_too_many, field_reads}
 use Rattle.gc_texts.proofs.field.read_fields.Goals as goal
 

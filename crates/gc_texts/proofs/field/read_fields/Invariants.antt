@@ -1,5 +1,4 @@
-use Rattle.std.proofs.Common.{length, map}
-use Rattle.gc_texts.specs.Fields.{field_seen}
+use Rattle.gc_texts.proofs.Common.{length, map, field_seen}
 use Rattle.gc_texts.proofs.FieldForms.{FieldsSoFar}
 use Rattle.gc_texts.proofs.field.read_fields.Given as goal
 

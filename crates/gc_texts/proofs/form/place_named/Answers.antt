@@ -1,6 +1,4 @@
-use Rattle.std.proofs.Common.{◌<◌, ◌≤◌, length, map, sym, ◌∙◌, arith}
-use Rattle.gc_texts.specs.Fields.{field_seen}
-use Rattle.gc_texts.specs.Forms.{place_named}
+use Rattle.gc_texts.proofs.Common.{◌<◌, ◌≤◌, length, map, sym, ◌∙◌, arith, field_seen, place_named}
 use Rattle.gc_texts.proofs.FormReadings.{placed_behind, placed_here, placed_nowhere, uncounted}
 use Rattle.gc_texts.proofs.form.place_named.Goals as goal
 

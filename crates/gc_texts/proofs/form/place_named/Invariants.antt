@@ -1,7 +1,4 @@
-use Rattle.std.proofs.Common.{◌≡◌, ◌+◌, map, drop}
-use Rattle.std.specs.Option.{option_map}
-use Rattle.gc_texts.specs.Fields.{field_seen}
-use Rattle.gc_texts.specs.Forms.{place_named}
+use Rattle.gc_texts.proofs.Common.{◌≡◌, ◌+◌, map, drop, option_map, field_seen, place_named}
 use Rattle.gc_texts.proofs.form.place_named.Given as goal
 
 -- the fields from here on decide

@@ -1,4 +1,4 @@
-use Rattle.std.proofs.Common.{length}
+use Rattle.gc_texts.proofs.Common.{length}
 use Rattle.gc_texts.proofs.Items.{AreCounted}
 use Rattle.gc_texts.proofs.item.count_items.Given as goal
 

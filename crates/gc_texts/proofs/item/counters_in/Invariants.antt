@@ -1,4 +1,4 @@
-use Rattle.std.proofs.Common.{length}
+use Rattle.gc_texts.proofs.Common.{length}
 use Rattle.gc_texts.proofs.Items.{CountsSoFar}
 use Rattle.gc_texts.proofs.item.counters_in.Given as goal
 

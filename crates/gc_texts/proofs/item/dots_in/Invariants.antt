@@ -1,4 +1,4 @@
-use Rattle.std.proofs.Common.{length}
+use Rattle.gc_texts.proofs.Common.{length}
 use Rattle.gc_texts.proofs.Items.{NoDotsBefore}
 use Rattle.gc_texts.proofs.item.dots_in.Given as goal
 

@@ -1,4 +1,4 @@
-use Rattle.std.proofs.Common.{length}
+use Rattle.gc_texts.proofs.Common.{length}
 use Rattle.gc_texts.proofs.Items.{PassesSoFar}
 use Rattle.gc_texts.proofs.item.no_item_in.Given as goal
 

@@ -1,4 +1,4 @@
-use Rattle.std.proofs.Common.{refl}
+use Rattle.gc_texts.proofs.Common.{refl}
 use Rattle.gc_texts.proofs.laws.faults_have_their_numbers.Goals as goal
 
 pub returns : goal.returns

@@ -1,6 +1,4 @@
-use Rattle.std.proofs.Common.{ap}
-use Rattle.std.specs.Option.{option_copied}
-use Rattle.gc_texts.specs.LineForms.{line_at}
+use Rattle.gc_texts.proofs.Common.{ap, option_copied, line_at}
 use Rattle.gc_texts.proofs.LinePlaces.{line_here, line_behind}
 use Rattle.gc_texts.proofs.line_forms.line_at.Goals as goal
 

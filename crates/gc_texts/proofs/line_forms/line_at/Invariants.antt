@@ -1,6 +1,4 @@
-use Rattle.std.proofs.Common.{◌≡◌, ◌-◌, [], get_or}
-use Rattle.std.specs.Option.{option_copied}
-use Rattle.gc_texts.specs.LineForms.{line_at}
+use Rattle.gc_texts.proofs.Common.{◌≡◌, ◌-◌, [], get_or, option_copied, line_at}
 use Rattle.gc_texts.proofs.TextLines.{lines_left}
 use Rattle.gc_texts.proofs.line_forms.line_at.Given as goal
 

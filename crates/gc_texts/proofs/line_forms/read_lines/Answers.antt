@@ -1,5 +1,4 @@
-use Rattle.std.proofs.Common.{rules, ◌≡◌, ◌≤◌, ◌++◌, ◌∷◌, [], ap, sym, ◌∙◌, arith, IsTrue, IsFalse}
-use Rattle.std.specs.Option.{option_copied}
+use Rattle.gc_texts.proofs.Common.{rules, ◌≡◌, ◌≤◌, ◌++◌, ◌∷◌, [], ap, sym, ◌∙◌, arith, IsTrue, IsFalse, option_copied}
 use Rattle.gc_texts.proofs.TextLines.{reads_few, next_line_is_unread, line_skips, line_reads, line_fails, line_wants}
 use Rattle.gc_texts.proofs.line_forms.read_lines.Goals as goal
 

@@ -1,4 +1,4 @@
-use Rattle.std.specs.Option.{option_copied}
+use Rattle.gc_texts.proofs.Common.{option_copied}
 use Rattle.gc_texts.proofs.TextLines.{ReadsSoFar, much_left}
 use Rattle.gc_texts.proofs.line_forms.read_lines.Given as goal
 

@@ -1,7 +1,4 @@
-use Rattle.std.proofs.Common.{◌≡◌, ◌∙◌, sym, ap, ◌++◌, [], ◌∷◌, Some, None}
-use Rattle.std.proofs.lemmas.Slice.Eq.{strip_suffix_is}
-use Rattle.std.proofs.lemmas.Bool.Decides.{Decides-eqb}
-use Rattle.gc_texts.specs.LineForms.{without_cr}
+use Rattle.gc_texts.proofs.Common.{◌≡◌, ◌∙◌, sym, ap, ◌++◌, [], ◌∷◌, Some, None, strip_suffix_is, Decides-eqb, without_cr}
 use Rattle.gc_texts.proofs.LineEnds.{without_cr-end, without_cr-none}
 use Rattle.gc_texts.proofs.line_forms.without_cr.Goals as goal
 

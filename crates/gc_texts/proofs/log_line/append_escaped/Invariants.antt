@@ -1,7 +1,4 @@
-use Rattle.std.proofs.Common.{◌≡◌, ◌+◌, ◌*◌, ◌≤◌, ◌++◌, take}
-use Rattle.std.specs.List.{flat_map}
-use Rattle.arrayvec.specs.ArrayVec.{array_vec_len}
-use Rattle.gc_texts.specs.Logs.{escape}
+use Rattle.gc_texts.proofs.Common.{◌≡◌, ◌+◌, ◌*◌, ◌≤◌, ◌++◌, take, flat_map, array_vec_len, escape}
 use Rattle.gc_texts.proofs.log_line.append_escaped.Given as goal
 
 -- the bytes so far were appended in the form of a log line, each as at most four

@@ -1,5 +1,4 @@
-use Rattle.std.proofs.Common.{◌≡◌, ℕ, ◌≤◌, List, length, rules}
-use Rattle.gc_texts.specs.Logs.{AreBytes, escaped}
+use Rattle.gc_texts.proofs.Common.{◌≡◌, ℕ, ◌≤◌, List, length, rules, AreBytes, escaped}
 use Rattle.gc_texts.proofs.Logs.{reads_no_more, reads_too_many, left_not_empty, full_is_514}
 use Rattle.gc_texts.proofs.log_reading.read_escaped.Goals as goal
 

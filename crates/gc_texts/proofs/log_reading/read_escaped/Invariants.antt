@@ -1,4 +1,4 @@
-use Rattle.std.proofs.Common.{length}
+use Rattle.gc_texts.proofs.Common.{length}
 use Rattle.gc_texts.proofs.Logs.{ReadsBytes}
 use Rattle.gc_texts.proofs.log_reading.read_escaped.Given as goal
 

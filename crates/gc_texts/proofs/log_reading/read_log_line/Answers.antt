@@ -1,7 +1,4 @@
-use Rattle.std.proofs.Common.{ℕ, ◌≤◌, List, length, Some, rules}
-use Rattle.std.specs.Option.{option_copied}
-use Rattle.gc_texts.specs.Logs.{IsLogLine}
-use Rattle.gc_texts.specs.declared.log_line.LogMark.{LogMark}
+use Rattle.gc_texts.proofs.Common.{ℕ, ◌≤◌, List, length, Some, rules, option_copied, IsLogLine, LogMark}
 use Rattle.gc_texts.proofs.Logs.{unspaced_is_no_log_line, unprintable_is_no_log_line, half_spaced_is_no_log_line, markless_is_no_log_line, unescaped_is_no_log_line}
 use Rattle.gc_texts.proofs.Procedures.{with_rest}
 use Rattle.gc_texts.proofs.log_reading.read_log_line.Goals as goal

@@ -1,7 +1,4 @@
-use Rattle.std.proofs.Common.{Option, ap, map, ◌∙◌, codes}
-use Rattle.gc_values.specs.declared.decimal.Decimal.{Decimal}
-use Rattle.gc_texts.specs.Fields.{field_seen}
-use Rattle.gc_texts.specs.Measured.{decimal_in, direction_from, value_under}
+use Rattle.gc_texts.proofs.Common.{Option, ap, map, ◌∙◌, codes, Decimal, field_seen, decimal_in, direction_from, value_under}
 use Rattle.gc_texts.proofs.measured.measured_direction.Goals as goal
 
 pub returns : goal.returns

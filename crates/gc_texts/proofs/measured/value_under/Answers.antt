@@ -1,4 +1,4 @@
-use Rattle.std.proofs.Common.{◌<◌, ◌≤◌, length, sym, ◌∙◌, arith}
+use Rattle.gc_texts.proofs.Common.{◌<◌, ◌≤◌, length, sym, ◌∙◌, arith}
 use Rattle.gc_texts.proofs.MeasuredSteps.{found_behind, found_here, found_nowhere}
 use Rattle.gc_texts.proofs.measured.value_under.Goals as goal
 

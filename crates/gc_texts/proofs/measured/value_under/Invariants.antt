@@ -1,6 +1,4 @@
-use Rattle.std.proofs.Common.{◌≡◌, map, drop}
-use Rattle.gc_texts.specs.Fields.{field_seen}
-use Rattle.gc_texts.specs.Measured.{value_under}
+use Rattle.gc_texts.proofs.Common.{◌≡◌, map, drop, field_seen, value_under}
 use Rattle.gc_texts.proofs.measured.value_under.Given as goal
 
 -- the fields and values from here on decide

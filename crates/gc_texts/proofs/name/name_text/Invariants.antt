@@ -1,5 +1,4 @@
-use Rattle.std.proofs.Common.{◌≡◌, drop}
-use Rattle.gc_texts.specs.Names.{name_text}
+use Rattle.gc_texts.proofs.Common.{◌≡◌, drop, name_text}
 use Rattle.gc_texts.proofs.name.name_text.Given as goal
 
 -- the name is that of the first name of the target among those that are left

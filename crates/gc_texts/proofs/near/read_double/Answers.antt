@@ -1,6 +1,4 @@
-use Rattle.std.proofs.Common.{◌≡◌, Result, Ok, Err, sym, ◌∙◌}
-use Rattle.gc_values.specs.declared.decimal.Decimal.{Decimal}
-use Rattle.gc_values.specs.declared.fault.ValueFault.{ValueFault}
+use Rattle.gc_texts.proofs.Common.{◌≡◌, Result, Ok, Err, sym, ◌∙◌, Decimal, ValueFault}
 use Rattle.gc_texts.proofs.near.read_double.Goals as goal
 
 pub returns-in-Err : goal.returns-in-Err

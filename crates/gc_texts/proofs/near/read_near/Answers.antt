@@ -1,6 +1,4 @@
-use Rattle.std.proofs.Common.{ap, subst, ◌∙◌}
-use Rattle.std.specs.Option.{option_copied}
-use Rattle.gc_texts.specs.Cuts.{Cuts, before, behind}
+use Rattle.gc_texts.proofs.Common.{ap, subst, ◌∙◌, option_copied, Cuts, before, behind}
 use Rattle.gc_texts.proofs.TaskForms.{place_of_words}
 use Rattle.gc_texts.proofs.near.read_near.Goals as goal
 

@@ -1,8 +1,4 @@
-use Rattle.std.proofs.Common.{rules, ◌≡◌, false}
-use Rattle.std.specs.Option.{option_copied}
-use Rattle.gc_values.specs.Directions.{is_place, is_tolerance}
-use Rattle.gc_texts.specs.Nears.{AreNearWords}
-use Rattle.gc_texts.specs.declared.near.Near.{Near}
+use Rattle.gc_texts.proofs.Common.{rules, ◌≡◌, false, option_copied, is_place, is_tolerance, AreNearWords, Near}
 use Rattle.gc_texts.proofs.Doubles.{no_place, no_tolerance}
 use Rattle.gc_texts.proofs.near.read_near_words.Goals as goal
 

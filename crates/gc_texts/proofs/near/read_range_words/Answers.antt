@@ -1,6 +1,4 @@
-use Rattle.std.proofs.Common.{rules, ◌≡◌, false}
-use Rattle.gc_texts.specs.Nears.{is_length, AreRangeWords}
-use Rattle.gc_texts.specs.declared.near.Range.{Range}
+use Rattle.gc_texts.proofs.Common.{rules, ◌≡◌, false, is_length, AreRangeWords, Range}
 use Rattle.gc_texts.proofs.Doubles.{no_distance, no_length}
 use Rattle.gc_texts.proofs.near.read_range_words.Goals as goal
 

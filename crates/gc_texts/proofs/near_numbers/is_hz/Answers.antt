@@ -1,6 +1,4 @@
-use Rattle.std.proofs.Common.{◌≡◌, true, false, inr, subst, sym, ◌∙◌}
-use Rattle.gc_values.specs.Directions.{is_place}
-use Rattle.gc_values.specs.declared.decimal.Decimal.{Decimal}
+use Rattle.gc_texts.proofs.Common.{◌≡◌, true, false, inr, subst, sym, ◌∙◌, is_place, Decimal}
 use Rattle.gc_texts.proofs.near_numbers.is_hz.Goals as goal
 
 pub returns-in-Some-clause-fit : goal.returns-in-Some-clause-fit

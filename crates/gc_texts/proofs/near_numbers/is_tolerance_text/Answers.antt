@@ -1,4 +1,4 @@
-use Rattle.std.proofs.Common.{inr, sym, ◌∙◌}
+use Rattle.gc_texts.proofs.Common.{inr, sym, ◌∙◌}
 use Rattle.gc_texts.proofs.near_numbers.is_tolerance_text.Goals as goal
 
 pub returns-in-Some-clause-fit : goal.returns-in-Some-clause-fit

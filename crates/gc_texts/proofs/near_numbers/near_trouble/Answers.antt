@@ -1,7 +1,4 @@
-use Rattle.std.proofs.Common.{rules, IsTrue, IsFalse, subst, ap, ◌∙◌}
-use Rattle.gc_values.specs.Directions.{is_tolerance}
-use Rattle.gc_texts.specs.Cuts.{before, behind}
-use Rattle.gc_texts.specs.Troubles.{IsFit, IsUnfit, IsRestTrouble, fits_hz, fits_v}
+use Rattle.gc_texts.proofs.Common.{rules, IsTrue, IsFalse, subst, ap, ◌∙◌, is_tolerance, before, behind, IsFit, IsUnfit, IsRestTrouble, fits_hz, fits_v}
 use Rattle.gc_texts.proofs.NearTroubles.{rest_is_near}
 use Rattle.gc_texts.proofs.near_numbers.near_trouble.Goals as goal
 

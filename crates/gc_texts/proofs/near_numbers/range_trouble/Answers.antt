@@ -1,6 +1,4 @@
-use Rattle.std.proofs.Common.{rules, IsFalse, subst}
-use Rattle.gc_texts.specs.Nears.{is_length}
-use Rattle.gc_texts.specs.Troubles.{IsUnfit}
+use Rattle.gc_texts.proofs.Common.{rules, IsFalse, subst, is_length, IsUnfit}
 use Rattle.gc_texts.proofs.near_numbers.range_trouble.Goals as goal
 
 pub returns-then-not-is_length_text : goal.returns-then-not-is_length_text

@@ -1,5 +1,4 @@
-use Rattle.std.proofs.Common.{◌≡◌, ◌+◌, ◌≤◌, ◌++◌, length, take, vec_capacity, vec_len}
-use Rattle.gc_texts.specs.NewColumns.{fresh_names}
+use Rattle.gc_texts.proofs.Common.{◌≡◌, ◌+◌, ◌≤◌, ◌++◌, length, take, vec_capacity, vec_len, fresh_names}
 use Rattle.gc_texts.proofs.new_columns.append_fresh.Given as goal
 
 -- the names of the fields before this one were appended, and there is room for those of the others

@@ -1,5 +1,4 @@
-use Rattle.std.proofs.Common.{◌≡◌, ◌≤◌, length, take}
-use Rattle.gc_texts.specs.NewColumns.{fresh_names}
+use Rattle.gc_texts.proofs.Common.{◌≡◌, ◌≤◌, length, take, fresh_names}
 use Rattle.gc_texts.proofs.new_columns.count_fresh.Given as goal
 
 -- the fields before this one were counted

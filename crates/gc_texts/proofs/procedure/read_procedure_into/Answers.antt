@@ -1,5 +1,4 @@
-use Rattle.std.proofs.Common.{◌≡◌, ap, refl, Some, None, rules, [], length, ◌<◌}
-use Rattle.std.specs.Option.{option_copied}
+use Rattle.gc_texts.proofs.Common.{◌≡◌, ap, refl, Some, None, rules, [], length, ◌<◌, option_copied}
 use Rattle.gc_texts.proofs.Procedures.{no_procedure, procedure_read, with_rest, read_with_parameters, no_parameters_no_procedure}
 use Rattle.gc_texts.proofs.procedure.read_procedure_into.Goals as goal
 

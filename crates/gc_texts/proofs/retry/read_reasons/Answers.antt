@@ -1,7 +1,4 @@
-use Rattle.std.proofs.Common.{ap, rules}
-use Rattle.std.specs.Option.{option_copied}
-use Rattle.gc_texts.specs.Retries.{NamesRule}
-use Rattle.gc_texts.specs.declared.again.Again.{Again}
+use Rattle.gc_texts.proofs.Common.{ap, rules, option_copied, NamesRule, Again}
 use Rattle.gc_texts.proofs.ReasonForms.{reason_fails, reasons_too_many, reason_reads, all_reasons_read}
 use Rattle.gc_texts.proofs.retry.read_reasons.Goals as goal
 

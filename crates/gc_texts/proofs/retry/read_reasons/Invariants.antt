@@ -1,4 +1,4 @@
-use Rattle.std.specs.Option.{option_copied}
+use Rattle.gc_texts.proofs.Common.{option_copied}
 use Rattle.gc_texts.proofs.ReasonForms.{NamesSoFar}
 use Rattle.gc_texts.proofs.TextLines.{much_left}
 use Rattle.gc_texts.proofs.retry.read_reasons.Given as goal

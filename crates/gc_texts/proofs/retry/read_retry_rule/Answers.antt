@@ -1,6 +1,4 @@
-use Rattle.std.proofs.Common.{rules, subst, sym}
-use Rattle.gc_texts.specs.Retries.{NamesRule, IsRetryRule}
-use Rattle.gc_texts.specs.declared.retry.Retry.{Retry}
+use Rattle.gc_texts.proofs.Common.{rules, subst, sym, NamesRule, IsRetryRule, Retry}
 use Rattle.gc_texts.proofs.retry.read_retry_rule.Goals as goal
 
 pub returns-in_err-again : goal.returns-in_err-again

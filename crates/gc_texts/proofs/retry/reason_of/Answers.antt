@@ -1,4 +1,4 @@
-use Rattle.std.proofs.Common.{◌≡◌, true, false, sym, ◌∙◌}
+use Rattle.gc_texts.proofs.Common.{◌≡◌, true, false, sym, ◌∙◌}
 use Rattle.gc_texts.specs.declared.retry.Reason.TheVariants as reason
 use Rattle.gc_texts.proofs.retry.reason_of.Goals as goal
 

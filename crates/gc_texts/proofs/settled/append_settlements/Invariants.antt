@@ -1,6 +1,4 @@
-use Rattle.std.proofs.Common.{◌≡◌, ◌++◌, take, map}
-use Rattle.gc_client.specs.Settlements.{settlement_seen}
-use Rattle.gc_texts.specs.Settlements.{settlement_lines}
+use Rattle.gc_texts.proofs.Common.{◌≡◌, ◌++◌, take, map, settlement_seen, settlement_lines}
 use Rattle.gc_texts.proofs.settled.append_settlements.Given as goal
 
 -- the lines of the settlements so far were appended

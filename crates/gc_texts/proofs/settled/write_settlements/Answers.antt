@@ -1,4 +1,4 @@
-use Rattle.std.proofs.Common.{◌∙◌}
+use Rattle.gc_texts.proofs.Common.{◌∙◌}
 use Rattle.gc_texts.proofs.WritingSettlements.{took_next, took_part}
 use Rattle.gc_texts.proofs.settled.write_settlements.Goals as goal
 

@@ -1,7 +1,4 @@
-use Rattle.std.proofs.Common.{◌≡◌, take, map}
-use Rattle.std.specs.Io.KnownBytes.{Appends}
-use Rattle.gc_client.specs.Settlements.{settlement_seen}
-use Rattle.gc_texts.specs.Settlements.{settlement_lines_from}
+use Rattle.gc_texts.proofs.Common.{◌≡◌, take, map, Appends, settlement_seen, settlement_lines_from}
 use Rattle.gc_texts.proofs.settled.write_settlements.Given as goal
 
 -- the sink took the lines of the settlements so far, and has failed only if it had before

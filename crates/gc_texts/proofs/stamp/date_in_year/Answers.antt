@@ -1,4 +1,4 @@
-use Rattle.std.proofs.Common.{refl, subst, arith, ◌≤◌, ◌<◌}
+use Rattle.gc_texts.proofs.Common.{refl, subst, arith, ◌≤◌, ◌<◌}
 use Rattle.gc_texts.proofs.Dates.{calendar_date, within_year_from_january, before_december, from_next_month, within_year_from_next_month, day_in_month}
 use Rattle.gc_texts.proofs.stamp.date_in_year.Goals as goal
 

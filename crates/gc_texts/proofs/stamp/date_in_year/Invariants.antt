@@ -1,5 +1,4 @@
-use Rattle.std.proofs.Common.{◌≡◌, ◌+◌, ◌<◌, ◌≤◌, ◌-◌}
-use Rattle.gc_texts.specs.Stamps.{year_days, days_after}
+use Rattle.gc_texts.proofs.Common.{◌≡◌, ◌+◌, ◌<◌, ◌≤◌, ◌-◌, year_days, days_after}
 use Rattle.gc_texts.proofs.Dates.{days_of_months, calendar_date}
 use Rattle.gc_texts.proofs.stamp.date_in_year.Given as goal
 

@@ -1,4 +1,4 @@
-use Rattle.std.proofs.Common.{◌≤◌, subst, arith}
+use Rattle.gc_texts.proofs.Common.{◌≤◌, subst, arith}
 use Rattle.gc_texts.proofs.Dates.{calendar_date, from_next_year, year_has_days}
 use Rattle.gc_texts.proofs.stamp.date_of.Goals as goal
 

@@ -1,5 +1,4 @@
-use Rattle.std.proofs.Common.{◌≡◌, ◌+◌, ◌≤◌}
-use Rattle.gc_texts.specs.Stamps.{days_after}
+use Rattle.gc_texts.proofs.Common.{◌≡◌, ◌+◌, ◌≤◌, days_after}
 use Rattle.gc_texts.proofs.Dates.{calendar_date}
 use Rattle.gc_texts.proofs.stamp.date_of.Given as goal
 

@@ -1,6 +1,4 @@
-use Rattle.std.proofs.Common.{rules, ◌≡◌, ℕ, List}
-use Rattle.std.specs.Option.{option_copied}
-use Rattle.gc_texts.specs.TaskLines.{AreRequestAndItems}
+use Rattle.gc_texts.proofs.Common.{rules, ◌≡◌, ℕ, List, option_copied, AreRequestAndItems}
 use Rattle.gc_texts.proofs.ExpectForms.{are_parts, has_equals, has_space_behind, has_front, has_one_space, has_space_before}
 use Rattle.gc_texts.proofs.Items.{no_bytes}
 use Rattle.gc_texts.proofs.task_line.cut_items.Goals as goal

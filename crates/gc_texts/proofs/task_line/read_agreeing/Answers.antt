@@ -1,6 +1,4 @@
-use Rattle.std.proofs.Common.{rules, Option}
-use Rattle.gc_texts.specs.TaskLines.{SetsAgree}
-use Rattle.gc_texts.specs.declared.agree.Agree.{Agree}
+use Rattle.gc_texts.proofs.Common.{rules, Option, SetsAgree, Agree}
 use Rattle.gc_texts.proofs.AgreeForms.{no_agree_of_rest}
 use Rattle.gc_texts.proofs.task_line.read_agreeing.Goals as goal
 

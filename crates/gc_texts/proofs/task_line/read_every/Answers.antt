@@ -1,7 +1,4 @@
-use Rattle.std.proofs.Common.{rules, ◌≡◌, ℕ, true, false, Some, sym, ◌∙◌}
-use Rattle.std.specs.Option.{option_copied}
-use Rattle.gc_texts.specs.Procedures.{IsNumber}
-use Rattle.gc_texts.specs.TaskLines.{IsEveryLine}
+use Rattle.gc_texts.proofs.Common.{rules, ◌≡◌, ℕ, true, false, Some, sym, ◌∙◌, option_copied, IsNumber, IsEveryLine}
 use Rattle.gc_texts.proofs.EveryForms.{unspaced_is_no_every, other_word_is_no_every, numberless_is_no_every, zero_is_no_every, is_every_line}
 use Rattle.gc_texts.proofs.Procedures.{with_rest}
 use Rattle.gc_texts.proofs.task_line.read_every.Goals as goal

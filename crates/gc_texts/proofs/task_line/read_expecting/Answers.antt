@@ -1,12 +1,4 @@
-use Rattle.std.proofs.Common.{rules, ◌≡◌, None, sym, subst, ◌∷◌, ◌++◌}
-use Rattle.gc_texts.specs.Cuts.{Lacks}
-use Rattle.gc_texts.specs.Expectations.{items_trouble}
-use Rattle.gc_texts.specs.TaskLines.{AreRequestAndItems, IsExpectLine}
-use Rattle.gc_texts.specs.Wishes.{IsWorded}
-use Rattle.gc_texts.specs.Words.{after_two_words}
-use Rattle.gc_texts.specs.declared.expectation.Expectation.{Expectation}
-use Rattle.gc_texts.specs.declared.wish.Wish.{Wish}
-use Rattle.gc_texts.specs.declared.wording.Wording.{Wording}
+use Rattle.gc_texts.proofs.Common.{rules, ◌≡◌, None, sym, subst, ◌∷◌, ◌++◌, Lacks, items_trouble, AreRequestAndItems, IsExpectLine, IsWorded, after_two_words, Expectation, Wish, Wording}
 use Rattle.gc_texts.proofs.ExpectForms.{unsound, wishless}
 use Rattle.gc_texts.proofs.Fronts.{before_lacks}
 use Rattle.gc_texts.proofs.task_line.read_expecting.Goals as goal

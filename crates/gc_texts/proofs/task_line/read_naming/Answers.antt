@@ -1,7 +1,4 @@
-use Rattle.std.proofs.Common.{rules, Some, None}
-use Rattle.std.specs.Option.{option_copied}
-use Rattle.gc_texts.specs.TaskLines.{IsNameLine}
-use Rattle.gc_texts.specs.declared.name.Name.{Name}
+use Rattle.gc_texts.proofs.Common.{rules, Some, None, option_copied, IsNameLine, Name}
 use Rattle.gc_texts.proofs.Procedures.{with_rest}
 use Rattle.gc_texts.proofs.TaskForms.{unspaced_is_no_name, targetless_is_no_name, nameless_is_no_name}
 use Rattle.gc_texts.proofs.task_line.read_naming.Goals as goal

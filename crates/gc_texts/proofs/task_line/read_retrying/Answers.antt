@@ -1,4 +1,4 @@
-use Rattle.std.proofs.Common.{rules}
+use Rattle.gc_texts.proofs.Common.{rules}
 use Rattle.gc_texts.proofs.ReasonForms.{retry_of_rest}
 use Rattle.gc_texts.proofs.task_line.read_retrying.Goals as goal
 

@@ -1,6 +1,5 @@
-use Rattle.std.proofs.Common.{◌≡◌, true, false, Some, None, sym, ◌∙◌}
+use Rattle.gc_texts.proofs.Common.{◌≡◌, true, false, Some, None, sym, ◌∙◌, Plain, Described, Now}
 use Rattle.gc_texts.specs.declared.task_line.TaskLine.TheVariants as says
-use Rattle.gc_texts.specs.declared.wording.Wording.TheVariants.{Plain, Described, Now}
 use Rattle.gc_texts.proofs.task_line.read_task_line.Goals as goal
 
 pub returns-in-None : goal.returns-in-None

@@ -1,4 +1,4 @@
-use Rattle.std.proofs.Common.{rules}
+use Rattle.gc_texts.proofs.Common.{rules}
 use Rattle.gc_texts.proofs.Fitting.{fits_not, fits_so}
 use Rattle.gc_texts.proofs.tasks.fits.Goals as goal
 

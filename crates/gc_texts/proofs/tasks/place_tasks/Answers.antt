@@ -1,4 +1,4 @@
-use Rattle.std.proofs.Common.{rules}
+use Rattle.gc_texts.proofs.Common.{rules}
 use Rattle.gc_texts.proofs.Placing.{next_is_placed}
 use Rattle.gc_texts.proofs.tasks.place_tasks.Goals as goal
 

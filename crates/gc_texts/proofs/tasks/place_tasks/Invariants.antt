@@ -1,4 +1,4 @@
-use Rattle.std.proofs.Common.{◌≡◌}
+use Rattle.gc_texts.proofs.Common.{◌≡◌}
 use Rattle.gc_texts.proofs.Placing.{first_placed}
 use Rattle.gc_texts.proofs.tasks.place_tasks.Given as goal
 

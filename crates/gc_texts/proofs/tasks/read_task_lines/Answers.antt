@@ -1,8 +1,4 @@
-use Rattle.std.proofs.Common.{rules, length, ◌≤◌, [], Some, inl, refl, ap, sym, subst, ◌∙◌, arith}
-use Rattle.std.specs.Option.{option_copied}
-use Rattle.gc_texts.specs.TaskLines.{IsTaskLine}
-use Rattle.gc_texts.specs.Tasks.{first_mode, standing_in, Grows, IsInPlace}
-use Rattle.gc_texts.specs.declared.mode.Standing.{Standing}
+use Rattle.gc_texts.proofs.Common.{rules, length, ◌≤◌, [], Some, inl, refl, ap, sym, subst, ◌∙◌, arith, option_copied, IsTaskLine, first_mode, standing_in, Grows, IsInPlace, Standing}
 use Rattle.gc_texts.proofs.TextLines.{ReadsSoFar, next_line_is_unread}
 use Rattle.gc_texts.proofs.TaskReading.{counted, cycle_few, tasks_few, task_skips, task_reads, task_fails, task_refused, task_wants}
 use Rattle.gc_texts.proofs.tasks.read_task_lines.Goals as goal

@@ -1,5 +1,4 @@
-use Rattle.std.specs.Option.{option_copied}
-use Rattle.gc_texts.specs.Tasks.{first_mode}
+use Rattle.gc_texts.proofs.Common.{option_copied, first_mode}
 use Rattle.gc_texts.proofs.TextLines.{much_left}
 use Rattle.gc_texts.proofs.TaskReading.{ReadsTasks}
 use Rattle.gc_texts.proofs.tasks.read_task_lines.Given as goal

@@ -1,8 +1,4 @@
-use Rattle.std.proofs.Common.{rules, ◌≡◌, true, false, nat_lt, Some, subst, sym, ◌∙◌}
-use Rattle.std.proofs.lemmas.Option.{same_Some}
-use Rattle.gc_catalogue.specs.RawTexts.{raw_bytes}
-use Rattle.gc_catalogue.specs.declared.raw.RawCall.{RawCall}
-use Rattle.gc_texts.specs.ValueItems.{AreValueFiles, sampled, value_items, values_in}
+use Rattle.gc_texts.proofs.Common.{rules, ◌≡◌, true, false, nat_lt, Some, subst, sym, ◌∙◌, same_Some, raw_bytes, RawCall, AreValueFiles, sampled, value_items, values_in}
 use Rattle.gc_texts.proofs.Fitting.{OfKinds, not_taken, not_taken_plain, taken_plain, taken_sampled}
 use Rattle.gc_texts.proofs.tasks.takes.Goals as goal
 

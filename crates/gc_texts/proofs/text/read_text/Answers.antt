@@ -1,6 +1,4 @@
-use Rattle.std.proofs.Common.{rules, ◌≡◌, ◌+◌, ◌++◌, length, take}
-use Rattle.std.proofs.KnownBytes.{Consumes-trans}
-use Rattle.gc_lines.proofs.Known.{length_more}
+use Rattle.gc_texts.proofs.Common.{rules, ◌≡◌, ◌+◌, ◌++◌, length, take, Consumes-trans, length_more}
 use Rattle.gc_texts.proofs.text.read_text.Goals as goal
 
 pub returns-then-n-len-clause-fault : goal.returns-then-n-len-clause-fault

@@ -1,5 +1,4 @@
-use Rattle.std.proofs.Common.{subst}
-use Rattle.gc_texts.specs.Troubles.{IsRequestTrouble}
+use Rattle.gc_texts.proofs.Common.{subst, IsRequestTrouble}
 use Rattle.gc_texts.proofs.RawTroubles.{request_is_asking}
 use Rattle.gc_texts.proofs.trouble.asking_trouble.Goals as goal
 

@@ -1,6 +1,4 @@
-use Rattle.std.proofs.Common.{ap, sym, ◌∙◌}
-use Rattle.std.proofs.lemmas.Bool.{not-false}
-use Rattle.gc_texts.specs.Troubles.{asks_outside}
+use Rattle.gc_texts.proofs.Common.{ap, sym, ◌∙◌, not-false, asks_outside}
 use Rattle.gc_texts.proofs.TaskForms.{one_said}
 use Rattle.gc_texts.proofs.trouble.is_station_line.Goals as goal
 

@@ -1,5 +1,4 @@
-use Rattle.std.proofs.Common.{sym}
-use Rattle.gc_texts.specs.ProcedureNames.{each_procedure}
+use Rattle.gc_texts.proofs.Common.{sym, each_procedure}
 use Rattle.gc_texts.proofs.RawTroubles.{no_procedure_no_name}
 use Rattle.gc_texts.proofs.trouble.name_in_table.Goals as goal
 

@@ -1,6 +1,4 @@
-use Rattle.std.proofs.Common.{rules, ◌≡◌}
-use Rattle.gc_texts.specs.Troubles.{IsRaw}
-use Rattle.gc_texts.specs.Words.{second_word, after_two_words}
+use Rattle.gc_texts.proofs.Common.{rules, ◌≡◌, IsRaw, second_word, after_two_words}
 use Rattle.gc_texts.proofs.RawTroubles.{raw_words_trouble_is_requests, same_raw_trouble}
 use Rattle.gc_texts.proofs.trouble.request_trouble.Goals as goal
 

@@ -1,6 +1,4 @@
-use Rattle.std.specs.Fmt.{decimal}
-use Rattle.std.proofs.lemmas.Result.{IfOk-weaker}
-use Rattle.gc_lines.proofs.Known.{Appends-is}
+use Rattle.gc_texts.proofs.Common.{decimal, IfOk-weaker, Appends-is}
 use Rattle.gc_texts.proofs.DescribingTroubles.{undescribed_line}
 use Rattle.gc_texts.proofs.trouble.tell_undescribed.Goals as goal
 

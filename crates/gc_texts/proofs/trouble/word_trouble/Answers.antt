@@ -1,7 +1,4 @@
-use Rattle.std.proofs.Common.{rules, ◌≡◌, ℕ, List, codes, subst, ap, ◌∙◌}
-use Rattle.gc_texts.specs.Cuts.{behind}
-use Rattle.gc_texts.specs.Troubles.{HasTarget, IsNearTrouble, IsAgreeTrouble, IsDescriptionTrouble}
-use Rattle.gc_texts.specs.Words.{first_word, second_word}
+use Rattle.gc_texts.proofs.Common.{rules, ◌≡◌, ℕ, List, codes, subst, ap, ◌∙◌, behind, HasTarget, IsNearTrouble, IsAgreeTrouble, IsDescriptionTrouble, first_word, second_word}
 use Rattle.gc_texts.proofs.AgreeTroubles.{agree_is_setting}
 use Rattle.gc_texts.proofs.DescribingTroubles.{described_is_setting}
 use Rattle.gc_texts.proofs.NearTroubles.{near_is_setting}

@@ -1,6 +1,4 @@
-use Rattle.std.proofs.Common.{rules, ◌≡◌, ◌++◌, ◌∷◌, [], filter, true, subst, sym}
-use Rattle.gc_values.specs.declared.file_value.ValueFile.{ValueFile}
-use Rattle.gc_texts.specs.ValueItems.{IsValueFile, is_value_item, value_items}
+use Rattle.gc_texts.proofs.Common.{rules, ◌≡◌, ◌++◌, ◌∷◌, [], filter, true, subst, sym, ValueFile, IsValueFile, is_value_item, value_items}
 use Rattle.gc_texts.proofs.ValueForms.{FilesAdded, no_file_added, no_file_named, one_file_added, value_first}
 use Rattle.gc_texts.proofs.value_item.append_files.Goals as goal
 

@@ -1,5 +1,4 @@
-use Rattle.std.proofs.Common.{length, filter}
-use Rattle.gc_texts.specs.ValueItems.{is_value_item, value_items}
+use Rattle.gc_texts.proofs.Common.{length, filter, is_value_item, value_items}
 use Rattle.gc_texts.proofs.ValueForms.{FilesAdded}
 use Rattle.gc_texts.proofs.value_item.append_files.Given as goal
 

@@ -1,5 +1,4 @@
-use Rattle.std.proofs.Common.{length, filter}
-use Rattle.gc_texts.specs.ValueItems.{AreValueFiles, is_value_item, value_items}
+use Rattle.gc_texts.proofs.Common.{length, filter, AreValueFiles, is_value_item, value_items}
 use Rattle.gc_texts.proofs.value_item.are_sound.Given as goal
 
 -- all items that stand for values have their form exactly if those that are left do

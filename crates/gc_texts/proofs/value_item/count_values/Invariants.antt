@@ -1,5 +1,4 @@
-use Rattle.std.proofs.Common.{length}
-use Rattle.gc_texts.specs.WordLists.{pieces_of}
+use Rattle.gc_texts.proofs.Common.{length, pieces_of}
 use Rattle.gc_texts.proofs.ValueForms.{CountsValues}
 use Rattle.gc_texts.proofs.value_item.count_values.Given as goal
 

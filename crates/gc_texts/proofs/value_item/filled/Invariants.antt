@@ -1,6 +1,5 @@
-use Rattle.std.proofs.Common.{length}
+use Rattle.gc_texts.proofs.Common.{length, pieces_of}
 use Rattle.gc_texts.proofs.ValueForms.{FillsSoFar}
-use Rattle.gc_texts.specs.WordLists.{pieces_of}
 use Rattle.gc_texts.proofs.value_item.filled.Given as goal
 
 -- the items so far were put in

@@ -1,7 +1,4 @@
-use Rattle.std.proofs.Common.{rules, ◌≡◌, ◌<◌, length, unwrap_or, ap, sym, ◌∙◌}
-use Rattle.gc_catalogue.specs.RawAgain.{with_params}
-use Rattle.gc_catalogue.specs.RawTexts.{raw_bytes}
-use Rattle.gc_texts.specs.ValueItems.{filled}
+use Rattle.gc_texts.proofs.Common.{rules, ◌≡◌, ◌<◌, length, unwrap_or, ap, sym, ◌∙◌, with_params, raw_bytes, filled}
 use Rattle.gc_texts.proofs.ValueForms.{too_many}
 use Rattle.gc_texts.proofs.value_item.filled_call.Goals as goal
 

@@ -1,5 +1,4 @@
-use Rattle.std.proofs.Common.{◌≡◌, length, filter}
-use Rattle.gc_texts.specs.ValueItems.{is_value_item, value_items}
+use Rattle.gc_texts.proofs.Common.{◌≡◌, length, filter, is_value_item, value_items}
 use Rattle.gc_texts.proofs.value_item.has_values.Given as goal
 
 -- the items that stand for values are among those that are left

@@ -1,6 +1,4 @@
-use Rattle.std.proofs.Common.{rules, ◌≡◌, true}
-use Rattle.gc_values.specs.declared.file_value.ValueFile.{ValueFile}
-use Rattle.gc_texts.specs.ValueItems.{IsValueFile, is_value_item}
+use Rattle.gc_texts.proofs.Common.{rules, ◌≡◌, true, ValueFile, IsValueFile, is_value_item}
 use Rattle.gc_texts.proofs.value_item.is_sound.Goals as goal
 
 pub returns-in-None-clause-none : goal.returns-in-None-clause-none

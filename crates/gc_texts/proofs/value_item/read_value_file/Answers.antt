@@ -1,9 +1,4 @@
-use Rattle.std.proofs.Common.{rules, ◌≡◌, ◌++◌, ◌∷◌, ℕ, [], None, Some}
-use Rattle.std.specs.Option.{option_copied}
-use Rattle.gc_values.specs.declared.file_value.ValueFile.{ValueFile}
-use Rattle.gc_texts.specs.Cuts.{Cuts}
-use Rattle.gc_texts.specs.Procedures.{IsNumber}
-use Rattle.gc_texts.specs.ValueItems.{IsValueFile}
+use Rattle.gc_texts.proofs.Common.{rules, ◌≡◌, ◌++◌, ◌∷◌, ℕ, [], None, Some, option_copied, ValueFile, Cuts, IsNumber, IsValueFile}
 use Rattle.gc_texts.proofs.ValueForms.{names_file_or_none, no_cut, no_seconds, none_for_zero}
 use Rattle.gc_texts.proofs.value_item.read_value_file.Goals as goal
 

@@ -1,7 +1,4 @@
-use Rattle.std.proofs.Common.{rules, ◌≡◌, ◌<◌, length, None, ap, ◌∙◌}
-use Rattle.gc_catalogue.specs.RawAgain.{with_params}
-use Rattle.gc_catalogue.specs.RawTexts.{raw_bytes}
-use Rattle.gc_texts.specs.ValueItems.{filled, sampled, samples}
+use Rattle.gc_texts.proofs.Common.{rules, ◌≡◌, ◌<◌, length, None, ap, ◌∙◌, with_params, raw_bytes, filled, sampled, samples}
 use Rattle.gc_texts.proofs.ValueForms.{too_many}
 use Rattle.gc_texts.proofs.value_item.sampled.Goals as goal
 

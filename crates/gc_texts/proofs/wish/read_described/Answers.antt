@@ -1,6 +1,4 @@
-use Rattle.std.proofs.Common.{rules, ◌∷◌, ◌++◌}
-use Rattle.gc_texts.specs.Wishes.{IsDescribedWish}
-use Rattle.gc_texts.specs.declared.wish.Wish.{Wish}
+use Rattle.gc_texts.proofs.Common.{rules, ◌∷◌, ◌++◌, IsDescribedWish, Wish}
 use Rattle.gc_texts.proofs.DescribedForms.{described_of_parts, requestless_is_not_described, targetless_is_not_described}
 use Rattle.gc_texts.proofs.wish.read_described.Goals as goal
 

@@ -1,6 +1,4 @@
-use Rattle.std.proofs.Common.{rules, ◌∷◌, ◌++◌}
-use Rattle.gc_texts.specs.Wishes.{IsWish}
-use Rattle.gc_texts.specs.declared.wish.Wish.{Wish}
+use Rattle.gc_texts.proofs.Common.{rules, ◌∷◌, ◌++◌, IsWish, Wish}
 use Rattle.gc_texts.proofs.RequestForms.{wish_of_parts, targetless_is_no_wish, requestless_is_no_wish}
 use Rattle.gc_texts.proofs.wish.read_request.Goals as goal
 

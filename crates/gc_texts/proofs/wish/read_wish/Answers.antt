@@ -1,8 +1,4 @@
-use Rattle.std.proofs.Common.{rules, None, Some}
-use Rattle.std.specs.Option.{option_copied}
-use Rattle.gc_texts.specs.Wishes.{IsWorded}
-use Rattle.gc_texts.specs.declared.wish.Wish.{Wish}
-use Rattle.gc_texts.specs.declared.wording.Wording.{Wording}
+use Rattle.gc_texts.proofs.Common.{rules, None, Some, option_copied, IsWorded, Wish, Wording}
 use Rattle.gc_texts.proofs.DescribedForms.{unspaced_is_not_worded, worded_of_cut}
 use Rattle.gc_texts.proofs.Procedures.{with_rest}
 use Rattle.gc_texts.proofs.wish.read_wish.Goals as goal

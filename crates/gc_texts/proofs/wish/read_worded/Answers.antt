@@ -1,7 +1,4 @@
-use Rattle.std.proofs.Common.{rules, ◌∷◌, ◌++◌}
-use Rattle.gc_texts.specs.Wishes.{IsWorded}
-use Rattle.gc_texts.specs.declared.wish.Wish.{Wish}
-use Rattle.gc_texts.specs.declared.wording.Wording.{Wording}
+use Rattle.gc_texts.proofs.Common.{rules, ◌∷◌, ◌++◌, IsWorded, Wish, Wording}
 use Rattle.gc_texts.proofs.DescribedForms.{no_worded}
 use Rattle.gc_texts.proofs.wish.read_worded.Goals as goal
 

@@ -1,5 +1,4 @@
-use Rattle.std.proofs.Common.{ℕ, List, sym, subst}
-use Rattle.gc_lines.specs.Replies.{IsReply, reply_seen}
+use Rattle.gc_texts.proofs.Common.{ℕ, List, sym, subst, IsReply, reply_seen}
 use Rattle.gc_texts.proofs.ZeroReplies.{zero_reads}
 use Rattle.gc_texts.proofs.zeroed.reading_as_zero.Goals as goal
 

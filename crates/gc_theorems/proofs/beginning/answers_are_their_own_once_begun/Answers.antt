@@ -1,4 +1,4 @@
-use Rattle.gc_theorems.specs.Instrument.{AnyState}
+use Rattle.gc_theorems.proofs.Common.{AnyState}
 use Rattle.gc_theorems.proofs.BegunFaithful.{faithful}
 use Rattle.gc_theorems.proofs.beginning.answers_are_their_own_once_begun.Goals as goal
 

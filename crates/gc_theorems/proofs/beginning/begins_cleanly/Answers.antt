@@ -1,4 +1,4 @@
-use Rattle.gc_theorems.specs.Instrument.{AnyState}
+use Rattle.gc_theorems.proofs.Common.{AnyState}
 use Rattle.gc_theorems.proofs.BeginJoin.{begins_cleanly}
 use Rattle.gc_theorems.proofs.beginning.begins_cleanly.Goals as goal
 

@@ -1,4 +1,4 @@
-use Rattle.gc_theorems.specs.Instrument.{AnyState}
+use Rattle.gc_theorems.proofs.Common.{AnyState}
 use Rattle.gc_theorems.proofs.BegunRuns.{runs_are_their_own}
 use Rattle.gc_theorems.proofs.beginning.runs_are_their_own.Goals as goal
 

@@ -1,4 +1,4 @@
-use Rattle.gc_theorems.specs.Instrument.{AnyState}
+use Rattle.gc_theorems.proofs.Common.{AnyState}
 use Rattle.gc_theorems.proofs.BegunRising.{runs_leave_rising_ids}
 use Rattle.gc_theorems.proofs.beginning.runs_leave_rising_ids.Goals as goal
 

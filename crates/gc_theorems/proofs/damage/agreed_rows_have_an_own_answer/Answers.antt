@@ -1,4 +1,4 @@
-use Rattle.gc_theorems.specs.Instrument.{AnyState}
+use Rattle.gc_theorems.proofs.Common.{AnyState}
 use Rattle.gc_theorems.proofs.Agreed.{agreed_own}
 use Rattle.gc_theorems.proofs.damage.agreed_rows_have_an_own_answer.Goals as goal
 

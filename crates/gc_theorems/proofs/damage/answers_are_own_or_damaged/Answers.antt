@@ -1,4 +1,4 @@
-use Rattle.gc_theorems.specs.Instrument.{AnyState}
+use Rattle.gc_theorems.proofs.Common.{AnyState}
 use Rattle.gc_theorems.proofs.Own.{own_or_damaged}
 use Rattle.gc_theorems.proofs.damage.answers_are_own_or_damaged.Goals as goal
 

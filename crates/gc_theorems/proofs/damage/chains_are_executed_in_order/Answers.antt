@@ -1,4 +1,4 @@
-use Rattle.gc_theorems.specs.Instrument.{AnyState}
+use Rattle.gc_theorems.proofs.Common.{AnyState}
 use Rattle.gc_theorems.proofs.Chains.{chains_in_order}
 use Rattle.gc_theorems.proofs.damage.chains_are_executed_in_order.Goals as goal
 

@@ -1,4 +1,4 @@
-use Rattle.gc_theorems.specs.Instrument.{AnyState}
+use Rattle.gc_theorems.proofs.Common.{AnyState}
 use Rattle.gc_theorems.proofs.DamagedRuns.{run_apart}
 use Rattle.gc_theorems.proofs.damage.damage_once_synchronized_is_apart.Goals as goal
 

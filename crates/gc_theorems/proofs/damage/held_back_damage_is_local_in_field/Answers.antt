@@ -1,4 +1,4 @@
-use Rattle.gc_theorems.specs.Instrument.{AnyState}
+use Rattle.gc_theorems.proofs.Common.{AnyState}
 use Rattle.gc_theorems.proofs.HoldingBack.{held_back_is_local_in_field}
 use Rattle.gc_theorems.proofs.damage.held_back_damage_is_local_in_field.Goals as goal
 

@@ -1,4 +1,4 @@
-use Rattle.gc_theorems.specs.Instrument.{AnyState}
+use Rattle.gc_theorems.proofs.Common.{AnyState}
 use Rattle.gc_theorems.proofs.Synchronizing.{own_eighth_is_clean}
 use Rattle.gc_theorems.proofs.damage.own_eighth_is_clean.Goals as goal
 

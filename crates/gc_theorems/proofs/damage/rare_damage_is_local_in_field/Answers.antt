@@ -1,4 +1,4 @@
-use Rattle.gc_theorems.specs.Instrument.{AnyState}
+use Rattle.gc_theorems.proofs.Common.{AnyState}
 use Rattle.gc_theorems.proofs.Rarely.{rare_is_local_in_field}
 use Rattle.gc_theorems.proofs.damage.rare_damage_is_local_in_field.Goals as goal
 

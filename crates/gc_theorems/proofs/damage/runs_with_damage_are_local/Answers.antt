@@ -1,4 +1,4 @@
-use Rattle.gc_theorems.specs.Instrument.{AnyState}
+use Rattle.gc_theorems.proofs.Common.{AnyState}
 use Rattle.gc_theorems.proofs.DamagedRuns.{run_local}
 use Rattle.gc_theorems.proofs.damage.runs_with_damage_are_local.Goals as goal
 

@@ -1,5 +1,4 @@
-use Rattle.gc_session.proofs.Lawful.{held_back, theirs}
-use Rattle.gc_theorems.specs.Instrument.{AnyState}
+use Rattle.gc_theorems.proofs.Common.{held_back, theirs, AnyState}
 use Rattle.gc_theorems.proofs.DamagedSessions.{session_local}
 use Rattle.gc_theorems.proofs.damage.sessions_with_damage_are_local.Goals as goal
 

@@ -1,4 +1,4 @@
-use Rattle.gc_theorems.specs.Instrument.{AnyState}
+use Rattle.gc_theorems.proofs.Common.{AnyState}
 use Rattle.gc_theorems.proofs.Stretch.{stretch_is_local}
 use Rattle.gc_theorems.proofs.damage.stretches_are_local.Goals as goal
 

@@ -1,4 +1,4 @@
-use Rattle.gc_theorems.specs.Instrument.{AnyState}
+use Rattle.gc_theorems.proofs.Common.{AnyState}
 use Rattle.gc_theorems.proofs.UndamagedRuns.{is_instance}
 use Rattle.gc_theorems.proofs.damage.undamaged_runs_are_instances.Goals as goal
 

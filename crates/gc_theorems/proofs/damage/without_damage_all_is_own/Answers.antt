@@ -1,4 +1,4 @@
-use Rattle.gc_theorems.specs.Instrument.{AnyState}
+use Rattle.gc_theorems.proofs.Common.{AnyState}
 use Rattle.gc_theorems.proofs.WithoutDamage.{own_without_damage}
 use Rattle.gc_theorems.proofs.damage.without_damage_all_is_own.Goals as goal
 

@@ -1,5 +1,5 @@
+use Rattle.gc_theorems.proofs.Common.{AnyState}
 use Rattle.gc_theorems.proofs.Faithful.{faithful}
-use Rattle.gc_theorems.specs.Instrument.{AnyState}
 use Rattle.gc_theorems.proofs.laws.answers_are_their_own.Goals as goal
 
 pub returns : goal.returns

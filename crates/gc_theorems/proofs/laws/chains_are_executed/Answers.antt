@@ -1,6 +1,4 @@
-use Rattle.gc_station.proofs.Linking.{chains_stay, marks_go_on}
-use Rattle.gc_station.proofs.SentAt.{records_stay}
-use Rattle.gc_theorems.specs.Instrument.{AnyState}
+use Rattle.gc_theorems.proofs.Common.{chains_stay, marks_go_on, records_stay, AnyState}
 use Rattle.gc_theorems.proofs.Chained.{chains_executed}
 use Rattle.gc_theorems.proofs.laws.chains_are_executed.Goals as goal
 

@@ -1,5 +1,4 @@
-use Rattle.gc_station.proofs.Linking.{chains_stay, marks_go_on}
-use Rattle.gc_station.proofs.SentAt.{records_stay}
+use Rattle.gc_theorems.proofs.Common.{chains_stay, marks_go_on, records_stay}
 use Rattle.gc_theorems.proofs.Pointed.{pointed}
 use Rattle.gc_theorems.proofs.laws.chains_are_measured_where_they_pointed.Goals as goal
 

@@ -1,4 +1,4 @@
-use Rattle.gc_theorems.specs.Instrument.{AnyState}
+use Rattle.gc_theorems.proofs.Common.{AnyState}
 use Rattle.gc_theorems.proofs.Parting.{each_is_own_if_safe}
 use Rattle.gc_theorems.proofs.laws.clients_answers_are_their_own.Goals as goal
 

@@ -1,4 +1,4 @@
-use Rattle.gc_theorems.specs.Instrument.{AnyState}
+use Rattle.gc_theorems.proofs.Common.{AnyState}
 use Rattle.gc_theorems.proofs.Joining.{run_faithful}
 use Rattle.gc_theorems.proofs.laws.runs_are_faithful.Goals as goal
 

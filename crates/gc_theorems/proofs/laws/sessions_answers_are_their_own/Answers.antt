@@ -1,5 +1,4 @@
-use Rattle.gc_session.proofs.Lawful.{near, theirs}
-use Rattle.gc_theorems.specs.Instrument.{AnyState}
+use Rattle.gc_theorems.proofs.Common.{near, theirs, AnyState}
 use Rattle.gc_theorems.proofs.Sessions.{session_is_own}
 use Rattle.gc_theorems.proofs.laws.sessions_answers_are_their_own.Goals as goal
 

@@ -1,6 +1,4 @@
-use Rattle.gc_instrument.specs.State.{IsFittingState}
-use Rattle.gc_theorems.specs.Simulator.{simulator_ends}
-use Rattle.gc_theorems.specs.Laws.{kept_of}
+use Rattle.gc_theorems.proofs.Common.{IsFittingState, simulator_ends, kept_of}
 use Rattle.gc_theorems.proofs.Instruments.{simulator_is_an_instrument}
 use Rattle.gc_theorems.proofs.Joining.{run_faithful}
 use Rattle.gc_theorems.proofs.laws.simulators_runs_are_faithful.Goals as goal

@@ -1,8 +1,4 @@
-use Rattle.std.proofs.Common.{sym, ◌∙◌}
-use Rattle.gc_client.specs.OneForOne.{begun}
-use Rattle.gc_session.proofs.Courses.{course_client}
-use Rattle.gc_theorems.specs.Field.{seen}
-use Rattle.gc_theorems.specs.Instrument.{AnyState}
+use Rattle.gc_theorems.proofs.Common.{sym, ◌∙◌, begun, course_client, seen, AnyState}
 use Rattle.gc_theorems.proofs.InTime.{clean_faithful}
 use Rattle.gc_theorems.proofs.laws.stations_answers_are_their_own.Goals as goal
 

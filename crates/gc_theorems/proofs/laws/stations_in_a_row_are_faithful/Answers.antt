@@ -1,4 +1,4 @@
-use Rattle.gc_theorems.specs.Instrument.{AnyState}
+use Rattle.gc_theorems.proofs.Common.{AnyState}
 use Rattle.gc_theorems.proofs.InARow.{in_a_row}
 use Rattle.gc_theorems.proofs.laws.stations_in_a_row_are_faithful.Goals as goal
 

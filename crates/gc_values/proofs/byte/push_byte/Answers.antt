@@ -1,5 +1,4 @@
-use Rattle.std.proofs.Common.{◌≡◌, [], ◌∷◌, ap, ◌∙◌, get_or, rules, ◌++◌}
-use Rattle.hex.specs.Hex.{encode_lower}
+use Rattle.gc_values.proofs.Common.{◌≡◌, [], ◌∷◌, ap, ◌∙◌, get_or, rules, ◌++◌, encode_lower}
 use Rattle.gc_values.proofs.ByteLemmas.{encode_lower-one}
 use Rattle.gc_values.proofs.byte.push_byte.Goals as goal
 

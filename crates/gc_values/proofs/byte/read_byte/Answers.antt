@@ -1,4 +1,4 @@
-use Rattle.std.proofs.Common.{refl, ap, Ok}
+use Rattle.gc_values.proofs.Common.{refl, ap, Ok}
 use Rattle.gc_values.proofs.ByteLemmas.{one_byte}
 use Rattle.gc_values.proofs.HexPair.{byte_found, no_byte}
 use Rattle.gc_values.proofs.byte.read_byte.Goals as goal

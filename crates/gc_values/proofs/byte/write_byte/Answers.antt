@@ -1,5 +1,4 @@
-use Rattle.std.proofs.Common.{◌≡◌, sym, subst, rules}
-use Rattle.gc_values.specs.Byte.{IsByte, byte_text}
+use Rattle.gc_values.proofs.Common.{◌≡◌, sym, subst, rules, IsByte, byte_text}
 use Rattle.gc_values.proofs.ByteLemmas.{byte_reads}
 use Rattle.gc_values.proofs.byte.write_byte.Goals as goal
 

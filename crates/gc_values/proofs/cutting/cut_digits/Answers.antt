@@ -1,5 +1,4 @@
-use Rattle.std.proofs.Common.{arith, rules, get_or}
-use Rattle.gc_values.specs.Digits.{IsDigit}
+use Rattle.gc_values.proofs.Common.{arith, rules, get_or, IsDigit}
 use Rattle.gc_values.proofs.Every.{every_more}
 use Rattle.gc_values.proofs.cutting.cut_digits.Goals as goal
 

@@ -1,5 +1,4 @@
-use Rattle.std.proofs.Common.{take}
-use Rattle.gc_values.specs.Digits.{AreDigits}
+use Rattle.gc_values.proofs.Common.{take, AreDigits}
 use Rattle.gc_values.proofs.cutting.cut_digits.Given as goal
 
 abbrev pub invariant-loop-i : goal.invariant-loop-i

@@ -1,4 +1,4 @@
-use Rattle.std.proofs.Common.{◌∷◌, Some, refl, ap, ◌∙◌}
+use Rattle.gc_values.proofs.Common.{◌∷◌, Some, refl, ap, ◌∙◌}
 use Rattle.gc_values.proofs.cutting.cut_fraction.Goals as goal
 
 pub returns-in-Some : goal.returns-in-Some

@@ -1,8 +1,7 @@
-use Rattle.std.proofs.Common.{◌≡◌, ◌+◌, ◌<◌, refl, ap, length, arith, rules}
-use Rattle.gc_values.specs.Spelling.{fraction_digits}
+use Rattle.gc_values.proofs.Common.{◌≡◌, ◌+◌, ◌<◌, refl, ap, length, arith, rules, fraction_digits}
 use Rattle.gc_values.proofs.Unique.{Cut, same_parts, cut_is_numeral}
-use Rattle.gc_values.proofs.cutting.cut_numeral.Goals as goal
 use Rattle.gc_values.proofs.cutting.cut_numeral.Goals.{else-is_empty-via-then-is_empty+else-is_empty-2, else-is_empty-via-else-is_empty}
+use Rattle.gc_values.proofs.cutting.cut_numeral.Goals as goal
 
 pub invariant_of-result : goal.invariant_of-result
 invariant_of-result c = record { whole_are_digits = c.cut_digits.ensures.digits; fraction_are_digits = c.cut_fraction.ensures.digits }

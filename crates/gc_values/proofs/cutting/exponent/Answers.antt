@@ -1,7 +1,4 @@
-use Rattle.std.proofs.Common.{◌≡◌, ◌∷◌, List, ℕ, Bool, Some, ap, ◌∙◌, cond, subst}
-use Rattle.gc_values.specs.Cut.{CutsSign, ReadsExponent}
-use Rattle.gc_values.specs.Digits.{number}
-use Rattle.gc_values.specs.Spelling.{IsExponentDigits, mark}
+use Rattle.gc_values.proofs.Common.{◌≡◌, ◌∷◌, List, ℕ, Bool, Some, ap, ◌∙◌, cond, subst, CutsSign, ReadsExponent, number, IsExponentDigits, mark}
 use Rattle.gc_values.proofs.cutting.exponent.Goals as goal
 
 -- a mark, a sign or none, and one to three digits that write n are read as an exponent, which divides by ten n times with a

@@ -1,7 +1,4 @@
-use Rattle.std.proofs.Common.{◌≡◌, ◌^◌, ◌+◌, ◌*◌, arith, rules, get_or, take, ap, ◌∙◌, add-one}
-use Rattle.std.proofs.Math.Nat.{pow-suc}
-use Rattle.std.proofs.lemmas.List.{take_all}
-use Rattle.gc_values.specs.Digits.{IsDigit, number}
+use Rattle.gc_values.proofs.Common.{◌≡◌, ◌^◌, ◌+◌, ◌*◌, arith, rules, get_or, take, ap, ◌∙◌, add-one, pow-suc, take_all, IsDigit, number}
 use Rattle.gc_values.proofs.Every.{every_more}
 use Rattle.gc_values.proofs.Kept.{number-take_more}
 use Rattle.gc_values.proofs.cutting.exponent_number.Goals as goal

@@ -1,5 +1,4 @@
-use Rattle.std.proofs.Common.{◌≡◌, ◌<◌, ◌^◌, take}
-use Rattle.gc_values.specs.Digits.{AreDigits, number}
+use Rattle.gc_values.proofs.Common.{◌≡◌, ◌<◌, ◌^◌, take, AreDigits, number}
 use Rattle.gc_values.proofs.cutting.exponent_number.Given as goal
 
 abbrev pub invariant-loop-byte : goal.invariant-loop-byte

@@ -1,5 +1,4 @@
-use Rattle.std.proofs.Common.{◌++◌, ◌-◌, ◌*◌, ◌/◌, ◌%◌, ◌^◌, length, ap, ◌∙◌, arith}
-use Rattle.gc_values.specs.Written.{last_digits}
+use Rattle.gc_values.proofs.Common.{◌++◌, ◌-◌, ◌*◌, ◌/◌, ◌%◌, ◌^◌, length, ap, ◌∙◌, arith, last_digits}
 use Rattle.gc_values.proofs.WrittenLemmas.{places_are_last_digits, length-places_text, length-put}
 use Rattle.gc_values.proofs.decimal.put_places.Goals as goal
 

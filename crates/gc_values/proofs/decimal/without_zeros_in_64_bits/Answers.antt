@@ -1,4 +1,4 @@
-use Rattle.std.proofs.Common.{arith}
+use Rattle.gc_values.proofs.Common.{arith}
 use Rattle.gc_values.proofs.ZerosLemmas.{zero_off}
 use Rattle.gc_values.proofs.decimal.without_zeros_in_64_bits.Goals as goal
 

@@ -1,4 +1,4 @@
-use Rattle.std.proofs.Common.{◌≡◌, ◌*◌, ◌^◌, ◌≤◌}
+use Rattle.gc_values.proofs.Common.{◌≡◌, ◌*◌, ◌^◌, ◌≤◌}
 use Rattle.gc_values.proofs.decimal.without_zeros_in_64_bits.Given as goal
 
 abbrev pub invariant-loop-scale : goal.invariant-loop-scale

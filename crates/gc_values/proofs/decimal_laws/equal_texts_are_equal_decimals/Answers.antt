@@ -1,6 +1,4 @@
-use Rattle.std.proofs.Common.{ap}
-use Rattle.gc_values.specs.Written.{written}
-use Rattle.gc_values.specs.declared.decimal.Decimal.{Decimal}
+use Rattle.gc_values.proofs.Common.{ap, written, Decimal}
 use Rattle.gc_values.proofs.DecimalLaws.{written_unique}
 use Rattle.gc_values.proofs.decimal_laws.equal_texts_are_equal_decimals.Goals as goal
 

@@ -1,6 +1,4 @@
-use Rattle.std.proofs.Common.{subst, refl}
-use Rattle.gc_values.specs.Fraction.{SameValue}
-use Rattle.gc_values.specs.declared.decimal.Decimal.{Decimal}
+use Rattle.gc_values.proofs.Common.{subst, refl, SameValue, Decimal}
 use Rattle.gc_values.proofs.DecimalLaws.{value_unique}
 use Rattle.gc_values.proofs.decimal_laws.equal_values_are_equal_decimals.Goals as goal
 

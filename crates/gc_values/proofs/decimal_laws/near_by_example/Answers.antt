@@ -1,5 +1,4 @@
-use Rattle.std.proofs.Common.{refl}
-use Rattle.gc_values.specs.Directions.{is_near}
+use Rattle.gc_values.proofs.Common.{refl, is_near}
 use Rattle.gc_values.proofs.decimal_laws.near_by_example.Goals as goal
 
 pub returns : goal.returns

@@ -1,4 +1,4 @@
-use Rattle.std.proofs.Common.{◌∙◌}
+use Rattle.gc_values.proofs.Common.{◌∙◌}
 use Rattle.gc_values.proofs.NearLemmas.{close_turned}
 use Rattle.gc_values.proofs.direction.is_close_turned.Goals as goal
 

@@ -1,5 +1,4 @@
-use Rattle.std.proofs.Common.{◌≡◌, ◌++◌, take, drop}
-use Rattle.gc_values.specs.FileValues.{value_text}
+use Rattle.gc_values.proofs.Common.{◌≡◌, ◌++◌, take, drop, value_text}
 use Rattle.gc_values.proofs.file_value.before_zero.Given as goal
 
 -- none of the bytes so far is a zero

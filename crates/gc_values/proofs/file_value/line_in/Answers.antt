@@ -1,5 +1,4 @@
-use Rattle.std.proofs.Common.{◌≡◌, ◌++◌, ◌∷◌, [], rules}
-use Rattle.gc_values.specs.FileValues.{without_cr}
+use Rattle.gc_values.proofs.Common.{◌≡◌, ◌++◌, ◌∷◌, [], rules, without_cr}
 use Rattle.gc_values.proofs.file_value.line_in.Goals as goal
 
 pub returns-clause-found : goal.returns-clause-found

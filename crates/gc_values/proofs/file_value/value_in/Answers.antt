@@ -1,7 +1,4 @@
-use Rattle.std.proofs.Common.{◌≡◌, ℕ, List, Ok, Err, ap, inl, inr, refl, rules, sym, true, ◌∙◌}
-use Rattle.gc_values.specs.Decimals.{SpellsDecimal, decimal_text}
-use Rattle.gc_values.specs.FileValues.{are_fresh, value_bytes, HasValue, IsLineOf}
-use Rattle.gc_values.specs.declared.decimal.Decimal.{Decimal}
+use Rattle.gc_values.proofs.Common.{◌≡◌, ℕ, List, Ok, Err, ap, inl, inr, refl, rules, sym, true, ◌∙◌, SpellsDecimal, decimal_text, are_fresh, value_bytes, HasValue, IsLineOf, Decimal}
 use Rattle.gc_values.proofs.FileLemmas.{one_line}
 use Rattle.gc_values.proofs.file_value.value_in.Goals as goal
 

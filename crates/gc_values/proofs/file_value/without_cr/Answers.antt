@@ -1,5 +1,4 @@
-use Rattle.std.proofs.Common.{◌≡◌, ◌++◌, ◌∷◌, [], ap, rules, sym, ◌∙◌}
-use Rattle.gc_values.specs.FileValues.{without_cr}
+use Rattle.gc_values.proofs.Common.{◌≡◌, ◌++◌, ◌∷◌, [], ap, rules, sym, ◌∙◌, without_cr}
 use Rattle.gc_values.proofs.FileLemmas.{cr_goes, other_stays}
 use Rattle.gc_values.proofs.file_value.without_cr.Goals as goal
 

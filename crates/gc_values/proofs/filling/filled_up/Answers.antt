@@ -1,5 +1,4 @@
-use Rattle.std.proofs.Common.{rules}
-use Rattle.std.proofs.lemmas.List.{drop-replicate}
+use Rattle.gc_values.proofs.Common.{rules, drop-replicate}
 use Rattle.gc_values.proofs.filling.filled_up.Goals as goal
 
 pub returns : goal.returns

@@ -1,9 +1,4 @@
-use Rattle.std.proofs.Common.{◌≡◌, ◌+◌, false, arith, rules, subst, sym, get_or}
-use Rattle.std.proofs.lemmas.List.{take_rest}
-use Rattle.std.proofs.lemmas.Option.{IfSome_then}
-use Rattle.std.specs.Option.{option_copied}
-use Rattle.gc_values.specs.Nearest.{SignedWithoutZeros}
-use Rattle.gc_values.specs.Plainly.{CutsDecimal}
+use Rattle.gc_values.proofs.Common.{◌≡◌, ◌+◌, false, arith, rules, subst, sym, get_or, take_rest, IfSome_then, option_copied, SignedWithoutZeros, CutsDecimal}
 use Rattle.gc_values.proofs.FrontDecimals.{counted_leave_room, front_decimal_found, front_decimal_in_range}
 use Rattle.gc_values.proofs.front.front_decimal.Goals as goal
 

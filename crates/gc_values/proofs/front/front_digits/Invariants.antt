@@ -1,4 +1,4 @@
-use Rattle.gc_values.specs.Plainly.{CountsDigits}
+use Rattle.gc_values.proofs.Common.{CountsDigits}
 use Rattle.gc_values.proofs.front.front_digits.Given as goal
 
 abbrev pub invariant-loop-i : goal.invariant-loop-i

@@ -1,8 +1,4 @@
-use Rattle.std.proofs.Common.{arith, subst, sym}
-use Rattle.std.proofs.lemmas.List.{take_rest}
-use Rattle.std.proofs.lemmas.Option.{IfSome_then}
-use Rattle.std.specs.Option.{option_copied}
-use Rattle.gc_values.specs.Plainly.{CutsNumber}
+use Rattle.gc_values.proofs.Common.{arith, subst, sym, take_rest, IfSome_then, option_copied, CutsNumber}
 use Rattle.gc_values.proofs.FrontDecimals.{front_number_found}
 use Rattle.gc_values.proofs.front.front_number.Goals as goal
 

@@ -1,10 +1,7 @@
-use Rattle.std.proofs.Common.{◌≡◌, ℕ, true, ◌+◌, ◌-◌, arith, ap, ◌∙◌, get_or, take, drop, length, refl}
-use Rattle.std.proofs.lemmas.Grind.{common_steps}
-use Rattle.gc_values.specs.Params.{quoted_after}
+use Rattle.gc_values.proofs.Common.{◌≡◌, ℕ, true, ◌+◌, ◌-◌, arith, ap, ◌∙◌, get_or, take, drop, length, refl, common_steps, quoted_after, drop-drop, take_rest}
 use Rattle.gc_values.proofs.Scanning.{scanned_none, scanned_more, scanned_cut, scanned_all}
-use Rattle.std.proofs.lemmas.List.{drop-drop, take_rest}
-use Rattle.gc_values.proofs.items.cut_piece.Goals as goal
 use Rattle.gc_values.proofs.items.cut_piece.Goals.{then-byte-eq34, else-byte-eq34, else-byte-eq44-via-then-byte-eq44+else-not-quoted, else-byte-eq44-via-else-byte-eq44}
+use Rattle.gc_values.proofs.items.cut_piece.Goals as goal
 
 pub loop-i-init : goal.loop-i-init
 loop-i-init c = scanned_none c.args.text.now

@@ -1,8 +1,4 @@
-use Rattle.std.proofs.Common.{◌≡◌, ◌<◌, ◌≤◌, ◌++◌, ◌∷◌, [], List, ℕ, map, length, Ok, Bor, Some, None, refl, sym, ap, ◌∙◌, subst, arith, rules}
-use Rattle.std.specs.Option.{option_copied}
-use Rattle.std.proofs.lemmas.List.{length-map, map-append}
-use Rattle.gc_values.specs.Params.{AreSpaces, IsParams}
-use Rattle.gc_values.specs.Pieces.{CutsPiece}
+use Rattle.gc_values.proofs.Common.{◌≡◌, ◌<◌, ◌≤◌, ◌++◌, ◌∷◌, [], List, ℕ, map, length, Ok, Bor, Some, None, refl, sym, ap, ◌∙◌, subst, arith, rules, option_copied, length-map, map-append, AreSpaces, IsParams, CutsPiece}
 use Rattle.gc_values.proofs.ParamLists.{SplitSoFar, split_more, split_last, split_longer, one_list, params_even, even_not_odd}
 use Rattle.gc_values.proofs.Trimming.{front_not_spaces}
 use Rattle.gc_values.proofs.items.split.Goals as goal

@@ -1,4 +1,4 @@
-use Rattle.std.proofs.Common.{◌≡◌, length, map}
+use Rattle.gc_values.proofs.Common.{◌≡◌, length, map}
 use Rattle.gc_values.proofs.ParamLists.{SplitSoFar}
 use Rattle.gc_values.proofs.items.split.Given as goal
 

@@ -1,7 +1,7 @@
-use Rattle.std.proofs.Common.{◌≡◌, ◌<◌, ◌-◌, ◌⊎◌, get_or, inl, inr, arith}
+use Rattle.gc_values.proofs.Common.{◌≡◌, ◌<◌, ◌-◌, ◌⊎◌, get_or, inl, inr, arith}
 use Rattle.gc_values.proofs.Trimming.{end_spaces_more, trims_back_at}
-use Rattle.gc_values.proofs.items.trim_back.Goals as goal
 use Rattle.gc_values.proofs.items.trim_back.Goals.{then-loop-end-test+else-text-end-eq32, else-loop-end-test}
+use Rattle.gc_values.proofs.items.trim_back.Goals as goal
 
 pub loop-end-preserved : goal.loop-end-preserved
 loop-end-preserved c = (omega arith, end_spaces_more c.args.text.now c.loop-end.end c.loop-end-test.true c.loop-end.invariant.0 c.loop-end.invariant.1 c.if-text-end-eq32.true)

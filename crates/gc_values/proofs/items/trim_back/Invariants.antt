@@ -1,4 +1,4 @@
-use Rattle.std.proofs.Common.{◌≡◌, ◌≤◌, ◌-◌, drop, length, replicate}
+use Rattle.gc_values.proofs.Common.{◌≡◌, ◌≤◌, ◌-◌, drop, length, replicate}
 use Rattle.gc_values.proofs.items.trim_back.Given as goal
 
 abbrev pub invariant-loop-end : goal.invariant-loop-end

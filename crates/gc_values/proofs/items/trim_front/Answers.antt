@@ -1,6 +1,4 @@
-use Rattle.std.proofs.Common.{length, rules, arith}
-use Rattle.std.proofs.Math.Seq.{drop-length}
-use Rattle.std.proofs.lemmas.List.{take_rest}
+use Rattle.gc_values.proofs.Common.{length, rules, arith, drop-length, take_rest}
 use Rattle.gc_values.proofs.Trimming.{trims_front_at, trims_front_all}
 use Rattle.gc_values.proofs.items.trim_front.Goals as goal
 

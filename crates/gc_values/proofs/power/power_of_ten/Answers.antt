@@ -1,5 +1,4 @@
-use Rattle.std.proofs.Common.{◌≡◌, ℕ, ◌≤◌, ◌^◌, eqb, true, slice_index_or, ap, ◌∙◌, arith, refl}
-use Rattle.std.proofs.lemmas.Bool.{agree_below_at, eqb-true}
+use Rattle.gc_values.proofs.Common.{◌≡◌, ℕ, ◌≤◌, ◌^◌, eqb, true, slice_index_or, ap, ◌∙◌, arith, refl, agree_below_at, eqb-true}
 use Rattle.gc_values.specs.declared.power.TheConstants.{POWERS}
 use Rattle.gc_values.proofs.power.power_of_ten.Goals as goal
 

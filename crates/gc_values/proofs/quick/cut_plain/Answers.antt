@@ -1,5 +1,4 @@
-use Rattle.std.proofs.Common.{◌≡◌, ◌+◌, ◌-◌, arith, ap, ◌∙◌, take, drop, length, rules}
-use Rattle.std.proofs.lemmas.List.{drop-drop, take_rest}
+use Rattle.gc_values.proofs.Common.{◌≡◌, ◌+◌, ◌-◌, arith, ap, ◌∙◌, take, drop, length, rules, drop-drop, take_rest}
 use Rattle.gc_values.proofs.PlainLists.{bare_cut_at_end, bare_cut_at_comma}
 use Rattle.gc_values.proofs.quick.cut_plain.Goals as goal
 

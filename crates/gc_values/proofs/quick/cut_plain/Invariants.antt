@@ -1,4 +1,4 @@
-use Rattle.std.proofs.Common.{take}
+use Rattle.gc_values.proofs.Common.{take}
 use Rattle.gc_values.proofs.TextShape.{AreBare}
 use Rattle.gc_values.proofs.quick.cut_plain.Given as goal
 

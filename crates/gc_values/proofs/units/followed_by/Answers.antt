@@ -1,5 +1,4 @@
-use Rattle.std.proofs.Common.{arith}
-use Rattle.gc_values.specs.Digits.{IsDigit}
+use Rattle.gc_values.proofs.Common.{arith, IsDigit}
 use Rattle.gc_values.proofs.Every.{every_at}
 use Rattle.gc_values.proofs.Kept.{followed_more, followed_small}
 use Rattle.gc_values.proofs.units.followed_by.Goals as goal

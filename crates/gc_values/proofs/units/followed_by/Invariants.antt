@@ -1,5 +1,4 @@
-use Rattle.std.proofs.Common.{◌≡◌, ◌+◌, ◌*◌, ◌^◌, take}
-use Rattle.gc_values.specs.Digits.{number}
+use Rattle.gc_values.proofs.Common.{◌≡◌, ◌+◌, ◌*◌, ◌^◌, take, number}
 use Rattle.gc_values.proofs.units.followed_by.Given as goal
 
 abbrev pub invariant-loop-digit : goal.invariant-loop-digit

@@ -1,5 +1,4 @@
-use Rattle.std.proofs.Common.{◌≡◌, ◌*◌, ◌^◌, min, arith, ap, ◌∙◌, lit≤}
-use Rattle.gc_values.specs.declared.units.TheConstants.{CAP}
+use Rattle.gc_values.proofs.Common.{◌≡◌, ◌*◌, ◌^◌, min, arith, ap, ◌∙◌, lit≤, CAP}
 use Rattle.gc_values.proofs.Kept.{min_pow}
 use Rattle.gc_values.proofs.Powers.{ten_pow_le}
 use Rattle.gc_values.proofs.units.with_zeros.Goals as goal

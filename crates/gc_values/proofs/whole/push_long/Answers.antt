@@ -1,6 +1,4 @@
-use Rattle.std.proofs.Common.{◌≤◌, ℤ, ◌++◌, length, length-append, ap, ◌∙◌, arith, rules, w32}
-use Rattle.std.proofs.lemmas.Int.{ints, to_z-of_z}
-use Rattle.gc_values.specs.Whole.{FitsLong, signed_text}
+use Rattle.gc_values.proofs.Common.{◌≤◌, ℤ, ◌++◌, length, length-append, ap, ◌∙◌, arith, rules, w32, ints, to_z-of_z, FitsLong, signed_text}
 use Rattle.gc_values.proofs.WholeText.{length-long}
 use Rattle.gc_values.proofs.whole.push_long.Goals as goal
 

@@ -1,6 +1,4 @@
-use Rattle.std.proofs.Common.{◌≡◌, ◌≤◌, ℤ, ◌++◌, length, length-append, ap, ◌∙◌, arith, rules, w32, FitsSigned}
-use Rattle.std.proofs.lemmas.Int.{ints, to_z-of_z}
-use Rattle.gc_values.specs.Whole.{FitsShort, signed_text}
+use Rattle.gc_values.proofs.Common.{◌≡◌, ◌≤◌, ℤ, ◌++◌, length, length-append, ap, ◌∙◌, arith, rules, w32, FitsSigned, ints, to_z-of_z, FitsShort, signed_text}
 use Rattle.gc_values.proofs.WholeText.{length-short}
 use Rattle.gc_values.proofs.whole.push_short.Goals as goal
 

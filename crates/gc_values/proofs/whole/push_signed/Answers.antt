@@ -1,6 +1,4 @@
-use Rattle.std.proofs.Common.{◌≡◌, length, ap, ◌∙◌, rules, w32}
-use Rattle.std.proofs.lemmas.Int.{to_z-of_z}
-use Rattle.gc_values.specs.Whole.{signed_text}
+use Rattle.gc_values.proofs.Common.{◌≡◌, length, ap, ◌∙◌, rules, w32, to_z-of_z, signed_text}
 use Rattle.gc_values.proofs.whole.push_signed.Goals as goal
 
 pub returns : goal.returns

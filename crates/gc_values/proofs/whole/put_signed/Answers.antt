@@ -1,5 +1,4 @@
-use Rattle.std.proofs.Common.{◌<◌, ◌^◌, length, length-append, ap, arith, lit<}
-use Rattle.gc_values.specs.Written.{whole_text}
+use Rattle.gc_values.proofs.Common.{◌<◌, ◌^◌, length, length-append, ap, arith, lit<, whole_text}
 use Rattle.gc_values.proofs.WholeText.{length-whole_text}
 use Rattle.gc_values.proofs.whole.put_signed.Goals as goal
 

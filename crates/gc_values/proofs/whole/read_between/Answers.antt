@@ -1,7 +1,7 @@
-use Rattle.std.proofs.Common.{◌≡◌, cond, rules, sym, ap, ◌∙◌}
+use Rattle.gc_values.proofs.Common.{◌≡◌, cond, rules, sym, ap, ◌∙◌}
 use Rattle.gc_values.proofs.WholeLemmas.{whole_fault}
-use Rattle.gc_values.proofs.whole.read_between.Goals as goal
 use Rattle.gc_values.proofs.whole.read_between.Goals.{then-negative, else-negative}
+use Rattle.gc_values.proofs.whole.read_between.Goals as goal
 
 pub returns-in_err-magnitude-clause-fault : goal.returns-in_err-magnitude-clause-fault
 returns-in_err-magnitude-clause-fault c =

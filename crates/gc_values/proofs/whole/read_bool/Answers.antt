@@ -1,5 +1,4 @@
-use Rattle.std.proofs.Common.{pos}
-use Rattle.gc_values.specs.Boolean.{number_of}
+use Rattle.gc_values.proofs.Common.{pos, number_of}
 use Rattle.gc_values.proofs.WholeText.{boolean_between}
 use Rattle.gc_values.proofs.whole.read_bool.Goals as goal
 

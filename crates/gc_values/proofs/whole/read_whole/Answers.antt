@@ -1,5 +1,4 @@
-use Rattle.std.proofs.Common.{rules, arith, refl, inl, get_or}
-use Rattle.gc_values.specs.Digits.{IsDigit}
+use Rattle.gc_values.proofs.Common.{rules, arith, refl, inl, get_or, IsDigit}
 use Rattle.gc_values.proofs.WholeLemmas.{counted_more, not_number}
 use Rattle.gc_values.proofs.whole.read_whole.Goals as goal
 

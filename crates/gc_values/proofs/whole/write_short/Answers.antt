@@ -1,5 +1,4 @@
-use Rattle.std.proofs.Common.{◌≡◌, sym, subst, rules}
-use Rattle.gc_values.specs.Whole.{NamesWhole, signed_text}
+use Rattle.gc_values.proofs.Common.{◌≡◌, sym, subst, rules, NamesWhole, signed_text}
 use Rattle.gc_values.proofs.WholeText.{signed_reads}
 use Rattle.gc_values.proofs.whole.write_short.Goals as goal
 

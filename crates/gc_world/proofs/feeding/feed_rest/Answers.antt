@@ -1,5 +1,4 @@
-use Rattle.std.proofs.Common.{◌≡◌, ◌∷◌, [], ◌++◌, drop, ap, ◌∙◌}
-use Rattle.gc_lines.specs.Lines.{with_end}
+use Rattle.gc_world.proofs.Common.{◌≡◌, ◌∷◌, [], ◌++◌, drop, ap, ◌∙◌, with_end}
 use Rattle.gc_world.proofs.Pieces.{fed_rest}
 use Rattle.gc_world.proofs.feeding.feed_rest.Goals as goal
 

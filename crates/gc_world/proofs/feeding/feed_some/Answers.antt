@@ -1,4 +1,4 @@
-use Rattle.std.proofs.Common.{◌≡◌, ◌+◌, length, arith}
+use Rattle.gc_world.proofs.Common.{◌≡◌, ◌+◌, length, arith}
 use Rattle.gc_world.proofs.Pieces.{fed_within, fed_line, fed_return}
 use Rattle.gc_world.proofs.feeding.feed_some.Goals as goal
 

@@ -1,11 +1,4 @@
-use Rattle.std.proofs.Common.{◌≡◌, ℕ, Some, refl, sym, subst}
-use Rattle.std.specs.Prelude.{slice_get}
-use Rattle.gc_catalogue.specs.declared.call.Call.{Call}
-use Rattle.gc_client.specs.Rule.{ById, Settlement}
-use Rattle.gc_instrument.specs.State.{State, IsFittingState, restarted}
-use Rattle.gc_world.specs.Clients.{ends}
-use Rattle.gc_world.specs.Record.{IsBooked}
-use Rattle.gc_world.specs.World.{World}
+use Rattle.gc_world.proofs.Common.{◌≡◌, ℕ, Some, refl, sym, subst, slice_get, Call, ById, Settlement, State, IsFittingState, restarted, ends, IsBooked, World}
 use Rattle.gc_world.proofs.Flow.{level_at}
 use Rattle.gc_world.proofs.Handing.{exchange, kept_of, keeper, fine}
 use Rattle.gc_world.proofs.Runs.{booked_at}

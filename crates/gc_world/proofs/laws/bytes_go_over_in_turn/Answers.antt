@@ -1,10 +1,4 @@
-use Rattle.std.proofs.Common.{◌+◌, ◌<◌, [], ◌∷◌, length, sym, ◌∙◌, ap, subst}
-use Rattle.gc_catalogue.specs.declared.call.Call.{Call}
-use Rattle.gc_client.specs.Rule.{ById}
-use Rattle.gc_instrument.specs.State.{State, restarted}
-use Rattle.gc_world.specs.Clients.{by_ids, ends, ids_open, streams_by_ids}
-use Rattle.gc_world.specs.Directions.{bytes, lines}
-use Rattle.gc_world.specs.Streams.{Streams, untouched}
+use Rattle.gc_world.proofs.Common.{◌+◌, ◌<◌, [], ◌∷◌, length, sym, ◌∙◌, ap, subst, Call, ById, State, restarted, by_ids, ends, ids_open, streams_by_ids, bytes, lines, Streams, untouched}
 use Rattle.gc_world.proofs.Additive.{bytes_add, bytes_end}
 use Rattle.gc_world.proofs.Flow.{flow_append}
 use Rattle.gc_world.proofs.laws.bytes_go_over_in_turn.Goals as goal

@@ -1,10 +1,4 @@
-use Rattle.std.proofs.Common.{refl, sym, subst}
-use Rattle.gc_catalogue.specs.declared.call.Call.{Call}
-use Rattle.gc_client.specs.Rule.{ById}
-use Rattle.gc_instrument.specs.State.{State, restarted}
-use Rattle.gc_world.specs.Clients.{ends}
-use Rattle.gc_world.specs.Order.{IsRecent, numbers}
-use Rattle.gc_world.specs.World.{World}
+use Rattle.gc_world.proofs.Common.{refl, sym, subst, Call, ById, State, restarted, ends, IsRecent, numbers, World}
 use Rattle.gc_world.proofs.Flow.{level_at}
 use Rattle.gc_world.proofs.Handing.{KeptFits, kept_exchange, kept_of, keeper}
 use Rattle.gc_world.proofs.Runs.{recent_at}

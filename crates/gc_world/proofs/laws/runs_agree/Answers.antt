@@ -1,5 +1,4 @@
-use Rattle.gc_instrument.specs.State.{restarted}
-use Rattle.gc_world.specs.Clients.{ends, streams_by_ids, streams_by_numbers}
+use Rattle.gc_world.proofs.Common.{restarted, ends, streams_by_ids, streams_by_numbers}
 use Rattle.gc_world.proofs.Flow.{level_wire, level_at}
 use Rattle.gc_world.proofs.Handing.{KeptFits, kept_exchange}
 use Rattle.gc_world.proofs.laws.runs_agree.Goals as goal

@@ -1,5 +1,4 @@
-use Rattle.gc_world.specs.SceneRuns.{scene_streamed}
-use Rattle.gc_world.specs.Stages.{stage_parts}
+use Rattle.gc_world.proofs.Common.{scene_streamed, stage_parts}
 use Rattle.gc_world.proofs.Turns.{report_at_end}
 use Rattle.gc_world.proofs.playing.play_scene.Goals as goal
 

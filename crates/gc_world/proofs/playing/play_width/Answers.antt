@@ -1,7 +1,4 @@
-use Rattle.std.proofs.Common.{◌∙◌}
-use Rattle.gc_instrument.proofs.Executions.{restarted_fits}
-use Rattle.gc_world.specs.Clients.{streamed}
-use Rattle.gc_world.specs.Stages.{stage_parts}
+use Rattle.gc_world.proofs.Common.{◌∙◌, restarted_fits, streamed, stage_parts}
 use Rattle.gc_world.proofs.Faithfulness.{faithful, once, no_longer_than}
 use Rattle.gc_world.proofs.Turns.{report_at_end, stand_at_end}
 use Rattle.gc_world.proofs.playing.play_width.Goals as goal

@@ -1,13 +1,4 @@
-use Rattle.std.proofs.Common.{◌+◌, length, take, refl, sym, subst, arith}
-use Rattle.std.proofs.lemmas.Bool.{false≢true}
-use Rattle.std.proofs.lemmas.Option.{slice_get_read}
-use Rattle.gc_catalogue.specs.declared.call.Call.{Call}
-use Rattle.gc_client.specs.Rule.{ById}
-use Rattle.gc_world.specs.Behaviours.{ends_with}
-use Rattle.gc_world.specs.Clients.{by_ids, streamed_between}
-use Rattle.gc_world.specs.Stages.{stage_parts, AreStreamsOf}
-use Rattle.gc_world.specs.Staging.{streams_at_start}
-use Rattle.gc_world.specs.Streams.{Streams}
+use Rattle.gc_world.proofs.Common.{◌+◌, length, take, refl, sym, subst, arith, false≢true, slice_get_read, Call, ById, ends_with, by_ids, streamed_between, stage_parts, AreStreamsOf, streams_at_start, Streams}
 use Rattle.gc_world.proofs.Flow.{flow_more}
 use Rattle.gc_world.proofs.Turns.{all_shown, counts_at}
 use Rattle.gc_world.proofs.playing.run.Goals as goal

@@ -1,7 +1,4 @@
-use Rattle.std.proofs.Common.{◌≤◌, take}
-use Rattle.gc_world.specs.Behaviours.{ends_with}
-use Rattle.gc_world.specs.Clients.{streamed_between}
-use Rattle.gc_world.specs.Stages.{Shows}
+use Rattle.gc_world.proofs.Common.{◌≤◌, take, ends_with, streamed_between, Shows}
 use Rattle.gc_world.proofs.playing.run.Given as goal
 
 -- the stage shows the run of the events so far

@@ -1,10 +1,5 @@
-use Rattle.std.proofs.Common.{sym, subst}
-use Rattle.gc_catalogue.specs.declared.call.Call.{Call}
-use Rattle.gc_client.specs.Rule.{ById}
-use Rattle.gc_scenes.specs.SceneState.{SceneState, scene_restarted}
-use Rattle.gc_world.specs.SceneRuns.{scene_ends}
+use Rattle.gc_world.proofs.Common.{sym, subst, Call, ById, SceneState, scene_restarted, scene_ends, World, Wire, call_line}
 use Rattle.gc_world.proofs.Exchanges.{StoredReads, exchange}
-use Rattle.gc_world.specs.World.{World, Wire, call_line}
 use Rattle.gc_world.proofs.Agree.{same_wire}
 use Rattle.gc_world.proofs.Booked.{has_at, AllMade, answer_made, backed_at}
 use Rattle.gc_world.proofs.Flow.{level_at}

@@ -1,12 +1,6 @@
-use Rattle.std.proofs.Common.{refl, sym, subst}
-use Rattle.gc_catalogue.specs.declared.call.Call.{Call}
-use Rattle.gc_client.specs.Rule.{ById}
-use Rattle.gc_scenes.specs.SceneState.{SceneState, scene_restarted}
-use Rattle.gc_world.specs.SceneLaws.{BooksOnExecuting}
-use Rattle.gc_world.specs.SceneRuns.{scene_ends}
+use Rattle.gc_world.proofs.Common.{refl, sym, subst, Call, ById, SceneState, scene_restarted, BooksOnExecuting, scene_ends, World, Wire, call_line}
 use Rattle.gc_world.proofs.Booking.{books_on_executing, executes_each_time}
 use Rattle.gc_world.proofs.Keeping.{StoresReplies, stored, storing_exchange, storing_keeper}
-use Rattle.gc_world.specs.World.{World, Wire, call_line}
 use Rattle.gc_world.proofs.Agree.{same_wire}
 use Rattle.gc_world.proofs.Booked.{AllMade, backed_at}
 use Rattle.gc_world.proofs.Flow.{level_at}

@@ -1,4 +1,4 @@
-use Rattle.gc_world.specs.SceneRuns.{scene_ends}
+use Rattle.gc_world.proofs.Common.{scene_ends}
 use Rattle.gc_world.proofs.Exchanges.{StoredReads, exchange}
 use Rattle.gc_world.proofs.FirstReply.{in_time_is_answered, too_late_is_late, no_second}
 use Rattle.gc_world.proofs.Sends.{never_both, one_or_other}

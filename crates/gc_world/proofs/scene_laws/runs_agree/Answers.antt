@@ -1,7 +1,5 @@
-use Rattle.gc_scenes.specs.SceneState.{scene_restarted}
-use Rattle.gc_world.specs.SceneRuns.{scene_ends}
+use Rattle.gc_world.proofs.Common.{scene_restarted, scene_ends, streams_by_ids, streams_by_numbers}
 use Rattle.gc_world.proofs.Exchanges.{StoredReads, exchange}
-use Rattle.gc_world.specs.Clients.{streams_by_ids, streams_by_numbers}
 use Rattle.gc_world.proofs.Flow.{level_wire, level_at}
 use Rattle.gc_world.proofs.scene_laws.runs_agree.Goals as goal
 

@@ -1,12 +1,4 @@
-use Rattle.std.proofs.Common.{sym, subst}
-use Rattle.gc_catalogue.specs.declared.call.Call.{Call}
-use Rattle.gc_client.specs.Rule.{ById}
-use Rattle.gc_scenes.specs.SceneState.{SceneState, scene_restarted}
-use Rattle.gc_world.specs.SceneRuns.{scene_ends}
-use Rattle.gc_world.specs.Clients.{by_ids, ids_open}
-use Rattle.gc_world.specs.Record.{IsOneForOne}
-use Rattle.gc_world.specs.Streams.{untouched}
-use Rattle.gc_world.specs.World.{World}
+use Rattle.gc_world.proofs.Common.{sym, subst, Call, ById, SceneState, scene_restarted, scene_ends, by_ids, ids_open, IsOneForOne, untouched, World}
 use Rattle.gc_world.proofs.Flow.{taken, flow_run}
 use Rattle.gc_world.proofs.Runs.{one_for_one_at}
 use Rattle.gc_world.proofs.scene_laws.settlements_are_one_for_one.Goals as goal

@@ -1,10 +1,5 @@
-use Rattle.std.proofs.Common.{rules, ◌≡◌, ◌∙◌, true, Some, sym, subst}
-use Rattle.gc_catalogue.specs.Asked.{asked_line}
-use Rattle.gc_session.specs.declared.session.TheConstants.{OWN}
-use Rattle.gc_session.specs.declared.settings.Want.TheVariants.{Send}
-use Rattle.gc_session.specs.Sessions.{Session, asked, may_send, next_of, takes}
+use Rattle.geocom_c.proofs.Common.{rules, ◌≡◌, ◌∙◌, true, Some, sym, subst, asked_line, OWN, Send, Session, asked, may_send, next_of, takes, StoresSession}
 use Rattle.std.specs.Prelude.{nat_eq}
-use Rattle.geocom_c.specs.SessionState.{StoresSession}
 use Rattle.geocom_c.proofs.Clients.{given_if_equal}
 use Rattle.geocom_c.proofs.SessionSettings.{asked_settings, still_allowed}
 use Rattle.geocom_c.proofs.SessionSteps.{fault_refused, fault_taken, never_asked, same_error}

@@ -1,18 +1,8 @@
-use Rattle.std.proofs.Common.{◌∙◌, refl, sym, subst, arith}
-use Rattle.std.proofs.lemmas.Bool.{eqb-true}
-use Rattle.std.proofs.lemmas.Option.{same_Some}
+use Rattle.geocom_c.proofs.Common.{◌∙◌, refl, sym, subst, arith, eqb-true, same_Some, Asked, OWN, Send, Session, may_send, next_of, HasAsked, StandsForSession, NO_CLIENT, NO_ROOM, effect}
 use Rattle.std.specs.Prelude.{nat_eq}
-use Rattle.gc_catalogue.specs.declared.asked.Asked.{Asked}
-use Rattle.gc_session.specs.declared.session.TheConstants.{OWN}
-use Rattle.gc_session.specs.declared.settings.Want.TheVariants.{Send}
-use Rattle.gc_session.specs.Sessions.{Session, may_send, next_of}
-use Rattle.geocom_c.specs.Asking.{HasAsked}
-use Rattle.geocom_c.specs.SessionState.{StandsForSession}
-use Rattle.geocom_c.specs.declared.header.TheConstants.{NO_CLIENT, NO_ROOM}
 use Rattle.geocom_c.proofs.Sendings.{never_both, one_error_of, one_value_of}
 use Rattle.geocom_c.proofs.SessionSteps.{fault_none, fault_not_now, fault_of_own, no_other_fault}
 use Rattle.geocom_c.proofs.asking.ask_read.Goals as goal
-use Rattle.geocom_c.specs.Rooms.{effect}
 
 pub returns-in_default : goal.returns-in_default
 returns-in_default c =

@@ -1,7 +1,6 @@
-use Rattle.geocom_c.specs.Sending.{table_rule}
+use Rattle.geocom_c.proofs.Common.{table_rule, effect}
 use Rattle.geocom_c.proofs.SessionSteps.{asks_as}
 use Rattle.geocom_c.proofs.asking.geocom_session_ask.Goals as goal
-use Rattle.geocom_c.specs.Rooms.{effect}
 
 pub returns : goal.returns
 returns c =

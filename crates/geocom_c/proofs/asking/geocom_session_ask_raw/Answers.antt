@@ -1,12 +1,7 @@
-use Rattle.std.proofs.Common.{◌≡◌, Some, length, take, sym, subst}
-use Rattle.gc_lines.specs.Lines.{with_end}
-use Rattle.gc_catalogue.specs.Asked.{asked_line}
-use Rattle.gc_catalogue.specs.declared.asked.Asked.TheVariants.{Raw}
-use Rattle.geocom_c.specs.Sending.{raw_rule}
+use Rattle.geocom_c.proofs.Common.{◌≡◌, Some, length, take, sym, subst, with_end, asked_line, Raw, raw_rule, effect}
 use Rattle.geocom_c.proofs.Clients.{raw_line_has_params}
 use Rattle.geocom_c.proofs.SessionSteps.{asks_as, roomy}
 use Rattle.geocom_c.proofs.asking.geocom_session_ask_raw.Goals as goal
-use Rattle.geocom_c.specs.Rooms.{effect}
 
 pub returns-clause-asks : goal.returns-clause-asks
 returns-clause-asks c =

@@ -1,9 +1,5 @@
-use Rattle.std.proofs.Common.{◌≡◌, ◌∙◌, drop, sym, ap, inl, inr, arith}
-use Rattle.std.proofs.lemmas.Bool.{cases_lt}
-use Rattle.gc_client.specs.Beginning.{the_word}
-use Rattle.geocom_c.specs.Beginning.{left_by_bytes}
+use Rattle.geocom_c.proofs.Common.{◌≡◌, ◌∙◌, drop, sym, ap, inl, inr, arith, cases_lt, the_word, left_by_bytes, NO_CLIENT}
 use Rattle.geocom_c.specs.declared.answers.GeocomBeginning.{GeocomBeginning}
-use Rattle.geocom_c.specs.declared.header.TheConstants.{NO_CLIENT}
 use Rattle.geocom_c.proofs.Answering.{none_left_at_eight, some_left_below_eight}
 use Rattle.geocom_c.proofs.beginning.geocom_client_synchronize.Goals as goal
 

@@ -1,10 +1,4 @@
-use Rattle.std.proofs.Common.{rules, ◌≡◌, ◌++◌, ◌∙◌, List, ℕ, [], take, drop, length, refl, ap}
-use Rattle.std.proofs.lemmas.List.{nil_from_length}
-use Rattle.std.specs.List.{position}
-use Rattle.gc_client.specs.Beginning.{unanswered_after}
-use Rattle.gc_lines.specs.Frames.{is_line_feed, frame_of}
-use Rattle.geocom_c.specs.Beginning.{left_past}
-use Rattle.geocom_c.specs.Rest.{kept_bytes}
+use Rattle.geocom_c.proofs.Common.{rules, ◌≡◌, ◌++◌, ◌∙◌, List, ℕ, [], take, drop, length, refl, ap, nil_from_length, position, unanswered_after, is_line_feed, frame_of, left_past, kept_bytes}
 use Rattle.geocom_c.proofs.Answering.{synchronizes_in_turn, HasLeft}
 use Rattle.geocom_c.proofs.Hearings.{by_place, heard_all, heard_none, heard_on, heard_some, nothing_left}
 use Rattle.geocom_c.proofs.beginning.hear_all.Goals as goal

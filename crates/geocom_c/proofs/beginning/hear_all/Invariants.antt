@@ -1,6 +1,4 @@
-use Rattle.std.proofs.Common.{ℕ, List, length}
-use Rattle.gc_client.specs.Beginning.{unanswered_after}
-use Rattle.geocom_c.specs.Rest.{IsRest, HeardBut}
+use Rattle.geocom_c.proofs.Common.{ℕ, List, length, unanswered_after, IsRest, HeardBut}
 use Rattle.geocom_c.proofs.Answering.{HasLeft}
 use Rattle.geocom_c.proofs.beginning.hear_all.Given as goal
 

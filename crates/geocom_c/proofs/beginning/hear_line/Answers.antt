@@ -1,6 +1,4 @@
-use Rattle.std.proofs.Common.{◌≡◌, subst}
-use Rattle.gc_lines.specs.declared.frame.Frame.{Frame}
-use Rattle.geocom_c.specs.Beginning.{left_past}
+use Rattle.geocom_c.proofs.Common.{◌≡◌, subst, Frame, left_past}
 use Rattle.geocom_c.proofs.beginning.hear_line.Goals as goal
 
 pub returns : goal.returns

@@ -1,10 +1,5 @@
-use Rattle.std.proofs.Common.{rules, ◌≡◌, ◌∙◌, sym, subst, length, take}
-use Rattle.gc_catalogue.specs.declared.asked.Asked.{Asked}
-use Rattle.gc_client.specs.Rule.{Windowed, expiring}
+use Rattle.geocom_c.proofs.Common.{rules, ◌≡◌, ◌∙◌, sym, subst, length, take, Asked, Windowed, expiring, StandsForClient, NO_CLIENT, same_Some}
 use Rattle.geocom_c.specs.Deadlines.{HasExpired}
-use Rattle.geocom_c.specs.State.{StandsForClient}
-use Rattle.geocom_c.specs.declared.header.TheConstants.{NO_CLIENT}
-use Rattle.std.proofs.lemmas.Option.{same_Some}
 use Rattle.geocom_c.proofs.calls.geocom_client_expire.Goals as goal
 
 pub returns-in_default-clause-expired : goal.returns-in_default-clause-expired

@@ -1,7 +1,4 @@
-use Rattle.std.proofs.Common.{◌∙◌, Some, None, sym, subst, refl}
-use Rattle.gc_catalogue.specs.declared.asked.Asked.{Asked}
-use Rattle.gc_client.specs.Rule.{Windowed, deadlines, IsEarliest}
-use Rattle.std.proofs.lemmas.Option.{same_Some}
+use Rattle.geocom_c.proofs.Common.{◌∙◌, Some, None, sym, subst, refl, Asked, Windowed, deadlines, IsEarliest, same_Some}
 use Rattle.geocom_c.proofs.calls.geocom_client_next_deadline.Goals as goal
 
 pub returns-in_default-clause-earliest : goal.returns-in_default-clause-earliest

@@ -1,5 +1,4 @@
-use Rattle.std.proofs.Common.{◌≡◌, ◌∙◌, Some, None, sym}
-use Rattle.geocom_c.specs.declared.header.TheConstants.{NO_CLIENT}
+use Rattle.geocom_c.proofs.Common.{◌≡◌, ◌∙◌, Some, None, sym, NO_CLIENT}
 use Rattle.geocom_c.proofs.calls.geocom_client_outstanding.Goals as goal
 
 pub returns-in-Some-clause-astray : goal.returns-in-Some-clause-astray

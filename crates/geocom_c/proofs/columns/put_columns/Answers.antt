@@ -1,11 +1,4 @@
-use Rattle.std.proofs.Common.{◌≡◌, ◌+◌, ◌∙◌, Some, length, suc, map, take, sym, ap, subst, arith, length-set}
-use Rattle.std.specs.Prelude.{slice_get, slice_set}
-use Rattle.std.specs.Option.{option_map}
-use Rattle.std.proofs.lemmas.List.{drop-set-lt}
-use Rattle.std.proofs.lemmas.Option.{slice_get-map, slice_get-get_or}
-use Rattle.gc_texts.specs.Fields.{field_seen}
-use Rattle.geocom_c.specs.FirstAre.{FirstAre}
-use Rattle.geocom_c.specs.Columns.{IsColumnOf}
+use Rattle.geocom_c.proofs.Common.{◌≡◌, ◌+◌, ◌∙◌, Some, length, suc, map, take, sym, ap, subst, arith, length-set, slice_get, slice_set, option_map, drop-set-lt, slice_get-map, slice_get-get_or, field_seen, FirstAre, IsColumnOf}
 use Rattle.geocom_c.proofs.Places.{first_written}
 use Rattle.geocom_c.proofs.columns.put_columns.Goals as goal
 

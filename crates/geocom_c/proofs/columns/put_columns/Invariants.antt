@@ -1,7 +1,4 @@
-use Rattle.std.proofs.Common.{◌≡◌, length, take, drop, map}
-use Rattle.gc_texts.specs.Fields.{field_seen}
-use Rattle.geocom_c.specs.FirstAre.{FirstAre}
-use Rattle.geocom_c.specs.Columns.{IsColumnOf}
+use Rattle.geocom_c.proofs.Common.{◌≡◌, length, take, drop, map, field_seen, FirstAre, IsColumnOf}
 use Rattle.geocom_c.proofs.columns.put_columns.Given as goal
 
 -- the first k columns are those of the first k fields, and none after those of all fields has changed

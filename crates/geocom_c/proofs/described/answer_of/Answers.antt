@@ -1,11 +1,4 @@
-use Rattle.std.proofs.Common.{rules, ◌≡◌, ◌∙◌, ℕ, suc, length, refl, subst}
-use Rattle.std.proofs.lemmas.List.{length-map}
-use Rattle.gc_lines.specs.Replies.{reply_seen}
-use Rattle.gc_texts.specs.Descriptions.{description_seen}
-use Rattle.gc_texts.specs.Fields.{field_seen}
-use Rattle.gc_texts.specs.KindLists.{KindsSeen, kinds_seen}
-use Rattle.geocom_c.specs.Described.{IsDescribedReading}
-use Rattle.geocom_c.specs.declared.described.GeocomAnswer.{GeocomAnswer}
+use Rattle.geocom_c.proofs.Common.{rules, ◌≡◌, ◌∙◌, ℕ, suc, length, refl, subst, length-map, reply_seen, description_seen, field_seen, KindsSeen, kinds_seen, IsDescribedReading, GeocomAnswer}
 use Rattle.geocom_c.proofs.DescribedReplies.{has_items, same_kinds}
 use Rattle.geocom_c.proofs.described.answer_of.Goals as goal
 

@@ -1,7 +1,5 @@
-use Rattle.std.proofs.Common.{◌≤◌, length, refl, arith}
-use Rattle.gc_texts.specs.Descriptions.{description_seen}
+use Rattle.geocom_c.proofs.Common.{◌≤◌, length, refl, arith, description_seen, TEXT_ROOM}
 use Rattle.geocom_c.specs.Described as described
-use Rattle.geocom_c.specs.declared.header.TheConstants.{TEXT_ROOM}
 use Rattle.geocom_c.proofs.described.geocom_description_reply.Goals as goal
 
 pub returns-in-Ok : goal.returns-in-Ok

@@ -1,9 +1,7 @@
-use Rattle.std.proofs.Common.{◌<◌, ◌∙◌, ℕ, List, length, refl, subst, inl}
+use Rattle.geocom_c.proofs.Common.{◌<◌, ◌∙◌, ℕ, List, length, refl, subst, inl, description_seen, IsNoReply, ReadsLine, answer_effect}
 use Rattle.gc_lines.specs.declared.fault.LineFault.TheVariants.{TooLong}
-use Rattle.gc_texts.specs.Descriptions.{description_seen}
-use Rattle.geocom_c.specs.Described as described
-use Rattle.geocom_c.specs.Described.{IsNoReply, ReadsLine, answer_effect}
 use Rattle.geocom_c.proofs.DescribedReplies.{no_answer_as}
+use Rattle.geocom_c.specs.Described as described
 use Rattle.geocom_c.proofs.described.read_bytes.Goals as goal
 
 pub returns-then-line-gt-LINE_BYTES : goal.returns-then-line-gt-LINE_BYTES

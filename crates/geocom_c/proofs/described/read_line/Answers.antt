@@ -1,9 +1,6 @@
-use Rattle.std.proofs.Common.{rules, ◌≡◌, ◌≤◌, ◌+◌, ◌∙◌, ℕ, List, length, take, inr, refl, subst}
-use Rattle.gc_lines.specs.Replies.{FirstBadOfReply, IsReply, reply_seen}
-use Rattle.gc_texts.specs.Descriptions.{description_seen}
-use Rattle.geocom_c.specs.Described as described
-use Rattle.geocom_c.specs.Described.{IsNoReply}
+use Rattle.geocom_c.proofs.Common.{rules, ◌≡◌, ◌≤◌, ◌+◌, ◌∙◌, ℕ, List, length, take, inr, refl, subst, FirstBadOfReply, IsReply, reply_seen, description_seen, IsNoReply}
 use Rattle.geocom_c.proofs.DescribedReplies.{begins_in_room, in_room, no_answer_as}
+use Rattle.geocom_c.specs.Described as described
 use Rattle.geocom_c.proofs.described.read_line.Goals as goal
 
 pub answer_of-requires : goal.answer_of-requires

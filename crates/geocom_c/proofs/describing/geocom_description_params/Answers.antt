@@ -1,8 +1,6 @@
-use Rattle.std.proofs.Common.{◌∙◌, refl, subst}
-use Rattle.gc_texts.specs.Descriptions.{description_seen}
-use Rattle.gc_texts.specs.KindLists.{AreOfKinds, IsKindsFault, KindsSeen, kinds_seen}
-use Rattle.geocom_c.specs.Describing as describing
+use Rattle.geocom_c.proofs.Common.{◌∙◌, refl, subst, description_seen, AreOfKinds, IsKindsFault, KindsSeen, kinds_seen}
 use Rattle.geocom_c.proofs.DescribedReplies.{same_kinds}
+use Rattle.geocom_c.specs.Describing as describing
 use Rattle.geocom_c.proofs.describing.geocom_description_params.Goals as goal
 
 pub returns-in-Some : goal.returns-in-Some

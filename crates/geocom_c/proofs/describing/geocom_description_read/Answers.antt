@@ -1,12 +1,6 @@
-use Rattle.std.proofs.Common.{◌≡◌, ◌≤◌, ◌∙◌, List, ℕ, length, map, refl, sym, ap, subst, arith}
-use Rattle.std.proofs.lemmas.List.{length-map}
-use Rattle.gc_texts.specs.Descriptions.{description_seen}
-use Rattle.gc_texts.specs.Fields.{field_seen}
+use Rattle.geocom_c.proofs.Common.{◌≡◌, ◌≤◌, ◌∙◌, List, ℕ, length, map, refl, sym, ap, subst, arith, length-map, description_seen, field_seen, IsColumnOf, FirstAre, WritesWithin}
 use Rattle.gc_texts.specs.declared.field.Field.{Field}
-use Rattle.geocom_c.specs.Columns.{IsColumnOf}
 use Rattle.geocom_c.specs.Describing as describing
-use Rattle.geocom_c.specs.FirstAre.{FirstAre}
-use Rattle.geocom_c.specs.Rooms.{WritesWithin}
 use Rattle.geocom_c.proofs.describing.geocom_description_read.Goals as goal
 
 pub returns-in-Ok : goal.returns-in-Ok

@@ -1,9 +1,5 @@
-use Rattle.std.proofs.Common.{◌∙◌, ◌++◌, ℕ, [], take, arith, refl, sym, ap, subst}
-use Rattle.gc_lines.specs.Frames.{frame_of}
-use Rattle.gc_lines.specs.declared.frame.Frame.{Frame}
-use Rattle.geocom_c.specs.State.{StandsForClient}
-use Rattle.geocom_c.specs.Feeding.{WritesSettled, client_past, frame_kind, settled_by}
-use Rattle.geocom_c.specs.declared.answers.GeocomHeard.{GeocomHeard}
+use Rattle.geocom_c.proofs.Common.{◌∙◌, ◌++◌, ℕ, [], take, arith, refl, sym, ap, subst, frame_of, Frame, StandsForClient, WritesSettled, client_past, frame_kind, GeocomHeard}
+use Rattle.geocom_c.specs.Feeding.{settled_by}
 use Rattle.geocom_c.proofs.Frames.{stands_with_rest, fed_unended, fed_used}
 use Rattle.geocom_c.proofs.feeding.feed.Goals as goal
 

@@ -1,9 +1,4 @@
-use Rattle.std.proofs.Common.{sym, subst}
-use Rattle.gc_lines.specs.declared.frame.Frame.{Frame}
-use Rattle.gc_catalogue.specs.declared.asked.Asked.{Asked}
-use Rattle.gc_client.specs.Rule.{Windowed}
-use Rattle.geocom_c.specs.State.{StandsForClient}
-use Rattle.geocom_c.specs.Feeding.{client_past}
+use Rattle.geocom_c.proofs.Common.{sym, subst, Frame, Asked, Windowed, StandsForClient, client_past}
 use Rattle.geocom_c.proofs.feeding.feed_frame.Goals as goal
 
 pub returns-in-Line-clause-state : goal.returns-in-Line-clause-state

@@ -1,10 +1,4 @@
-use Rattle.std.proofs.Common.{rules, ◌≡◌, ◌∙◌, sym, ap, subst}
-use Rattle.gc_catalogue.specs.declared.asked.Asked.{Asked}
-use Rattle.gc_client.specs.Rule.{Windowed}
-use Rattle.geocom_c.specs.Feeding.{FeedsFirstLine, FeedsUnended, HasRoomToSettle, feed_effect}
-use Rattle.geocom_c.specs.declared.answers.GeocomHeard.{GeocomHeard}
-use Rattle.geocom_c.specs.declared.header.TheConstants.{NO_CLIENT}
-use Rattle.std.proofs.lemmas.Option.{same_Some}
+use Rattle.geocom_c.proofs.Common.{rules, ◌≡◌, ◌∙◌, sym, ap, subst, Asked, Windowed, FeedsFirstLine, FeedsUnended, HasRoomToSettle, feed_effect, GeocomHeard, NO_CLIENT, same_Some}
 use Rattle.geocom_c.proofs.feeding.geocom_client_feed.Goals as goal
 
 pub returns-in-Some-clause-more : goal.returns-in-Some-clause-more

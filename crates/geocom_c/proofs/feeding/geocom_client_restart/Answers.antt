@@ -1,14 +1,4 @@
-use Rattle.std.proofs.Common.{◌≡◌, ◌∙◌, List, [], length, map, sym, ap, subst, arith}
-use Rattle.std.proofs.lemmas.List.{length-map}
-use Rattle.gc_catalogue.specs.declared.asked.Asked.{Asked}
-use Rattle.gc_client.specs.Rule.{Settlement, Windowed, restarts}
-use Rattle.gc_client.specs.Settlements.{settlement_seen}
-use Rattle.geocom_c.specs.FirstAre.{FirstAre}
-use Rattle.geocom_c.specs.Feeding.{HasRestarted}
-use Rattle.geocom_c.specs.State.{StandsForClient}
-use Rattle.geocom_c.specs.Settled.{IsRecord}
-use Rattle.geocom_c.specs.declared.header.TheConstants.{NO_CLIENT}
-use Rattle.std.proofs.lemmas.Option.{same_Some}
+use Rattle.geocom_c.proofs.Common.{◌≡◌, ◌∙◌, List, [], length, map, sym, ap, subst, arith, length-map, Asked, Settlement, Windowed, restarts, settlement_seen, FirstAre, HasRestarted, StandsForClient, IsRecord, NO_CLIENT, same_Some}
 use Rattle.geocom_c.proofs.feeding.geocom_client_restart.Goals as goal
 
 pub returns-in_default-clause-restarted : goal.returns-in_default-clause-restarted

@@ -1,12 +1,4 @@
-use Rattle.std.proofs.Common.{◌≡◌, ◌∙◌, List, length, map, ap, subst, arith}
-use Rattle.std.proofs.lemmas.List.{length-map}
-use Rattle.gc_lines.specs.Readers.{reply_at}
-use Rattle.gc_catalogue.specs.declared.asked.Asked.{Asked}
-use Rattle.gc_client.specs.Rule.{Settlement, hears, heard}
-use Rattle.gc_client.specs.Settlements.{settlement_seen}
-use Rattle.geocom_c.specs.FirstAre.{FirstAre}
-use Rattle.geocom_c.specs.Settled.{IsRecord}
-use Rattle.geocom_c.specs.declared.answers.GeocomHeard.{GeocomHeard}
+use Rattle.geocom_c.proofs.Common.{◌≡◌, ◌∙◌, List, length, map, ap, subst, arith, length-map, reply_at, Asked, Settlement, hears, heard, settlement_seen, FirstAre, IsRecord, GeocomHeard}
 use Rattle.geocom_c.proofs.Records.{settles_kind, written_in_front}
 use Rattle.geocom_c.proofs.feeding.hear.Goals as goal
 

@@ -1,9 +1,4 @@
-use Rattle.std.proofs.Common.{rules, ◌≡◌, ◌∙◌, List, ℕ, [], length, sym, subst}
-use Rattle.std.proofs.lemmas.List.{nil_from_length}
-use Rattle.gc_catalogue.specs.declared.asked.Asked.{Asked}
-use Rattle.gc_client.specs.OneForOne.{Course}
-use Rattle.geocom_c.specs.Following.{hearing_lines, StandsForCourse}
-use Rattle.geocom_c.specs.Rest.{HeardBut}
+use Rattle.geocom_c.proofs.Common.{rules, ◌≡◌, ◌∙◌, List, ℕ, [], length, sym, subst, nil_from_length, Asked, Course, hearing_lines, StandsForCourse, HeardBut}
 use Rattle.geocom_c.proofs.Hearings.{course_past, courses_in_turn, heard_all, heard_on}
 use Rattle.geocom_c.proofs.following.feed_all.Goals as goal
 

@@ -1,8 +1,4 @@
-use Rattle.std.proofs.Common.{◌≡◌, ℕ, List, length}
-use Rattle.gc_catalogue.specs.declared.asked.Asked.{Asked}
-use Rattle.gc_client.specs.OneForOne.{Course}
-use Rattle.geocom_c.specs.Following.{hearing_lines, StandsForCourse}
-use Rattle.geocom_c.specs.Rest.{HeardBut}
+use Rattle.geocom_c.proofs.Common.{◌≡◌, ℕ, List, length, Asked, Course, hearing_lines, StandsForCourse, HeardBut}
 use Rattle.geocom_c.proofs.following.feed_all.Given as goal
 
 -- all bytes but those that are left were fed (`HeardBut`), and as many null procedures are answered as at first

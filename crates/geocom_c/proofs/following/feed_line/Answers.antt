@@ -1,12 +1,4 @@
-use Rattle.std.proofs.Common.{rules, ℕ, List, [], ◌++◌, take, drop, ap, subst}
-use Rattle.std.specs.List.{position}
-use Rattle.gc_lines.specs.Frames.{is_line_feed, frame_of}
-use Rattle.gc_catalogue.specs.declared.asked.Asked.{Asked}
-use Rattle.gc_client.specs.OneForOne.{Course}
-use Rattle.gc_client.specs.Rule.{Windowed}
-use Rattle.geocom_c.specs.Following.{hearing_lines, StandsForCourse}
-use Rattle.geocom_c.specs.State.{StandsForClient}
-use Rattle.geocom_c.specs.declared.answers.GeocomHeard.{GeocomHeard}
+use Rattle.geocom_c.proofs.Common.{rules, ℕ, List, [], ◌++◌, take, drop, ap, subst, position, is_line_feed, frame_of, Asked, Course, Windowed, hearing_lines, StandsForCourse, StandsForClient, GeocomHeard}
 use Rattle.geocom_c.proofs.Hearings.{client_of_course, course_past, courses_in_turn, by_place, heard_none, heard_some, nothing_left}
 use Rattle.geocom_c.proofs.following.feed_line.Goals as goal
 

@@ -1,8 +1,4 @@
-use Rattle.std.proofs.Common.{◌≡◌, ◌+◌, ◌∙◌, ◌∷◌, List, suc, drop, refl, sym, ap, subst, arith}
-use Rattle.std.proofs.lemmas.List.{drop_all}
-use Rattle.gc_client.proofs.Lists.{drop_next}
-use Rattle.geocom_c.specs.Following.{CallsReach, first_stage}
-use Rattle.geocom_c.specs.declared.following.StateCall.{StateCall}
+use Rattle.geocom_c.proofs.Common.{◌≡◌, ◌+◌, ◌∙◌, ◌∷◌, List, suc, drop, refl, sym, ap, subst, arith, drop_all, drop_next, CallsReach, first_stage, StateCall}
 use Rattle.geocom_c.proofs.Courses.{calls_account_for_sends}
 use Rattle.geocom_c.proofs.following.follow.Goals as goal
 

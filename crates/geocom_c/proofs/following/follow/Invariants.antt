@@ -1,6 +1,4 @@
-use Rattle.std.proofs.Common.{drop}
-use Rattle.gc_client.specs.Rule.{IsWidth}
-use Rattle.geocom_c.specs.Following.{MadeBut, first_stage}
+use Rattle.geocom_c.proofs.Common.{drop, IsWidth, MadeBut, first_stage}
 use Rattle.geocom_c.proofs.following.follow.Given as goal
 
 -- the calls before place k were made (`MadeBut`): what those from k on come to now, all calls come to from a new client

@@ -1,24 +1,8 @@
-use Rattle.std.proofs.Common.{rules, ◌≡◌, ◌≢◌, [], ◌∷◌, ◌∙◌, drop, sym, ap, subst, inl, inr}
-use Rattle.gc_lines.specs.Frames.{rest_behind}
-use Rattle.gc_catalogue.specs.declared.asked.Asked.{Asked}
-use Rattle.gc_catalogue.specs.declared.asked.Asked.TheVariants.{Table, Raw}
+use Rattle.geocom_c.proofs.Common.{rules, ◌≡◌, ◌≢◌, [], ◌∷◌, ◌∙◌, drop, sym, ap, subst, inl, inr, rest_behind, Asked, Table, Raw, RawCall, IsAsked, IsCall, no_refusal, the_word, Windowed, sends, course_after, left_by_restart, left_by_bytes, StandsForClient, left_of, hearing, CallsReach, MadeBut, StateCall, WINDOW_FULL, NOT_BEGUN, GeocomClient}
 use Rattle.gc_catalogue.specs.declared.call.Call.{Call}
-use Rattle.gc_catalogue.specs.declared.raw.RawCall.{RawCall}
-use Rattle.gc_catalogue.specs.Asked.{IsAsked}
-use Rattle.gc_catalogue.specs.Calls.{IsCall}
-use Rattle.gc_catalogue.proofs.CallLaws.{no_refusal}
-use Rattle.gc_client.specs.Beginning.{the_word}
-use Rattle.gc_client.specs.Rule.{Windowed, sends}
-use Rattle.gc_client.specs.OneForOne.{course_after}
-use Rattle.gc_client.specs.OneForOne as one
-use Rattle.geocom_c.specs.Beginning.{left_by_restart, left_by_bytes}
-use Rattle.geocom_c.specs.State.{StandsForClient, left_of}
-use Rattle.geocom_c.specs.Following.{hearing, CallsReach, MadeBut}
-use Rattle.geocom_c.specs.declared.following.StateCall.{StateCall}
-use Rattle.geocom_c.specs.declared.header.TheConstants.{WINDOW_FULL, NOT_BEGUN}
-use Rattle.geocom_c.specs.declared.state.GeocomClient.{GeocomClient}
 use Rattle.geocom_c.proofs.Clients.{never_refused}
 use Rattle.geocom_c.proofs.Hearings.{by_equality, sent_course}
+use Rattle.gc_client.specs.OneForOne as one
 use Rattle.geocom_c.proofs.following.make_call.Goals as goal
 
 pub returns-in-Begin : goal.returns-in-Begin

@@ -1,11 +1,4 @@
-use Rattle.std.proofs.Common.{◌∙◌, ◌++◌, [], take, refl, sym, ap, subst}
-use Rattle.gc_lines.specs.Frames.{frame_of}
-use Rattle.gc_lines.specs.declared.frame.Frame.{Frame}
-use Rattle.gc_session.specs.Sessions.{Session}
-use Rattle.geocom_c.specs.Feeding.{feed_effect}
-use Rattle.geocom_c.specs.Hearing.{IsFedTo, at_feed, frame_kind_in, frame_settles, session_past}
-use Rattle.geocom_c.specs.SessionState.{StandsForSession, StoresSession}
-use Rattle.geocom_c.specs.declared.answers.GeocomHeard.{GeocomHeard}
+use Rattle.geocom_c.proofs.Common.{◌∙◌, ◌++◌, [], take, refl, sym, ap, subst, frame_of, Frame, Session, feed_effect, IsFedTo, at_feed, frame_kind_in, frame_settles, session_past, StandsForSession, StoresSession, GeocomHeard}
 use Rattle.geocom_c.proofs.Counts.{HasCounts}
 use Rattle.geocom_c.proofs.SessionFrames.{at_feed_counts, at_feed_settings, few_at_feed, held_few, past_counts, past_settings}
 use Rattle.geocom_c.proofs.Frames.{fed_unended, fed_used}

@@ -1,10 +1,4 @@
-use Rattle.std.proofs.Common.{rules, ◌≡◌, ◌∙◌, ℕ, List, sym, ap, subst, arith}
-use Rattle.gc_session.specs.Sessions.{Session}
-use Rattle.geocom_c.specs.Feeding.{HasRoomToSettle, feed_effect}
-use Rattle.geocom_c.specs.Hearing.{FeedsSessionLine, FeedsSessionUnended}
-use Rattle.geocom_c.specs.SessionState.{StandsForSession}
-use Rattle.geocom_c.specs.declared.answers.GeocomHeard.{GeocomHeard}
-use Rattle.std.proofs.lemmas.Option.{same_Some}
+use Rattle.geocom_c.proofs.Common.{rules, ◌≡◌, ◌∙◌, ℕ, List, sym, ap, subst, arith, Session, HasRoomToSettle, feed_effect, FeedsSessionLine, FeedsSessionUnended, StandsForSession, GeocomHeard, same_Some}
 use Rattle.geocom_c.proofs.hearing.geocom_session_feed.Goals as goal
 
 pub returns-in-Some : goal.returns-in-Some

@@ -1,13 +1,4 @@
-use Rattle.std.proofs.Common.{◌≡◌, ◌∙◌, ℕ, List, length, map, sym, ap, subst, arith}
-use Rattle.std.proofs.lemmas.List.{length-map}
-use Rattle.gc_lines.specs.Readers.{reply_at}
-use Rattle.gc_catalogue.specs.declared.asked.Asked.{Asked}
-use Rattle.gc_client.specs.Rule.{Settlement}
-use Rattle.gc_client.specs.Settlements.{settlement_seen}
-use Rattle.gc_session.specs.Sessions.{line_settles}
-use Rattle.geocom_c.specs.FirstAre.{FirstAre}
-use Rattle.geocom_c.specs.Settled.{IsRecord, AnswersHaveLine}
-use Rattle.geocom_c.specs.declared.answers.GeocomHeard.{GeocomHeard}
+use Rattle.geocom_c.proofs.Common.{◌≡◌, ◌∙◌, ℕ, List, length, map, sym, ap, subst, arith, length-map, reply_at, Asked, Settlement, settlement_seen, line_settles, FirstAre, IsRecord, AnswersHaveLine, GeocomHeard}
 use Rattle.geocom_c.proofs.Records.{written_in_front}
 use Rattle.geocom_c.proofs.SessionFrames.{kind_if_settled, session_have_line, unread_settles_none}
 use Rattle.geocom_c.proofs.hearing.hear_line.Goals as goal

@@ -1,4 +1,4 @@
-use Rattle.gc_theorems.specs.Instrument.{AnyState}
+use Rattle.geocom_c.proofs.Common.{AnyState}
 use Rattle.geocom_c.proofs.Owned.{each_answer_is_own}
 use Rattle.geocom_c.proofs.laws.answers_are_their_own.Goals as goal
 

@@ -1,6 +1,4 @@
-use Rattle.gc_theorems.specs.Instrument.{AnyState}
-use Rattle.gc_theorems.specs.ClientRuns.{placed_runs}
-use Rattle.gc_theorems.proofs.InTable.{alike_safe}
+use Rattle.geocom_c.proofs.Common.{AnyState, placed_runs, alike_safe}
 use Rattle.geocom_c.proofs.Safely.{calls_safe}
 use Rattle.geocom_c.proofs.laws.calls_are_safe.Goals as goal
 

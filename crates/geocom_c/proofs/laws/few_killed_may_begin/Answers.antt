@@ -1,4 +1,4 @@
-use Rattle.gc_theorems.specs.Instrument.{AnyState}
+use Rattle.geocom_c.proofs.Common.{AnyState}
 use Rattle.gc_theorems.proofs.BegunRuns.{next_may_begin}
 use Rattle.geocom_c.proofs.laws.few_killed_may_begin.Goals as goal
 

@@ -1,6 +1,4 @@
-use Rattle.gc_instrument.specs.State.{IsFittingState}
-use Rattle.gc_theorems.specs.Simulator.{simulator_ends}
-use Rattle.gc_theorems.specs.Laws.{kept_of}
+use Rattle.geocom_c.proofs.Common.{IsFittingState, simulator_ends, kept_of}
 use Rattle.geocom_c.proofs.Safely.{calls_safe}
 use Rattle.geocom_c.proofs.laws.simulators_calls_are_safe.Goals as goal
 

@@ -1,5 +1,4 @@
-use Rattle.std.proofs.Common.{arith}
-use Rattle.gc_values.proofs.ItemBytes.{items_within_params}
+use Rattle.geocom_c.proofs.Common.{arith, items_within_params}
 use Rattle.geocom_c.proofs.listed.list.Goals as goal
 
 pub put_items-requires-clause-room : goal.put_items-requires-clause-room

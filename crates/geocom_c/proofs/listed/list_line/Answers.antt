@@ -1,9 +1,5 @@
-use Rattle.std.proofs.Common.{rules, ◌≡◌, ◌∙◌, [], sym, ap, subst}
-use Rattle.gc_lines.specs.Replies.{ReplyFields, reply_seen}
-use Rattle.gc_lines.specs.Readers.{reply_at}
+use Rattle.geocom_c.proofs.Common.{rules, ◌≡◌, ◌∙◌, [], sym, ap, subst, ReplyFields, reply_seen, reply_at, IsParams, AreStanding}
 use Rattle.gc_lines.proofs.Replies.{reply_again, one_reply}
-use Rattle.gc_values.specs.Params.{IsParams}
-use Rattle.geocom_c.specs.Settled.{AreStanding}
 use Rattle.geocom_c.proofs.Clients.{never_ok, begins_with_line}
 use Rattle.geocom_c.proofs.listed.list_line.Goals as goal
 

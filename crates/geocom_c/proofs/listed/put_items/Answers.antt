@@ -1,11 +1,4 @@
-use Rattle.std.proofs.Common.{◌≡◌, ◌+◌, ◌++◌, ◌<◌, suc, List, ℕ, [], Some, length, take, refl, ◌∙◌, sym, ap, subst, arith, append_assoc, length-append, length-set}
-use Rattle.std.specs.Prelude.{slice_get, slice_set}
-use Rattle.std.proofs.lemmas.Option.{slice_get-get_or}
-use Rattle.geocom_c.specs.FirstAre.{FirstAre}
-use Rattle.gc_values.specs.Params.{total_length}
-use Rattle.gc_values.proofs.ItemBytes.{total_length_next, total_length_front}
-use Rattle.geocom_c.specs.Settled.{StandsAt}
-use Rattle.geocom_c.specs.declared.listed.GeocomItem.{GeocomItem}
+use Rattle.geocom_c.proofs.Common.{◌≡◌, ◌+◌, ◌++◌, ◌<◌, suc, List, ℕ, [], Some, length, take, refl, ◌∙◌, sym, ap, subst, arith, append_assoc, length-append, length-set, slice_get, slice_set, slice_get-get_or, FirstAre, total_length, total_length_next, total_length_front, StandsAt, GeocomItem}
 use Rattle.geocom_c.proofs.Places.{first_are_weaker, first_written}
 use Rattle.geocom_c.proofs.Items.{stands_here, stands_more}
 use Rattle.geocom_c.proofs.listed.put_items.Goals as goal

@@ -1,7 +1,4 @@
-use Rattle.std.proofs.Common.{◌≡◌, ◌+◌, ◌++◌, ℕ, List, length, take}
-use Rattle.geocom_c.specs.FirstAre.{FirstAre}
-use Rattle.gc_values.specs.Params.{total_length}
-use Rattle.geocom_c.specs.Settled.{StandsAt}
+use Rattle.geocom_c.proofs.Common.{◌≡◌, ◌+◌, ◌++◌, ℕ, List, length, take, FirstAre, total_length, StandsAt}
 use Rattle.geocom_c.proofs.listed.put_items.Given as goal
 
 -- the first k items, and nothing else, were appended to the text, and the first k places say where they are

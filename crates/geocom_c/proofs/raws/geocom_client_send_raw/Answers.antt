@@ -1,9 +1,7 @@
-use Rattle.gc_catalogue.specs.declared.asked.Asked.TheVariants.{Raw}
-use Rattle.geocom_c.specs.Sending.{raw_rule}
+use Rattle.geocom_c.proofs.Common.{Raw, raw_rule, effect}
 use Rattle.geocom_c.proofs.Clients.{raw_line_has_params}
 use Rattle.geocom_c.proofs.Sendings.{sends_as}
 use Rattle.geocom_c.proofs.raws.geocom_client_send_raw.Goals as goal
-use Rattle.geocom_c.specs.Rooms.{effect}
 
 pub returns : goal.returns
 returns c =

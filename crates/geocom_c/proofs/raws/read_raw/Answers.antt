@@ -1,4 +1,4 @@
-use Rattle.geocom_c.specs.Sending.{raw_rule}
+use Rattle.geocom_c.proofs.Common.{raw_rule}
 use Rattle.geocom_c.proofs.Sendings.{reads_found}
 use Rattle.geocom_c.proofs.raws.read_raw.Goals as goal
 

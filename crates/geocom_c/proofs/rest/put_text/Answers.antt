@@ -1,4 +1,4 @@
-use Rattle.std.proofs.Common.{rules, ◌+◌, ◌-◌, length, arith, ap}
+use Rattle.geocom_c.proofs.Common.{rules, ◌+◌, ◌-◌, length, arith, ap}
 use Rattle.std.proofs.lemmas.Slice.{drop-put_mid}
 use Rattle.geocom_c.proofs.rest.put_text.Goals as goal
 

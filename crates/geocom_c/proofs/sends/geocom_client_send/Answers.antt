@@ -1,7 +1,6 @@
-use Rattle.geocom_c.specs.Sending.{table_rule}
+use Rattle.geocom_c.proofs.Common.{table_rule, effect}
 use Rattle.geocom_c.proofs.Sendings.{sends_as}
 use Rattle.geocom_c.proofs.sends.geocom_client_send.Goals as goal
-use Rattle.geocom_c.specs.Rooms.{effect}
 
 pub returns : goal.returns
 returns c =

@@ -1,13 +1,6 @@
-use Rattle.std.proofs.Common.{ℕ, Some, sym, subst}
-use Rattle.gc_catalogue.specs.Asked.{asked_line}
-use Rattle.gc_client.specs.Rule.{Windowed}
-use Rattle.gc_catalogue.specs.declared.asked.Asked.{Asked}
-use Rattle.geocom_c.specs.State.{StandsForClient}
-use Rattle.geocom_c.specs.Rooms.{Effect}
-use Rattle.geocom_c.specs.Sending.{SendMeets}
+use Rattle.geocom_c.proofs.Common.{ℕ, Some, sym, subst, asked_line, Windowed, Asked, StandsForClient, Effect, SendMeets, GeocomClient}
 use Rattle.geocom_c.proofs.Clients.{given_if_equal, same_width}
 use Rattle.geocom_c.proofs.sends.send_asked.Goals as goal
-use Rattle.geocom_c.specs.declared.state.GeocomClient.{GeocomClient}
 
 pub returns-in-Ok-clause-sent : goal.returns-in-Ok-clause-sent
 returns-in-Ok-clause-sent c = λ rest is part.

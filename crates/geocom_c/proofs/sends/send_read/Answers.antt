@@ -1,13 +1,7 @@
-use Rattle.std.proofs.Common.{◌∙◌, refl, sym, subst, arith}
-use Rattle.gc_catalogue.specs.declared.asked.Asked.{Asked}
-use Rattle.gc_client.specs.Rule.{Windowed, sends}
-use Rattle.geocom_c.specs.Sending.{SendMeets}
-use Rattle.geocom_c.specs.Rest.{kept_bytes}
+use Rattle.geocom_c.proofs.Common.{◌∙◌, refl, sym, subst, arith, Asked, Windowed, sends, SendMeets, kept_bytes, same_Some, effect}
 use Rattle.geocom_c.proofs.Answering.{none_left_at_eight, some_left_below_eight}
 use Rattle.geocom_c.proofs.Sendings.{never_above_full, never_both, one_error_of, one_value_of}
-use Rattle.std.proofs.lemmas.Option.{same_Some}
 use Rattle.geocom_c.proofs.sends.send_read.Goals as goal
-use Rattle.geocom_c.specs.Rooms.{effect}
 
 pub returns-in_default-clause-sends : goal.returns-in_default-clause-sends
 returns-in_default-clause-sends c =

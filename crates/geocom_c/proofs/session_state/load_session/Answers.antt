@@ -1,9 +1,4 @@
-use Rattle.std.proofs.Common.{◌≡◌, ◌∙◌, Some, sym, ap}
-use Rattle.std.proofs.lemmas.Option.{same_Some}
-use Rattle.gc_catalogue.specs.declared.asked.Asked.{Asked}
-use Rattle.gc_client.specs.Rule.{Windowed}
-use Rattle.gc_client.specs.declared.window.TheConstants.{WINDOW}
-use Rattle.gc_session.specs.Sessions.{Session}
+use Rattle.geocom_c.proofs.Common.{◌≡◌, ◌∙◌, Some, sym, ap, same_Some, Asked, Windowed, WINDOW, Session}
 use Rattle.geocom_c.proofs.SessionStates.{same_session, same_settings}
 use Rattle.geocom_c.proofs.session_state.load_session.Goals as goal
 

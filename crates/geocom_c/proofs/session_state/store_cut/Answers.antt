@@ -1,4 +1,4 @@
-use Rattle.std.proofs.Common.{[]}
+use Rattle.geocom_c.proofs.Common.{[]}
 use Rattle.geocom_c.proofs.session_state.store_cut.Goals as goal
 
 pub returns : goal.returns

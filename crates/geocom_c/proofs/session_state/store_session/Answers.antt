@@ -1,13 +1,4 @@
-use Rattle.std.proofs.Common.{sym, ap, subst}
-use Rattle.gc_catalogue.specs.declared.asked.Asked.{Asked}
-use Rattle.gc_client.specs.Rule.{Windowed}
-use Rattle.gc_session.specs.declared.settings.Settings.{Settings}
-use Rattle.gc_session.specs.declared.standing.Standing.{Standing}
-use Rattle.geocom_c.specs.Rest.{IsRest}
-use Rattle.geocom_c.specs.SessionState.{HoldsStanding}
-use Rattle.geocom_c.specs.State.{StandsForClient}
-use Rattle.geocom_c.specs.declared.rest.GeocomRest.{GeocomRest}
-use Rattle.geocom_c.specs.declared.state.GeocomClient.{GeocomClient}
+use Rattle.geocom_c.proofs.Common.{sym, ap, subst, Asked, Windowed, Settings, Standing, IsRest, HoldsStanding, StandsForClient, GeocomRest, GeocomClient}
 use Rattle.geocom_c.proofs.SessionStates.{standing_stays}
 use Rattle.geocom_c.proofs.session_state.store_session.Goals as goal
 

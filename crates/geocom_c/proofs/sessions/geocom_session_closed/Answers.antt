@@ -1,5 +1,4 @@
-use Rattle.std.proofs.Common.{refl}
-use Rattle.gc_session.specs.Sessions.{closed}
+use Rattle.geocom_c.proofs.Common.{refl, closed}
 use Rattle.geocom_c.proofs.SessionTelling.{never_told, was_told}
 use Rattle.geocom_c.proofs.sessions.geocom_session_closed.Goals as goal
 

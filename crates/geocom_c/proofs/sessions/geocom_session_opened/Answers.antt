@@ -1,5 +1,4 @@
-use Rattle.std.proofs.Common.{refl}
-use Rattle.gc_session.specs.Sessions.{opened}
+use Rattle.geocom_c.proofs.Common.{refl, opened}
 use Rattle.geocom_c.proofs.SessionTelling.{never_told, was_told}
 use Rattle.geocom_c.proofs.sessions.geocom_session_opened.Goals as goal
 

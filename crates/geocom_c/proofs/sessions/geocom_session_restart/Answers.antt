@@ -1,13 +1,4 @@
-use Rattle.std.proofs.Common.{rules, ◌≡◌, ◌∙◌, List, [], length, map, refl, ap, subst, arith}
-use Rattle.std.proofs.lemmas.List.{length-map}
-use Rattle.gc_catalogue.specs.declared.asked.Asked.{Asked}
-use Rattle.gc_client.specs.Rule.{Settlement}
-use Rattle.gc_client.specs.Settlements.{settlement_seen}
-use Rattle.gc_session.specs.Exchange.{has_begun}
-use Rattle.gc_session.specs.Sessions.{Session, anew}
-use Rattle.geocom_c.specs.FirstAre.{FirstAre}
-use Rattle.geocom_c.specs.Sessions.{HasBegunAnew, lost_anew}
-use Rattle.geocom_c.specs.Settled.{IsRecord}
+use Rattle.geocom_c.proofs.Common.{rules, ◌≡◌, ◌∙◌, List, [], length, map, refl, ap, subst, arith, length-map, Asked, Settlement, settlement_seen, has_begun, Session, anew, FirstAre, HasBegunAnew, lost_anew, IsRecord}
 use Rattle.geocom_c.proofs.SessionSettings.{anew_lost, anew_settings, still_allowed}
 use Rattle.geocom_c.proofs.SessionTelling.{of_each, stored_as}
 use Rattle.geocom_c.proofs.sessions.geocom_session_restart.Goals as goal

@@ -1,6 +1,4 @@
-use Rattle.std.proofs.Common.{rules, ◌≡◌, arith}
-use Rattle.gc_session.specs.Sessions.{Session}
-use Rattle.geocom_c.specs.Sessions.{status_of}
+use Rattle.geocom_c.proofs.Common.{rules, ◌≡◌, arith, Session, status_of}
 use Rattle.geocom_c.proofs.SessionTelling.{current_few, of_each, same_status}
 use Rattle.geocom_c.proofs.sessions.geocom_session_status.Goals as goal
 

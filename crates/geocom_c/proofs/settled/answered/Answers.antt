@@ -1,5 +1,4 @@
-use Rattle.std.proofs.Common.{rules, ◌≡◌, ◌∙◌, ℕ, suc, take, refl, ap}
-use Rattle.geocom_c.specs.declared.settled.GeocomSettlement.{GeocomSettlement}
+use Rattle.geocom_c.proofs.Common.{rules, ◌≡◌, ◌∙◌, ℕ, suc, take, refl, ap, GeocomSettlement}
 use Rattle.geocom_c.proofs.Records.{has_reading}
 use Rattle.geocom_c.proofs.settled.answered.Goals as goal
 

@@ -1,16 +1,7 @@
-use Rattle.std.proofs.Common.{◌≡◌, ◌+◌, ◌∙◌, List, [], Some, length, suc, map, take, sym, ap, subst, arith, length-set}
-use Rattle.std.specs.Prelude.{slice_get, slice_set}
-use Rattle.std.specs.Option.{option_map}
-use Rattle.std.proofs.lemmas.List.{drop-set-lt}
-use Rattle.std.proofs.lemmas.Option.{slice_get-map, slice_get-get_or}
-use Rattle.gc_catalogue.specs.declared.asked.Asked.{Asked}
-use Rattle.gc_client.specs.Rule.{Settlement}
-use Rattle.gc_client.specs.Rule
-use Rattle.gc_client.specs.Settlements.{settlement_seen}
-use Rattle.geocom_c.specs.FirstAre.{FirstAre}
-use Rattle.geocom_c.specs.Settled.{HasOutcome, IsRecord}
+use Rattle.geocom_c.proofs.Common.{◌≡◌, ◌+◌, ◌∙◌, List, [], Some, length, suc, map, take, sym, ap, subst, arith, length-set, slice_get, slice_set, option_map, drop-set-lt, slice_get-map, slice_get-get_or, Asked, Settlement, settlement_seen, FirstAre, HasOutcome, IsRecord}
 use Rattle.geocom_c.proofs.Places.{first_written}
 use Rattle.gc_theorems.proofs.Among.{lost_at}
+use Rattle.gc_client.specs.Rule
 use Rattle.geocom_c.proofs.settled.put_lost.Goals as goal
 
 pub loop-k-preserved : goal.loop-k-preserved

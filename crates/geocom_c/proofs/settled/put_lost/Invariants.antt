@@ -1,7 +1,4 @@
-use Rattle.std.proofs.Common.{◌≡◌, [], length, take, drop, map}
-use Rattle.gc_client.specs.Settlements.{settlement_seen}
-use Rattle.geocom_c.specs.FirstAre.{FirstAre}
-use Rattle.geocom_c.specs.Settled.{IsRecord}
+use Rattle.geocom_c.proofs.Common.{◌≡◌, [], length, take, drop, map, settlement_seen, FirstAre, IsRecord}
 use Rattle.geocom_c.proofs.settled.put_lost.Given as goal
 
 -- the first k records are those of the first k settlements, and none after those of all settlements has changed

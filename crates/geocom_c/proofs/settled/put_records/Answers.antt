@@ -1,17 +1,7 @@
-use Rattle.std.proofs.Common.{◌≡◌, ◌+◌, ◌∙◌, Some, length, suc, map, take, sym, ap, subst, arith, length-set}
-use Rattle.std.specs.Prelude.{slice_get, slice_set}
-use Rattle.std.specs.Option.{option_map}
-use Rattle.std.proofs.lemmas.List.{drop-set-lt}
-use Rattle.std.proofs.lemmas.Option.{slice_get-map, slice_get-get_or}
-use Rattle.gc_lines.proofs.Lists.{all_at}
-use Rattle.gc_catalogue.specs.declared.asked.Asked.{Asked}
-use Rattle.gc_catalogue.specs.Asked.{IsAskedReading}
-use Rattle.gc_client.specs.Rule
-use Rattle.gc_client.specs.Settlements.{IsReadBy, settlement_seen}
+use Rattle.geocom_c.proofs.Common.{◌≡◌, ◌+◌, ◌∙◌, Some, length, suc, map, take, sym, ap, subst, arith, length-set, slice_get, slice_set, option_map, drop-set-lt, slice_get-map, slice_get-get_or, all_at, Asked, IsAskedReading, IsReadBy, settlement_seen, FirstAre, IsRecord, AnswerHasLine}
 use Rattle.gc_client.specs.declared.settlement.Settlement.{Settlement}
-use Rattle.geocom_c.specs.FirstAre.{FirstAre}
-use Rattle.geocom_c.specs.Settled.{IsRecord, AnswerHasLine}
 use Rattle.geocom_c.proofs.Places.{first_written}
+use Rattle.gc_client.specs.Rule
 use Rattle.geocom_c.proofs.settled.put_records.Goals as goal
 
 pub record_of-requires : goal.record_of-requires

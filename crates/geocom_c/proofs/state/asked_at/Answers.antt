@@ -1,5 +1,4 @@
-use Rattle.std.proofs.Common.{subst, take, sym}
-use Rattle.geocom_c.specs.State.{IsLineOf}
+use Rattle.geocom_c.proofs.Common.{subst, take, sym, IsLineOf}
 use Rattle.geocom_c.proofs.state.asked_at.Goals as goal
 
 pub returns-clause-only : goal.returns-clause-only

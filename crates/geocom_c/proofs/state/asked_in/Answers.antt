@@ -1,4 +1,4 @@
-use Rattle.gc_lines.specs.Requests.{request_seen}
+use Rattle.geocom_c.proofs.Common.{request_seen}
 use Rattle.geocom_c.proofs.Lines.{asks_as_read, unread_asks_nothing}
 use Rattle.geocom_c.proofs.state.asked_in.Goals as goal
 

@@ -1,7 +1,4 @@
-use Rattle.std.proofs.Common.{◌≡◌, ℕ, Bool, Some, refl, sym, ap, ◌∙◌}
-use Rattle.gc_catalogue.specs.declared.asked.Asked.{Asked}
-use Rattle.gc_client.specs.declared.pending.Pending.{Pending}
-use Rattle.std.proofs.lemmas.Option.{none-some, same_Some}
+use Rattle.geocom_c.proofs.Common.{◌≡◌, ℕ, Bool, Some, refl, sym, ap, ◌∙◌, Asked, Pending, none-some, same_Some}
 use Rattle.geocom_c.proofs.state.read_place.Goals as goal
 
 -- a request with the same target, call, deadline and `given_up` as p is p

@@ -1,12 +1,5 @@
-use Rattle.std.proofs.Common.{◌≡◌, ◌<◌, ◌+◌, ◌++◌, ◌∷◌, [], List, suc, length, take, Some, ◌∙◌, sym, ap, subst, arith, length-append}
-use Rattle.std.specs.Prelude.{slice_get}
-use Rattle.std.proofs.lemmas.Option.{none-some, slice_get-get_or}
-use Rattle.gc_catalogue.specs.declared.asked.Asked.{Asked}
-use Rattle.gc_client.proofs.Lists.{take_next}
-use Rattle.gc_client.specs.declared.pending.Pending.{Pending}
+use Rattle.geocom_c.proofs.Common.{◌≡◌, ◌<◌, ◌+◌, ◌++◌, ◌∷◌, [], List, suc, length, take, Some, ◌∙◌, sym, ap, subst, arith, length-append, slice_get, none-some, slice_get-get_or, Asked, take_next, Pending, FirstAre, HoldsRequest}
 use Rattle.gc_world.proofs.Places.{element_at}
-use Rattle.geocom_c.specs.FirstAre.{FirstAre}
-use Rattle.geocom_c.specs.State.{HoldsRequest}
 use Rattle.geocom_c.proofs.Places.{first_more, placed_together}
 use Rattle.geocom_c.proofs.state.read_places.Goals as goal
 

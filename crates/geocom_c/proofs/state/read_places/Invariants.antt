@@ -1,8 +1,4 @@
-use Rattle.std.proofs.Common.{◌≡◌, List, length, take}
-use Rattle.gc_catalogue.specs.declared.asked.Asked.{Asked}
-use Rattle.gc_client.specs.declared.pending.Pending.{Pending}
-use Rattle.geocom_c.specs.FirstAre.{FirstAre}
-use Rattle.geocom_c.specs.State.{HoldsRequest}
+use Rattle.geocom_c.proofs.Common.{◌≡◌, List, length, take, Asked, Pending, FirstAre, HoldsRequest}
 use Rattle.geocom_c.proofs.state.read_places.Given as goal
 
 -- the window has the requests of the first k places, and these places hold no others

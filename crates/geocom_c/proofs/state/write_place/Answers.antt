@@ -1,4 +1,4 @@
-use Rattle.std.proofs.Common.{rules, ◌∙◌, take, ap}
+use Rattle.geocom_c.proofs.Common.{rules, ◌∙◌, take, ap}
 use Rattle.geocom_c.proofs.Clients.{begins_with_line}
 use Rattle.geocom_c.proofs.Lines.{written_line_asks}
 use Rattle.geocom_c.proofs.state.write_place.Goals as goal

@@ -1,7 +1,4 @@
-use Rattle.std.proofs.Common.{◌≡◌, ◌+◌, suc, take, ◌∙◌, subst, arith, length-set}
-use Rattle.std.specs.Prelude.{slice_set}
-use Rattle.geocom_c.specs.FirstAre.{FirstAre}
-use Rattle.geocom_c.specs.State.{HoldsRequest}
+use Rattle.geocom_c.proofs.Common.{◌≡◌, ◌+◌, suc, take, ◌∙◌, subst, arith, length-set, slice_set, FirstAre, HoldsRequest}
 use Rattle.geocom_c.proofs.Places.{first_written}
 use Rattle.geocom_c.proofs.state.write_places.Goals as goal
 

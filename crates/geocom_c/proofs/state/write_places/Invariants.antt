@@ -1,6 +1,4 @@
-use Rattle.std.proofs.Common.{◌≡◌, length, take}
-use Rattle.geocom_c.specs.FirstAre.{FirstAre}
-use Rattle.geocom_c.specs.State.{HoldsRequest}
+use Rattle.geocom_c.proofs.Common.{◌≡◌, length, take, FirstAre, HoldsRequest}
 use Rattle.geocom_c.proofs.state.write_places.Given as goal
 
 -- the first k places hold the first k requests, and there are as many places as at first

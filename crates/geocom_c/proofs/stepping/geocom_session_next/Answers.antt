@@ -1,10 +1,4 @@
-use Rattle.std.proofs.Common.{rules, ◌≡◌, ◌∙◌, None, Some, refl, sym, subst, arith}
-use Rattle.std.proofs.lemmas.Option.{same_Some}
-use Rattle.gc_session.specs.declared.settings.Want.{Want}
-use Rattle.gc_session.specs.Sessions.{Session}
-use Rattle.geocom_c.specs.SessionState.{StandsForSession}
-use Rattle.geocom_c.specs.Stepping.{HasRoomToStep, HasStepped, IsWant}
-use Rattle.geocom_c.specs.declared.header.TheConstants.{NO_CLIENT, NO_WANT}
+use Rattle.geocom_c.proofs.Common.{rules, ◌≡◌, ◌∙◌, None, Some, refl, sym, subst, arith, same_Some, Want, Session, StandsForSession, HasRoomToStep, HasStepped, IsWant, NO_CLIENT, NO_WANT}
 use Rattle.geocom_c.proofs.SessionSteps.{never_stepped}
 use Rattle.geocom_c.proofs.stepping.geocom_session_next.Goals as goal
 

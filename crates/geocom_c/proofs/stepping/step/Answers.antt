@@ -1,15 +1,4 @@
-use Rattle.std.proofs.Common.{◌≡◌, ◌∙◌, ℕ, List, [], length, map, nat_eq, if◌then◌else◌, refl, sym, ap, subst, arith}
-use Rattle.std.proofs.lemmas.List.{length-map}
-use Rattle.gc_catalogue.specs.declared.asked.Asked.{Asked}
-use Rattle.gc_client.specs.Rule.{Settlement}
-use Rattle.gc_client.specs.Settlements.{settlement_seen}
-use Rattle.gc_session.specs.declared.standing.Standing.{Standing}
-use Rattle.gc_session.specs.Sessions.{Session, at_step, next_of, settled_by, stepped}
-use Rattle.geocom_c.specs.FirstAre.{FirstAre}
-use Rattle.geocom_c.specs.Rest.{IsRest}
-use Rattle.geocom_c.specs.SessionState.{StoresSession, phase_byte}
-use Rattle.geocom_c.specs.Settled.{IsRecord}
-use Rattle.geocom_c.specs.Stepping.{StandInFront, bytes_of, rest_stepped}
+use Rattle.geocom_c.proofs.Common.{◌≡◌, ◌∙◌, ℕ, List, [], length, map, nat_eq, if◌then◌else◌, refl, sym, ap, subst, arith, length-map, Asked, Settlement, settlement_seen, Standing, Session, at_step, next_of, settled_by, stepped, FirstAre, IsRest, StoresSession, phase_byte, IsRecord, StandInFront, bytes_of, rest_stepped}
 use Rattle.geocom_c.proofs.Counts.{HasCounts, stepped_counts}
 use Rattle.geocom_c.proofs.SessionSettings.{step_lost, stepped_settings, still_allowed}
 use Rattle.geocom_c.proofs.stepping.step.Goals as goal

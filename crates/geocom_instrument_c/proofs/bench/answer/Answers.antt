@@ -1,5 +1,4 @@
-use Rattle.std.proofs.Common.{rules, ap}
-use Rattle.gc_lines.specs.Lent.{lent_seen}
+use Rattle.geocom_instrument_c.proofs.Common.{rules, ap, lent_seen}
 use Rattle.geocom_instrument_c.proofs.Cases.{unanswered, answered}
 use Rattle.geocom_instrument_c.proofs.bench.answer.Goals as goal
 

@@ -1,23 +1,14 @@
 -- The instrument at the pointer is lent to `feed`, and is there again afterwards.
-use Rattle.geocom_instrument_c.proofs.Steps.{ℕ, List, [], ◌∷◌, refl, w64, proved, full_share, sep, emp, ex, ex_i, id⊢, GName, ftrue, flft, flent, named, vptr, WpFn, fact}
-use Rattle.geocom_instrument_c.proofs.Steps.{fact_i, tables, sem, Body, lft_new, lft_end, ‵, raw, ◌⊛◌, some, later, prop, ◌$◌, ◌∵◌, !, qed, done, move, keep, use0, use1, use2, use3, split}
-use Rattle.geocom_instrument_c.proofs.Steps.{join, fsplit, pick, await, regoal, suffices, group, enter, of_opd, addr, stop, no_more, and_then, returns, alloc_all, pass_all, free_all, look_at, get}
-use Rattle.geocom_instrument_c.proofs.Steps.{through, sets, lands_as, u8, u64, yes, shows, lends_ref, ref_back, mem, part_at, uint_vals, uint_Tells, Ptr, RawPtr, block_ptr, lies_at, in_a_block}
-use Rattle.geocom_instrument_c.proofs.Steps.{rawptr_vals, rawptr_Tells, MutRef, ShrSlice, shr_slice_vals, shr_slice_Tells, plain, nothing, heard, peeks, calls_at, lasts, triple_of, Stays, walk_of}
-use Rattle.geocom_instrument_c.proofs.Steps.{stay_dropped, Goes-dropped, ends_at, framed}
-use Rattle.std.specs.Prelude.{Option}
-use mathlib.Core.List
-use Rattle.geocom_instrument_c.specs.Feeding.{IsFed}
-use Rattle.geocom_instrument_c.specs.declared.replied.GeocomReplied.{GeocomReplied}
-use Rattle.geocom_instrument_c.specs.Bench.{BenchState}
-use Rattle.geocom_instrument_c.specs.contracts.bench.GeocomInstrument.{the_row as R}
+use Rattle.geocom_instrument_c.proofs.Common.{Option, IsFed, GeocomReplied, BenchState, the_row as R}
+use Rattle.geocom_instrument_c.proofs.Steps.{ℕ, List, [], ◌∷◌, refl, w64, proved, full_share, sep, emp, ex, ex_i, id⊢, GName, ftrue, flft, flent, named, vptr, WpFn, fact, fact_i, tables, sem, Body, lft_new, lft_end, ‵, raw, ◌⊛◌, some, later, prop, ◌$◌, ◌∵◌, !, qed, done, move, keep, use0, use1, use2, use3, split, join, fsplit, pick, await, regoal, suffices, group, enter, of_opd, addr, stop, no_more, and_then, returns, alloc_all, pass_all, free_all, look_at, get, through, sets, lands_as, u8, u64, yes, shows, lends_ref, ref_back, mem, part_at, uint_vals, uint_Tells, Ptr, RawPtr, block_ptr, lies_at, in_a_block, rawptr_vals, rawptr_Tells, MutRef, ShrSlice, shr_slice_vals, shr_slice_Tells, plain, nothing, heard, peeks, calls_at, lasts, triple_of, Stays, walk_of, stay_dropped, Goes-dropped, ends_at, framed}
 use Rattle.geocom_instrument_c.specs.contracts.replied.GeocomReplied.{the_row as Said}
 use Rattle.geocom_instrument_c.proofs.replied.GeocomReplied.TheLaws.{the_row_laws as said_laws}
-use Rattle.geocom_instrument_c.specs.contracts.exports.geocom_instrument_feed as f
 use Rattle.geocom_instrument_c.proofs.exports.geocom_instrument_feed.Statement.{statement}
+use Rattle.geocom_instrument_c.proofs.bench.GeocomInstrument.feed.Met.{met}
+use mathlib.Core.List
+use Rattle.geocom_instrument_c.specs.contracts.exports.geocom_instrument_feed as f
 use Rattle.geocom_instrument_c.proofs.exports.geocom_instrument_feed.Code as code
 use Rattle.geocom_instrument_c.specs.contracts.bench.GeocomInstrument.feed as g
-use Rattle.geocom_instrument_c.proofs.bench.GeocomInstrument.feed.Met.{met}
 
 -- at the exit of the call nothing is owned of its parameters
 abbrev stayed : Stays f.ended.signature.params f.ended.kept

@@ -1,30 +1,23 @@
 -- A value without an instrument is written to the room at the pointer, and lent to `set_up`.
-use Rattle.geocom_instrument_c.proofs.Steps.{◌≡◌, ℕ, List, [], ◌∷◌, refl, proved, full_share, sep, emp, ex, ex_i, id⊢, GName, ftrue, flft, flent, named, vptr, WpFn, fact, fact_i, tables, sem}
-use Rattle.geocom_instrument_c.proofs.Steps.{Body, lft_new, lft_end, ‵, raw, ◌⊛◌, some, later, prop, ◌$◌, ◌∵◌, !, qed, done, move, keep, drop, use0, use1, use2, use3, split, join, fsplit, pick}
-use Rattle.geocom_instrument_c.proofs.Steps.{await, regoal, suffices, group, enter, of_opd, addr, stop, init, assigns, no_more, and_then, returns, alloc_all, pass_all, free_all, look_at, get}
-use Rattle.geocom_instrument_c.proofs.Steps.{through, sets, lands_as, u8, yes, shows, lends_ref, ref_back, mem, part_at, Ptr, RawPtr, block_ptr, lies_at, room_at, in_a_block, rawptr_vals}
-use Rattle.geocom_instrument_c.proofs.Steps.{rawptr_Tells, MutRef, ShrSlice, shr_slice_vals, shr_slice_Tells, plain, nothing, heard, peeks, calls_at, lasts, triple_of, Stays, walk_of}
-use Rattle.geocom_instrument_c.proofs.Steps.{stay_dropped, Goes-dropped, ends_at, framed}
+use Rattle.geocom_instrument_c.proofs.Common.{Option, IsSetUp, BenchState, the_row as R}
+use Rattle.geocom_instrument_c.proofs.Steps.{◌≡◌, ℕ, List, [], ◌∷◌, refl, proved, full_share, sep, emp, ex, ex_i, id⊢, GName, ftrue, flft, flent, named, vptr, WpFn, fact, fact_i, tables, sem, Body, lft_new, lft_end, ‵, raw, ◌⊛◌, some, later, prop, ◌$◌, ◌∵◌, !, qed, done, move, keep, drop, use0, use1, use2, use3, split, join, fsplit, pick, await, regoal, suffices, group, enter, of_opd, addr, stop, init, assigns, no_more, and_then, returns, alloc_all, pass_all, free_all, look_at, get, through, sets, lands_as, u8, yes, shows, lends_ref, ref_back, mem, part_at, Ptr, RawPtr, block_ptr, lies_at, room_at, in_a_block, rawptr_vals, rawptr_Tells, MutRef, ShrSlice, shr_slice_vals, shr_slice_Tells, plain, nothing, heard, peeks, calls_at, lasts, triple_of, Stays, walk_of, stay_dropped, Goes-dropped, ends_at, framed}
 use borrow.Table.OneValue.{part_in}
-use mathlib.Core.List
-use Rattle.std.specs.Prelude.{Option, None}
+use Rattle.std.specs.Prelude.{None}
 use Rattle.std.specs.contracts.alloc.Global.{the_row as Heap}
 use Rattle.std.proofs.alloc.Global.TheLaws.{the_row_laws as heap_laws}
 use Rattle.std.proofs.Handle.{heap_val, heap_Tells}
-use Rattle.geocom_instrument_c.specs.Setting.{IsSetUp}
 use Rattle.geocom_instrument_c.specs.declared.replied.GeocomMade.{GeocomMade}
-use Rattle.geocom_instrument_c.specs.Bench.{BenchState}
-use Rattle.geocom_instrument_c.specs.contracts.bench.GeocomInstrument.{the_row as R}
 use Rattle.geocom_instrument_c.proofs.bench.GeocomInstrument.TheLaws.{the_row_laws as laws}
 use Rattle.geocom_instrument_c.specs.contracts.replied.GeocomMade.{the_row as Said}
 use Rattle.geocom_instrument_c.proofs.replied.GeocomMade.TheLaws.{the_row_laws as said_laws}
-use Rattle.geocom_instrument_c.specs.contracts.exports.geocom_instrument_init as f
 use Rattle.geocom_instrument_c.proofs.exports.geocom_instrument_init.Statement.{statement}
+use Rattle.geocom_instrument_c.proofs.bench.GeocomInstrument.none.Met.{met as made}
+use Rattle.geocom_instrument_c.proofs.bench.GeocomInstrument.set_up.Met.{met}
+use mathlib.Core.List
+use Rattle.geocom_instrument_c.specs.contracts.exports.geocom_instrument_init as f
 use Rattle.geocom_instrument_c.proofs.exports.geocom_instrument_init.Code as code
 use Rattle.geocom_instrument_c.specs.contracts.bench.GeocomInstrument.none as n
-use Rattle.geocom_instrument_c.proofs.bench.GeocomInstrument.none.Met.{met as made}
 use Rattle.geocom_instrument_c.specs.contracts.bench.GeocomInstrument.set_up as g
-use Rattle.geocom_instrument_c.proofs.bench.GeocomInstrument.set_up.Met.{met}
 
 -- at the exit of the call nothing is owned of its parameters
 abbrev stayed : Stays f.ended.signature.params f.ended.kept

@@ -1,20 +1,12 @@
 -- The instrument at the pointer is lent to `restart`, and is there again afterwards.
-use Rattle.geocom_instrument_c.proofs.Steps.{◌≡◌, ℕ, List, [], ◌∷◌, refl, ap, w32, proved, full_share, sep, emp, ex, ex_i, id⊢, GName, ftrue, flft, flent, named, Val, vint, vptr, WpFn, fact}
-use Rattle.geocom_instrument_c.proofs.Steps.{fact_i, tables, sem, Body, lft_new, lft_end, ‵, raw, ◌⊛◌, some, later, prop, ◌$◌, ◌∵◌, !, qed, done, move, keep, drop, use0, use1, use2, use3, split}
-use Rattle.geocom_instrument_c.proofs.Steps.{join, fsplit, rewrite, pick, await, regoal, suffices, group, enter, of_opd, addr, stop, no_more, and_then, returns, alloc_all, pass_all, free_all}
-use Rattle.geocom_instrument_c.proofs.Steps.{look_at, get, through, sets, lands_as, u32, yes, shows, lends_ref, ref_back, mem, part_at, uint_Tells, Ptr, RawPtr, block_ptr, lies_at, in_a_block}
-use Rattle.geocom_instrument_c.proofs.Steps.{rawptr_vals, rawptr_Tells, MutRef, plain, nothing, heard, peeks, calls_at, lasts, only, triple_of, Stays, walk_of, stay_dropped, Goes-dropped, ends_at}
-use Rattle.geocom_instrument_c.proofs.Steps.{framed}
-use Rattle.std.specs.Prelude.{Option}
-use mathlib.Core.List
-use Rattle.geocom_instrument_c.specs.Setting.{IsRestarted}
-use Rattle.geocom_instrument_c.specs.Bench.{BenchState}
-use Rattle.geocom_instrument_c.specs.contracts.bench.GeocomInstrument.{the_row as R}
-use Rattle.geocom_instrument_c.specs.contracts.exports.geocom_instrument_restart as f
+use Rattle.geocom_instrument_c.proofs.Common.{Option, IsRestarted, BenchState, the_row as R}
+use Rattle.geocom_instrument_c.proofs.Steps.{◌≡◌, ℕ, List, [], ◌∷◌, refl, ap, w32, proved, full_share, sep, emp, ex, ex_i, id⊢, GName, ftrue, flft, flent, named, Val, vint, vptr, WpFn, fact, fact_i, tables, sem, Body, lft_new, lft_end, ‵, raw, ◌⊛◌, some, later, prop, ◌$◌, ◌∵◌, !, qed, done, move, keep, drop, use0, use1, use2, use3, split, join, fsplit, rewrite, pick, await, regoal, suffices, group, enter, of_opd, addr, stop, no_more, and_then, returns, alloc_all, pass_all, free_all, look_at, get, through, sets, lands_as, u32, yes, shows, lends_ref, ref_back, mem, part_at, uint_Tells, Ptr, RawPtr, block_ptr, lies_at, in_a_block, rawptr_vals, rawptr_Tells, MutRef, plain, nothing, heard, peeks, calls_at, lasts, only, triple_of, Stays, walk_of, stay_dropped, Goes-dropped, ends_at, framed}
 use Rattle.geocom_instrument_c.proofs.exports.geocom_instrument_restart.Statement.{statement}
+use Rattle.geocom_instrument_c.proofs.bench.GeocomInstrument.restart.Met.{met}
+use mathlib.Core.List
+use Rattle.geocom_instrument_c.specs.contracts.exports.geocom_instrument_restart as f
 use Rattle.geocom_instrument_c.proofs.exports.geocom_instrument_restart.Code as code
 use Rattle.geocom_instrument_c.specs.contracts.bench.GeocomInstrument.restart as g
-use Rattle.geocom_instrument_c.proofs.bench.GeocomInstrument.restart.Met.{met}
 
 -- at the exit of the call nothing is owned of its parameters
 abbrev stayed : Stays f.ended.signature.params f.ended.kept

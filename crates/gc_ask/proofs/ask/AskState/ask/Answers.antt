@@ -1,8 +1,4 @@
-use Rattle.std.proofs.Common.{◌++◌, length, sym, ap, arith}
-use Rattle.std.proofs.lemmas.List.{length-map}
-use Rattle.gc_client.specs.Settlements.{settlement_seen}
-use Rattle.gc_ask.specs.Listening.{ClientHeard, heard_by, seen_through}
-use Rattle.gc_ask.specs.Looping.{SeenAtBoth}
+use Rattle.gc_ask.proofs.Common.{◌++◌, length, sym, ap, arith, length-map, settlement_seen, ClientHeard, heard_by, seen_through, SeenAtBoth}
 use Rattle.gc_ask.proofs.Asked.{settled_is}
 use Rattle.gc_ask.proofs.Exchanging.{still_waits, lost_alone, asks_written, asks_lost, asks_sink_failed, ends_written, ends_lost, ends_sink_failed}
 use Rattle.gc_ask.proofs.ask.AskState.ask.Goals as goal

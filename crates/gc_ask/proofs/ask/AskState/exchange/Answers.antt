@@ -1,16 +1,7 @@
-use Rattle.std.proofs.Common.{ℕ, List, [], ◌++◌, Option, Err, sym, ap, ◌∙◌, subst, arith}
-use Rattle.std.specs.Io.KnownBytes.{Appends}
-use Rattle.gc_lines.specs.Answering.{Ports}
-use Rattle.gc_lines.specs.Assembler.{Kept, StandsFor}
-use Rattle.gc_catalogue.specs.declared.call.Call.{Call}
-use Rattle.gc_client.specs.Rule.{ById}
-use Rattle.gc_ask.specs.Asking.{written_request}
-use Rattle.gc_ask.specs.Links.{TakesRequest}
-use Rattle.gc_ask.specs.Listening.{Exchanges, ClientHeard, HearsReply, heard_by}
+use Rattle.gc_ask.proofs.Common.{ℕ, List, [], ◌++◌, Option, Err, sym, ap, ◌∙◌, subst, arith, Appends, Ports, Kept, StandsFor, Call, ById, written_request, TakesRequest, Exchanges, ClientHeard, HearsReply, heard_by, Input, source_of}
 use Rattle.gc_ask.proofs.Ends.{reads_nothing, reads_then, step_both}
 use Rattle.gc_ask.proofs.Exchanging.{exchange_heard, exchange_unsent}
 use Rattle.gc_ask.proofs.ask.AskState.exchange.Goals as goal
-use Rattle.gc_texts.specs.WholeTexts.{Input, source_of}
 
 pub returns-in-Err-clause-exchanges : goal.returns-in-Err-clause-exchanges
 returns-in-Err-clause-exchanges g c =

@@ -1,4 +1,4 @@
-use Rattle.std.proofs.Common.{refl}
+use Rattle.gc_ask.proofs.Common.{refl}
 use Rattle.gc_ask.proofs.caller.Connection.serve.Goals as goal
 
 pub returns : goal.returns

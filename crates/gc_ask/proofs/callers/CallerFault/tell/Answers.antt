@@ -1,5 +1,4 @@
-use Rattle.std.proofs.Common.{ℕ, List, OnOk, subst}
-use Rattle.std.specs.Io.KnownBytes.{Appends}
+use Rattle.gc_ask.proofs.Common.{ℕ, List, OnOk, subst, Appends}
 use Rattle.gc_ask.proofs.Keeps.{socket_line}
 use Rattle.gc_ask.proofs.callers.CallerFault.tell.Goals as goal
 

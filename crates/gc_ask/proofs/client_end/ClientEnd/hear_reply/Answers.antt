@@ -1,11 +1,7 @@
-use Rattle.std.proofs.Common.{ℕ, List, [], ◌++◌, drop, ◌∙◌, subst, arith, length-append, append-nil, Ok, Err}
-use Rattle.std.specs.Io.KnownBytes.{Consumes}
-use Rattle.std.proofs.KnownBytes.{Consumes-trans}
-use Rattle.gc_ask.specs.Listening.{heard_by}
+use Rattle.gc_ask.proofs.Common.{ℕ, List, [], ◌++◌, drop, ◌∙◌, subst, arith, length-append, append-nil, Ok, Err, Consumes, Consumes-trans, heard_by, source_of}
 use Rattle.gc_ask.proofs.Ends.{ends_then}
 use Rattle.gc_ask.proofs.FirstReplies.{reading_more, reading_quiet, reading_settles}
 use Rattle.gc_ask.proofs.client_end.ClientEnd.hear_reply.Goals as goal
-use Rattle.gc_texts.specs.WholeTexts.{source_of}
 
 pub returns-in-Some-clause-hears : goal.returns-in-Some-clause-hears
 returns-in-Some-clause-hears g c =

@@ -1,8 +1,4 @@
-use Rattle.std.proofs.Common.{◌≡◌, ◌<◌, ◌≤◌, ◌+◌, ◌-◌, ◌*◌, List, ℕ, false, length}
-use Rattle.std.specs.Io.KnownBytes.{Consumes}
-use Rattle.gc_lines.specs.Assembler.{StandsFor}
-use Rattle.gc_ask.specs.Listening.{LinkOnlyReads}
-use Rattle.gc_ask.specs.declared.unused.TheConstants.{ROOM}
+use Rattle.gc_ask.proofs.Common.{◌≡◌, ◌<◌, ◌≤◌, ◌+◌, ◌-◌, ◌*◌, List, ℕ, false, length, Consumes, StandsFor, LinkOnlyReads, ROOM}
 use Rattle.gc_ask.proofs.FirstReplies.{ReadsOn}
 use Rattle.gc_ask.proofs.client_end.ClientEnd.hear_reply.Given as goal
 

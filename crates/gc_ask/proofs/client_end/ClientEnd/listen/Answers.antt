@@ -1,8 +1,4 @@
-use Rattle.std.proofs.Common.{◌≡◌, [], drop, arith, length-drop, drop-drop}
-use Rattle.std.proofs.lemmas.List.{take_rest, drop_all}
-use Rattle.gc_lines.specs.Lent.{lent_seen}
-use Rattle.gc_lines.proofs.Passing.{Takes, assembler_takes}
-use Rattle.gc_ask.specs.Listening.{ClientHeard, heard_by}
+use Rattle.gc_ask.proofs.Common.{◌≡◌, [], drop, arith, length-drop, drop-drop, take_rest, drop_all, lent_seen, Takes, assembler_takes, ClientHeard, heard_by}
 use Rattle.gc_ask.proofs.FirstReplies.{passed_on, passed_settles, passed_end}
 use Rattle.gc_ask.proofs.client_end.ClientEnd.listen.Goals as goal
 

@@ -1,6 +1,4 @@
-use Rattle.std.proofs.Common.{◌≤◌, ◌-◌, List, ℕ, length, drop}
-use Rattle.gc_lines.specs.Assembler.{StandsFor}
-use Rattle.gc_ask.specs.Listening.{heard_by}
+use Rattle.gc_ask.proofs.Common.{◌≤◌, ◌-◌, List, ℕ, length, drop, StandsFor, heard_by}
 use Rattle.gc_ask.proofs.FirstReplies.{Passed}
 use Rattle.gc_ask.proofs.client_end.ClientEnd.listen.Given as goal
 

@@ -1,4 +1,4 @@
-use Rattle.std.proofs.Common.{◌≤◌, ◌-◌, length}
+use Rattle.gc_ask.proofs.Common.{◌≤◌, ◌-◌, length}
 use Rattle.gc_ask.proofs.instrument_end.InstrumentEnd.answer_ahead.Given as goal
 
 -- no more bytes were taken than there are

@@ -1,9 +1,6 @@
-use Rattle.std.proofs.Common.{Ok, Err, refl, arith}
-use Rattle.gc_lines.specs.Answering.{ports_of}
-use Rattle.gc_ask.specs.Links.{ReadEnds}
+use Rattle.gc_ask.proofs.Common.{Ok, Err, refl, arith, ports_of, ReadEnds, input_of}
 use Rattle.gc_ask.proofs.Ends.{ends_then, ends_too_many, fault_counts_replies, step_hears}
 use Rattle.gc_ask.proofs.instrument_end.InstrumentEnd.answer_line.Goals as goal
-use Rattle.gc_texts.specs.WholeTexts.{input_of}
 
 pub loop-cut-preserved : goal.loop-cut-preserved
 loop-cut-preserved g c =

@@ -1,4 +1,4 @@
-use Rattle.std.proofs.Common.{◌≡◌, ◌+◌, ◌<◌, ◌≤◌, false}
+use Rattle.gc_ask.proofs.Common.{◌≡◌, ◌+◌, ◌<◌, ◌≤◌, false}
 use Rattle.gc_ask.proofs.instrument_end.InstrumentEnd.answer_line.Given as goal
 
 -- the reads that are left are the first number without those made; no read was the end of the stream, and the source has failed

@@ -1,7 +1,4 @@
-use Rattle.std.proofs.Common.{true, inl, refl}
-use Rattle.gc_lines.specs.Answering.{ports_of, taken_by}
-use Rattle.gc_lines.specs.Lines.{with_end}
-use Rattle.gc_ask.specs.Links.{no_ports}
+use Rattle.gc_ask.proofs.Common.{true, inl, refl, ports_of, taken_by, with_end, no_ports}
 use Rattle.gc_ask.proofs.Ends.{sends_not_too_many, step_none, step_sent}
 use Rattle.gc_ask.proofs.Exchanging.{takes_sent}
 use Rattle.gc_ask.proofs.link.RemoteAskedLink.send.Goals as goal

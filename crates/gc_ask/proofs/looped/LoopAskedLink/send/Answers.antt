@@ -1,6 +1,4 @@
-use Rattle.std.proofs.Common.{false, Err, inl, inr, refl}
-use Rattle.gc_lines.specs.Answering.{ports_of, taken_by}
-use Rattle.gc_lines.specs.Lines.{with_end}
+use Rattle.gc_ask.proofs.Common.{false, Err, inl, inr, refl, ports_of, taken_by, with_end}
 use Rattle.gc_ask.proofs.Ends.{sends_not_too_many, step_none, step_sent}
 use Rattle.gc_ask.proofs.Exchanging.{takes_answered, takes_sent}
 use Rattle.gc_ask.proofs.looped.LoopAskedLink.send.Goals as goal

@@ -1,7 +1,4 @@
-use Rattle.std.proofs.Common.{subst, true, false}
-use Rattle.gc_lines.specs.Answering.{AppendsAnswer}
-use Rattle.gc_lines.specs.declared.frame.Frame.TheVariants.{Line}
-use Rattle.gc_scenes.specs.Slow.{SlowState, HearsSometime}
+use Rattle.gc_ask.proofs.Common.{subst, true, false, AppendsAnswer, Line, SlowState, HearsSometime}
 use Rattle.gc_ask.proofs.Slowly.{slowly_answered, slowly_unanswered}
 use Rattle.gc_ask.proofs.slow.Slow.hear.Goals as goal
 

@@ -1,5 +1,4 @@
-use Rattle.std.proofs.Common.{◌≡◌, [], ◌∙◌, Ok, not, refl, sym, ap, arith}
-use Rattle.std.proofs.KnownBytes.{Consumes-kept, Consumes-nil}
+use Rattle.gc_ask.proofs.Common.{◌≡◌, [], ◌∙◌, Ok, not, refl, sym, ap, arith, Consumes-kept, Consumes-nil}
 use Rattle.gc_ask.proofs.unused.Unused.read_more.Goals as goal
 
 pub returns-then-reads-eq0 : goal.returns-then-reads-eq0

@@ -1,4 +1,4 @@
-use Rattle.std.proofs.Common.{rules}
+use Rattle.gc_catalogue.proofs.Common.{rules}
 use Rattle.gc_catalogue.proofs.call.DateTime.hand_over.Goals as goal
 
 pub returns : goal.returns

@@ -1,7 +1,4 @@
-use Rattle.std.proofs.Common.{◌≡◌, ◌∙◌}
-use Rattle.std.specs.Prelude.{Ok}
-use Rattle.gc_catalogue.specs.RawTexts.{raw_bytes}
-use Rattle.gc_catalogue.specs.declared.raw.RawCall.{RawCall}
+use Rattle.gc_catalogue.proofs.Common.{◌≡◌, ◌∙◌, Ok, raw_bytes, RawCall}
 use Rattle.gc_catalogue.proofs.RawTests.{asked_again}
 use Rattle.gc_catalogue.proofs.RequestBytes.{bytes_from_index}
 use Rattle.gc_catalogue.proofs.raw.RawCall.with_params.Goals as goal

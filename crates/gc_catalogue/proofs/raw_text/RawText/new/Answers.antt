@@ -1,6 +1,5 @@
-use Rattle.std.proofs.Common.{sym, subst}
+use Rattle.gc_catalogue.proofs.Common.{sym, subst, AreBytes}
 use Rattle.std.proofs.Transfers.{drop-appended}
-use Rattle.gc_catalogue.specs.Bytes.{AreBytes}
 use Rattle.gc_catalogue.proofs.RawLines.{filled_front, filled_length}
 use Rattle.gc_catalogue.proofs.RequestBytes.{bytes_from_index}
 use Rattle.gc_catalogue.proofs.raw_text.RawText.new.Goals as goal

@@ -1,4 +1,4 @@
-use Rattle.std.proofs.Common.{sym}
+use Rattle.gc_client.proofs.Common.{sym}
 use Rattle.gc_client.proofs.Begins.{all_answered}
 use Rattle.gc_client.proofs.beginning.Beginning.has_begun.Goals as goal
 

@@ -1,9 +1,7 @@
-use Rattle.std.proofs.Common.{◌≡◌, ◌+◌, not, take, Some, length, sym, ap, ◌∙◌, arith, length-append}
-use Rattle.std.specs.Prelude.{slice_get}
-use Rattle.gc_client.specs.Rule.{deadlines}
+use Rattle.gc_client.proofs.Common.{◌≡◌, ◌+◌, not, take, Some, length, sym, ap, ◌∙◌, arith, length-append, slice_get, deadlines}
 use Rattle.gc_client.proofs.Earliest.{one_more_deadline, same_deadlines}
-use Rattle.gc_client.proofs.client.Client.current.Goals as goal
 use Rattle.gc_client.proofs.client.Client.current.Goals.{then-not-get, else-not-get}
+use Rattle.gc_client.proofs.client.Client.current.Goals as goal
 
 pub loop-k-preserved : goal.loop-k-preserved
 loop-k-preserved g c =

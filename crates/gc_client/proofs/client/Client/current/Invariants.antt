@@ -1,5 +1,4 @@
-use Rattle.std.proofs.Common.{◌≡◌, ◌≤◌, take, length}
-use Rattle.gc_client.specs.Rule.{deadlines}
+use Rattle.gc_client.proofs.Common.{◌≡◌, ◌≤◌, take, length, deadlines}
 use Rattle.gc_client.proofs.client.Client.current.Given as goal
 
 -- `current` counts those of the first k requests that haven't timed out

@@ -1,8 +1,7 @@
-use Rattle.std.proofs.Common.{◌≡◌, true, false, not, length, ap, ◌∙◌, arith}
-use Rattle.gc_client.specs.Rule.{is_expiring}
+use Rattle.gc_client.proofs.Common.{◌≡◌, true, false, not, length, ap, ◌∙◌, arith, is_expiring}
 use Rattle.gc_client.proofs.Expiry.{due_done, due_listed, not_due_done, not_due_listed, expires_when_due, not_expiring_early, not_expiring_again}
-use Rattle.gc_client.proofs.client.Client.expire.Goals as goal
 use Rattle.gc_client.proofs.client.Client.expire.Goals.{then-p-now+then-not-p, else-p-now, else-p-now-via-then-p-now+else-not-p, else-p-now-via-else-p-now}
+use Rattle.gc_client.proofs.client.Client.expire.Goals as goal
 
 pub loop-k-preserved : goal.loop-k-preserved
 loop-k-preserved g c =

@@ -1,5 +1,4 @@
-use Rattle.std.proofs.Common.{◌≡◌, ◌≤◌, length, take}
-use Rattle.gc_client.specs.Rule.{expiring}
+use Rattle.gc_client.proofs.Common.{◌≡◌, ◌≤◌, length, take, expiring}
 use Rattle.gc_client.proofs.Expiry.{expired_up_to}
 use Rattle.gc_client.proofs.client.Client.expire.Given as goal
 

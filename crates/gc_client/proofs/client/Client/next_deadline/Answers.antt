@@ -1,10 +1,7 @@
-use Rattle.std.proofs.Common.{◌≡◌, ◌+◌, not, take, Some, length, sym, subst, ap, ◌∙◌, arith}
-use Rattle.std.specs.Prelude.{slice_get}
-use Rattle.std.proofs.lemmas.List.{take_all}
-use Rattle.gc_client.specs.Rule.{deadlines, IsEarliest}
+use Rattle.gc_client.proofs.Common.{◌≡◌, ◌+◌, not, take, Some, length, sym, subst, ap, ◌∙◌, arith, slice_get, take_all, deadlines, IsEarliest}
 use Rattle.gc_client.proofs.Earliest.{one_more_deadline, same_deadlines}
-use Rattle.gc_client.proofs.client.Client.next_deadline.Goals as goal
 use Rattle.gc_client.proofs.client.Client.next_deadline.Goals.{then-not-pending, else-not-pending}
+use Rattle.gc_client.proofs.client.Client.next_deadline.Goals as goal
 
 pub loop-k-preserved : goal.loop-k-preserved
 loop-k-preserved g c =

@@ -1,5 +1,4 @@
-use Rattle.std.proofs.Common.{take}
-use Rattle.gc_client.specs.Rule.{deadlines, IsEarliest}
+use Rattle.gc_client.proofs.Common.{take, deadlines, IsEarliest}
 use Rattle.gc_client.proofs.client.Client.next_deadline.Given as goal
 
 -- `earliest` is the earliest deadline of the first k requests

@@ -1,14 +1,9 @@
-use Rattle.std.proofs.Common.{◌≡◌, ◌+◌, ◌<◌, true, [], ◌∷◌, ◌++◌, length, map, take, set, sym, subst, ap, ◌∙◌, arith, length-set}
-use Rattle.std.proofs.lemmas.List.{take_all}
-use Rattle.arrayvec.specs.ArrayVec.{ArrayVec}
-use Rattle.gc_client.specs.declared.settlement.Settlement.{Settlement}
-use Rattle.gc_client.specs.Rule.{Windowed, lost, settled_by_line, settle, settles_at}
-use Rattle.gc_client.specs.Settlements.{AreSettledBy}
+use Rattle.gc_client.proofs.Common.{◌≡◌, ◌+◌, ◌<◌, true, [], ◌∷◌, ◌++◌, length, map, take, set, sym, subst, ap, ◌∙◌, arith, length-set, take_all, ArrayVec, Settlement, Windowed, lost, settled_by_line, settle, settles_at, AreSettledBy}
 use Rattle.gc_client.proofs.Ends.{settle_is, fewer_left}
 use Rattle.gc_client.proofs.Lists.{rest_after_first, none_is_no_some}
 use Rattle.gc_client.proofs.Settling.{settled_one_written}
-use Rattle.gc_client.proofs.client.Client.settle.Goals as goal
 use Rattle.gc_client.proofs.client.Client.settle.Goals.{in-Some, in_default}
+use Rattle.gc_client.proofs.client.Client.settle.Goals as goal
 
 pub invariant_of-self : goal.invariant_of-self
 invariant_of-self g c =

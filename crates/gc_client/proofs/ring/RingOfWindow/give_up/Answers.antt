@@ -1,10 +1,8 @@
-use Rattle.std.proofs.Common.{length, sym, ap, ◌∙◌, arith}
-use Rattle.std.specs.Option.{option_copied_mut}
+use Rattle.gc_client.proofs.Common.{length, sym, ap, ◌∙◌, arith, option_copied_mut, given_up_at}
 use Rattle.gc_client.specs.declared.ring.RingOf.TheInside.{Inside}
-use Rattle.gc_client.specs.Rule.{given_up_at}
 use Rattle.gc_client.proofs.Marks.{set_some_is_given_up, none_is_past}
-use Rattle.gc_client.proofs.ring.RingOfWindow.give_up.Goals as goal
 use Rattle.gc_client.proofs.ring.RingOfWindow.give_up.Goals.{in-Some, in_default}
+use Rattle.gc_client.proofs.ring.RingOfWindow.give_up.Goals as goal
 
 -- the mark is on the k-th that waits, which is there
 pub returns : goal.returns

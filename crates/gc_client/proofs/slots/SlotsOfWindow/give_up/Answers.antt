@@ -1,6 +1,4 @@
-use Rattle.std.proofs.Common.{◌<◌, length, set, sym, ap, ◌∙◌, arith}
-use Rattle.gc_client.specs.Rule.{given_up_at}
-use Rattle.gc_client.specs.Places.{waiting_in}
+use Rattle.gc_client.proofs.Common.{◌<◌, length, set, sym, ap, ◌∙◌, arith, given_up_at, waiting_in}
 use Rattle.gc_client.proofs.Rounds.{length-waiting, get_or-waiting, waiting_after_set}
 use Rattle.gc_client.proofs.Marks.{marked_timed_out, set_is_given_up}
 use Rattle.gc_client.proofs.slots.SlotsOfWindow.give_up.Goals as goal

@@ -1,4 +1,4 @@
-use Rattle.std.proofs.Common.{length, sym, ap, ◌∙◌, arith}
+use Rattle.gc_client.proofs.Common.{length, sym, ap, ◌∙◌, arith}
 use Rattle.gc_client.proofs.Rounds.{length-waiting}
 use Rattle.gc_client.proofs.slots.SlotsOfWindow.len.Goals as goal
 

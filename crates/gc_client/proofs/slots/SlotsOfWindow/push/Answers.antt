@@ -1,4 +1,4 @@
-use Rattle.std.proofs.Common.{[], ◌∷◌, ◌++◌, ap, ◌∙◌, arith}
+use Rattle.gc_client.proofs.Common.{[], ◌∷◌, ◌++◌, ap, ◌∙◌, arith}
 use Rattle.gc_client.proofs.Rounds.{waiting_after_push}
 use Rattle.gc_client.proofs.slots.SlotsOfWindow.push.Goals as goal
 

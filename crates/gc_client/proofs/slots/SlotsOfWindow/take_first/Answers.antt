@@ -1,4 +1,4 @@
-use Rattle.std.proofs.Common.{length, sym, ap, ◌∙◌, arith}
+use Rattle.gc_client.proofs.Common.{length, sym, ap, ◌∙◌, arith}
 use Rattle.gc_client.proofs.Rounds.{length-waiting, waiting_before_take}
 use Rattle.gc_client.proofs.slots.SlotsOfWindow.take_first.Goals as goal
 

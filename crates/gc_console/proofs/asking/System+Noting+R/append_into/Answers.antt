@@ -1,11 +1,6 @@
-use Rattle.std.proofs.Common.{◌≡◌, sym}
-use Rattle.std.proofs.lemmas.Result.{IfOk-weaker}
-use Rattle.gc_links.specs.Placed.{place_seen}
-use Rattle.gc_links.specs.Seeing.{signals_at}
-use Rattle.gc_files.specs.Sinks.{asks_sync}
-use Rattle.gc_measuring.specs.Appending.{file_of}
-use Rattle.gc_logs.specs.Following.{path_of}
-use Rattle.gc_console.proofs.Left.{of_file}
+use Rattle.gc_console.proofs.Common.{◌≡◌, sym, IfOk-weaker, place_seen, signals_at, file_of, path_of}
+use Rattle.gc_files.specs.Prelude.{asks_sync}
+use Rattle.gc_console.proofs.Ends.{of_file}
 use Rattle.gc_console.proofs.asking.System+Noting+R.append_into.Goals as goal
 
 pub returns-clause-told : goal.returns-clause-told

@@ -1,7 +1,4 @@
-use Rattle.std.proofs.Common.{refl, sym}
-use Rattle.std.proofs.lemmas.Result.{IfOk-weaker}
-use Rattle.gc_links.specs.Placed.{place_seen}
-use Rattle.gc_links.specs.Seeing.{signals_at}
+use Rattle.gc_console.proofs.Common.{refl, sym, IfOk-weaker, place_seen, signals_at}
 use Rattle.gc_console.proofs.asking.System+Noting+R.measure_onto.Goals as goal
 
 pub returns-clause-told : goal.returns-clause-told

@@ -1,4 +1,4 @@
-use Rattle.std.proofs.lemmas.Result.{IfOk-weaker}
+use Rattle.gc_console.proofs.Common.{IfOk-weaker}
 use Rattle.gc_console.proofs.asking.System+Noting+R.measure_site.Goals as goal
 
 pub returns-clause-told : goal.returns-clause-told

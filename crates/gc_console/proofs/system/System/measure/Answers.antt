@@ -1,4 +1,4 @@
-use Rattle.std.proofs.lemmas.Result.{IfOk-weaker}
+use Rattle.gc_console.proofs.Common.{IfOk-weaker}
 use Rattle.gc_console.proofs.Ends.{of_ended}
 use Rattle.gc_console.proofs.system.System.measure.Goals as goal
 

@@ -1,4 +1,4 @@
-use Rattle.std.specs.Process.{exit_status}
+use Rattle.gc_console.proofs.Common.{exit_status}
 use Rattle.gc_console.proofs.Unshown.{asks_unshown}
 use Rattle.gc_console.proofs.system.System.run_ask.Goals as goal
 

@@ -1,6 +1,4 @@
-use Rattle.std.proofs.Common.{ap, sym, Some}
-use Rattle.std.specs.Process.{exit_status}
-use Rattle.gc_logs.specs.Streams.{ReportsClosed}
+use Rattle.gc_console.proofs.Common.{ap, sym, Some, exit_status, ReportsClosed}
 use Rattle.gc_console.proofs.Ends.{in_any_case}
 use Rattle.gc_console.proofs.system.System.run_client_job.Goals as goal
 

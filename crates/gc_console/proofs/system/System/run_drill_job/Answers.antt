@@ -1,7 +1,5 @@
-use Rattle.std.proofs.Common.{Some, ap, sym}
-use Rattle.std.specs.Process.{exit_status}
+use Rattle.gc_console.proofs.Common.{Some, ap, sym, exit_status, DoesDrill}
 use Rattle.gc_console.proofs.Begun.{drill_did, ends_from}
-use Rattle.gc_console.specs.Subcommands.{DoesDrill}
 use Rattle.gc_console.proofs.system.System.run_drill_job.Goals as goal
 
 pub returns-clause-did : goal.returns-clause-did

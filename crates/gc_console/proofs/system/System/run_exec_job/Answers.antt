@@ -1,7 +1,5 @@
-use Rattle.std.proofs.Common.{Some, ap, sym}
-use Rattle.std.specs.Process.{exit_status}
+use Rattle.gc_console.proofs.Common.{Some, ap, sym, exit_status, DoesExec}
 use Rattle.gc_console.proofs.Begun.{ends_from, exec_did}
-use Rattle.gc_console.specs.Subcommands.{DoesExec}
 use Rattle.gc_console.proofs.system.System.run_exec_job.Goals as goal
 
 pub returns-clause-did : goal.returns-clause-did

@@ -1,4 +1,4 @@
-use Rattle.std.proofs.lemmas.Result.{IfOk-weaker}
+use Rattle.gc_console.proofs.Common.{IfOk-weaker}
 use Rattle.gc_console.proofs.system.System.run_job.Goals as goal
 
 pub returns-in-Exec-clause-done : goal.returns-in-Exec-clause-done

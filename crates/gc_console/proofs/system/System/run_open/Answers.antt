@@ -1,4 +1,4 @@
-use Rattle.std.proofs.lemmas.Result.{IfOk-weaker}
+use Rattle.gc_console.proofs.Common.{IfOk-weaker}
 use Rattle.gc_console.proofs.system.System.run_open.Goals as goal
 
 pub returns-in-Loop-clause-done : goal.returns-in-Loop-clause-done

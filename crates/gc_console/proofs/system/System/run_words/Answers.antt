@@ -1,14 +1,6 @@
-use Rattle.std.proofs.Common.{◌≡◌, true, inr, map, ap, sym, subst, ◌∙◌, Some}
-use Rattle.std.proofs.lemmas.Result.{IfOk-weaker}
-use Rattle.std.specs.List.{list_any}
-use Rattle.std.specs.Process.{exit_status}
-use Rattle.std.specs.String.{string_bytes}
+use Rattle.gc_console.proofs.Common.{◌≡◌, true, inr, map, ap, sym, subst, ◌∙◌, Some, IfOk-weaker, list_any, exit_status, string_bytes, takes, asks_for_text, opening, program}
 use Rattle.clap.proofs.WalkLemmas.{list_any-map}
-use Rattle.clap.specs.Takes.{takes}
 use Rattle.gc_console.proofs.Unasked.{no_job}
-use Rattle.gc_console.specs.Programs.{asks_for_text}
-use Rattle.gc_console.specs.Subcommands.{opening}
-use Rattle.gc_console.specs.Program.{program}
 use Rattle.gc_console.proofs.system.System.run_words.Goals as goal
 
 pub returns-clause-done : goal.returns-clause-done

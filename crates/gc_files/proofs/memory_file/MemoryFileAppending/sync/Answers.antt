@@ -1,4 +1,4 @@
-use Rattle.gc_files.specs.Calls.{life_by}
+use Rattle.gc_files.proofs.Common.{life_by}
 use Rattle.gc_files.proofs.Remembering.{kept_once_synced}
 use Rattle.gc_files.proofs.memory_file.MemoryFileAppending.sync.Goals as goal
 

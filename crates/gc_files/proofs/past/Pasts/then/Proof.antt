@@ -1,35 +1,11 @@
 -- `then` picks the files of the new pasts. Assumes `Logic`.
-use Rattle.std.proofs.Common.{List, [], ◌∷◌, ◌++◌, refl}
-use seplogic.Ra.Ura.{Ura}
-use mir.Syntax.{Fn}
-use mir.Val.{Val, vptr}
-use base.Logic.{SProp, ent}
-use prog.Memory.{Memory}
-use prog.Routine.{Routine}
-use prog.Wp.{Calls, Loops, WpFn, Tables}
-use contract.Monad.{Fun}
-use contract.Running.{tables, tables_of}
-use sound.WpLaws.{WpFn-mono}
-use types.Logic.{Logic}
-use types.Kit.{‵, raw, ◌⊛◌, prop, ◌$◌, ◌∵◌, !, qed, move, keep, drop, split, fsplit, fjoin, feq_l, regoal, suffices, done}
-use types.Part.{agg}
-use types.Run.{enter, returns, no_more}
-use types.ByLocal.{alloc_all, pass_all, free_all, look_at, sets}
-use denote.Exit.{yes}
-use denote.RattleType.{owns}
-use denote.Builtin.{RefOf}
-use denote.Signature.{plain, types_at}
-use denote.Steps.{nothing}
-use denote.Triple.Clauses.{Clauses, Ended, closing}
-use denote.Triple.Entry.{alive}
-use denote.Triple.Spec.{Meets, triple_of}
-use denote.Triple.Table.{entered}
-use denote.Triple.Walked.{says, Stays, stay_dropped, walk_of, ends_at, walk_Meets, Goes-dropped}
-use Rattle.gc_lines.proofs.Walks.{no_fields, no_fields_made}
+use Rattle.gc_files.proofs.Common.{List, [], ◌∷◌, ◌++◌, refl, Ura, Fn, Val, vptr, SProp, ent, Memory, Routine, Calls, Loops, WpFn, Tables, Fun, tables, WpFn-mono, Logic, ‵, raw, ◌⊛◌, prop, ◌$◌, ◌∵◌, !, qed, move, keep, split, fsplit, fjoin, feq_l, regoal, suffices, done, agg, enter, returns, no_more, alloc_all, pass_all, free_all, look_at, sets, yes, owns, RefOf, plain, types_at, nothing, Clauses, Ended, closing, alive, Meets, triple_of, entered, says, Stays, stay_dropped, walk_of, ends_at, walk_Meets, Goes-dropped, no_fields, no_fields_made}
+use contract.Running.{tables_of}
+use types.Kit.{drop}
+use Rattle.gc_files.specs.contracts.past.Pasts.then.Key.{name as #self}
 use Rattle.gc_files.specs.contracts.past.Past as Past
 use Rattle.gc_files.specs.contracts.past.Pasts as Pasts
 use Rattle.gc_files.specs.contracts.past.Pasts.then as F
-use Rattle.gc_files.specs.contracts.past.Pasts.then.Key.{name as #self}
 use Rattle.gc_files.proofs.past.Pasts.then.Statement as stated
 use Rattle.gc_files.proofs.past.Pasts.then.Code as code
 

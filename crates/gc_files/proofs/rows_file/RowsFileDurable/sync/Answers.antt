@@ -1,6 +1,4 @@
-use Rattle.std.proofs.Common.{◌≡◌, ℕ, List, ap, sym, subst, ◌∙◌, refl}
-use Rattle.gc_files.specs.Rows.{cuts_none, appended, whole}
-use Rattle.gc_files.specs.Runs.{synced}
+use Rattle.gc_files.proofs.Common.{◌≡◌, ℕ, List, ap, sym, subst, ◌∙◌, refl, cuts_none, appended, whole, synced}
 use Rattle.gc_files.proofs.Adding.{content_same, cuts_two, appended_sync, synced_all}
 use Rattle.gc_files.proofs.rows_file.RowsFileDurable.sync.Goals as goal
 

@@ -1,7 +1,4 @@
-use Rattle.std.proofs.Common.{ap, sym, arith, ◌∙◌, refl}
-use Rattle.std.proofs.lemmas.Bool.{eqb-true}
-use Rattle.std.proofs.lemmas.List.{length-take-le}
-use Rattle.gc_files.specs.Rows.{cuts_none, appended}
+use Rattle.gc_files.proofs.Common.{ap, sym, arith, ◌∙◌, refl, eqb-true, length-take-le, cuts_none, appended}
 use Rattle.gc_files.proofs.InTurn.{ends_more}
 use Rattle.gc_files.proofs.Adding.{content_more, cuts_two, appended_more}
 use Rattle.gc_files.proofs.rows_file.RowsFileSink.write.Goals as goal

@@ -1,6 +1,4 @@
-use Rattle.std.proofs.Common.{ℕ, List, ◌++◌, ap, ◌∙◌}
-use Rattle.gc_lines.specs.Lent.{lent_seen}
-use Rattle.gc_filters.specs.Verdicts.{said_of, verdict_line}
+use Rattle.gc_filters.proofs.Common.{ℕ, List, ◌++◌, ap, ◌∙◌, lent_seen, said_of, verdict_line}
 use Rattle.gc_filters.proofs.Checked.{judged_frame, line_of_parts}
 use Rattle.gc_filters.proofs.check.JudgeAnswers.answer.Goals as goal
 

@@ -1,5 +1,4 @@
-use Rattle.std.proofs.Common.{◌≡◌, None, ap, arith, length, rules, subst}
-use Rattle.std.specs.Option.{option_copied}
+use Rattle.gc_filters.proofs.Common.{◌≡◌, None, ap, arith, length, rules, subst, option_copied}
 use Rattle.gc_filters.proofs.LogVerdicts.{Walks, walk_begins, walk_ends, walk_goes_on, walk_stops}
 use Rattle.gc_filters.proofs.check_log.LogCheck.check_piece.Goals as goal
 

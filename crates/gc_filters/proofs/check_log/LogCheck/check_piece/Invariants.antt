@@ -1,7 +1,5 @@
-use Rattle.std.proofs.Common.{◌≡◌, ◌+◌, ◌≤◌, length}
-use Rattle.std.specs.Option.{option_copied}
+use Rattle.gc_filters.proofs.Common.{◌≡◌, ◌+◌, ◌≤◌, length, option_copied, bytes_left, texts_in}
 use Rattle.gc_texts.proofs.TextLines.{much_left}
-use Rattle.gc_filters.specs.LogChecking.{bytes_left, texts_in}
 use Rattle.gc_filters.proofs.LogVerdicts.{Walks}
 use Rattle.gc_filters.proofs.check_log.LogCheck.check_piece.Given as goal
 

@@ -1,4 +1,4 @@
-use Rattle.gc_lines.specs.Frames.{rest_behind}
+use Rattle.gc_filters.proofs.Common.{rest_behind}
 use Rattle.gc_filters.proofs.LogVerdicts.{judged_line}
 use Rattle.gc_filters.proofs.check_log.LogCheck.end_line.Goals as goal
 

@@ -1,6 +1,4 @@
-use Rattle.std.proofs.Common.{ap, subst, rules}
-use Rattle.std.specs.Option.{option_copied}
-use Rattle.gc_texts.specs.Cuts.{Cuts}
+use Rattle.gc_filters.proofs.Common.{ap, subst, rules, option_copied, Cuts}
 use Rattle.gc_filters.proofs.LogVerdicts.{takes_all, takes_line, stops_behind}
 use Rattle.gc_filters.proofs.check_log.LogCheck.take_line.Goals as goal
 

@@ -1,4 +1,4 @@
-use Rattle.std.proofs.Common.{refl, rules}
+use Rattle.gc_filters.proofs.Common.{refl, rules}
 use Rattle.gc_filters.proofs.LogVerdicts.{judged_part, judged_written}
 use Rattle.gc_filters.proofs.check_log.LogCheck.write_waiting.Goals as goal
 

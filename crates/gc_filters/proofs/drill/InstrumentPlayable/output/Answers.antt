@@ -1,6 +1,4 @@
-use Rattle.std.proofs.Common.{◌≡◌, subst, IfOk, ℕ, List}
-use Rattle.gc_world.specs.Clients.{played}
-use Rattle.gc_filters.specs.Drill.{drill_text_on}
+use Rattle.gc_filters.proofs.Common.{◌≡◌, subst, IfOk, ℕ, List, played, drill_text_on}
 use Rattle.gc_filters.proofs.Shown.{text_shown}
 use Rattle.gc_filters.proofs.drill.InstrumentPlayable.output.Goals as goal
 

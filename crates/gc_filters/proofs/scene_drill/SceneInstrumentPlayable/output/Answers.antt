@@ -1,5 +1,4 @@
-use Rattle.std.proofs.Common.{◌≡◌, subst, IfOk, ℕ, List}
-use Rattle.gc_world.specs.SceneRuns.{scene_played}
+use Rattle.gc_filters.proofs.Common.{◌≡◌, subst, IfOk, ℕ, List, scene_played}
 use Rattle.gc_filters.specs.SceneDrill.{scene_drill_text}
 use Rattle.gc_filters.proofs.Shown.{text_shown}
 use Rattle.gc_filters.proofs.scene_drill.SceneInstrumentPlayable.output.Goals as goal

@@ -1,5 +1,5 @@
+use Rattle.gc_filters.proofs.Common.{Appends-trans}
 use Rattle.std.proofs.lemmas.Result.{IfOk-weaker}
-use Rattle.std.proofs.KnownBytes.{Appends-trans}
 use Rattle.gc_filters.proofs.scene_trouble.SceneTrouble.tell.Goals as goal
 
 pub returns : goal.returns

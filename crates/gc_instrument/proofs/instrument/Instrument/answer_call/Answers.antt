@@ -1,10 +1,4 @@
-use Rattle.std.proofs.Common.{◌≡◌, ℕ, Option, None, sym, ap, ◌∙◌, subst}
-use Rattle.std.specs.Prelude.{unwrap_or}
-use Rattle.std.specs.Option.{option_map}
-use Rattle.gc_lines.specs.Answering.{AppendsText}
-use Rattle.gc_instrument.specs.Replying.{IsReplyToCall, IsReplyToExecuted, IsAnswered, kept_after, kept_line, with_kept}
-use Rattle.gc_instrument.specs.Seen.{IsSoundState, state_of}
-use Rattle.gc_instrument.specs.State.{KeptReply, State}
+use Rattle.gc_instrument.proofs.Common.{◌≡◌, ℕ, Option, None, sym, ap, ◌∙◌, subst, unwrap_or, option_map, AppendsText, IsReplyToCall, IsReplyToExecuted, IsAnswered, kept_after, kept_line, with_kept, IsSoundState, state_of, KeptReply, State}
 use Rattle.gc_instrument.proofs.Keeping.{appended_bytes, sound_keeping, kept_anew}
 use Rattle.gc_instrument.proofs.instrument.Instrument.answer_call.Goals as goal
 

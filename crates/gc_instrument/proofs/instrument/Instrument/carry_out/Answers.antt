@@ -1,5 +1,4 @@
-use Rattle.std.proofs.Common.{rules, FitsSigned, w32}
-use Rattle.std.proofs.lemmas.Int.{to_z-of_z}
+use Rattle.gc_instrument.proofs.Common.{rules, FitsSigned, w32, to_z-of_z}
 use Rattle.gc_instrument.proofs.instrument.Instrument.carry_out.Goals as goal
 
 pub returns-in-MeasDistance : goal.returns-in-MeasDistance

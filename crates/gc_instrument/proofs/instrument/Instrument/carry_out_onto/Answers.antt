@@ -1,10 +1,4 @@
-use Rattle.std.proofs.Common.{◌≡◌, ◌≢◌, sym, ap, ◌∙◌, subst}
-use Rattle.gc_catalogue.specs.Laws.{ReadsBackValue, ReadsBackRefusal}
-use Rattle.gc_catalogue.specs.Texts.{reply_line}
-use Rattle.gc_catalogue.specs.declared.answer.Answer.TheVariants.{Nothing}
-use Rattle.gc_instrument.specs.Execution.{Executed}
-use Rattle.gc_instrument.specs.Replying.{IsAnswered, executed_line}
-use Rattle.gc_instrument.specs.State.{State}
+use Rattle.gc_instrument.proofs.Common.{◌≡◌, ◌≢◌, sym, ap, ◌∙◌, subst, ReadsBackValue, ReadsBackRefusal, reply_line, Nothing, Executed, IsAnswered, executed_line, State}
 use Rattle.gc_instrument.proofs.Answering.{reads_executed}
 use Rattle.gc_instrument.proofs.Executions.{exec_outcome}
 use Rattle.gc_instrument.proofs.instrument.Instrument.carry_out_onto.Goals as goal

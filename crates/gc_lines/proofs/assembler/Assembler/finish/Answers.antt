@@ -1,7 +1,4 @@
-use Rattle.std.proofs.Common.{◌≡◌, ◌-◌, ◌<◌, ◌≤◌, subst, sym, ap, refl, ◌∙◌, length, take, arith, rules}
-use Rattle.std.proofs.lemmas.List.{take_all}
-use Rattle.std.proofs.lemmas.Bool.{ltb-false}
-use Rattle.gc_lines.specs.Assembler.{Kept, StandsFor}
+use Rattle.gc_lines.proofs.Common.{◌≡◌, ◌-◌, ◌<◌, ◌≤◌, subst, sym, ap, refl, ◌∙◌, length, take, arith, rules, take_all, ltb-false, Kept, StandsFor}
 use Rattle.gc_lines.proofs.Keeping.{line_frame}
 use Rattle.gc_lines.proofs.assembler.Assembler.finish.Goals as goal
 

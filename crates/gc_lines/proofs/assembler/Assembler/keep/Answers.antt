@@ -1,5 +1,4 @@
-use Rattle.std.proofs.Common.{◌≡◌, ◌-◌, length, arith, subst, sym, ap, ◌∙◌, ◌++◌, take, rules}
-use Rattle.gc_lines.specs.Assembler.{Kept, StandsFor}
+use Rattle.gc_lines.proofs.Common.{◌≡◌, ◌-◌, length, arith, subst, sym, ap, ◌∙◌, ◌++◌, take, rules, Kept, StandsFor}
 use Rattle.gc_lines.proofs.Keeping.{keeps_all, keeps_part}
 use Rattle.gc_lines.proofs.assembler.Assembler.keep.Goals as goal
 

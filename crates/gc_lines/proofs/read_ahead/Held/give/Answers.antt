@@ -1,6 +1,4 @@
-use Rattle.std.proofs.Common.{◌≡◌, ℕ, ◌+◌, ◌-◌, ◌≤◌, List, ◌++◌, length, take, drop, sym, ap, ◌∙◌, arith, length-drop, rules}
-use Rattle.std.proofs.lemmas.List.{take_at, drop-drop, length-take-le}
-use Rattle.std.proofs.Math.Seq.{take-add}
+use Rattle.gc_lines.proofs.Common.{◌≡◌, ℕ, ◌+◌, ◌-◌, ◌≤◌, List, ◌++◌, length, take, drop, sym, ap, ◌∙◌, arith, length-drop, rules, take_at, drop-drop, length-take-le, take-add}
 use Rattle.gc_lines.proofs.read_ahead.Held.give.Goals as goal
 
 -- of the bytes from `start` to `end`, which are held, the first n are put at the front of `buf`: these and then the bytes from

@@ -1,6 +1,4 @@
-use Rattle.std.proofs.Common.{◌≡◌, ℕ, ◌-◌, List, [], ◌∷◌, ◌++◌, length, refl, ap, ◌∙◌, arith, length-append}
-use Rattle.gc_lines.specs.Lent.{lent_seen}
-use Rattle.gc_lines.specs.Passing.{completed}
+use Rattle.gc_lines.proofs.Common.{◌≡◌, ℕ, ◌-◌, List, [], ◌∷◌, ◌++◌, length, refl, ap, ◌∙◌, arith, length-append, lent_seen, completed}
 use Rattle.gc_lines.specs.declared.frame.Lent.{Lent}
 use Rattle.gc_lines.specs.declared.frame.Lent.TheVariants.{Line, Cleared, Overlong, More}
 use Rattle.gc_lines.proofs.Gathering.{Joins, gathering_silent, gathering_more, gathering_start, gathering_written, answered_part}

@@ -1,9 +1,6 @@
-use Rattle.std.proofs.Common.{◌≡◌, ◌<◌, [], sym, ap, ◌∙◌, arith, length-drop, rules, length}
-use Rattle.std.proofs.lemmas.List.{take_rest, nil_from_length}
-use Rattle.std.proofs.lemmas.Bool.{eqb-true}
+use Rattle.gc_lines.proofs.Common.{◌≡◌, ◌<◌, [], sym, ap, ◌∙◌, arith, length-drop, rules, length, take_rest, nil_from_length, eqb-true, lent_seen}
 use Rattle.gc_lines.proofs.Gathering.{gathering_written, waiting_part}
 use Rattle.gc_lines.proofs.Passing.{Takes, assembler_takes, not_empty, piece_start, piece_goes_on, piece_cut, piece_end}
-use Rattle.gc_lines.specs.Lent.{lent_seen}
 use Rattle.gc_lines.proofs.session.Session.answer_piece.Goals as goal
 
 pub loop-left-init : goal.loop-left-init

@@ -1,6 +1,4 @@
-use Rattle.std.proofs.Common.{◌≡◌, ◌+◌, ◌≤◌, List, ℕ, length}
-use Rattle.gc_lines.specs.Assembler.{StandsFor}
-use Rattle.gc_lines.specs.Passing.{HasRoomForText, session_progress}
+use Rattle.gc_lines.proofs.Common.{◌≡◌, ◌+◌, ◌≤◌, List, ℕ, length, StandsFor, HasRoomForText, session_progress}
 use Rattle.gc_lines.proofs.Passing.{PieceAnswered}
 use Rattle.gc_lines.proofs.session.Session.answer_piece.Given as goal
 

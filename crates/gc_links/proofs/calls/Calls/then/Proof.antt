@@ -1,36 +1,11 @@
 -- `then` picks the calls, one more. Assumes `Logic`.
-use Rattle.std.proofs.Common.{List, [], ◌∷◌, ◌++◌, refl}
-use seplogic.Ra.Ura.{Ura}
-use mir.Syntax.{Fn}
-use mir.Val.{Val, vptr}
-use base.Logic.{SProp, ent}
-use prog.Memory.{Memory}
-use prog.Routine.{Routine}
-use prog.Wp.{Calls, Loops, WpFn, Tables}
-use contract.Monad.{Fun}
-use contract.Running.{tables, tables_of}
-use sound.WpLaws.{WpFn-mono}
-use types.Logic.{Logic}
-use types.Kit.{‵, raw, ◌⊛◌, prop, ◌$◌, ◌∵◌, !, qed, move, keep, drop, split, fsplit, fjoin, feq_l, regoal, suffices, done}
-use types.Part.{agg}
-use types.Run.{enter, returns, no_more}
-use types.ByLocal.{alloc_all, pass_all, free_all, look_at, sets}
-use denote.Exit.{yes}
-use denote.RattleType.{owns}
-use denote.Builtin.{RefOf}
-use denote.Signature.{plain, types_at, named_lft}
-use denote.Steps.{nothing}
-use denote.Triple.Clauses.{Clauses, Ended, closing}
-use denote.Triple.Entry.{alive}
-use denote.Triple.Spec.{Meets, triple_of}
-use denote.Triple.Table.{entered}
-use denote.Triple.Walked.{says, Stays, stay_dropped, walk_of, ends_at, walk_Meets, Goes-dropped}
-use Rattle.gc_lines.proofs.Walks.{no_fields, no_fields_made}
+use Rattle.gc_links.proofs.Common.{List, [], ◌∷◌, ◌++◌, refl, Ura, Fn, Val, vptr, SProp, ent, Memory, Routine, Calls, Loops, WpFn, Tables, Fun, tables, WpFn-mono, Logic, ‵, raw, ◌⊛◌, prop, ◌$◌, ◌∵◌, !, qed, move, keep, drop, split, fsplit, fjoin, feq_l, regoal, suffices, done, agg, enter, returns, no_more, alloc_all, pass_all, free_all, look_at, sets, yes, owns, RefOf, plain, types_at, named_lft, nothing, Clauses, Ended, closing, alive, Meets, triple_of, entered, says, Stays, stay_dropped, walk_of, ends_at, walk_Meets, Goes-dropped, no_fields, no_fields_made}
+use contract.Running.{tables_of}
+use Rattle.gc_links.specs.CallNoted.{call_of}
+use Rattle.gc_links.specs.contracts.calls.Calls.then.Key.{name as #self}
 use Rattle.gc_links.specs.contracts.calls.Calls as Calls
 use Rattle.gc_links.specs.contracts.calls.CallNote as CallNote
-use Rattle.gc_links.specs.CallNoted.{call_of}
 use Rattle.gc_links.specs.contracts.calls.Calls.then as F
-use Rattle.gc_links.specs.contracts.calls.Calls.then.Key.{name as #self}
 use Rattle.gc_links.proofs.calls.Calls.then.Statement as stated
 use Rattle.gc_links.proofs.calls.Calls.then.Code as code
 

@@ -1,7 +1,4 @@
-use Rattle.std.proofs.Common.{refl}
-use Rattle.std.specs.Time.{instant_nanos}
-use Rattle.gc_links.specs.Acts.{Closed}
-use Rattle.gc_links.specs.Slots.{hold_of}
+use Rattle.gc_links.proofs.Common.{refl, instant_nanos, Closed, hold_of}
 use Rattle.gc_links.proofs.DeviceActs.{close_on_device}
 use Rattle.gc_links.proofs.DeviceMeaning.{device_then}
 use Rattle.gc_links.proofs.device_link.DeviceLinkLink.close.Goals as goal

@@ -1,7 +1,4 @@
-use Rattle.std.specs.Time.{instant_nanos}
-use Rattle.gc_links.specs.Acts.{put_act}
-use Rattle.gc_links.specs.Noted.{act_of}
-use Rattle.gc_links.specs.Slots.{hold_of}
+use Rattle.gc_links.proofs.Common.{instant_nanos, put_act, act_of, hold_of}
 use Rattle.gc_links.proofs.DeviceMeaning.{device_then}
 use Rattle.gc_links.proofs.device_link.DeviceLinkLink.put.Goals as goal
 

@@ -1,4 +1,4 @@
-use Rattle.std.proofs.Common.{◌≤◌}
+use Rattle.gc_links.proofs.Common.{◌≤◌}
 use Rattle.gc_links.proofs.system.files.read_front.Given as goal
 
 -- the bytes so far have room

@@ -1,7 +1,4 @@
-use Rattle.std.proofs.Common.{refl}
-use Rattle.std.specs.Time.{instant_nanos}
-use Rattle.gc_links.specs.Acts.{Closed}
-use Rattle.gc_links.specs.Answered.{open_end}
+use Rattle.gc_links.proofs.Common.{refl, instant_nanos, Closed, open_end}
 use Rattle.gc_links.proofs.TcpMeaning.{tcp_then}
 use Rattle.gc_links.proofs.tcp.TcpLinkLink.close.Goals as goal
 

@@ -1,7 +1,4 @@
-use Rattle.std.specs.Time.{instant_nanos}
-use Rattle.gc_links.specs.Acts.{read_act}
-use Rattle.gc_links.specs.Answered.{open_end}
-use Rattle.gc_links.specs.Noted.{act_of}
+use Rattle.gc_links.proofs.Common.{instant_nanos, read_act, open_end, act_of}
 use Rattle.gc_links.proofs.TcpMeaning.{read_on, tcp_then}
 use Rattle.gc_links.proofs.tcp.TcpLinkLink.read.Goals as goal
 

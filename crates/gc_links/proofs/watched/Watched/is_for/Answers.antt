@@ -1,5 +1,4 @@
-use Rattle.gc_links.specs.Placed.{place_seen}
-use Rattle.gc_links.specs.Seeing.{signals_at}
+use Rattle.gc_links.proofs.Common.{place_seen, signals_at}
 use Rattle.gc_links.proofs.LinksMeant.{link_meant_at}
 use Rattle.gc_links.proofs.watched.Watched.is_for.Goals as goal
 

@@ -1,7 +1,4 @@
-use Rattle.std.proofs.Common.{◌∷◌, [], ◌++◌, ap, ◌∙◌}
-use Rattle.gc_links.specs.Acts.{Told}
-use Rattle.gc_links.specs.Placed.{acts_in}
-use Rattle.gc_links.specs.Seeing.{signals_at}
+use Rattle.gc_links.proofs.Common.{◌∷◌, [], ◌++◌, ap, ◌∙◌, Told, acts_in, signals_at}
 use Rattle.gc_links.proofs.Seeing.{seen_begun}
 use Rattle.gc_links.proofs.watched.Watched.new.Goals as goal
 

@@ -1,6 +1,4 @@
-use Rattle.std.proofs.Common.{refl}
-use Rattle.gc_links.specs.Acts.{Closed}
-use Rattle.gc_links.specs.Seeing.{signals_at}
+use Rattle.gc_links.proofs.Common.{refl, Closed, signals_at}
 use Rattle.gc_links.proofs.Seeing.{same_then}
 use Rattle.gc_links.proofs.watched.WatchedLink.close.Goals as goal
 

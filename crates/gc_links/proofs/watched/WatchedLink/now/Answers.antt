@@ -1,8 +1,4 @@
-use Rattle.std.proofs.Common.{subst}
-use Rattle.gc_links.specs.Acts.{clock_act}
-use Rattle.gc_links.specs.Calls.{Makes}
-use Rattle.gc_links.specs.Noted.{act_of}
-use Rattle.gc_links.specs.Seeing.{signals_at, IsSeen}
+use Rattle.gc_links.proofs.Common.{subst, clock_act, Makes, act_of, signals_at, IsSeen}
 use Rattle.gc_links.proofs.Seeing.{seen_then}
 use Rattle.gc_links.proofs.watched.WatchedLink.now.Goals as goal
 

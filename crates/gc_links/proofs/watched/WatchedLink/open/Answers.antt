@@ -1,6 +1,4 @@
-use Rattle.gc_links.specs.Acts.{open_act}
-use Rattle.gc_links.specs.Noted.{act_of}
-use Rattle.gc_links.specs.Seeing.{signals_at}
+use Rattle.gc_links.proofs.Common.{open_act, act_of, signals_at}
 use Rattle.gc_links.proofs.Seeing.{same_then, open_same}
 use Rattle.gc_links.proofs.watched.WatchedLink.open.Goals as goal
 

@@ -1,6 +1,4 @@
-use Rattle.gc_links.specs.Acts.{put_act}
-use Rattle.gc_links.specs.Noted.{act_of}
-use Rattle.gc_links.specs.Seeing.{signals_at}
+use Rattle.gc_links.proofs.Common.{put_act, act_of, signals_at}
 use Rattle.gc_links.proofs.Seeing.{same_then, put_same}
 use Rattle.gc_links.proofs.watched.WatchedLink.put.Goals as goal
 

@@ -1,7 +1,4 @@
-use Rattle.std.proofs.Common.{◌≡◌, List, ◌++◌, refl, ap, ◌∙◌}
-use Rattle.gc_files.specs.Files.{Step}
-use Rattle.gc_files.specs.Rows.{appended}
-use Rattle.gc_files.specs.Sinks.{steps_in}
+use Rattle.gc_logs.proofs.Common.{◌≡◌, List, ◌++◌, refl, ap, ◌∙◌, Step, appended, steps_in}
 use Rattle.gc_logs.proofs.OnDisk.{appended_three, same_files}
 use Rattle.gc_logs.proofs.files_at.FilesAt.go_on_in.Goals as goal
 

@@ -1,7 +1,4 @@
-use Rattle.std.proofs.Common.{List, ◌++◌, refl, ap, ◌∙◌}
-use Rattle.gc_files.specs.Files.{Step}
-use Rattle.gc_files.specs.Rows.{appended}
-use Rattle.gc_files.proofs.Adding.{appended_two}
+use Rattle.gc_logs.proofs.Common.{List, ◌++◌, refl, ap, ◌∙◌, Step, appended, appended_two}
 use Rattle.gc_logs.proofs.OnDisk.{same_files}
 use Rattle.gc_logs.proofs.files_at.FilesAt.roll_to.Goals as goal
 

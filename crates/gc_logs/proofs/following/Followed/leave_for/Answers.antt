@@ -1,6 +1,4 @@
-use Rattle.std.proofs.Common.{ap, ◌∙◌}
-use Rattle.gc_files.specs.Left.{files_in}
-use Rattle.gc_files.specs.Sinks.{steps_in}
+use Rattle.gc_logs.proofs.Common.{ap, ◌∙◌, files_in, steps_in}
 use Rattle.gc_logs.proofs.Leaving.{appended_once_left}
 use Rattle.gc_logs.proofs.following.Followed.leave_for.Goals as goal
 

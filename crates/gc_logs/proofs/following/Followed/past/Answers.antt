@@ -1,8 +1,4 @@
-use Rattle.std.proofs.Common.{ap, ◌∙◌, ◌++◌}
-use Rattle.gc_files.specs.Rows.{appended}
-use Rattle.gc_files.specs.Sinks.{steps_in}
-use Rattle.gc_files.proofs.Adding.{appended_two}
-use Rattle.gc_logs.specs.Following.{steps_before}
+use Rattle.gc_logs.proofs.Common.{ap, ◌∙◌, ◌++◌, appended, steps_in, appended_two, steps_before}
 use Rattle.gc_logs.proofs.following.Followed.past.Goals as goal
 
 pub returns : goal.returns

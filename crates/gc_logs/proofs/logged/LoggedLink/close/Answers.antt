@@ -1,6 +1,4 @@
-use Rattle.std.proofs.Common.{[], ◌∷◌, ◌++◌, codes, ◌∙◌}
-use Rattle.gc_logs.specs.Logging.{entries_of_pending, link_entry}
-use Rattle.gc_logs.specs.declared.logging.Direction.TheVariants.{Went, Came}
+use Rattle.gc_logs.proofs.Common.{[], ◌∷◌, ◌++◌, codes, ◌∙◌, entries_of_pending, link_entry, Went, Came}
 use Rattle.gc_logs.proofs.LogLines.{takes_both_lists}
 use Rattle.gc_logs.proofs.logged.LoggedLink.close.Goals as goal
 

@@ -1,6 +1,4 @@
-use Rattle.std.proofs.Common.{[], ◌∷◌, take, codes, ◌∙◌}
-use Rattle.gc_logs.specs.Logging.{entries, link_entry}
-use Rattle.gc_logs.specs.declared.logging.Direction.TheVariants.{Went}
+use Rattle.gc_logs.proofs.Common.{[], ◌∷◌, take, codes, ◌∙◌, entries, link_entry, Went}
 use Rattle.gc_logs.proofs.LogLines.{takes_both_lists}
 use Rattle.gc_logs.proofs.logged.LoggedLink.put.Goals as goal
 

@@ -1,5 +1,4 @@
-use Rattle.gc_logs.specs.Logging.{entries_of_pending}
-use Rattle.gc_logs.specs.declared.logging.Direction.TheVariants.{Went, Came}
+use Rattle.gc_logs.proofs.Common.{entries_of_pending, Went, Came}
 use Rattle.gc_logs.proofs.LogLines.{takes_both}
 use Rattle.gc_logs.proofs.logging.Log.flush.Goals as goal
 

@@ -1,5 +1,4 @@
-use Rattle.std.proofs.Common.{◌≡◌, take}
-use Rattle.gc_logs.specs.Logging.{entries, pending_after, TakesEntries}
+use Rattle.gc_logs.proofs.Common.{◌≡◌, take, entries, pending_after, TakesEntries}
 use Rattle.gc_logs.proofs.logging.Unwritten.add_all.Given as goal
 
 -- the lines that the bytes so far give were taken, and what these leave pending is pending

@@ -1,4 +1,4 @@
-use Rattle.std.proofs.Common.{◌≡◌}
+use Rattle.gc_logs.proofs.Common.{◌≡◌}
 use Rattle.gc_logs.proofs.oddity.Noticing.look.Given as goal
 
 -- the link inside is the one that it was at the call

@@ -1,4 +1,4 @@
-use Rattle.std.proofs.Common.{arith}
+use Rattle.gc_logs.proofs.Common.{arith}
 use Rattle.gc_logs.proofs.LogCuts.{put_below, put_ends, put_whole}
 use Rattle.gc_logs.proofs.rolling.RollingSink.write.Goals as goal
 

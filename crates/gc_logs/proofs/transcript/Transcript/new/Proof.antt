@@ -1,32 +1,9 @@
 -- `new` picks no bytes. Assumes `Logic`.
-use Rattle.std.proofs.Common.{[], ◌∷◌, refl}
-use seplogic.Ra.Ura.{Ura}
-use mir.Syntax.{Fn}
-use mir.Val.{Val}
-use base.Logic.{SProp, ent}
-use prog.Memory.{Memory}
-use prog.Routine.{Routine}
-use prog.Wp.{Calls, Loops, WpFn, Tables}
-use contract.Monad.{Fun}
-use contract.Running.{tables, tables_of}
-use sound.WpLaws.{WpFn-mono}
-use types.Logic.{Logic}
-use types.Kit.{‵, raw, ◌⊛◌, ◌$◌, ◌∵◌, !, qed, move, keep, drop, split, fjoin, suffices, done}
-use types.Part.{agg}
-use types.Run.{enter, returns, no_more}
-use types.ByLocal.{alloc_all, pass_all, free_all, look_at, sets}
-use denote.RattleType.{owns}
-use denote.Signature.{types_at}
-use denote.Steps.{nothing}
-use denote.Triple.Clauses.{Clauses, Ended, closing}
-use denote.Triple.Entry.{alive}
-use denote.Triple.Spec.{Meets, triple_of}
-use denote.Triple.Table.{entered}
-use denote.Triple.Walked.{says, Stays, walk_of, ends_at, walk_Meets}
-use Rattle.gc_lines.proofs.Walks.{no_fields, no_fields_made}
+use Rattle.gc_logs.proofs.Common.{[], ◌∷◌, refl, Ura, Fn, Val, SProp, ent, Memory, Routine, Calls, Loops, WpFn, Tables, Fun, tables, WpFn-mono, Logic, ‵, raw, ◌⊛◌, ◌$◌, ◌∵◌, !, qed, move, keep, drop, split, fjoin, suffices, done, agg, enter, returns, no_more, alloc_all, pass_all, free_all, look_at, sets, owns, types_at, nothing, Clauses, Ended, closing, alive, Meets, triple_of, entered, says, Stays, walk_of, ends_at, walk_Meets, no_fields, no_fields_made}
+use contract.Running.{tables_of}
+use Rattle.gc_logs.specs.contracts.transcript.Transcript.new.Key.{name as #self}
 use Rattle.gc_logs.specs.contracts.transcript.Transcript as Transcript
 use Rattle.gc_logs.specs.contracts.transcript.Transcript.new as F
-use Rattle.gc_logs.specs.contracts.transcript.Transcript.new.Key.{name as #self}
 use Rattle.gc_logs.proofs.transcript.Transcript.new.Statement as stated
 use Rattle.gc_logs.proofs.transcript.Transcript.new.Code as code
 

@@ -1,7 +1,4 @@
-use Rattle.std.proofs.Common.{subst}
-use Rattle.std.specs.Prelude.{IfSome}
-use Rattle.gc_rehearsal.specs.Carrying.{IsOfLine}
-use Rattle.gc_rehearsal.specs.Inside.{lines_in}
+use Rattle.gc_rehearsal.proofs.Common.{subst, IfSome, IsOfLine, lines_in}
 use Rattle.gc_rehearsal.proofs.Happened.{told_if_sure}
 use Rattle.gc_rehearsal.proofs.carried.Carried.acts_are_of_line.Goals as goal
 

@@ -1,6 +1,4 @@
-use Rattle.std.proofs.Common.{take, sym, ◌∙◌, ap, subst}
-use Rattle.gc_rehearsal.specs.Carrying.{HasComeTo}
-use Rattle.gc_rehearsal.specs.Queues.{texts}
+use Rattle.gc_rehearsal.proofs.Common.{take, sym, ◌∙◌, ap, subst, HasComeTo, texts}
 use Rattle.gc_rehearsal.proofs.Happened.{gives_front, lines, loses_front}
 use Rattle.gc_rehearsal.proofs.carried.Carried.give.Goals as goal
 

@@ -1,5 +1,4 @@
-use Rattle.std.proofs.Common.{ap}
-use Rattle.gc_rehearsal.specs.Queues.{texts}
+use Rattle.gc_rehearsal.proofs.Common.{ap, texts}
 use Rattle.gc_rehearsal.proofs.Happened.{loses_up}
 use Rattle.gc_rehearsal.proofs.carried.Carried.lose_requests.Goals as goal
 

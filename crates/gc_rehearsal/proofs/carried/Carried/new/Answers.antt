@@ -1,7 +1,4 @@
-use Rattle.std.proofs.Common.{[], sym, ap, subst}
-use Rattle.gc_scenes.specs.SceneState.{SceneState}
-use Rattle.gc_rehearsal.specs.Carrying.{HasComeTo}
-use Rattle.gc_rehearsal.specs.Queues.{texts}
+use Rattle.gc_rehearsal.proofs.Common.{[], sym, ap, subst, SceneState, HasComeTo, texts}
 use Rattle.gc_rehearsal.proofs.Happened.{lines, nothing_happened}
 use Rattle.gc_rehearsal.proofs.carried.Carried.new.Goals as goal
 

@@ -1,7 +1,4 @@
-use Rattle.std.proofs.Common.{sym, subst}
-use Rattle.gc_links.specs.Noted.{act_of}
-use Rattle.gc_rehearsal.specs.Carrying.{HasComeTo}
-use Rattle.gc_rehearsal.specs.Inside.{lines_in}
+use Rattle.gc_rehearsal.proofs.Common.{sym, subst, act_of, HasComeTo, lines_in}
 use Rattle.gc_rehearsal.proofs.Happened.{quiet_act_noted}
 use Rattle.gc_rehearsal.proofs.carried.Carried.note.Goals as goal
 

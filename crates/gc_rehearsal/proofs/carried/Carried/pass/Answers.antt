@@ -1,4 +1,4 @@
-use Rattle.gc_rehearsal.specs.Queues.{texts}
+use Rattle.gc_rehearsal.proofs.Common.{texts}
 use Rattle.gc_rehearsal.proofs.Happened.{sets_clock}
 use Rattle.gc_rehearsal.proofs.carried.Carried.pass.Goals as goal
 

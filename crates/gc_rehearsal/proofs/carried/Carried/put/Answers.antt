@@ -1,6 +1,4 @@
-use Rattle.std.proofs.Common.{sym, subst}
-use Rattle.gc_rehearsal.specs.Carrying.{HasComeTo}
-use Rattle.gc_rehearsal.specs.Queues.{texts}
+use Rattle.gc_rehearsal.proofs.Common.{sym, subst, HasComeTo, texts}
 use Rattle.gc_rehearsal.proofs.Happened.{lines, put_may_arrive}
 use Rattle.gc_rehearsal.proofs.carried.Carried.put.Goals as goal
 

@@ -1,6 +1,4 @@
-use Rattle.std.proofs.Common.{sym, subst}
-use Rattle.gc_rehearsal.specs.Carrying.{HasComeTo}
-use Rattle.gc_rehearsal.specs.Inside.{lines_in}
+use Rattle.gc_rehearsal.proofs.Common.{sym, subst, HasComeTo, lines_in}
 use Rattle.gc_rehearsal.proofs.Happened.{put_lost}
 use Rattle.gc_rehearsal.proofs.carried.Carried.put_nothing.Goals as goal
 

@@ -1,4 +1,4 @@
-use Rattle.gc_rehearsal.specs.Queues.{texts}
+use Rattle.gc_rehearsal.proofs.Common.{texts}
 use Rattle.gc_rehearsal.proofs.Happened.{repeats_up}
 use Rattle.gc_rehearsal.proofs.carried.Carried.repeat_request.Goals as goal
 

@@ -1,5 +1,4 @@
-use Rattle.std.proofs.Common.{subst}
-use Rattle.gc_rehearsal.specs.Runs.{AddRuns}
+use Rattle.gc_rehearsal.proofs.Common.{subst, AddRuns}
 use Rattle.gc_rehearsal.proofs.Running.{runs_then}
 use Rattle.gc_rehearsal.proofs.nights.Rehearsing.run_each_night.Goals as goal
 

@@ -1,8 +1,7 @@
-use Rattle.std.proofs.Common.{◌≡◌, subst, sym}
-use Rattle.gc_rehearsal.specs.Runs.{AddRuns}
+use Rattle.gc_rehearsal.proofs.Common.{◌≡◌, subst, sym, AddRuns}
 use Rattle.gc_rehearsal.proofs.Running.{runs_then}
-use Rattle.gc_rehearsal.proofs.nights.Rehearsing.run_night.Goals as goal
 use Rattle.gc_rehearsal.proofs.nights.Rehearsing.run_night.Goals.{in-Killed, in-GaveUp}
+use Rattle.gc_rehearsal.proofs.nights.Rehearsing.run_night.Goals as goal
 
 pub returns-in_err-run_once : goal.returns-in_err-run_once
 returns-in_err-run_once g c = runs_then c.args.programme.tasks.now c.args.self.now.link.carried c.loop.self.link.carried c.run_once.new.self.link.carried c.loop.invariant c.run_once.ensures

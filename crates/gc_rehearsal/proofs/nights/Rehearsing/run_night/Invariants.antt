@@ -1,4 +1,4 @@
-use Rattle.gc_rehearsal.specs.Runs.{AddRuns}
+use Rattle.gc_rehearsal.proofs.Common.{AddRuns}
 use Rattle.gc_rehearsal.proofs.nights.Rehearsing.run_night.Given as goal
 
 -- what the link recorded so far is what runs recorded

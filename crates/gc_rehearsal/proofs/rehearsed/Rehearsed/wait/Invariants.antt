@@ -1,4 +1,4 @@
-use Rattle.std.proofs.Common.{◌≡◌}
+use Rattle.gc_rehearsal.proofs.Common.{◌≡◌}
 use Rattle.gc_rehearsal.proofs.rehearsed.Rehearsed.wait.Given as goal
 
 -- no act was added

@@ -1,4 +1,4 @@
-use Rattle.std.proofs.Common.{◌≡◌}
+use Rattle.gc_rehearsal.proofs.Common.{◌≡◌}
 use Rattle.gc_rehearsal.proofs.rehearsed.RehearsedLink.read.Given as goal
 
 -- the read has added no act yet

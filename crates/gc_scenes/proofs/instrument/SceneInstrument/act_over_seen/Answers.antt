@@ -1,10 +1,4 @@
-use Rattle.std.proofs.Common.{[], List, sym, ap, ◌∙◌, subst}
-use Rattle.gc_instrument.specs.Execution.{Executed, Gives}
-use Rattle.gc_instrument.specs.State.{State}
-use Rattle.gc_instrument.specs.declared.target.Target.{Target}
-use Rattle.gc_scenes.specs.Seen.{scene_of}
-use Rattle.gc_scenes.specs.SceneExecution.{outcome}
-use Rattle.gc_scenes.specs.SceneState.{SceneState, seeing}
+use Rattle.gc_scenes.proofs.Common.{[], List, sym, ap, ◌∙◌, subst, Executed, Gives, State, Target, scene_of, outcome, SceneState, seeing}
 use Rattle.gc_scenes.proofs.Acted.{acts_over_seen, acts_with_face}
 use Rattle.gc_scenes.proofs.instrument.SceneInstrument.act_over_seen.Goals as goal
 

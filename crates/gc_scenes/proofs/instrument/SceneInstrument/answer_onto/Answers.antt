@@ -1,7 +1,4 @@
-use Rattle.std.proofs.Common.{ℕ, subst}
-use Rattle.gc_lines.specs.Lines.{IsPlain}
-use Rattle.gc_catalogue.specs.Texts.{reply_line}
-use Rattle.gc_scenes.specs.SceneState.{SceneState}
+use Rattle.gc_scenes.proofs.Common.{ℕ, subst, IsPlain, reply_line, SceneState}
 use Rattle.gc_scenes.proofs.instrument.SceneInstrument.answer_onto.Goals as goal
 
 pub returns-clause-plain : goal.returns-clause-plain

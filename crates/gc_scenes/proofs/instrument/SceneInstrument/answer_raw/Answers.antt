@@ -1,6 +1,4 @@
-use Rattle.std.proofs.Common.{sym, ap, ◌∙◌, ◌++◌}
-use Rattle.gc_catalogue.specs.declared.fault.CallFault.TheVariants.{Unknown}
-use Rattle.gc_instrument.specs.Replying.{refusal_line}
+use Rattle.gc_scenes.proofs.Common.{sym, ap, ◌∙◌, ◌++◌, Unknown, refusal_line}
 use Rattle.gc_scenes.proofs.Plain.{reply_id_below}
 use Rattle.gc_scenes.proofs.Playing.{gave_fault, gave_scripted, gave_refusal}
 use Rattle.gc_scenes.proofs.instrument.SceneInstrument.answer_raw.Goals as goal

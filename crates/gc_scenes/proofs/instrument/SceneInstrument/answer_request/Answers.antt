@@ -1,11 +1,5 @@
-use Rattle.std.proofs.Common.{◌≡◌, sym, ap, ◌∙◌, subst, ℕ, None}
+use Rattle.gc_scenes.proofs.Common.{◌≡◌, sym, ap, ◌∙◌, subst, ℕ, None, unwrap_or, IfSome, IsPlain, appended_bytes, AppendsPlayed, resent_line, played_fresh, played_line, holding, kept_if_repeating, SceneState}
 use Rattle.std.specs.Option.{option_map}
-use Rattle.std.specs.Prelude.{unwrap_or, IfSome}
-use Rattle.gc_lines.specs.Lines.{IsPlain}
-use Rattle.gc_instrument.proofs.Keeping.{appended_bytes}
-use Rattle.gc_scenes.specs.Appending.{AppendsPlayed}
-use Rattle.gc_scenes.specs.SceneReplying.{resent_line, played_fresh, played_line, holding, kept_if_repeating}
-use Rattle.gc_scenes.specs.SceneState.{SceneState}
 use Rattle.gc_scenes.proofs.Playing.{gave_again, gave_played}
 use Rattle.gc_scenes.proofs.instrument.SceneInstrument.answer_request.Goals as goal
 

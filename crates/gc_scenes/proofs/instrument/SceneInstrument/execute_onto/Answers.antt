@@ -1,9 +1,4 @@
-use Rattle.std.proofs.Common.{◌∙◌, ap, subst}
-use Rattle.gc_lines.specs.Lines.{IsPlain}
-use Rattle.gc_catalogue.specs.Texts.{reply_line}
-use Rattle.gc_catalogue.specs.declared.answer.Answer.{Answer}
-use Rattle.gc_scenes.specs.SceneExecution.{answer_or_values}
-use Rattle.gc_scenes.specs.SceneState.{SceneState}
+use Rattle.gc_scenes.proofs.Common.{◌∙◌, ap, subst, IsPlain, reply_line, Answer, answer_or_values, SceneState}
 use Rattle.gc_scenes.proofs.Playing.{executing_plays}
 use Rattle.gc_scenes.proofs.instrument.SceneInstrument.execute_onto.Goals as goal
 

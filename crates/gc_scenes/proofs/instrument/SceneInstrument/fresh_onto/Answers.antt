@@ -1,9 +1,4 @@
-use Rattle.std.proofs.Common.{Option, subst, ℕ, lit<}
-use Rattle.gc_scenes.specs.Appending.{AppendsPlayed}
-use Rattle.gc_scenes.specs.Params.{scripted_params}
-use Rattle.gc_scenes.specs.Rules.{fault_of}
-use Rattle.gc_scenes.specs.SceneExecution.{unless_faulted}
-use Rattle.gc_scenes.specs.SceneState.{SceneState}
+use Rattle.gc_scenes.proofs.Common.{Option, subst, ℕ, lit<, AppendsPlayed, scripted_params, fault_of, unless_faulted, SceneState}
 use Rattle.gc_scenes.proofs.Plain.{line_plain, scripted_plain}
 use Rattle.gc_scenes.proofs.instrument.SceneInstrument.fresh_onto.Goals as goal
 

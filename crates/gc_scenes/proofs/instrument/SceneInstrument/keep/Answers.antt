@@ -1,5 +1,4 @@
-use Rattle.std.proofs.Common.{sym, subst}
-use Rattle.gc_instrument.specs.Seen.{IsPlainKept}
+use Rattle.gc_scenes.proofs.Common.{sym, subst, IsPlainKept}
 use Rattle.gc_scenes.proofs.Plain.{kept_plain}
 use Rattle.gc_scenes.proofs.instrument.SceneInstrument.keep.Goals as goal
 

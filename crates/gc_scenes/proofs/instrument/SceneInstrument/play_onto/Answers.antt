@@ -1,6 +1,4 @@
-use Rattle.std.proofs.Common.{ℕ, Option, refl, sym, subst}
-use Rattle.gc_scenes.specs.Appending.{AppendsPlayed}
-use Rattle.gc_scenes.specs.SceneExecution.{unless_faulted}
+use Rattle.gc_scenes.proofs.Common.{ℕ, Option, refl, sym, subst, AppendsPlayed, unless_faulted}
 use Rattle.gc_scenes.proofs.instrument.SceneInstrument.play_onto.Goals as goal
 
 pub returns-in-Some-clause-played : goal.returns-in-Some-clause-played

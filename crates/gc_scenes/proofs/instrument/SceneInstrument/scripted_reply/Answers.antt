@@ -1,7 +1,4 @@
-use Rattle.std.proofs.Common.{eqb, rules, tests, ◌∙◌}
-use Rattle.std.proofs.lemmas.Iterator.{YieldsList-from_slice}
-use Rattle.std.proofs.lemmas.Iterator.Search.{find_from_yields_List}
-use Rattle.gc_scenes.specs.declared.rules.Scripted.{Scripted}
+use Rattle.gc_scenes.proofs.Common.{eqb, rules, tests, ◌∙◌, YieldsList-from_slice, find_from_yields_List, Scripted}
 use Rattle.gc_scenes.proofs.instrument.SceneInstrument.scripted_reply.Goals as goal
 
 pub returns : goal.returns

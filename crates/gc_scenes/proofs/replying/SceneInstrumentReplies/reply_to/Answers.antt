@@ -1,7 +1,4 @@
-use Rattle.std.proofs.Common.{◌<◌, sym, subst}
-use Rattle.gc_lines.specs.Requests.{request_seen}
-use Rattle.gc_catalogue.specs.Calls.{IsRefusal}
-use Rattle.gc_catalogue.specs.declared.fault.CallFault.{CallFault}
+use Rattle.gc_scenes.proofs.Common.{◌<◌, sym, subst, request_seen, IsRefusal, CallFault}
 use Rattle.gc_scenes.proofs.Plain.{reply_id_below}
 use Rattle.gc_scenes.proofs.Playing.{call_reply, unread_reply}
 use Rattle.gc_scenes.proofs.replying.SceneInstrumentReplies.reply_to.Goals as goal

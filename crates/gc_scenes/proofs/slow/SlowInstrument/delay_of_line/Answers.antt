@@ -1,6 +1,4 @@
-use Rattle.std.proofs.Common.{ap, ◌∙◌}
-use Rattle.gc_lines.specs.Requests.{request_seen}
-use Rattle.gc_scenes.specs.Slow.{SlowState, delay_of}
+use Rattle.gc_scenes.proofs.Common.{ap, ◌∙◌, request_seen, SlowState, delay_of}
 use Rattle.gc_scenes.proofs.Slowly.{delay_read, delay_unread}
 use Rattle.gc_scenes.proofs.slow.SlowInstrument.delay_of_line.Goals as goal
 

@@ -1,7 +1,4 @@
-use Rattle.std.proofs.Common.{ℕ, refl, ap, ◌∙◌}
-use Rattle.gc_scenes.specs.Starting.{starting_at}
-use Rattle.gc_catalogue.specs.Moments.{later}
-use Rattle.gc_scenes.specs.Slow.{SlowState, taken_up}
+use Rattle.gc_scenes.proofs.Common.{ℕ, refl, ap, ◌∙◌, starting_at, later, SlowState, taken_up}
 use Rattle.gc_scenes.proofs.Slowly.{silent_heard, reply_heard}
 use Rattle.gc_scenes.proofs.slow.SlowInstrument.hear.Goals as goal
 

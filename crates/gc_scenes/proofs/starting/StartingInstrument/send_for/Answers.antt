@@ -1,6 +1,4 @@
-use Rattle.std.proofs.Common.{ap, ◌∙◌}
-use Rattle.gc_scenes.specs.Rules.{counted}
-use Rattle.gc_scenes.specs.Starting.{is_start_due}
+use Rattle.gc_scenes.proofs.Common.{ap, ◌∙◌, counted, is_start_due}
 use Rattle.gc_scenes.proofs.Started.{played_as_sent, started_as_sent}
 use Rattle.gc_scenes.proofs.starting.StartingInstrument.send_for.Goals as goal
 

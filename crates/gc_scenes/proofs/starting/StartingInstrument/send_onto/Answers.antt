@@ -1,7 +1,4 @@
-use Rattle.std.proofs.Common.{refl}
-use Rattle.gc_lines.specs.Requests.{request_seen}
-use Rattle.gc_lines.proofs.AnsweringLines.{faulty_is_no_request}
-use Rattle.gc_scenes.specs.Starting.{ignores}
+use Rattle.gc_scenes.proofs.Common.{refl, request_seen, faulty_is_no_request, ignores}
 use Rattle.gc_scenes.proofs.starting.StartingInstrument.send_onto.Goals as goal
 
 pub returns-in-Ok-clause-does : goal.returns-in-Ok-clause-does

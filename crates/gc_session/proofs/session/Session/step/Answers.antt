@@ -1,4 +1,4 @@
-use Rattle.std.proofs.Common.{◌∙◌, sym, subst, arith}
+use Rattle.gc_session.proofs.Common.{◌∙◌, sym, subst, arith}
 use Rattle.gc_session.proofs.Nexts.{HoldsAt, next_holds}
 use Rattle.gc_session.proofs.session.Session.step.Goals as goal
 

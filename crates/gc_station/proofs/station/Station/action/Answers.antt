@@ -1,6 +1,4 @@
-use Rattle.std.proofs.Common.{sym, ap, ◌∙◌, subst}
-use Rattle.gc_station.specs.Deciding.{action_of}
-use Rattle.gc_station.specs.Stations.{waiting_of_station, SuitsAction}
+use Rattle.gc_station.proofs.Common.{sym, ap, ◌∙◌, subst, action_of, waiting_of_station, SuitsAction}
 use Rattle.gc_station.proofs.Facts.{action_suits}
 use Rattle.gc_station.proofs.station.Station.action.Goals as goal
 

@@ -1,9 +1,4 @@
-use Rattle.std.proofs.Common.{false, ap, ◌∙◌}
-use Rattle.gc_station.specs.declared.progress.Progress.{Progress}
-use Rattle.gc_station.specs.declared.progress.Upcoming.{Upcoming}
-use Rattle.gc_station.specs.Marks.{commands_in}
-use Rattle.gc_station.specs.NextCommand.{upcoming_after}
-use Rattle.gc_station.specs.Progressing.{advanced, early_noted}
+use Rattle.gc_station.proofs.Common.{false, ap, ◌∙◌, Progress, Upcoming, commands_in, upcoming_after, advanced, early_noted}
 use Rattle.gc_station.proofs.station.Station.advance_unsent.Goals as goal
 
 pub returns : goal.returns

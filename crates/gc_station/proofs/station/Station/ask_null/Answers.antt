@@ -1,9 +1,4 @@
-use Rattle.std.proofs.Common.{ap, ◌∙◌}
-use Rattle.gc_station.specs.declared.progress.Progress.{Progress}
-use Rattle.gc_links.specs.Acts.{put_act}
-use Rattle.gc_station.specs.Progressing.{null_sent}
-use Rattle.gc_station.specs.Model.{null_text, with_progress}
-use Rattle.gc_station.specs.NextCommand.{commands_before}
+use Rattle.gc_station.proofs.Common.{ap, ◌∙◌, Progress, put_act, null_sent, null_text, with_progress, commands_before}
 use Rattle.gc_station.proofs.Making.{refines_with, put_puts, put_refines, put_took}
 use Rattle.gc_station.proofs.station.Station.ask_null.Goals as goal
 

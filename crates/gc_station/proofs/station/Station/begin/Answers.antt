@@ -1,9 +1,4 @@
-use Rattle.std.proofs.Common.{refl, ap, ◌∙◌}
-use Rattle.gc_links.specs.Acts.{Told}
-use Rattle.gc_station.specs.Model.{cycle_length, with_moment}
-use Rattle.gc_station.specs.NextCommand.{first_upcoming}
-use Rattle.gc_station.specs.declared.progress.Progress.{Progress}
-use Rattle.gc_station.specs.Progressing.{cycle_begun}
+use Rattle.gc_station.proofs.Common.{refl, ap, ◌∙◌, Told, cycle_length, with_moment, first_upcoming, Progress, cycle_begun}
 use Rattle.gc_station.proofs.Hearing.{refines_timed_out, untold_does}
 use Rattle.gc_station.proofs.Making.{refines_with}
 use Rattle.gc_station.proofs.station.Station.begin.Goals as goal

@@ -1,8 +1,4 @@
-use Rattle.std.proofs.Common.{[], ◌∷◌, refl, ap, ◌∙◌}
-use Rattle.gc_links.specs.Acts.{put_act}
-use Rattle.gc_station.specs.Progressing.{cleared}
-use Rattle.gc_station.specs.Model.{with_progress}
-use Rattle.gc_station.specs.NextCommand.{commands_before}
+use Rattle.gc_station.proofs.Common.{[], ◌∷◌, refl, ap, ◌∙◌, put_act, cleared, with_progress, commands_before}
 use Rattle.gc_station.proofs.Making.{refines_with, put_puts, put_refines, put_took}
 use Rattle.gc_station.proofs.station.Station.clear.Goals as goal
 

@@ -1,7 +1,4 @@
-use Rattle.std.proofs.Common.{refl, ap, ◌∙◌}
-use Rattle.gc_station.specs.declared.progress.Waiting.{Waiting}
-use Rattle.gc_links.specs.Acts.{Closed}
-use Rattle.gc_station.specs.Model.{waiting_of}
+use Rattle.gc_station.proofs.Common.{refl, ap, ◌∙◌, Waiting, Closed, waiting_of}
 use Rattle.gc_station.proofs.Hearing.{outstanding_commands_same, closed_same}
 use Rattle.gc_station.proofs.station.Station.close.Goals as goal
 

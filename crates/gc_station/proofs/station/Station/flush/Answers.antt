@@ -1,13 +1,4 @@
-use Rattle.std.proofs.Common.{ap, ◌∙◌}
-use Rattle.gc_catalogue.specs.declared.asked.Asked.TheVariants.{Table}
-use Rattle.gc_catalogue.specs.declared.call.Call.TheVariants.{NullProc}
-use Rattle.gc_catalogue.specs.declared.asked.Asked.{Asked}
-use Rattle.gc_client.specs.Rule.{ById}
-use Rattle.gc_station.specs.declared.station.sending.Outgoing.{Outgoing}
-use Rattle.gc_links.specs.Acts.{put_act}
-use Rattle.gc_station.specs.Progressing.{request_noted}
-use Rattle.gc_station.specs.Model.{Model, next_request_text, null_request, asks_for, with_progress}
-use Rattle.gc_station.specs.NextCommand.{commands_before}
+use Rattle.gc_station.proofs.Common.{ap, ◌∙◌, Table, NullProc, Asked, ById, Outgoing, put_act, request_noted, Model, next_request_text, null_request, asks_for, with_progress, commands_before}
 use Rattle.gc_station.proofs.Making.{refines_with, asks_refines, put_puts, put_refines, put_took}
 use Rattle.gc_station.proofs.station.Station.flush.Goals as goal
 

@@ -1,18 +1,4 @@
-use Rattle.std.proofs.Common.{◌≡◌, ◌≤◌, false, subst, length, map, ap, sym, ◌∙◌, refl}
-use Rattle.std.proofs.lemmas.List.{length-map}
-use Rattle.gc_client.specs.Rule.{hears, heard}
-use Rattle.gc_client.specs.Settlements.{settlement_seen}
-use Rattle.gc_lines.specs.Frames.{line_in}
-use Rattle.gc_lines.specs.Lent.{lent_seen}
-use Rattle.gc_session.specs.Lines.{is_reply}
-use Rattle.gc_session.specs.declared.exchange.Exchange.{Exchange}
-use Rattle.gc_station.specs.declared.progress.Progress.{Progress}
-use Rattle.gc_station.specs.Model.{Model, settles, line_busy, line_called, line_news, lines_taken, with_progress}
-use Rattle.gc_station.specs.Marks.{any_unexpected}
-use Rattle.gc_station.specs.Progressing.{doubt_noted, hold_noted, line_synchronizing}
-use Rattle.gc_station.specs.Stations.{Refines, Took, TookPart}
-use Rattle.gc_station.specs.declared.station.Station.{Station}
-use Rattle.std.specs.Option.{option_to_list}
+use Rattle.gc_station.proofs.Common.{◌≡◌, ◌≤◌, false, subst, length, map, ap, sym, ◌∙◌, refl, length-map, hears, heard, settlement_seen, line_in, lent_seen, is_reply, Exchange, Progress, Model, settles, line_busy, line_called, line_news, lines_taken, with_progress, any_unexpected, doubt_noted, hold_noted, line_synchronizing, Refines, Took, TookPart, Station, option_to_list}
 use Rattle.gc_station.proofs.Hearing.{hears_paired, settles_ok, settles_part, settles_busy, settles_unexpected, refines_called, refines_doubted, refines_held, refines_noted, no_line, taken_none}
 use Rattle.gc_station.proofs.Making.{refines_with}
 use Rattle.gc_station.proofs.station.Station.hear.Goals as goal

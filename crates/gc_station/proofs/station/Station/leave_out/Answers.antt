@@ -1,13 +1,4 @@
-use Rattle.std.proofs.Common.{refl, sym, ap, subst}
-use Rattle.gc_links.specs.Acts.{Told}
-use Rattle.gc_station.specs.declared.progress.Action.TheVariants.{Pass}
-use Rattle.gc_station.specs.declared.progress.Progress.{Progress}
-use Rattle.gc_station.specs.declared.station.Station.{Station}
-use Rattle.gc_station.specs.Marks.{commands_in}
-use Rattle.gc_station.specs.Model.{next_left_out, with_more_passes, with_moment, moved}
-use Rattle.gc_station.specs.NextCommand.{upcoming_after}
-use Rattle.gc_station.specs.Progressing.{early_noted, attempts_left_out}
-use Rattle.gc_station.specs.Stations.{Refines}
+use Rattle.gc_station.proofs.Common.{refl, sym, ap, subst, Told, Pass, Progress, Station, commands_in, next_left_out, with_more_passes, with_moment, moved, upcoming_after, early_noted, attempts_left_out, Refines}
 use Rattle.gc_station.proofs.Hearing.{refines_timed_out, untold_does}
 use Rattle.gc_station.proofs.Making.{refines_with}
 use Rattle.gc_station.proofs.station.Station.leave_out.Goals as goal

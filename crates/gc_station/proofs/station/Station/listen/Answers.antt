@@ -1,9 +1,6 @@
-use Rattle.std.proofs.Common.{◌≤◌, ◌∙◌, length, drop, subst, arith, length-drop, drop-drop}
+use Rattle.gc_station.proofs.Common.{◌≤◌, ◌∙◌, length, drop, subst, arith, drop-drop, take_rest, lent_seen, Takes, assembler_takes, with_rest}
+use Rattle.std.proofs.Common.{length-drop}
 use Rattle.std.proofs.Math.ListN.{drop_of_length-le}
-use Rattle.std.proofs.lemmas.List.{take_rest}
-use Rattle.gc_lines.specs.Lent.{lent_seen}
-use Rattle.gc_lines.proofs.Passing.{Takes, assembler_takes}
-use Rattle.gc_station.specs.Model.{with_rest}
 use Rattle.gc_station.proofs.Hearing.{HeardSoFar, hearing_on, hearing_part, hearing_end, refines_kept}
 use Rattle.gc_station.proofs.station.Station.listen.Goals as goal
 

@@ -1,6 +1,4 @@
-use Rattle.std.proofs.Common.{◌≡◌, ◌≤◌, ◌-◌, ℕ, List, Option, length, drop}
-use Rattle.gc_station.specs.Model.{Model}
-use Rattle.gc_station.specs.Stations.{Refines, Took}
+use Rattle.gc_station.proofs.Common.{◌≡◌, ◌≤◌, ◌-◌, ℕ, List, Option, length, drop, Model, Refines, Took}
 use Rattle.gc_station.proofs.Hearing.{HeardSoFar}
 use Rattle.gc_station.proofs.station.Station.listen.Given as goal
 

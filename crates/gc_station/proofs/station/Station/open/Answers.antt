@@ -1,8 +1,5 @@
-use Rattle.std.proofs.Common.{ap, ◌∙◌}
+use Rattle.gc_station.proofs.Common.{ap, ◌∙◌, Unopened, commands_in, after_failure}
 use Rattle.gc_station.specs.declared.cause.Cause.TheVariants as cause
-use Rattle.gc_links.specs.Acts.{Unopened}
-use Rattle.gc_station.specs.Marks.{commands_in}
-use Rattle.gc_station.specs.Progressing.{after_failure}
 use Rattle.gc_station.proofs.station.Station.open.Goals as goal
 
 pub returns-in-Err : goal.returns-in-Err

@@ -1,11 +1,4 @@
-use Rattle.std.proofs.Common.{◌≡◌, drop, ap, ◌∙◌}
-use Rattle.gc_catalogue.specs.declared.asked.Asked.{Asked}
-use Rattle.gc_client.specs.Rule.{ById}
-use Rattle.gc_links.specs.Acts.{put_act}
-use Rattle.gc_station.specs.declared.station.sending.Outgoing.{Outgoing}
-use Rattle.gc_station.specs.Progressing.{setup_sent}
-use Rattle.gc_station.specs.Model.{Model, next_request_text, occasion_at, text_or_null, request_of_setup, asks_setup, mark_setup_sent, with_progress}
-use Rattle.gc_station.specs.NextCommand.{commands_before}
+use Rattle.gc_station.proofs.Common.{◌≡◌, drop, ap, ◌∙◌, Asked, ById, put_act, Outgoing, setup_sent, Model, next_request_text, occasion_at, text_or_null, request_of_setup, asks_setup, mark_setup_sent, with_progress, commands_before}
 use Rattle.gc_station.proofs.Making.{refines_with, asks_refines, put_puts, put_refines, put_took, setup_text}
 use Rattle.gc_station.proofs.station.Station.prepare.Goals as goal
 

@@ -1,7 +1,5 @@
-use Rattle.std.proofs.Common.{take, ap, ◌∙◌}
-use Rattle.gc_station.specs.declared.cause.Cause.TheVariants.{Clock, End, Read}
-use Rattle.gc_links.specs.Acts.{Gave, Silent, Ended, Broke, Untold}
-use Rattle.gc_station.specs.Progressing.{failing, silent}
+use Rattle.gc_station.proofs.Common.{take, ap, ◌∙◌, Clock, Gave, Silent, Ended, Broke, Untold, failing, silent}
+use Rattle.gc_station.specs.declared.cause.Cause.TheVariants.{End, Read}
 use Rattle.gc_station.proofs.Hearing.{refines_expired}
 use Rattle.gc_station.proofs.Making.{refines_with, makes_read, made_read}
 use Rattle.gc_station.proofs.station.Station.read.Goals as goal

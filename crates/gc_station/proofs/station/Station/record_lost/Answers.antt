@@ -1,10 +1,4 @@
-use Rattle.std.proofs.Common.{length, map, ap, sym, ◌∙◌, refl, subst}
-use Rattle.std.proofs.lemmas.List.{length-map}
-use Rattle.gc_client.specs.Rule.{restarts}
-use Rattle.gc_client.specs.Settlements.{settlement_seen}
-use Rattle.gc_station.specs.Progressing.{loses_all}
-use Rattle.gc_station.specs.Model.{losing}
-use Rattle.gc_station.specs.Stations.{Refines, Took, RefinesOrTookPart}
+use Rattle.gc_station.proofs.Common.{length, map, ap, sym, ◌∙◌, refl, subst, length-map, restarts, settlement_seen, loses_all, losing, Refines, Took, RefinesOrTookPart}
 use Rattle.gc_station.proofs.Hearing.{restarts_paired, settles_either}
 use Rattle.gc_station.proofs.station.Station.record_lost.Goals as goal
 

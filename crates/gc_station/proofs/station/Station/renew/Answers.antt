@@ -1,8 +1,4 @@
-use Rattle.std.proofs.Common.{refl, ap, ◌∙◌}
-use Rattle.gc_links.specs.Acts.{Told}
-use Rattle.gc_station.specs.declared.progress.Progress.{Progress}
-use Rattle.gc_station.specs.Model.{with_moment}
-use Rattle.gc_station.specs.Progressing.{early_noted, resynchronized}
+use Rattle.gc_station.proofs.Common.{refl, ap, ◌∙◌, Told, Progress, with_moment, early_noted, resynchronized}
 use Rattle.gc_station.proofs.Hearing.{refines_timed_out, untold_does}
 use Rattle.gc_station.proofs.Making.{refines_with}
 use Rattle.gc_station.proofs.station.Station.renew.Goals as goal

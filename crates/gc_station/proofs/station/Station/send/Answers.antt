@@ -1,19 +1,4 @@
-use Rattle.std.proofs.Common.{◌≡◌, ◌+◌, ◌-◌, ◌<◌, List, ◌∷◌, length, drop, ap, sym, ◌∙◌, arith}
-use Rattle.std.proofs.lemmas.List.{drop_more}
-use Rattle.gc_catalogue.specs.declared.asked.Asked.{Asked}
-use Rattle.gc_client.specs.Rule.{ById}
-use Rattle.gc_texts.specs.declared.tasks.Task.{Task}
-use Rattle.gc_station.specs.declared.station.sending.Outgoing.{Outgoing}
-use Rattle.gc_links.specs.Acts.{put_act}
-use Rattle.gc_station.specs.declared.mark.Mark.{Mark}
-use Rattle.gc_station.specs.declared.progress.Progress.{Progress}
-use Rattle.gc_station.specs.declared.progress.Upcoming.{Upcoming}
-use Rattle.gc_station.specs.Counters.{with_before}
-use Rattle.gc_station.specs.Firsts.{with_first}
-use Rattle.gc_station.specs.Marks.{with_id, with_values}
-use Rattle.gc_station.specs.Progressing.{sent}
-use Rattle.gc_station.specs.Model.{Model, next_request_text, first_text, occasion_at, request_for, asks_next, firsts_of, mark_sent, with_progress}
-use Rattle.gc_station.specs.NextCommand.{place_next, mark_next, upcoming_after, commands_before}
+use Rattle.gc_station.proofs.Common.{◌≡◌, ◌+◌, ◌-◌, ◌<◌, List, ◌∷◌, length, drop, ap, sym, ◌∙◌, arith, drop_more, Asked, ById, Task, Outgoing, put_act, Mark, Progress, Upcoming, with_before, with_first, with_id, with_values, sent, Model, next_request_text, first_text, occasion_at, request_for, asks_next, firsts_of, mark_sent, with_progress, place_next, mark_next, upcoming_after, commands_before}
 use Rattle.gc_station.proofs.Making.{refines_with, asks_refines, put_puts, put_refines, put_took, first_refines, first_took}
 use Rattle.gc_station.proofs.station.Station.send.Goals as goal
 

@@ -1,15 +1,5 @@
-use Rattle.std.proofs.Common.{◌≡◌, ◌<◌, ◌≤◌, List, ◌++◌, length, drop, ap, sym, ◌∙◌, arith, subst, length-drop}
-use Rattle.std.specs.Io.KnownBytes.{Appends}
-use Rattle.gc_station.specs.declared.cause.Cause.TheVariants.{Clock}
-use Rattle.gc_station.specs.declared.progress.Progress.{Progress}
-use Rattle.gc_station.specs.declared.station.Station.{Station}
-use Rattle.gc_links.specs.Acts.{Told}
-use Rattle.gc_station.specs.Marks.{commands_in}
-use Rattle.gc_station.specs.Progressing.{failing, skipped, early_noted}
-use Rattle.gc_station.specs.Records.{Record, WritesPart, texts_of}
-use Rattle.gc_station.specs.Model.{listed_after_skip, unsent_record, with_moment, with_progress, with_listed, with_more_records, listed_unsent}
-use Rattle.gc_station.specs.NextCommand.{place_next, mark_next, upcoming_after}
-use Rattle.gc_station.specs.Stations.{Refines, station_expiring, station_advancing}
+use Rattle.gc_station.proofs.Common.{◌≡◌, ◌<◌, ◌≤◌, List, ◌++◌, length, drop, ap, sym, ◌∙◌, arith, subst, Appends, Clock, Progress, Station, Told, commands_in, failing, skipped, early_noted, Record, WritesPart, texts_of, listed_after_skip, unsent_record, with_moment, with_progress, with_listed, with_more_records, listed_unsent, place_next, mark_next, upcoming_after, Refines, station_expiring, station_advancing}
+use Rattle.std.proofs.Common.{length-drop}
 use Rattle.gc_station.proofs.Hearing.{refines_timed_out, untold_does}
 use Rattle.gc_station.proofs.Making.{refines_with, skips_unwell, skips_no_first, skipped_refines, with_no_records}
 use Rattle.gc_station.proofs.station.Station.skip.Goals as goal

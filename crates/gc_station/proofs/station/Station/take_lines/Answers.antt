@@ -1,8 +1,4 @@
-use Rattle.std.proofs.Common.{ap, sym, ◌∙◌, subst}
-use Rattle.gc_session.specs.Exchange.{is_none_left}
-use Rattle.gc_station.specs.declared.progress.Progress.{Progress}
-use Rattle.gc_station.specs.Model.{is_heard, piece_heard, after_piece}
-use Rattle.gc_station.specs.Stations.{Refines, Took, RefinesOrTookPart}
+use Rattle.gc_station.proofs.Common.{ap, sym, ◌∙◌, subst, is_none_left, Progress, is_heard, piece_heard, after_piece, Refines, Took, RefinesOrTookPart}
 use Rattle.gc_station.proofs.station.Station.take_lines.Goals as goal
 
 pub returns-then-not-is_heard-clause-takes : goal.returns-then-not-is_heard-clause-takes

@@ -1,8 +1,4 @@
-use Rattle.std.proofs.Common.{ap, ◌∙◌}
-use Rattle.gc_station.specs.declared.progress.Waiting.{Waiting}
-use Rattle.gc_station.specs.Marks.{commands_in}
-use Rattle.gc_station.specs.Progressing.{moment_noted, early_noted}
-use Rattle.gc_station.specs.Model.{Model, with_moment, with_progress, waiting_of, after_piece, is_heard}
+use Rattle.gc_station.proofs.Common.{ap, ◌∙◌, Waiting, commands_in, moment_noted, early_noted, Model, with_moment, with_progress, waiting_of, after_piece, is_heard}
 use Rattle.gc_station.proofs.Hearing.{refines_expired, outstanding_same, outstanding_commands_same, early_noted_same}
 use Rattle.gc_station.proofs.station.Station.take_piece.Goals as goal
 

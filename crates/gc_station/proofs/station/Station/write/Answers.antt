@@ -1,9 +1,5 @@
-use Rattle.std.proofs.Common.{List, ◌++◌, map, subst}
-use Rattle.gc_catalogue.specs.declared.asked.Asked.{Asked}
+use Rattle.gc_station.proofs.Common.{List, ◌++◌, map, subst, Asked, settlement_seen, records_of, WritesBy}
 use Rattle.gc_client.specs.declared.settlement.Settlement.{Settlement}
-use Rattle.gc_client.specs.Settlements.{settlement_seen}
-use Rattle.gc_station.specs.Marks.{records_of}
-use Rattle.gc_station.specs.Records.{WritesBy}
 use Rattle.gc_station.proofs.station.Station.write.Goals as goal
 
 pub returns-clause-wrote : goal.returns-clause-wrote

@@ -1,11 +1,4 @@
-use Rattle.std.proofs.Common.{◌≡◌, ◌+◌, ◌-◌, ◌<◌, List, ◌∷◌, ◌++◌, length, drop, None, ap, sym, ◌∙◌, arith, subst}
-use Rattle.std.proofs.lemmas.List.{drop_more}
-use Rattle.gc_texts.specs.declared.tasks.Task.{Task}
-use Rattle.gc_texts.specs.Endings.{ending_seen}
-use Rattle.gc_station.specs.Marks.{record_with}
-use Rattle.gc_station.specs.Records.{Record, WritesPart}
-use Rattle.gc_station.specs.NextCommand.{mark_next}
-use Rattle.gc_station.specs.declared.recorded.Recorded.{Recorded}
+use Rattle.gc_station.proofs.Common.{◌≡◌, ◌+◌, ◌-◌, ◌<◌, List, ◌∷◌, ◌++◌, length, drop, None, ap, sym, ◌∙◌, arith, subst, drop_more, Task, ending_seen, record_with, Record, WritesPart, mark_next, Recorded}
 use Rattle.gc_station.proofs.Making.{noted_unsent, skip_record_same}
 use Rattle.gc_station.proofs.Records.{part_one}
 use Rattle.gc_station.proofs.station.Station.write_unsent.Goals as goal

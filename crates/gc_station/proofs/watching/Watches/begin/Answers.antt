@@ -1,7 +1,4 @@
-use Rattle.std.proofs.Common.{map, sym, ap, ◌∙◌, subst}
-use Rattle.std.proofs.lemmas.Simd.{map-map}
-use Rattle.gc_station.specs.Watching.{places_of, unanswered, oldest}
-use Rattle.gc_station.specs.declared.watching.Watch.{Watch}
+use Rattle.gc_station.proofs.Common.{map, sym, ap, ◌∙◌, subst, map-map, places_of, unanswered, oldest, Watch}
 use Rattle.gc_station.proofs.Freshness.{none_newer_begun, NoneNewer}
 use Rattle.gc_station.proofs.watching.Watches.begin.Goals as goal
 

@@ -1,5 +1,4 @@
-use Rattle.std.proofs.Common.{rules, ◌≡◌, ◌≤◌, map, sym, ap, ◌∙◌, subst}
-use Rattle.gc_station.specs.Watching.{cut_to, oldest}
+use Rattle.gc_station.proofs.Common.{rules, ◌≡◌, ◌≤◌, map, sym, ap, ◌∙◌, subst, cut_to, oldest}
 use Rattle.gc_station.proofs.Freshness.{none_newer_cut, cut_changes_none, NoneNewer}
 use Rattle.gc_station.proofs.watching.Watches.cut.Goals as goal
 

@@ -1,5 +1,4 @@
-use Rattle.std.proofs.Common.{sym, ◌∙◌}
-use Rattle.gc_texts.specs.Endings.{ending_seen}
+use Rattle.gc_station.proofs.Common.{sym, ◌∙◌, ending_seen}
 use Rattle.gc_station.proofs.Freshness.{well_renews_each, other_renews_none}
 use Rattle.gc_station.proofs.watching.Watches.note.Goals as goal
 

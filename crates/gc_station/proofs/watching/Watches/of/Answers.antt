@@ -1,8 +1,4 @@
-use Rattle.std.proofs.Common.{sym, ap, ◌∙◌, subst}
-use Rattle.std.proofs.lemmas.Simd.{map-map}
-use Rattle.std.proofs.lemmas.List.{map-id}
-use Rattle.gc_station.specs.Watching.{places_of, unanswered, watched_in, oldest}
-use Rattle.gc_station.specs.declared.watching.Watch.{Watch}
+use Rattle.gc_station.proofs.Common.{sym, ap, ◌∙◌, subst, map-map, map-id, places_of, unanswered, watched_in, oldest, Watch}
 use Rattle.gc_station.proofs.Freshness.{none_newer_begun, NoneNewer}
 use Rattle.gc_station.proofs.watching.Watches.of.Goals as goal
 

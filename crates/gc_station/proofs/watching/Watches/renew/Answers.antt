@@ -1,6 +1,4 @@
-use Rattle.std.proofs.Common.{◌≤◌, sym, ap, ◌∙◌, subst}
-use Rattle.std.proofs.Math.Nat.{le-max_left, le-max_right}
-use Rattle.gc_station.specs.Watching.{oldest}
+use Rattle.gc_station.proofs.Common.{◌≤◌, sym, ap, ◌∙◌, subst, le-max_left, le-max_right, oldest}
 use Rattle.gc_station.proofs.Freshness.{none_newer_renewed, NoneNewer}
 use Rattle.gc_station.proofs.watching.Watches.renew.Goals as goal
 

@@ -1,6 +1,4 @@
-use Rattle.std.proofs.Common.{◌≡◌, subst}
-use Rattle.gc_texts.specs.Descriptions.{kinds_asked}
-use Rattle.gc_texts.specs.KindLists.{AreOfKinds, IsKindsFault, KindsSeen, kinds_seen}
+use Rattle.gc_texts.proofs.Common.{◌≡◌, subst, kinds_asked, AreOfKinds, IsKindsFault, KindsSeen, kinds_seen}
 use Rattle.gc_texts.proofs.KindReadings.{fault_has_no_values, same_kinds_seen}
 use Rattle.gc_texts.proofs.description.Description.takes.Goals as goal
 

@@ -1,10 +1,6 @@
-use Rattle.std.proofs.Common.{ℕ, List, [], ◌∷◌, ◌++◌, OnOk, sym, ap, subst, ◌∙◌, append_assoc}
+use Rattle.gc_texts.proofs.Common.{ℕ, List, [], ◌∷◌, ◌++◌, OnOk, sym, ap, subst, ◌∙◌, append_assoc, decimal, Appends, numbered_fault, run_fault_number, run_fault_text, fault_line}
 use Rattle.std.specs.Prelude.{codes}
-use Rattle.std.specs.Fmt.{decimal}
-use Rattle.std.specs.Io.KnownBytes.{Appends}
-use Rattle.gc_lines.specs.Answering.{numbered_fault}
 use Rattle.gc_lines.specs.declared.served.TheConstants.{WRITE_FAILED}
-use Rattle.gc_texts.specs.Faults.{run_fault_number, run_fault_text, fault_line}
 use Rattle.gc_texts.proofs.FaultLines.{plain_detail, line_with}
 use Rattle.gc_texts.proofs.fault.RunFault.tell.Goals as goal
 

@@ -1,7 +1,6 @@
-use Rattle.std.proofs.Common.{ap, ◌∙◌}
-use Rattle.gc_catalogue.specs.declared.answer.Reading.TheVariants as reading
-use Rattle.gc_texts.specs.Forms.{measured_part}
+use Rattle.gc_texts.proofs.Common.{ap, ◌∙◌, measured_part}
 use Rattle.gc_texts.proofs.FormReadings.{form_answers, one_form_reading}
+use Rattle.gc_catalogue.specs.declared.answer.Reading.TheVariants as reading
 use Rattle.gc_texts.proofs.form.Form.reading.Goals as goal
 
 pub returns-in-Ok-clause-found : goal.returns-in-Ok-clause-found

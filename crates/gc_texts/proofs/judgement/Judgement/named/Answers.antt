@@ -1,5 +1,4 @@
-use Rattle.std.proofs.Common.{◌≡◌, true, false, sym, ◌∙◌}
-use Rattle.gc_texts.specs.declared.judgement.Judgement.TheVariants.{OffTarget, Unexpected, Disagree}
+use Rattle.gc_texts.proofs.Common.{◌≡◌, true, false, sym, ◌∙◌, OffTarget, Unexpected, Disagree}
 use Rattle.gc_texts.proofs.judgement.Judgement.named.Goals as goal
 
 pub returns : goal.returns

@@ -1,4 +1,4 @@
-use Rattle.std.proofs.Common.{◌<◌, length, arith}
+use Rattle.gc_texts.proofs.Common.{◌<◌, length, arith}
 use Rattle.gc_texts.proofs.KindPlaces.{filled_more}
 use Rattle.gc_texts.proofs.kinds.Kinds.of.Goals as goal
 

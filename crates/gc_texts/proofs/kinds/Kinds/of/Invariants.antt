@@ -1,5 +1,4 @@
-use Rattle.std.proofs.Common.{◌≡◌}
-use Rattle.gc_texts.specs.KindLists.{padded_kinds}
+use Rattle.gc_texts.proofs.Common.{◌≡◌, padded_kinds}
 use Rattle.gc_texts.proofs.KindPlaces.{kinds_before}
 use Rattle.gc_texts.proofs.kinds.Kinds.of.Given as goal
 

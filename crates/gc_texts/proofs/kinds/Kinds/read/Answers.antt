@@ -1,4 +1,4 @@
-use Rattle.gc_texts.specs.KindLists.{kinds_seen}
+use Rattle.gc_texts.proofs.Common.{kinds_seen}
 use Rattle.gc_texts.proofs.KindSteps.{misfit_of_list, values_of_list}
 use Rattle.gc_texts.proofs.kinds.Kinds.read.Goals as goal
 

@@ -1,8 +1,4 @@
-use Rattle.std.proofs.Common.{◌≡◌, ◌<◌, ◌≤◌, ◌+◌, List, ℕ, length, take, subst, sym, arith}
-use Rattle.std.proofs.lemmas.List.{drop_all, length-take-le}
-use Rattle.gc_values.specs.Item.{IsItem}
-use Rattle.gc_values.specs.declared.value.Kind.{Kind}
-use Rattle.gc_texts.specs.KindLists.{SuitsCount}
+use Rattle.gc_texts.proofs.Common.{◌≡◌, ◌<◌, ◌≤◌, ◌+◌, List, ℕ, length, take, subst, sym, arith, drop_all, length-take-le, IsItem, Kind, SuitsCount}
 use Rattle.gc_texts.proofs.KindSteps.{ReadTo, all_read, one_read, suits_enough}
 use Rattle.gc_texts.proofs.kinds.Kinds.read_items.Goals as goal
 

@@ -1,4 +1,4 @@
-use Rattle.std.proofs.Common.{take}
+use Rattle.gc_texts.proofs.Common.{take}
 use Rattle.gc_texts.proofs.KindSteps.{ReadTo}
 use Rattle.gc_texts.proofs.kinds.Kinds.read_items.Given as goal
 

@@ -1,6 +1,4 @@
-use Rattle.std.proofs.Common.{rules, ◌≡◌, true, drop, ap, ◌∙◌}
-use Rattle.gc_catalogue.specs.declared.asked.Asked.TheVariants.{Raw}
-use Rattle.gc_texts.specs.ValueItems.{filled_call}
+use Rattle.gc_texts.proofs.Common.{rules, ◌≡◌, true, drop, ap, ◌∙◌, Raw, filled_call}
 use Rattle.gc_texts.proofs.TaskMoments.{call_with_values}
 use Rattle.gc_texts.proofs.tasks.Task.call_at.Goals as goal
 

@@ -1,5 +1,4 @@
-use Rattle.std.proofs.Common.{rules, ◌<◌, get_or, length}
-use Rattle.gc_texts.specs.ValueFiles.{AddsFilesOf}
+use Rattle.gc_texts.proofs.Common.{rules, ◌<◌, get_or, length, AddsFilesOf}
 use Rattle.gc_texts.proofs.FilesOf.{one_task_passed}
 use Rattle.gc_texts.proofs.tasks.Tasks.files.Goals as goal
 

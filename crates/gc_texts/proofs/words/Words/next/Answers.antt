@@ -1,6 +1,4 @@
-use Rattle.std.proofs.Common.{◌≡◌, Some, ap, sym, ◌∙◌}
-use Rattle.std.specs.Option.{option_copied}
-use Rattle.gc_texts.specs.WordLists.{pieces_left}
+use Rattle.gc_texts.proofs.Common.{◌≡◌, Some, ap, sym, ◌∙◌, option_copied, pieces_left}
 use Rattle.gc_texts.proofs.WordLists.{words_cut}
 use Rattle.gc_texts.proofs.words.Words.next.Goals as goal
 

@@ -1,7 +1,4 @@
-use Rattle.std.proofs.Common.{◌≡◌, ◌%◌, arith, rules, ap, ◌∙◌, sym, unsigned_abs, to_z, of_z}
-use mir.Val.{SFits}
-use mir.Syntax.{w128}
-use Rattle.std.proofs.lemmas.Int.{to_z-of_z}
+use Rattle.gc_values.proofs.Common.{◌≡◌, ◌%◌, arith, rules, ap, ◌∙◌, sym, unsigned_abs, to_z, of_z, SFits, w128, to_z-of_z}
 use Rattle.gc_values.proofs.Signs.{unsigned_abs-signed}
 use Rattle.gc_values.proofs.Powers.{bound_fits}
 use Rattle.gc_values.proofs.ZerosLemmas.{zeros_in_range}

@@ -1,6 +1,4 @@
-use Rattle.std.proofs.Common.{◌<◌, ◌*◌, ◌/◌, ◌^◌, length, length-append, ap, arith, lit<}
-use Rattle.std.proofs.lemmas.Nat.{div_below}
-use Rattle.gc_values.specs.Written.{whole_text}
+use Rattle.gc_values.proofs.Common.{◌<◌, ◌*◌, ◌/◌, ◌^◌, length, length-append, ap, arith, lit<, div_below, whole_text}
 use Rattle.gc_values.proofs.Powers.{ten_pow_pos}
 use Rattle.gc_values.proofs.WholeText.{length-whole_text}
 use Rattle.gc_values.proofs.decimal.Decimal.put.Goals as goal

@@ -1,9 +1,8 @@
-use Rattle.std.proofs.Common.{subst, sym}
-use Rattle.gc_values.specs.Spelling.{Spells}
+use Rattle.gc_values.proofs.Common.{subst, sym, Spells}
 use Rattle.gc_values.proofs.DecimalLaws.{written_spells_decimal}
 use Rattle.gc_values.proofs.Reading.{IsDecimalRead, reads_units}
-use Rattle.gc_values.proofs.decimal.Decimal.read.Goals as goal
 use Rattle.gc_values.proofs.decimal.Decimal.read.Goals.{After-try_from_parts}
+use Rattle.gc_values.proofs.decimal.Decimal.read.Goals as goal
 
 -- what `Decimal::read` returns for a text that has the parts of a number is as `IsDecimalRead` says
 result_is_reading : (c : After-try_from_parts) → IsDecimalRead c.args.text.now c.try_from_parts.result

@@ -1,6 +1,4 @@
-use Rattle.std.proofs.Common.{◌≡◌, ◌*◌, ◌^◌, ◌-◌, arith, ap, sym, refl, subst}
-use Rattle.gc_values.specs.Fraction.{signed, IsRounded}
-use Rattle.gc_values.specs.Nearest.{RoundsHalfUp}
+use Rattle.gc_values.proofs.Common.{◌≡◌, ◌*◌, ◌^◌, ◌-◌, arith, ap, sym, refl, subst, signed, IsRounded, RoundsHalfUp}
 use Rattle.gc_values.proofs.Powers.{ten_pow_pos}
 use Rattle.gc_values.proofs.Rounded.{exact_rounds, rounded_from, rounds_places, places_in_range}
 use Rattle.gc_values.proofs.RoundedDecimals.{rounded_only}

@@ -1,4 +1,4 @@
-use Rattle.std.proofs.Common.{◌*◌, ◌^◌, arith, ap}
+use Rattle.gc_values.proofs.Common.{◌*◌, ◌^◌, arith, ap}
 use Rattle.gc_values.proofs.Powers.{bound_fits}
 use Rattle.gc_values.proofs.decimal.Decimal.try_from_parts.Goals as goal
 

@@ -1,9 +1,4 @@
-use Rattle.std.proofs.Common.{◌≡◌, ◌≤◌, ◌*◌, ◌^◌, ◌-◌, ℕ, ℤ, Bool, unsigned_abs, arith, ap, refl}
-use mir.Val.{SFits}
-use mir.Syntax.{w128}
-use Rattle.std.proofs.Common.{rules}
-use Rattle.std.proofs.lemmas.Int.{to_z-of_z}
-use Rattle.gc_values.specs.Fraction.{signed}
+use Rattle.gc_values.proofs.Common.{◌≡◌, ◌≤◌, ◌*◌, ◌^◌, ◌-◌, ℕ, ℤ, Bool, unsigned_abs, arith, ap, refl, rules, SFits, w128, to_z-of_z, signed}
 use Rattle.gc_values.proofs.Rounded.{units_in_range}
 use Rattle.gc_values.proofs.Signs.{abs_from}
 use Rattle.gc_values.proofs.decimal.Decimal.units.Goals as goal

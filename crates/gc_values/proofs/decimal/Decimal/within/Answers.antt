@@ -1,7 +1,4 @@
-use Rattle.std.proofs.Common.{◌≡◌, ◌^◌, ◌*◌, ◌≤◌, ℤ, pos, ◌-ℤ◌, unsigned_abs, to_z, of_z, ap, ◌∙◌, arith}
-use mir.Syntax.{w128}
-use Rattle.gc_values.specs.Decimals.{units}
-use Rattle.gc_values.specs.declared.decimal.Decimal.{Decimal}
+use Rattle.gc_values.proofs.Common.{◌≡◌, ◌^◌, ◌*◌, ◌≤◌, ℤ, pos, ◌-ℤ◌, unsigned_abs, to_z, of_z, ap, ◌∙◌, arith, w128, units, Decimal}
 use Rattle.gc_values.proofs.NearLemmas.{as_i128_same}
 use Rattle.gc_values.proofs.WithinLemmas.{comparison_is_within, compared_exact, apart_fits}
 use Rattle.gc_values.proofs.decimal.Decimal.within.Goals as goal

@@ -1,6 +1,4 @@
-use Rattle.std.proofs.Common.{◌≡◌, sym, subst, rules}
-use Rattle.gc_values.specs.Spelling.{Spells}
-use Rattle.gc_values.specs.Written.{written}
+use Rattle.gc_values.proofs.Common.{◌≡◌, sym, subst, rules, Spells, written}
 use Rattle.gc_values.proofs.WrittenSpells.{written_spells}
 use Rattle.gc_values.proofs.decimal.Decimal.write.Goals as goal
 

@@ -1,6 +1,4 @@
-use Rattle.std.proofs.Common.{rules, ◌≡◌, ◌&&◌, sym, ap, ◌∙◌}
-use Rattle.gc_values.specs.Decimals.{units}
-use Rattle.gc_values.specs.Directions.{v_in_face_one, hz_in_face_one, is_close, is_close_on_circle}
+use Rattle.gc_values.proofs.Common.{rules, ◌≡◌, ◌&&◌, sym, ap, ◌∙◌, units, v_in_face_one, hz_in_face_one, is_close, is_close_on_circle}
 use Rattle.gc_values.proofs.NearLemmas.{near_by_angles}
 use Rattle.gc_values.proofs.direction.Direction.is_near.Goals as goal
 

@@ -1,5 +1,4 @@
-use Rattle.std.proofs.Common.{◌≡◌, ◌-◌, ap, length, refl, rules, true, ◌∙◌}
-use Rattle.gc_values.specs.FileValues.{has_path, value_text}
+use Rattle.gc_values.proofs.Common.{◌≡◌, ◌-◌, ap, length, refl, rules, true, ◌∙◌, has_path, value_text}
 use Rattle.gc_values.proofs.FileLemmas.{path_kept, none_foreign}
 use Rattle.gc_values.proofs.file_value.ValueFile.new.Goals as goal
 

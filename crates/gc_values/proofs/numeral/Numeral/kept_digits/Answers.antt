@@ -1,5 +1,4 @@
-use Rattle.std.proofs.Common.{arith}
-use Rattle.gc_values.specs.KeptDigits.{all_digits}
+use Rattle.gc_values.proofs.Common.{arith, all_digits}
 use Rattle.gc_values.proofs.Kept.{kept_none, kept_more}
 use Rattle.gc_values.proofs.numeral.Numeral.kept_digits.Goals as goal
 

@@ -1,5 +1,4 @@
-use Rattle.std.proofs.Common.{◌-◌, arith, lit≤}
-use Rattle.gc_values.specs.declared.units.TheConstants.{CAP}
+use Rattle.gc_values.proofs.Common.{◌-◌, arith, lit≤, CAP}
 use Rattle.gc_values.proofs.UnitsLemmas.{size_of, capped_short, capped_few, capped_zeros, capped_many, capped_none}
 use Rattle.gc_values.proofs.numeral.Numeral.rounded_units.Goals as goal
 

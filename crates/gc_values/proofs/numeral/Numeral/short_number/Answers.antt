@@ -1,5 +1,4 @@
-use Rattle.std.proofs.Common.{◌+◌, ◌*◌, ◌^◌, ◌≤◌, length, subst, sym, ap, ◌∙◌, arith}
-use Rattle.gc_values.specs.Digits.{number}
+use Rattle.gc_values.proofs.Common.{◌+◌, ◌*◌, ◌^◌, ◌≤◌, length, subst, sym, ap, ◌∙◌, arith, number}
 use Rattle.gc_values.proofs.Kept.{number-append, digits_leave_room}
 use Rattle.gc_values.proofs.Powers.{ten_pow_le}
 use Rattle.gc_values.proofs.numeral.Numeral.short_number.Goals as goal

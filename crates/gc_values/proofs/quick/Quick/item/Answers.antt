@@ -1,6 +1,4 @@
-use Rattle.std.proofs.Common.{◌∷◌, sym, subst}
-use Rattle.std.specs.Option.{option_copied}
-use Rattle.gc_values.specs.Plainly.{LeftPlain}
+use Rattle.gc_values.proofs.Common.{◌∷◌, sym, subst, option_copied, LeftPlain}
 use Rattle.gc_values.proofs.PlainLists.{plain_of_cut_item}
 use Rattle.gc_values.proofs.quick.Quick.item.Goals as goal
 

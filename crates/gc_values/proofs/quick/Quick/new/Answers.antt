@@ -1,4 +1,4 @@
-use Rattle.std.proofs.Common.{rules}
+use Rattle.gc_values.proofs.Common.{rules}
 use Rattle.gc_values.proofs.PlainLists.{no_params, plain_list_read}
 use Rattle.gc_values.proofs.quick.Quick.new.Goals as goal
 

@@ -1,6 +1,6 @@
-use Rattle.std.proofs.Common.{rules}
-use Rattle.gc_values.specs.declared.value.Value.TheVariants as value
+use Rattle.gc_values.proofs.Common.{rules}
 use Rattle.gc_values.proofs.PlainLists.{takes_read_value}
+use Rattle.gc_values.specs.declared.value.Value.TheVariants as value
 use Rattle.gc_values.proofs.quick.Quick.take_as_long.Goals as goal
 
 pub returns : goal.returns

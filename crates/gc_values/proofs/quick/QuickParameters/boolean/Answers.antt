@@ -1,5 +1,4 @@
-use Rattle.std.proofs.Common.{false, pos, subst, true}
-use Rattle.gc_values.specs.Whole.{NamesWhole}
+use Rattle.gc_values.proofs.Common.{false, pos, subst, true, NamesWhole}
 use Rattle.gc_values.specs.declared.value.Value.TheVariants as value
 use Rattle.gc_values.proofs.quick.QuickParameters.boolean.Goals as goal
 

@@ -1,8 +1,6 @@
-use Rattle.std.proofs.Common.{◌∷◌, sym, subst}
-use Rattle.std.specs.Option.{option_copied}
-use Rattle.gc_values.specs.Plainly.{LeftPlain}
-use Rattle.gc_values.specs.declared.value.Value.TheVariants as value
+use Rattle.gc_values.proofs.Common.{◌∷◌, sym, subst, option_copied, LeftPlain}
 use Rattle.gc_values.proofs.PlainLists.{plain_of_cut_item}
+use Rattle.gc_values.specs.declared.value.Value.TheVariants as value
 use Rattle.gc_values.proofs.quick.QuickParameters.double.Goals as goal
 
 pub returns-in-Some-front_decimal-clause-reads : goal.returns-in-Some-front_decimal-clause-reads

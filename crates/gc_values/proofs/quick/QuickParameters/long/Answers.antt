@@ -1,7 +1,6 @@
-use Rattle.std.proofs.Common.{◌≡◌, pos, rules, subst, sym}
-use Rattle.gc_values.specs.Whole.{FitsLong, NamesWhole}
-use Rattle.gc_values.specs.declared.value.Value.TheVariants as value
+use Rattle.gc_values.proofs.Common.{◌≡◌, pos, rules, subst, sym, FitsLong, NamesWhole}
 use Rattle.gc_values.proofs.PlainLists.{left_as_it_was}
+use Rattle.gc_values.specs.declared.value.Value.TheVariants as value
 use Rattle.gc_values.proofs.quick.QuickParameters.long.Goals as goal
 
 pub returns-in-Some-clause-reads : goal.returns-in-Some-clause-reads

@@ -1,5 +1,4 @@
-use Rattle.std.proofs.Common.{◌^◌, ◌<◌, ◌≤◌, ℕ, ◌/◌, arith}
-use Rattle.std.proofs.lemmas.Nat.{div_below}
+use Rattle.gc_values.proofs.Common.{◌^◌, ◌<◌, ◌≤◌, ℕ, ◌/◌, arith, div_below}
 use Rattle.gc_values.proofs.Powers.{ten_pow_le}
 use Rattle.gc_values.proofs.WrittenLemmas.{last_digits_put_in_two_runs}
 use Rattle.gc_values.proofs.tail.Tail.put_fraction.Goals as goal

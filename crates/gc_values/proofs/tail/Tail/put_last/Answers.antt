@@ -1,5 +1,4 @@
-use Rattle.std.proofs.Common.{arith, ap, ◌∙◌, length, length-append, ◌/◌}
-use Rattle.gc_values.specs.Written.{last_digits}
+use Rattle.gc_values.proofs.Common.{arith, ap, ◌∙◌, length, length-append, ◌/◌, last_digits}
 use Rattle.gc_values.proofs.WrittenLemmas.{last_digits_put_step, div_pow_ten, length-last_digits}
 use Rattle.gc_values.proofs.tail.Tail.put_last.Goals as goal
 

@@ -1,5 +1,4 @@
-use Rattle.std.proofs.Common.{◌≡◌, ◌++◌, ◌/◌, ◌^◌, ◌≤◌, ◌-◌}
-use Rattle.gc_values.specs.Written.{last_digits}
+use Rattle.gc_values.proofs.Common.{◌≡◌, ◌++◌, ◌/◌, ◌^◌, ◌≤◌, ◌-◌, last_digits}
 use Rattle.gc_values.proofs.tail.Tail.put_last.Given as goal
 
 abbrev pub invariant-loop-done : goal.invariant-loop-done

@@ -1,4 +1,4 @@
-use Rattle.std.proofs.Common.{arith}
+use Rattle.gc_values.proofs.Common.{arith}
 use Rattle.gc_values.proofs.WrittenLemmas.{digits_put_step, digits_left_have_room}
 use Rattle.gc_values.proofs.tail.Tail.put_whole.Goals as goal
 

@@ -1,5 +1,4 @@
-use Rattle.std.proofs.Common.{◌≡◌, ◌++◌}
-use Rattle.gc_values.specs.Written.{digits_text}
+use Rattle.gc_values.proofs.Common.{◌≡◌, ◌++◌, digits_text}
 use Rattle.gc_values.proofs.tail.Tail.put_whole.Given as goal
 
 abbrev pub invariant-loop-rest : goal.invariant-loop-rest

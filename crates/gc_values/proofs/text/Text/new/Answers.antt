@@ -1,5 +1,4 @@
-use Rattle.std.proofs.Common.{rules, arith}
-use Rattle.gc_values.specs.Text.{AreStringBytes}
+use Rattle.gc_values.proofs.Common.{rules, arith, AreStringBytes}
 use Rattle.gc_values.proofs.TextLemmas.{filled_is_zero_padded}
 use Rattle.gc_values.proofs.text.Text.new.Goals as goal
 

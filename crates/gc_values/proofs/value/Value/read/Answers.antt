@@ -1,7 +1,6 @@
-use Rattle.std.proofs.Common.{sym, ap, ◌∙◌, subst, Ok}
-use Rattle.gc_values.specs.Item.{IsItemFault}
-use Rattle.gc_values.specs.declared.value.Value.TheVariants as value
+use Rattle.gc_values.proofs.Common.{sym, ap, ◌∙◌, subst, Ok, IsItemFault}
 use Rattle.gc_values.proofs.ItemLaws.{one_value, item_has_no_fault}
+use Rattle.gc_values.specs.declared.value.Value.TheVariants as value
 use Rattle.gc_values.proofs.value.Value.read.Goals as goal
 
 pub returns-in_err-read_double-in-Double-clause-only : goal.returns-in_err-read_double-in-Double-clause-only

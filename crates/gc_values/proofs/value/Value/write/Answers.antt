@@ -1,4 +1,4 @@
-use Rattle.std.proofs.Common.{rules}
+use Rattle.gc_values.proofs.Common.{rules}
 use Rattle.gc_values.proofs.ItemLaws.{equal_text_reads}
 use Rattle.gc_values.proofs.value.Value.write.Goals as goal
 

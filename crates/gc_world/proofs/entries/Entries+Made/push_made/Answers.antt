@@ -1,6 +1,4 @@
-use Rattle.std.proofs.Common.{◌≡◌, ℕ, List, [], ◌∷◌, ◌++◌, length, ◌∙◌, ap, rules}
-use Rattle.arrayvec.specs.ArrayVec.{ArrayVec}
-use Rattle.gc_world.specs.declared.report.Made.{Made}
+use Rattle.gc_world.proofs.Common.{◌≡◌, ℕ, List, [], ◌∷◌, ◌++◌, length, ◌∙◌, ap, rules, ArrayVec, Made}
 use Rattle.gc_world.proofs.Appending.{last_is_blank, set_last, line_appended}
 use Rattle.gc_world.proofs.entries.«Entries+Made».push_made.Goals as goal
 

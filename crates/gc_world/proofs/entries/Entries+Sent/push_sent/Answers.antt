@@ -1,6 +1,4 @@
-use Rattle.std.proofs.Common.{◌≡◌, ℕ, List, [], ◌∷◌, ◌++◌, length, ◌∙◌, ap, rules}
-use Rattle.arrayvec.specs.ArrayVec.{ArrayVec}
-use Rattle.gc_world.specs.declared.report.Sent.{Sent}
+use Rattle.gc_world.proofs.Common.{◌≡◌, ℕ, List, [], ◌∷◌, ◌++◌, length, ◌∙◌, ap, rules, ArrayVec, Sent}
 use Rattle.gc_world.proofs.Appending.{last_is_blank, set_last, line_appended}
 use Rattle.gc_world.proofs.entries.«Entries+Sent».push_sent.Goals as goal
 

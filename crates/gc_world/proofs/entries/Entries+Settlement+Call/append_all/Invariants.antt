@@ -1,4 +1,4 @@
-use Rattle.std.proofs.Common.{◌≡◌, ◌++◌, take}
+use Rattle.gc_world.proofs.Common.{◌≡◌, ◌++◌, take}
 use Rattle.gc_world.proofs.entries.«Entries+Settlement+Call».append_all.Given as goal
 
 -- those that were taken so far are appended

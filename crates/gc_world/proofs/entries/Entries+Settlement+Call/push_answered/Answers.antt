@@ -1,5 +1,4 @@
-use Rattle.std.proofs.Common.{◌≡◌, List, [], ◌∷◌, ◌++◌, length, ◌∙◌, ap, rules}
-use Rattle.gc_catalogue.specs.declared.call.Call.{Call}
+use Rattle.gc_world.proofs.Common.{◌≡◌, List, [], ◌∷◌, ◌++◌, length, ◌∙◌, ap, rules, Call}
 use Rattle.gc_client.specs.declared.settlement.Outcome.{Outcome}
 use Rattle.gc_client.specs.declared.settlement.Outcome.TheVariants.{Answered}
 use Rattle.gc_client.specs.declared.settlement.Settlement.{Settlement}

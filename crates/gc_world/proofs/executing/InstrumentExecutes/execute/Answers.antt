@@ -1,6 +1,4 @@
-use Rattle.std.proofs.Common.{refl, subst}
-use Rattle.gc_lines.specs.Answering.{AppendsAnswer}
-use Rattle.gc_instrument.specs.Replying.{IsExchanged}
+use Rattle.gc_world.proofs.Common.{refl, subst, AppendsAnswer, IsExchanged}
 use Rattle.gc_world.proofs.Exchanges.{told_of_equal}
 use Rattle.gc_world.proofs.Handing.{handed_over}
 use Rattle.gc_world.proofs.executing.InstrumentExecutes.execute.Goals as goal

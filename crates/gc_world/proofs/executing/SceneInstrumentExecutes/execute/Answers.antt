@@ -1,9 +1,4 @@
-use Rattle.std.proofs.Common.{List, ℕ, Some, subst}
-use Rattle.std.specs.Prelude.{IfSome}
-use Rattle.gc_lines.specs.Answering.{AppendsAnswer}
-use Rattle.gc_lines.specs.Lines.{IsPlain}
-use Rattle.gc_catalogue.specs.Texts.{request_line}
-use Rattle.gc_scenes.specs.SceneReplying.{IsPlayed}
+use Rattle.gc_world.proofs.Common.{List, ℕ, Some, subst, IfSome, AppendsAnswer, IsPlain, request_line, IsPlayed}
 use Rattle.gc_world.proofs.Exchanges.{scene_handed_over, told_of_equal}
 use Rattle.gc_world.proofs.executing.SceneInstrumentExecutes.execute.Goals as goal
 

@@ -1,6 +1,5 @@
-use Rattle.std.proofs.Common.{◌∙◌, ap, subst, ◌<◌, ◌↔◌}
-use Rattle.std.specs.Prelude.{IsSome}
-use Rattle.gc_world.specs.World.{without}
+use Rattle.gc_world.proofs.Common.{◌∙◌, ap, subst, ◌<◌, IsSome, without}
+use Rattle.std.proofs.Common.{◌↔◌}
 use Rattle.gc_world.proofs.Queues.{if_none, lose_left}
 use Rattle.gc_world.proofs.queue.Queue.lose.Goals as goal
 

@@ -1,5 +1,4 @@
-use Rattle.std.proofs.Common.{◌≡◌, ◌<◌, ◌≤◌, false, true, length, sym, ◌∙◌, ap, subst, refl, arith}
-use Rattle.gc_world.specs.World.{doubled}
+use Rattle.gc_world.proofs.Common.{◌≡◌, ◌<◌, ◌≤◌, false, true, length, sym, ◌∙◌, ap, subst, refl, arith, doubled}
 use Rattle.gc_world.proofs.Queues.{doubled_is, doubled_past}
 use Rattle.gc_world.proofs.queue.Queue.repeat.Goals as goal
 

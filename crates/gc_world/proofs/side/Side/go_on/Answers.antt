@@ -1,4 +1,4 @@
-use Rattle.std.proofs.Common.{◌<◌, Some, sym, ◌∙◌, ap, subst, arith}
+use Rattle.gc_world.proofs.Common.{◌<◌, Some, sym, ◌∙◌, ap, subst, arith}
 use Rattle.gc_world.proofs.Sides.{front_written, front_line, left_of}
 use Rattle.gc_world.proofs.Streaming.{flow_more}
 use Rattle.gc_world.proofs.side.Side.go_on.Goals as goal

@@ -1,4 +1,4 @@
-use Rattle.std.proofs.Common.{◌+◌, ◌-◌, ◌∙◌, ap, arith}
+use Rattle.gc_world.proofs.Common.{◌+◌, ◌-◌, ◌∙◌, ap, arith}
 use Rattle.gc_world.proofs.Sides.{front_written, front_line, left_of, none_left}
 use Rattle.gc_world.proofs.side.Side.remaining.Goals as goal
 

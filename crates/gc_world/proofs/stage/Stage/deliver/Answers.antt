@@ -1,10 +1,4 @@
-use Rattle.std.proofs.Common.{sym, subst}
-use Rattle.std.specs.Prelude.{OnOk}
-use Rattle.gc_world.specs.declared.direction.Direction.{Direction}
-use Rattle.gc_world.specs.Directions.{delivery}
-use Rattle.gc_world.specs.Memory.{TakesNoMemory}
-use Rattle.gc_world.specs.Stages.{staging}
-use Rattle.gc_world.specs.Staging.{Follows}
+use Rattle.gc_world.proofs.Common.{sym, subst, OnOk, Direction, delivery, TakesNoMemory, staging, Follows}
 use Rattle.gc_world.proofs.stage.Stage.deliver.Goals as goal
 
 pub returns-in-Up-clause-follows : goal.returns-in-Up-clause-follows

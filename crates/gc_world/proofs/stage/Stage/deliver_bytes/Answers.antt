@@ -1,17 +1,8 @@
-use Rattle.std.proofs.Common.{◌<◌, inl, inr, sym, ◌∙◌, subst, arith}
-use Rattle.std.proofs.lemmas.Bool.{false≢true}
-use Rattle.gc_catalogue.specs.declared.call.Call.{Call}
-use Rattle.gc_client.specs.Rule.{ById}
-use Rattle.gc_world.specs.Behaviours.{ends_with}
-use Rattle.gc_world.specs.Clients.{by_ids}
-use Rattle.gc_world.specs.Directions.{delivery}
-use Rattle.gc_world.specs.Stages.{stage_parts, AreStreamsOf}
-use Rattle.gc_world.specs.Staging.{after_event}
-use Rattle.gc_world.specs.Streams.{Streams}
+use Rattle.gc_world.proofs.Common.{◌<◌, inl, inr, sym, ◌∙◌, subst, arith, false≢true, Call, ById, ends_with, by_ids, delivery, stage_parts, AreStreamsOf, after_event, Streams}
 use Rattle.gc_world.proofs.Handed.{reached_at_first, reaches_next, next_spares, reaches_end, runs_dry, bytes_handed, none_left_if_incomplete}
 use Rattle.gc_world.proofs.Shown.{streams_idle_bytes}
-use Rattle.gc_world.proofs.stage.Stage.deliver_bytes.Goals as goal
 use Rattle.gc_world.proofs.stage.Stage.deliver_bytes.Goals.{then-n-eq0-via-then-n-eq0, then-n-eq0-via-else-n-eq0+then-remaining-eq0}
+use Rattle.gc_world.proofs.stage.Stage.deliver_bytes.Goals as goal
 
 pub returns-then-n-eq0-clause-follows : goal.returns-then-n-eq0-clause-follows
 returns-then-n-eq0-clause-follows g c =

@@ -1,9 +1,4 @@
-use Rattle.std.proofs.Common.{ℕ}
-use Rattle.gc_catalogue.specs.declared.call.Call.{Call}
-use Rattle.gc_client.specs.Rule.{ById}
-use Rattle.gc_world.specs.Stages.{stage_parts, staging, Shows}
-use Rattle.gc_world.specs.Staging.{HasLeft}
-use Rattle.gc_world.specs.Streams.{Streams}
+use Rattle.gc_world.proofs.Common.{ℕ, Call, ById, stage_parts, staging, Shows, HasLeft, Streams}
 use Rattle.gc_world.proofs.Handed.{IsReached}
 use Rattle.gc_world.proofs.stage.Stage.deliver_bytes.Given as goal
 

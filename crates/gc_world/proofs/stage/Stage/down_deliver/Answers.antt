@@ -1,12 +1,4 @@
-use Rattle.std.proofs.Common.{◌≡◌, ◌≤◌, ◌∷◌, ◌++◌, length, Some, sym, ◌∙◌, ap, subst}
-use Rattle.std.specs.Option.{option_map}
-use Rattle.std.specs.Prelude.{slice_get}
-use Rattle.std.proofs.lemmas.Bool.{false≢true}
-use Rattle.std.proofs.lemmas.Option.{slice_get_within}
-use Rattle.gc_world.specs.declared.direction.Direction.TheVariants.{Down}
-use Rattle.gc_world.specs.declared.report.Made.{Made}
-use Rattle.gc_world.specs.Stages.{stage_parts}
-use Rattle.gc_world.specs.Streams.{down_texts}
+use Rattle.gc_world.proofs.Common.{◌≡◌, ◌≤◌, ◌∷◌, ◌++◌, length, Some, sym, ◌∙◌, ap, subst, option_map, slice_get, false≢true, slice_get_within, Down, Made, stage_parts, down_texts}
 use Rattle.gc_world.proofs.Showing.{none_settled}
 use Rattle.gc_world.proofs.Shown.{carries, front_reply, streams_down_deliver}
 use Rattle.gc_world.proofs.Sides.{front_flow}

@@ -1,10 +1,4 @@
-use Rattle.std.proofs.Common.{◌<◌, sym, subst}
-use Rattle.gc_world.specs.declared.direction.Direction.{Direction}
-use Rattle.gc_world.specs.declared.direction.Direction.TheVariants.{Up, Down}
-use Rattle.gc_world.specs.Behaviours.{ends_with}
-use Rattle.gc_world.specs.Directions.{texts, to_go}
-use Rattle.gc_world.specs.Stages.{stage_parts, Shows}
-use Rattle.gc_world.specs.Staging.{after_bytes}
+use Rattle.gc_world.proofs.Common.{◌<◌, sym, subst, Direction, Up, Down, ends_with, texts, to_go, stage_parts, Shows, after_bytes}
 use Rattle.gc_world.proofs.Shown.{carries, more_left, streams_begin}
 use Rattle.gc_world.proofs.stage.Stage.go_on.Goals as goal
 

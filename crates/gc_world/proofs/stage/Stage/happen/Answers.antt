@@ -1,8 +1,4 @@
-use Rattle.std.proofs.Common.{sym, subst}
-use Rattle.std.proofs.lemmas.Bool.{false≢true}
-use Rattle.gc_world.specs.Memory.{TakesNoMemory}
-use Rattle.gc_world.specs.Stages.{stage_parts, staging}
-use Rattle.gc_world.specs.Staging.{Follows}
+use Rattle.gc_world.proofs.Common.{sym, subst, false≢true, TakesNoMemory, stage_parts, staging, Follows}
 use Rattle.gc_world.proofs.Shown.{up_lost, up_repeated, down_lost, down_repeated}
 use Rattle.gc_world.proofs.Sparing.{full, none_up, no_repeat_up, no_repeat_down, some_in_flight}
 use Rattle.gc_world.proofs.stage.Stage.happen.Goals as goal

@@ -1,8 +1,4 @@
-use Rattle.std.proofs.Common.{◌≡◌, sym, subst}
-use Rattle.gc_world.specs.declared.direction.Direction.{Direction}
-use Rattle.gc_world.specs.declared.direction.Direction.TheVariants.{Up, Down}
-use Rattle.gc_world.specs.Directions.{texts, to_go}
-use Rattle.gc_world.specs.Stages.{stage_parts}
+use Rattle.gc_world.proofs.Common.{◌≡◌, sym, subst, Direction, Up, Down, texts, to_go, stage_parts}
 use Rattle.gc_world.proofs.Shown.{carries, left_is}
 use Rattle.gc_world.proofs.stage.Stage.remaining.Goals as goal
 

@@ -1,6 +1,4 @@
-use Rattle.std.proofs.Common.{[], ◌∷◌, ◌++◌, ◌∙◌, ap}
-use Rattle.std.proofs.lemmas.Bool.{iff_false}
-use Rattle.gc_world.specs.Stages.{stage_parts}
+use Rattle.gc_world.proofs.Common.{[], ◌∷◌, ◌++◌, ◌∙◌, ap, iff_false, stage_parts}
 use Rattle.gc_world.proofs.Shown.{streams_restart_client_idle, streams_restart_client}
 use Rattle.gc_world.proofs.stage.Stage.restart_client.Goals as goal
 

@@ -1,5 +1,4 @@
-use Rattle.gc_world.specs.Stages.{stage_parts}
-use Rattle.std.proofs.lemmas.Bool.{iff_false}
+use Rattle.gc_world.proofs.Common.{stage_parts, iff_false}
 use Rattle.gc_world.proofs.Shown.{streams_restart_instrument_idle}
 use Rattle.gc_world.proofs.stage.Stage.restart_instrument.Goals as goal
 

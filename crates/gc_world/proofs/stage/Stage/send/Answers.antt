@@ -1,7 +1,4 @@
-use Rattle.std.proofs.Common.{[], ◌∷◌, ◌++◌, ◌∙◌, ap}
-use Rattle.std.proofs.lemmas.Result.{on_ok_weaker}
-use Rattle.gc_world.specs.declared.report.Sent.{Sent}
-use Rattle.gc_world.specs.Stages.{stage_parts}
+use Rattle.gc_world.proofs.Common.{[], ◌∷◌, ◌++◌, ◌∙◌, ap, on_ok_weaker, Sent, stage_parts}
 use Rattle.gc_world.proofs.Shown.{streams_send}
 use Rattle.gc_world.proofs.stage.Stage.send.Goals as goal
 

@@ -1,13 +1,4 @@
-use Rattle.std.proofs.Common.{◌≡◌, [], ◌∷◌, ◌++◌, Some, refl, sym, ◌∙◌, ap}
-use Rattle.std.specs.Option.{option_map}
-use Rattle.std.specs.Prelude.{slice_get}
-use Rattle.std.proofs.lemmas.Option.{slice_get_within}
-use Rattle.std.proofs.lemmas.Result.{on_ok_weaker}
-use Rattle.gc_world.specs.declared.direction.Direction.TheVariants.{Up}
-use Rattle.gc_world.specs.declared.report.Made.{Made}
-use Rattle.gc_world.specs.declared.report.Sent.{Sent}
-use Rattle.gc_world.specs.Stages.{stage_parts}
-use Rattle.gc_world.specs.Streams.{up_texts}
+use Rattle.gc_world.proofs.Common.{◌≡◌, [], ◌∷◌, ◌++◌, Some, refl, sym, ◌∙◌, ap, option_map, slice_get, slice_get_within, on_ok_weaker, Up, Made, Sent, stage_parts, up_texts}
 use Rattle.gc_world.proofs.Shown.{carries, front_request, streams_up_deliver}
 use Rattle.gc_world.proofs.Sides.{front_flow}
 use Rattle.gc_world.proofs.stage.Stage.up_deliver.Goals as goal

@@ -1,6 +1,4 @@
-use Rattle.std.proofs.Common.{◌≡◌, ◌∙◌, ◌++◌, [], None, ap, take}
-use Rattle.std.specs.List.{position}
-use Rattle.gc_lines.specs.Frames.{is_line_feed, frame_of}
+use Rattle.geocom_c.proofs.Common.{◌≡◌, ◌∙◌, ◌++◌, [], None, ap, take, position, is_line_feed, frame_of}
 use Rattle.geocom_c.proofs.LineFeeds.{none_found}
 use Rattle.geocom_c.proofs.rest.GeocomRest.frame.Goals as goal
 

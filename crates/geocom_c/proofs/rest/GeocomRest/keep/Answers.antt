@@ -1,5 +1,4 @@
-use Rattle.std.proofs.Common.{rules, ◌≡◌, ◌+◌, ◌-◌, ◌++◌, ◌∙◌, ap, ap₂, arith, take, length}
-use Rattle.std.proofs.lemmas.List.{length-take, take_all}
+use Rattle.geocom_c.proofs.Common.{rules, ◌≡◌, ◌+◌, ◌-◌, ◌++◌, ◌∙◌, ap, ap₂, arith, take, length, length-take, take_all}
 use Rattle.geocom_c.proofs.LineFeeds.{clean_if_none_found}
 use Rattle.geocom_c.proofs.Keeping.{all_rest, cut_rest}
 use Rattle.geocom_c.proofs.rest.GeocomRest.keep.Goals as goal

@@ -1,4 +1,4 @@
-use Rattle.std.proofs.Common.{◌∙◌, ◌++◌, take, refl, sym}
+use Rattle.geocom_c.proofs.Common.{◌∙◌, ◌++◌, take, refl, sym}
 use Rattle.geocom_c.proofs.Frames.{never_more}
 use Rattle.geocom_c.proofs.rest.GeocomRest.take.Goals as goal
 

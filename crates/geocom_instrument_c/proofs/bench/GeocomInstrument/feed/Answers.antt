@@ -1,6 +1,4 @@
-use Rattle.std.proofs.Common.{rules}
-use Rattle.geocom_instrument_c.specs.Feeding.{IsFedTo, IsWithoutReply}
-use Rattle.geocom_instrument_c.specs.declared.header.TheConstants.{NO_INSTRUMENT}
+use Rattle.geocom_instrument_c.proofs.Common.{rules, IsFedTo, IsWithoutReply, NO_INSTRUMENT}
 use Rattle.geocom_instrument_c.proofs.Cases.{calls_bench}
 use Rattle.geocom_instrument_c.proofs.bench.GeocomInstrument.feed.Goals as goal
 

@@ -1,6 +1,4 @@
-use Rattle.std.proofs.Common.{◌≡◌, ℕ, refl, rules}
-use Rattle.geocom_instrument_c.specs.Setting.{IsBenchRestarted}
-use Rattle.geocom_instrument_c.specs.declared.header.TheConstants.{NO_INSTRUMENT}
+use Rattle.geocom_instrument_c.proofs.Common.{◌≡◌, ℕ, refl, rules, IsBenchRestarted, NO_INSTRUMENT}
 use Rattle.geocom_instrument_c.proofs.Cases.{calls_bench}
 use Rattle.geocom_instrument_c.proofs.bench.GeocomInstrument.restart.Goals as goal
 

@@ -1,6 +1,4 @@
-use Rattle.std.proofs.Common.{refl}
-use Rattle.gc_lines.specs.Requests.{request_seen}
-use Rattle.gc_catalogue.proofs.CallLaws.{no_refusal}
+use Rattle.gc_instrument.proofs.Common.{refl, request_seen, no_refusal}
 use Rattle.gc_instrument.proofs.Answering.{refused_reply, reply_to_call_is_to_request}
 use Rattle.gc_instrument.proofs.instrument.replying.InstrumentReplies.reply_to.Goals as goal
 
